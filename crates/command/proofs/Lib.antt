@@ -1,0 +1,4 @@
+pub mod Finding
+pub mod Judging
+pub mod Walking
+pub mod Writing

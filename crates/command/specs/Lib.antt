@@ -1,0 +1,4 @@
+pub mod Commands
+pub mod Judgement
+pub mod Lines
+pub mod Requests

@@ -1,0 +1,105 @@
+-- The line that tells each answer, and the exit status.
+use Rattle.std.specs.Prelude.{◌≡◌, ℕ, ◌⊎◌, List, [], ◌++◌, Option, Result, Ok, Err, codes, decimal}
+use Rattle.std.specs.Io.KnownBytes.{Appends, Keeps}
+use Rattle.typecodes.specs.Fault.{cause_number}
+use Rattle.typecodes.specs.declared.fault.Cause.{Cause}
+use Rattle.typecodes.specs.declared.fault.Cause.TheVariants.{Truncated, UnknownType, LevelCount, LeafOutOfRange, Trailing}
+use Rattle.lms.specs.Number.{refusal_number}
+use Rattle.lms.specs.declared.refusal.Refusal.TheVariants.{Unreadable, TypeMismatch, RootMismatch}
+use Rattle.clap.specs.Words.{IsAmong, fault_of}
+use Rattle.clap.specs.declared.error.kind.ErrorKind.{ErrorKind}
+use Rattle.clap.specs.declared.error.kind.ErrorKind.TheVariants as kind
+use Rattle.command.specs.Commands.{hbsign_app}
+use Rattle.command.specs.Judgement.{Answers}
+use Rattle.command.specs.declared.refusal.Refusal.{Refusal}
+use Rattle.command.specs.declared.refusal.Refusal.TheVariants.{KeyLength, Key, Signature, OutOfMemory, FileFailed}
+use Rattle.command.specs.declared.answer.Done.{Done}
+use Rattle.command.specs.declared.answer.Done.TheVariants.{Verified}
+
+-- the number of a refusal
+abbrev pub number_of : Refusal → ℕ
+number_of (KeyLength length) = 6
+number_of (Key fault) = cause_number fault.cause
+number_of (Signature refusal) = refusal_number refusal
+number_of OutOfMemory = 46
+number_of FileFailed = 53
+
+-- the name of a fault
+abbrev pub fault_name_of : Cause → List ℕ
+fault_name_of Truncated = codes "Truncated"
+fault_name_of UnknownType = codes "UnknownType"
+fault_name_of LevelCount = codes "LevelCount"
+fault_name_of LeafOutOfRange = codes "LeafOutOfRange"
+fault_name_of Trailing = codes "Trailing"
+
+-- the name of a refusal
+abbrev pub name_of : Refusal → List ℕ
+name_of (Key fault) = fault_name_of fault.cause
+name_of (Signature (Unreadable fault)) = fault_name_of fault.cause
+name_of (KeyLength length) = codes "KeyLength"
+name_of (Signature (TypeMismatch level)) = codes "TypeMismatch"
+name_of (Signature (RootMismatch level)) = codes "RootMismatch"
+name_of OutOfMemory = codes "OutOfMemory"
+name_of FileFailed = codes "FileFailed"
+
+-- what follows the name: where, of what length or at which level
+abbrev pub detail_of : Refusal → List ℕ
+detail_of (Key fault) = codes " at " ++ decimal fault.place
+detail_of (Signature (Unreadable fault)) = codes " at " ++ decimal fault.place
+detail_of (KeyLength length) = codes " of " ++ decimal length
+detail_of (Signature (TypeMismatch level)) = codes " level " ++ decimal level
+detail_of (Signature (RootMismatch level)) = codes " level " ++ decimal level
+detail_of OutOfMemory = []
+detail_of FileFailed = []
+
+abbrev pub refusal_line : Refusal → List ℕ
+refusal_line refusal =
+    codes "refused " ++ decimal (number_of refusal) ++ codes " " ++ name_of refusal ++ detail_of refusal
+
+abbrev pub done_line : Done → List ℕ
+done_line Verified = codes "verified"
+
+-- the line with its end
+abbrev pub answer_line : Result Done Refusal → List ℕ
+answer_line (Ok done) = done_line done ++ codes "\n"
+answer_line (Err refusal) = refusal_line refusal ++ codes "\n"
+
+-- 0 for what is done, 3 where the machine fails, and 1 for every other refusal
+abbrev pub status_of : Result Done Refusal → ℕ
+status_of (Ok done) = 0
+status_of (Err OutOfMemory) = 3
+status_of (Err FileFailed) = 3
+status_of (Err (Key fault)) = 1
+status_of (Err (KeyLength length)) = 1
+status_of (Err (Signature refusal)) = 1
+
+-- The answer was told: its line was written, and the status is its own; or the output failed.
+-- What an output tells of its bytes stands before and after.
+abbrev pub Tells : Result Done Refusal → Option (List ℕ) → Option (List ℕ) → ℕ → Type 0
+Tells answer old new status = ((status ≡ status_of answer) × Appends old new (answer_line answer)) ⊎ (status ≡ 3)
+
+-- An answer was told that is right for some contents of the three files.
+abbrev pub TellsRightly : Option (List ℕ) → Option (List ℕ) → ℕ → Type 0
+TellsRightly old new status =
+    (public message signature : List ℕ) × (answer : Result Done Refusal) × Answers public message signature answer × Tells answer old new status
+
+-- The text of help was written, with status 0, or the output failed.
+abbrev pub Helps : List ℕ → Option (List ℕ) → Option (List ℕ) → ℕ → Type 0
+Helps text old new status = ((status ≡ 0) × Appends old new text) ⊎ (status ≡ 3)
+
+-- What is left of a line for which `clap` gives an error of this kind: the answer that there is no
+-- memory; help, or no memory for it; or nothing on the output.
+abbrev pub Explains : ErrorKind → Option (List ℕ) → Option (List ℕ) → ℕ → Type 0
+Explains kind.OutOfMemory old new status = Tells (Err OutOfMemory) old new status
+Explains kind.DisplayHelp old new status = ((text : List ℕ) × Helps text old new status) ⊎ Tells (Err OutOfMemory) old new status
+Explains other old new status = (status ≡ 2) × Keeps old new
+
+-- What a run of the program on these words leaves: of words without a fault an answer that was
+-- told, right for some contents of the files; help, where it may be asked for; the answer that
+-- there is no memory; or, of a line that was refused, nothing on the output.
+abbrev pub Runs : List (List ℕ) → Option (List ℕ) → Option (List ℕ) → ℕ → Type 0
+Runs words old new status =
+    ((fault_of hbsign_app words ≡ []) × TellsRightly old new status)
+    ⊎ (IsAmong kind.DisplayHelp (fault_of hbsign_app words) × ((text : List ℕ) × Helps text old new status))
+    ⊎ Tells (Err OutOfMemory) old new status
+    ⊎ ((status ≡ 2) × Keeps old new)

@@ -1,0 +1,25 @@
+-- What a line asks for.
+use Rattle.std.specs.Prelude.{List, Option, codes, option_map}
+use Rattle.clap.specs.Words.{Row, Text, first_of}
+use Rattle.command.specs.Commands.{verify_line}
+use Rattle.command.specs.declared.line.Request.{Request}
+use Rattle.command.specs.declared.line.Request.TheVariants.{Verify}
+
+-- the line that asks for it
+abbrev pub line_of : Request → List Text
+line_of (Verify files) = verify_line files.public.now files.message.now files.signature.now
+
+-- the command's name
+abbrev pub command_of : Request → Text
+command_of (Verify files) = codes "verify"
+
+-- the values of the three files, where they are given
+abbrev pub Files : Type 0
+Files = Option Text × Option Text × Option Text
+
+abbrev pub files_of : List Row → Files
+files_of rows = (first_of (codes "PUBLIC") rows, first_of (codes "MESSAGE") rows, first_of (codes "SIGNATURE") rows)
+
+-- a subcommand's name and its files
+abbrev pub named_files : Option (Text × List Row) → Option (Text × Files)
+named_files = option_map (λ entered. (entered.0, files_of entered.1))

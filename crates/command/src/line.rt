@@ -1,0 +1,60 @@
+//! The words of a command line, as `clap` reads them.
+
+ghost use Rattle.std.specs.Prelude.{◌≡◌, ℕ, List, ◌∷◌, [], IfErr, IfOk, IfSome, IsSomeAnd, MatchResult, Some, codes, map};
+ghost use Rattle.clap.specs.Words.{HasKind, app_of, fault_of, kind_of, subcommand_name_of, subcommand_rows_of};
+ghost use Rattle.command.specs.Commands.{IsFileWord, hbsign_app, verify_line};
+ghost use Rattle.command.specs.Requests.{command_of, line_of, named_files};
+
+use crate::verify::Verify;
+use clap::error::ErrorKind;
+use clap::{ArgMatches, Command, Error};
+use std::alloc::{AllocError, Global};
+use std::convert::AsStr;
+
+/// What a line asks for.
+#[derive(Clone, Copy, Debug)]
+pub enum Request<'a> {
+    /// To verify a signature.
+    Verify(Verify<'a>),
+}
+
+/// Reads the words of a line, without the program's name.
+///
+/// An error has one of the kinds that `clap` gives for these words, or there is no memory.
+pub fn read<'a, S: AsStr>(alloc: Global, words: &'a [S]) -> Result<Request<'a>, Error>
+    ensures plain { (p m s : List ℕ) → map S.text words.now ≡ verify_line p m s → IsFileWord p → IsFileWord m → IsFileWord s → MatchResult result (λ request. line_of request ≡ verify_line p m s) (λ error. kind_of error ≡ ErrorKind.OutOfMemory) }
+    ensures ok { IfOk result (λ _. fault_of hbsign_app (map S.text words.now) ≡ []) }
+    ensures err { IfErr result (HasKind (ErrorKind.MissingSubcommand ∷ fault_of hbsign_app (map S.text words.now))) }
+{
+    let mut command = hbsign(alloc)?;
+    let matches = command.try_get_matches_from_mut(words)?;
+    match asked(&matches) {
+        Some(request) => Ok(request),
+        None => Err(command.error(ErrorKind::MissingSubcommand, "no command was given")?),
+    }
+}
+
+// The program's commands.
+fn hbsign<'a>(alloc: Global) -> Result<Command<'a>, AllocError>
+    ensures { IfOk result (λ command. app_of command ≡ hbsign_app) }
+{
+    Command::new(alloc, "hbsign")
+        .bin_name("hbsign")?
+        .about("Hash-based signatures on files")
+        .no_binary_name(true)
+        .subcommand_required(true)
+        .arg_required_else_help(true)
+        .subcommand(Verify::command(alloc)?)
+}
+
+// What is asked for: the subcommand that was used, with its words.
+fn asked<'a>(matches: &ArgMatches<'a>) -> Option<Request<'a>>
+    ensures named { IfSome result (λ request. subcommand_name_of matches.now ≡ Some (command_of request)) }
+    ensures files { (p m s : List ℕ) → named_files (subcommand_rows_of matches.now) ≡ Some (codes "verify", (Some p, Some m, Some s)) → IsSomeAnd result (λ request. line_of request ≡ verify_line p m s) }
+{
+    let (name, words) = matches.subcommand()?;
+    match name {
+        Verify::NAME => Some(Request::Verify(Verify::of(words)?)),
+        _ => None,
+    }
+}

@@ -1,0 +1,90 @@
+//! Why a command refuses: each refusal with its number, its name and its line.
+
+ghost use Rattle.std.specs.Prelude.{◌≡◌, Some};
+ghost use Rattle.command.specs.Lines.{fault_name_of, name_of, number_of, refusal_line};
+
+use lms::Refusal as LmsRefusal;
+use std::{error, fmt};
+use typecodes::{Cause, ReadFault};
+
+/// Why a command doesn't do what it was asked.
+#[derive(Clone, Copy, Debug, PartialEq, Eq)]
+pub enum Refusal {
+    /// 6: a public key of no known length; its length.
+    KeyLength(usize),
+    /// 1 to 5: the bytes of a public key spell none.
+    Key(ReadFault),
+    /// 1 to 5, 10 and 12: a signature isn't verified.
+    Signature(LmsRefusal),
+    /// 46: there is no memory.
+    OutOfMemory,
+    /// 53: a file can't be opened or read.
+    FileFailed,
+}
+
+impl Refusal {
+    // The number by which the refusal is told.
+    fn number(&self) -> u8
+        ensures { result ≡ number_of self.now }
+    {
+        match self {
+            Refusal::KeyLength(_) => 6,
+            Refusal::Key(fault) => fault.cause.number(),
+            Refusal::Signature(refusal) => refusal.number(),
+            Refusal::OutOfMemory => 46,
+            Refusal::FileFailed => 53,
+        }
+    }
+
+    // The name that follows the number.
+    fn name(&self) -> &'static str
+        ensures { result.now ≡ name_of self.now }
+    {
+        match self {
+            Refusal::Key(fault) | Refusal::Signature(LmsRefusal::Unreadable(fault)) => {
+                fault_name(fault.cause)
+            }
+            Refusal::KeyLength(_) => "KeyLength",
+            Refusal::Signature(LmsRefusal::TypeMismatch(_)) => "TypeMismatch",
+            Refusal::Signature(LmsRefusal::RootMismatch(_)) => "RootMismatch",
+            Refusal::OutOfMemory => "OutOfMemory",
+            Refusal::FileFailed => "FileFailed",
+        }
+    }
+}
+
+// The name of a fault.
+fn fault_name(cause: Cause) -> &'static str
+    ensures { result.now ≡ fault_name_of cause }
+{
+    match cause {
+        Cause::Truncated => "Truncated",
+        Cause::UnknownType => "UnknownType",
+        Cause::LevelCount => "LevelCount",
+        Cause::LeafOutOfRange => "LeafOutOfRange",
+        Cause::Trailing => "Trailing",
+    }
+}
+
+/// Writes the line that tells the refusal, without its end.
+impl fmt::Display for Refusal {
+    ghost output = { λ refusal. Some (refusal_line refusal) };
+
+    fn fmt<W: fmt::Write>(&self, f: &mut fmt::Formatter<W>) -> fmt::Result {
+        let number = self.number();
+        let name = self.name();
+        write!(f, "refused {number} {name}")?;
+        match self {
+            Refusal::Key(fault) | Refusal::Signature(LmsRefusal::Unreadable(fault)) => {
+                let place = fault.place;
+                write!(f, " at {place}")
+            }
+            Refusal::KeyLength(length) => write!(f, " of {length}"),
+            Refusal::Signature(LmsRefusal::TypeMismatch(level) | LmsRefusal::RootMismatch(level)) =>
+                write!(f, " level {level}"),
+            Refusal::OutOfMemory | Refusal::FileFailed => Ok(()),
+        }
+    }
+}
+
+impl error::Error for Refusal {}

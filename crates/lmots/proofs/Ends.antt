@@ -1,0 +1,43 @@
+-- The ends of chains, fed to a hasher one after the other.
+use Rattle.std.proofs.Common.{◌≡◌, ◌∙◌, sym, ℕ, ◌+◌, List, [], ◌∷◌, ◌++◌, map, length, refl, ap, arith, append_assoc}
+use Rattle.std.specs.List.{concat, range_with_len}
+use Rattle.std.proofs.lemmas.List.{append-nil}
+use Rattle.std.proofs.lemmas.List.FromFn.{map-range_with_len_more}
+use Rattle.winternitz.specs.Ends.{end_of, ends_of}
+use Rattle.winternitz.specs.Walk.{Steps}
+
+-- what a hasher holds, once it has taken n ends behind the head
+pub fed : List ℕ → (ℕ → List ℕ) → ℕ → List ℕ
+fed head end n = head ++ concat (map end (range_with_len 0 n))
+
+-- before the first end it is the head
+pub fed_none : (head : List ℕ) (end : ℕ → List ℕ) → head ≡ fed head end 0
+unfolding fed
+fed_none head end = sym (append-nil head)
+
+-- a part put behind others stands last among the joined
+concat_more : (parts : List (List ℕ)) (part : List ℕ) → concat (parts ++ part ∷ []) ≡ concat parts ++ part
+concat_more [] part = append-nil part
+concat_more (first ∷ parts) part =
+    ap (λ rest. first ++ rest) (concat_more parts part) ∙ sym (append_assoc first (concat parts) part)
+
+-- one end more
+pub fed_more : (head : List ℕ) (end : ℕ → List ℕ) (n : ℕ) (part : List ℕ) → part ≡ end n
+    → fed head end n ++ part ≡ fed head end (n + 1)
+unfolding fed
+fed_more head end n part e =
+    rw (map-range_with_len_more end 0 n n (omega arith), concat_more, ← e)
+    (append_assoc head (concat (map end (range_with_len 0 n))) part)
+
+-- after the last one it is the head and all ends
+pub fed_all : (head : List ℕ) (end : ℕ → List ℕ) (n all : ℕ) → n ≡ all
+    → fed head end n ≡ head ++ concat (map end (range_with_len 0 all))
+unfolding fed
+fed_all head end n all e = rw e refl
+
+-- the same of the ends of a digest's digits
+pub fed_all_ends : (head : List ℕ) (step : Steps) (w n : ℕ) (read digits : List ℕ) (starts values : List (List ℕ))
+    → n ≡ length read → read ≡ digits → starts ≡ values
+    → fed head (end_of step w read starts) n ≡ head ++ concat (ends_of step w digits values)
+fed_all_ends head step w n read digits starts values all read_is starts_are =
+    fed_all head (end_of step w read starts) n (length read) all ∙ rw (read_is, starts_are) refl

@@ -1,0 +1,141 @@
+//! The one-time key of a leaf.
+
+ghost use Rattle.std.specs.Prelude.{◌≡◌, ℕ, ◌-◌, ◌*◌, ◌^◌, List, ◌++◌, length};
+ghost use Rattle.std.specs.List.{concat};
+ghost use Rattle.sha2.specs.Hashers.{Holds256};
+ghost use Rattle.lmots.specs.Formulas.{ends_of_seed, message_digest_of, private_value, public_hash, step_of, u16str, u32str};
+ghost use Rattle.lmots.specs.Signed.{signed_values};
+ghost use Rattle.typecodes.specs.Fields.{values_in};
+ghost use Rattle.typecodes.specs.Types.{chains_of, width_of};
+ghost use Rattle.winternitz.specs.Digits.{digits_of};
+ghost use Rattle.winternitz.specs.Ends.{AreEnds, ends_of};
+
+use sha2::{Digest, Sha256};
+use typecodes::OtsType;
+use winternitz::{Step, climb, digits};
+
+/// A leaf's one-time key, by the identifier I of its tree and its number q: what each hash of the
+/// key begins with (RFC 8554 4.2).
+#[derive(Clone, Copy, Debug, PartialEq, Eq)]
+pub struct LmOts {
+    /// I, 16 bytes.
+    pub identifier: [u8; 16],
+    /// q, the leaf's number.
+    pub leaf: u32,
+}
+
+impl Step for LmOts {
+    ghost step_of = { λ key. step_of key.identifier key.leaf };
+
+    fn step(&self, chain: u16, at: u8, value: &[u8; 32]) -> [u8; 32] {
+        let mut hasher = self.hasher(chain);
+        hasher.update([at]);
+        hasher.update(value);
+        hasher.finalize()
+    }
+}
+
+impl LmOts {
+    /// Q, the digest of a message that a signature with the randomizer C signs (RFC 8554 4.5).
+    pub fn message_digest(&self, randomizer: &[u8; 32], message: &[u8]) -> [u8; 32]
+        ensures { result ≡ message_digest_of self.now.identifier self.now.leaf randomizer.now message.now }
+    {
+        let mut hasher = self.hasher(MESSAGE);
+        hasher.update(randomizer);
+        hasher.update(message);
+        hasher.finalize()
+    }
+
+    /// The public hash to which the values of a signature lead: each chain climbed from its digit of
+    /// the digest to its end (RFC 8554 4.6, algorithm 4b, step 3). The caller gives as many values as
+    /// the type has chains.
+    pub fn hash_from_signature(
+        &self,
+        ots: OtsType,
+        digest: &[u8; 32],
+        values: &[[u8; 32]],
+    ) -> [u8; 32]
+        requires { length values.now ≡ chains_of ots }
+        ensures value { result ≡ public_hash self.now.identifier self.now.leaf
+            (ends_of (step_of self.now.identifier self.now.leaf) (width_of ots) (digits_of (width_of ots) digest.now) values.now) }
+        // The same of any list of ends, and that there is one.
+        ensures only { (ends : List (List ℕ)) →
+            AreEnds (step_of self.now.identifier self.now.leaf) (width_of ots) (digits_of (width_of ots) digest.now) values.now ends →
+            result ≡ public_hash self.now.identifier self.now.leaf ends }
+        ensures some { (ends : List (List ℕ)) ×
+            AreEnds (step_of self.now.identifier self.now.leaf) (width_of ots) (digits_of (width_of ots) digest.now) values.now ends ×
+            (result ≡ public_hash self.now.identifier self.now.leaf ends) }
+    {
+        let greatest = greatest_digit(ots);
+        let mut hasher = self.hasher(PUBLIC);
+        for (chain, digit) in digits(ots.width(), digest).iter().enumerate() {
+            hasher.update(climb(self, chain as u16, *digit, greatest, &values[chain]));
+        }
+        hasher.finalize()
+    }
+
+    /// The private value of a chain, made of the key's seed (RFC 8554, Appendix A).
+    pub fn private_value(&self, seed: &[u8; 32], chain: u16) -> [u8; 32]
+        ensures { result ≡ private_value self.now.identifier self.now.leaf seed.now chain }
+    {
+        let mut hasher = self.hasher(chain);
+        hasher.update([0xff]);
+        hasher.update(seed);
+        hasher.finalize()
+    }
+
+    /// The public hash of the key whose private values are made of a seed: each chain climbed from
+    /// its private value to its end (RFC 8554 4.3).
+    pub fn public_hash(&self, ots: OtsType, seed: &[u8; 32]) -> [u8; 32]
+        ensures { result ≡ public_hash self.now.identifier self.now.leaf (ends_of_seed self.now.identifier self.now.leaf ots seed.now) }
+    {
+        let greatest = greatest_digit(ots);
+        let mut hasher = self.hasher(PUBLIC);
+        for chain in 0..ots.chains() {
+            let start = self.private_value(seed, chain);
+            hasher.update(climb(self, chain, 0, greatest, &start));
+        }
+        hasher.finalize()
+    }
+
+    /// Writes the values of a digest's signature, one behind the other: each chain climbed from its
+    /// private value to its digit of the digest (RFC 8554 4.5). The caller gives 32 bytes for each
+    /// of the type's chains.
+    pub fn sign_digest(&self, ots: OtsType, seed: &[u8; 32], digest: &[u8; 32], into: &mut [u8])
+        requires { length into.old ≡ 32 * chains_of ots }
+        ensures value { into.new ≡ concat (signed_values self.now.identifier self.now.leaf ots seed.now digest.now) }
+        // They climb to the ends of the key's chains.
+        ensures climbs { AreEnds (step_of self.now.identifier self.now.leaf) (width_of ots) (digits_of (width_of ots) digest.now)
+            (values_in (chains_of ots) into.new) (ends_of_seed self.now.identifier self.now.leaf ots seed.now) }
+    {
+        let digits = digits(ots.width(), digest);
+        for (chain, digit) in digits.iter().enumerate() {
+            let start = self.private_value(seed, chain as u16);
+            let value = climb(self, chain as u16, 0, *digit, &start);
+            into[32 * chain..32 * chain + 32].copy_from_slice(&value);
+        }
+    }
+
+    // A hasher that holds I, q and a chain's number or a separator in its place.
+    fn hasher(&self, separator: u16) -> Sha256
+        ensures { Holds256 result (self.now.identifier ++ u32str self.now.leaf ++ u16str separator) }
+    {
+        let mut hasher = Sha256::new();
+        hasher.update(self.identifier);
+        hasher.update(self.leaf.to_be_bytes());
+        hasher.update(separator.to_be_bytes());
+        hasher
+    }
+}
+
+// The greatest digit of a type, which is also how many steps each of its chains has.
+fn greatest_digit(ots: OtsType) -> u8
+    ensures { result ≡ 2 ^ width_of ots - 1 }
+{
+    ((1u16 << ots.width()) - 1) as u8
+}
+
+// D_PBLC (RFC 8554 4.3) and D_MESG (4.5).
+const PUBLIC: u16 = 0x8080;
+
+const MESSAGE: u16 = 0x8181;

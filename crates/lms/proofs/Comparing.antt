@@ -1,0 +1,43 @@
+-- What a signature that was read, and the comparison of its types, tell of it.
+use Rattle.std.proofs.Common.{◌≡◌, ℕ, Bool, true, false, List, Result, Ok, Err, refl, sym, ap, ap₂, subst, rules}
+use Rattle.std.specs.Prelude.{not, ◌&&◌, MatchResult}
+use denote.Enum.Bare.{same_true, sameb, true_same}
+use Rattle.typecodes.specs.contracts.types.LmsType.{the_type as tree_type}
+use Rattle.typecodes.specs.contracts.types.OtsType.{the_type as ots_type}
+use Rattle.typecodes.specs.declared.types.LmsPair.{LmsPair}
+use Rattle.typecodes.specs.declared.types.LmsType.{LmsType}
+use Rattle.typecodes.specs.declared.types.OtsType.{OtsType}
+use Rattle.typecodes.specs.declared.fault.ReadFault.{ReadFault}
+use Rattle.typecodes.specs.Layout.{Layout, Spells}
+use Rattle.typecodes.specs.Reading.{Reads}
+
+-- the bytes from which a value was read spell it, whatever was made of the reader's faults
+pub read_spells : {V X : Type 0} (E : Type 0) (layout : Layout V) (view : X → V) (bytes : List ℕ) (result : Result X ReadFault) (x : X) (Q : ReadFault → Type 0)
+    → Reads layout view bytes result → MatchResult result (λ y. ◌≡◌ {A = Result X E} (Ok x) (Ok y)) Q → ((fault : ReadFault) → Q fault → ⊥) → Spells layout (view x) bytes
+read_spells E layout view bytes (Ok y) x Q reads same never =
+    let e : x ≡ y = cc in
+    subst (λ z. Spells layout (view z) bytes) (sym e) reads
+read_spells E layout view bytes (Err fault) x Q reads same never = absurd (never fault same)
+
+-- where the test for a difference of two parts is false, both are the same
+both_true : (a b : Bool) → false ≡ not (a && b) → (a ≡ true) × (b ≡ true)
+both_true true true e = (refl, refl)
+both_true true false e = absurd (cc)
+both_true false b e = absurd (cc)
+
+-- pairs whose tests for a difference are false are one pair
+pub same_pair : (p q : LmsPair) → false ≡ not (sameb tree_type p.tree q.tree && sameb ots_type p.ots q.ots) → p ≡ q
+same_pair p q e =
+    let both = both_true (sameb tree_type p.tree q.tree) (sameb ots_type p.ots q.ots) e in
+    let tree : p.tree ≡ q.tree = same_true tree_type (search rules) _ _ both.0 in
+    let ots : p.ots ≡ q.ots = same_true ots_type (search rules) _ _ both.1 in
+    let pair : LmsType → OtsType → LmsPair = λ t o. record { tree = t; ots = o } in
+    ap₂ pair tree ots
+
+-- and pairs for which one is true are two
+pub other_pair : (p q : LmsPair) → true ≡ not (sameb tree_type p.tree q.tree && sameb ots_type p.ots q.ots) → p ≡ q → ⊥
+other_pair p q e same =
+    let tree = true_same tree_type p.tree q.tree (ap (λ t. t.tree) same) in
+    let ots = true_same ots_type p.ots q.ots (ap (λ t. t.ots) same) in
+    let both : true ≡ not (true && true) = rw (tree, ots) at e in
+    absurd (cc)

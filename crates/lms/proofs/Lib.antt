@@ -1,0 +1,11 @@
+pub mod Numbers
+pub mod Fields
+pub mod Leading
+pub mod Comparing
+pub mod Ways
+pub mod OneWay
+pub mod Verdicts
+pub mod Signing
+pub mod Behind
+pub mod SigningBytes
+pub mod Parts

@@ -1,0 +1,7 @@
+pub mod Layouts
+pub mod View
+pub mod Formulas
+pub mod Valid
+pub mod Verdict
+pub mod Number
+pub mod Textbook

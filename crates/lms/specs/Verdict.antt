@@ -1,0 +1,25 @@
+-- What verification answers, and which refusal comes first.
+use Rattle.std.specs.Prelude.{◌≡◌, ◌≢◌, ℕ, List, [], Result, Ok, Err}
+use Rattle.typecodes.specs.Layout.{Spells, HasFault}
+use Rattle.lms.specs.declared.key.LmsPublic.{LmsPublic}
+use Rattle.lms.specs.declared.refusal.Refusal.{Refusal}
+use Rattle.lms.specs.declared.refusal.Refusal.TheVariants.{Unreadable, TypeMismatch, RootMismatch}
+use Rattle.lms.specs.Layouts.{Signature, signature}
+use Rattle.lms.specs.Valid.{IsValid}
+
+-- Ok: the bytes spell a valid signature. Else the bytes spell none, and have this fault; or they
+-- spell one of other types than the key's; or one of the key's types that isn't valid.
+abbrev pub Verdict : {A : Type 0} → LmsPublic → List ℕ → List ℕ → Result A Refusal → Type 0
+Verdict key message bytes (Ok _) = (s : Signature) × Spells signature s bytes × IsValid key message s
+Verdict key message bytes (Err (Unreadable fault)) = HasFault signature bytes 0 fault
+Verdict key message bytes (Err (TypeMismatch level)) =
+    (level ≡ 0) × ((s : Signature) × Spells signature s bytes × (s.pair ≢ key.pair))
+Verdict key message bytes (Err (RootMismatch level)) =
+    (level ≡ 0) × ((s : Signature) × Spells signature s bytes × (s.pair ≡ key.pair) × (IsValid key message s → ⊥))
+
+-- What is left of the message: nothing where it was read to its end; all of it where a refusal came first.
+abbrev pub LeavesMessage : {A : Type 0} → List ℕ → List ℕ → Result A Refusal → Type 0
+LeavesMessage old new (Ok _) = new ≡ []
+LeavesMessage old new (Err (Unreadable fault)) = new ≡ old
+LeavesMessage old new (Err (TypeMismatch level)) = new ≡ old
+LeavesMessage old new (Err (RootMismatch level)) = new ≡ []

@@ -1,0 +1,52 @@
+//! Public keys.
+
+ghost use Rattle.std.specs.Prelude.{◌≡◌, ◌+◌, ◌<◌, ◌^◌, OnOk};
+ghost use Rattle.typecodes.specs.Reading.{Gives, Reads, read};
+
+use typecodes::{Cursor, LmsPair, ReadFault};
+
+/// The public key of one tree (RFC 8554 5.3).
+#[derive(Clone, Copy, Debug, PartialEq, Eq)]
+pub struct LmsPublic {
+    /// The tree's type and its leaves' one-time type.
+    pub pair: LmsPair,
+    /// I, 16 bytes.
+    pub identifier: [u8; 16],
+    /// T[1], 32 bytes.
+    pub root: [u8; 32],
+}
+
+impl LmsPublic {
+    ghost use Rattle.lms.specs.Layouts.{public_key};
+
+    /// The key at a cursor, 56 bytes: the tree's type, the one-time type, I and the root. The caller
+    /// keeps its end below `2^32`. Where a fault leaves the cursor isn't said.
+    #[tactic(auto, using(typecodes::proofs::Steps::reading), unfolding(crate::specs::Layouts::public_key))]
+    pub fn from_cursor(cursor: &mut Cursor<'_>) -> Result<Self, ReadFault>
+        requires { cursor.old.place + 56 < 2 ^ 32 }
+        ensures read { Gives (λ key. (key, cursor.new.place)) result (read public_key cursor.old.bytes.now cursor.old.place) }
+        ensures len { OnOk result (cursor.new.place ≡ cursor.old.place + 56) }
+        ensures bytes { cursor.new.bytes ≡ cursor.old.bytes }
+    {
+        let tree = cursor.lms_type()?;
+        let ots = cursor.ots_type()?;
+        let identifier = *cursor.array()?;
+        let root = *cursor.array()?;
+        Ok(LmsPublic {
+            pair: LmsPair { tree, ots },
+            identifier,
+            root,
+        })
+    }
+
+    /// The key that the bytes spell, 56 bytes and no more. Otherwise their first fault (1, 2 or 5).
+    #[tactic(auto, using(typecodes::proofs::Steps::steps))]
+    pub fn read(bytes: &[u8]) -> Result<Self, ReadFault>
+        ensures { Reads public_key (λ key. key) bytes.now result }
+    {
+        let mut cursor = Cursor::new(bytes);
+        let key = Self::from_cursor(&mut cursor)?;
+        cursor.end()?;
+        Ok(key)
+    }
+}

@@ -1,0 +1,27 @@
+//! LMS keys, signatures and their verification (RFC 8554, section 5), for SHA-256 with m = 32.
+//!
+//! Its model is `specs/Layouts.antt`, how keys and signatures are spelled, and `specs/Valid.antt`,
+//! which signatures are valid. Its contract for the crates above: `verify` is Ok exactly on the
+//! spellings of valid signatures, and else tells the first refusal. That keys and signatures are
+//! spelled in one way, and that an answer of `verify` is the only one, stands on `spelling_laws` and
+//! `verdict_laws`.
+#![tactic(auto)]
+
+mod key;
+mod laws;
+mod nodes;
+mod refusal;
+mod secret;
+mod signature;
+#[cfg(test)]
+mod tests;
+mod verification;
+mod writing;
+
+pub use crate::key::LmsPublic;
+pub use crate::laws::{spelling_laws, verdict_laws};
+pub use crate::refusal::Refusal;
+pub use crate::secret::{LmsSecret, LmsTree};
+pub use crate::signature::LmsSigView;
+pub use crate::verification::verify;
+pub use crate::writing::{write_public, write_signature};

@@ -1,0 +1,64 @@
+//! The nodes of a tree, by the standard's hashes.
+
+ghost use Rattle.std.specs.Prelude.{◌≡◌, ◌++◌};
+ghost use Rattle.sha2.specs.Hashers.{Holds256};
+ghost use Rattle.lms.specs.Formulas.{join_of, leaf_hash, node_number};
+ghost use Rattle.lmots.specs.Formulas.{u16str, u32str};
+
+use merkle::NodeHash;
+use sha2::{Digest, Sha256};
+
+// D_LEAF and D_INTR (RFC 8554 5.3).
+const LEAF: u16 = 0x8282;
+
+const INNER: u16 = 0x8383;
+
+/// What the hashes of a tree's nodes are made with: I, and the height by which nodes are numbered.
+#[derive(Clone, Copy)]
+pub struct Nodes {
+    pub identifier: [u8; 16],
+    pub height: u8,
+}
+
+impl Nodes {
+    /// Leaf q, of its one-time key's public hash.
+    pub fn leaf(&self, q: u32, public_hash: &[u8; 32]) -> [u8; 32]
+        ensures { result ≡ leaf_hash self.now.identifier self.now.height q public_hash.now }
+    {
+        let mut hasher = self.hasher(self.number(0, q), LEAF);
+        hasher.update(public_hash);
+        hasher.finalize()
+    }
+
+    // The number of a node, by its height and its index among those of its height. Hashes take its
+    // lowest 4 bytes alone.
+    fn number(&self, height: u32, index: u32) -> u32
+        ensures { u32str result ≡ u32str (node_number self.now.height height index) }
+    {
+        let above = u32::from(self.height).saturating_sub(height);
+        let first = 1u32.checked_shl(above).unwrap_or(0);
+        first.wrapping_add(index)
+    }
+
+    // A hasher that holds I, a node's number and a separator.
+    fn hasher(&self, number: u32, separator: u16) -> Sha256
+        ensures { Holds256 result (self.now.identifier ++ u32str number ++ u16str separator) }
+    {
+        let mut hasher = Sha256::new();
+        hasher.update(self.identifier);
+        hasher.update(number.to_be_bytes());
+        hasher.update(separator.to_be_bytes());
+        hasher
+    }
+}
+
+impl NodeHash for Nodes {
+    ghost join_of = { λ nodes. join_of nodes.identifier nodes.height };
+
+    fn join(&self, height: u8, index: u32, left: &[u8; 32], right: &[u8; 32]) -> [u8; 32] {
+        let mut hasher = self.hasher(self.number(u32::from(height) + 1, index), INNER);
+        hasher.update(left);
+        hasher.update(right);
+        hasher.finalize()
+    }
+}

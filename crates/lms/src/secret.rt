@@ -1,0 +1,79 @@
+//! Secrets, and the trees that they make.
+
+ghost use Rattle.std.specs.Prelude.{◌≡◌};
+ghost use Rattle.typecodes.specs.Types.{height_of};
+ghost use Rattle.lms.specs.Textbook.{joins_of, leaves_of};
+
+use crate::nodes::Nodes;
+use lmots::LmOts;
+use merkle::{NodeHash, TreeHash};
+use typecodes::{Count, LmsPair};
+
+/// What an LMS key is made from (RFC 8554 5.2 and Appendix A).
+#[derive(Clone, Copy, Debug)]
+pub struct LmsSecret {
+    pub pair: LmsPair,
+    /// I, 16 bytes.
+    pub identifier: [u8; 16],
+    /// SEED, 32 bytes.
+    pub seed: [u8; 32],
+}
+
+impl LmsSecret {
+    // What the nodes of its tree are made with.
+    fn nodes(&self) -> Nodes
+        ensures identifier { result.identifier ≡ self.now.identifier }
+        ensures height { result.height ≡ height_of self.now.pair.tree }
+    {
+        Nodes {
+            identifier: self.identifier,
+            height: self.pair.tree.height(),
+        }
+    }
+}
+
+/// The tree of a secret (RFC 8554 5.3), each leaf made of the ends of its one-time key's chains.
+#[derive(Debug, Drop)]
+pub struct LmsTree {
+    pub secret: LmsSecret,
+    // How many leaves were made, for contracts alone.
+    made: Count,
+}
+
+impl LmsTree {
+    /// The tree of a secret, of which no leaf was made yet.
+    pub fn new(secret: LmsSecret) -> Self
+        ensures secret { result.secret ≡ secret }
+        ensures made { result.made ≡ 0 }
+    {
+        LmsTree {
+            secret,
+            made: Count::new(),
+        }
+    }
+}
+
+impl NodeHash for LmsTree {
+    ghost join_of = { λ tree. joins_of tree.secret };
+
+    fn join(&self, height: u8, index: u32, left: &[u8; 32], right: &[u8; 32]) -> [u8; 32] {
+        self.secret.nodes().join(height, index, left, right)
+    }
+}
+
+impl TreeHash for LmsTree {
+    ghost leaf_of = { λ tree. leaves_of tree.secret };
+
+    ghost made = { λ tree. tree.made };
+
+    fn leaf(&mut self, i: u32) -> [u8; 32] {
+        self.made.add_one();
+        let secret = &self.secret;
+        let key = LmOts {
+            identifier: secret.identifier,
+            leaf: i,
+        };
+        let public_hash = key.public_hash(secret.pair.ots, &secret.seed);
+        secret.nodes().leaf(i, &public_hash)
+    }
+}

@@ -1,0 +1,133 @@
+//! Signatures, as views of their bytes.
+
+ghost use Rattle.std.specs.Prelude.{◌≡◌, ◌+◌, ◌-◌, ◌*◌, ◌<◌, ◌^◌, [], length, take, drop, slice_index_or, IfOk, Ok};
+ghost use Rattle.byteorder.specs.Endian.{big_number};
+ghost use Rattle.typecodes.specs.Layout.{Spells};
+ghost use Rattle.typecodes.specs.Fields.{values_in};
+ghost use Rattle.typecodes.specs.Reading.{Gives, Reads, read};
+ghost use Rattle.typecodes.specs.Types.{chains_of, height_of, lms_signature_len_of, signature_len_of};
+ghost use Rattle.lms.specs.Layouts.{signature, signature_with};
+
+use typecodes::{Cause, Cursor, LmsPair, ReadFault};
+
+/// A signature of one tree (RFC 8554 5.4), as a view of the bytes that spell it.
+#[derive(Clone, Copy, Debug)]
+pub struct LmsSigView<'a> {
+    pub(crate) pair: LmsPair,
+    pub(crate) index: u32,
+    pub(crate) randomizer: &'a [u8; 32],
+    pub(crate) chains: &'a [[u8; 32]],
+    pub(crate) path: &'a [[u8; 32]],
+    pub(crate) bytes: &'a [u8],
+    ghost inside: { index < 2 ^ height_of pair.tree },
+    ghost chain_count: { length chains.now ≡ chains_of pair.ots },
+    ghost path_length: { length path.now ≡ height_of pair.tree },
+    ghost spelled: { read signature bytes.now 0 ≡ Ok (signature_with pair index randomizer.now chains.now path.now, length bytes.now) },
+    ghost size: { length bytes.now ≡ lms_signature_len_of pair },
+    ghost index_at: { index ≡ big_number 4 (take 4 bytes.now) },
+    ghost randomizer_at: { randomizer.now ≡ take 32 (drop 8 bytes.now) },
+    ghost chains_at: { chains.now ≡ values_in (chains_of pair.ots) (drop 40 bytes.now) },
+    ghost path_at: { path.now ≡ values_in (height_of pair.tree) (drop (8 + signature_len_of pair.ots) bytes.now) },
+}
+
+impl<'a> LmsSigView<'a> {
+    ghost use Rattle.lms.specs.View.{signature_of};
+
+    /// The signature at a cursor: q, the one-time type, C, a value for each chain, the tree's type and
+    /// the path. An index that is no leaf of the tree is told when the tree's type is read, at the
+    /// index. The caller keeps the place so low that the longest signature, 9324 bytes, ends below
+    /// `2^32`. Where a fault leaves the cursor isn't said.
+    #[tactic(auto, using(crate::proofs::Fields::fields), unfolding(crate::specs::Layouts::signature))]
+    pub fn from_cursor(cursor: &mut Cursor<'a>) -> Result<Self, ReadFault>
+        requires { cursor.old.place + 9324 < 2 ^ 32 }
+        ensures read { Gives (λ view. (signature_of view, cursor.new.place)) result (read signature cursor.old.bytes.now cursor.old.place) }
+        ensures len { IfOk result (λ view. cursor.new.place ≡ cursor.old.place + (4 + signature_len_of view.pair.ots + (4 + 32 * height_of view.pair.tree))) }
+        ensures bytes { cursor.new.bytes ≡ cursor.old.bytes }
+        ensures part { IfOk result (λ view. view.bytes.now ≡ take (cursor.new.place - cursor.old.place) (drop cursor.old.place cursor.old.bytes.now)) }
+    {
+        let (all, start) = (cursor.bytes, cursor.place);
+        let index = cursor.number()?;
+        let ots = cursor.ots_type()?;
+        let randomizer = cursor.array()?;
+        let chains = cursor.values(u32::from(ots.chains()))?;
+        let tree = cursor.lms_type()?;
+        if index >= 1 << tree.height() {
+            return Err(ReadFault {
+                place: start,
+                cause: Cause::LeafOutOfRange,
+            });
+        }
+        let path = cursor.values(u32::from(tree.height()))?;
+        Ok(LmsSigView {
+            pair: LmsPair { tree, ots },
+            index,
+            randomizer,
+            chains,
+            path,
+            bytes: &all[start as usize..cursor.place as usize],
+        })
+    }
+
+    /// The signature that the bytes spell, and no more: 1292 bytes for H5/W8. Otherwise their first
+    /// fault (1, 2, 4 or 5).
+    #[tactic(auto, using(typecodes::proofs::Steps::steps))]
+    pub fn read(bytes: &'a [u8]) -> Result<Self, ReadFault>
+        ensures reads { Reads signature signature_of bytes.entry.now result }
+        ensures whole { IfOk result (λ view. view.bytes.now ≡ bytes.entry.now) }
+    {
+        let mut cursor = Cursor::new(bytes);
+        let view = Self::from_cursor(&mut cursor)?;
+        cursor.end()?;
+        Ok(view)
+    }
+
+    /// q, the index of its leaf.
+    pub fn index(&self) -> u32
+        ensures value { result ≡ (signature_of self.now).index }
+        ensures range { result ≡ big_number 4 (take 4 self.now.bytes.now) }
+    {
+        self.index
+    }
+
+    /// The signature's types, which are to be its key's.
+    pub fn types(&self) -> LmsPair
+        ensures { result ≡ (signature_of self.now).pair }
+    {
+        self.pair
+    }
+
+    /// C, the randomizer, 32 bytes from byte 8 on.
+    pub fn c(&self) -> &'a [u8; 32]
+        ensures value { result.now ≡ (signature_of self.now).randomizer }
+        ensures range { result.now ≡ take 32 (drop 8 self.now.bytes.now) }
+    {
+        self.randomizer
+    }
+
+    /// The value of chain i, 32 bytes. The caller keeps i below the number of chains.
+    pub fn chain(&self, i: u16) -> &'a [u8; 32]
+        requires { i < chains_of self.now.pair.ots }
+        ensures value { result.now ≡ slice_index_or (signature_of self.now).chains i [] }
+        ensures range { result.now ≡ take 32 (drop (40 + 32 * i) self.now.bytes.now) }
+    {
+        &self.chains[usize::from(i)]
+    }
+
+    /// Node k of the path, that of height k, 32 bytes. The caller keeps k below the tree's height.
+    pub fn node(&self, k: u8) -> &'a [u8; 32]
+        requires { k < height_of self.now.pair.tree }
+        ensures value { result.now ≡ slice_index_or (signature_of self.now).path k [] }
+        ensures range { result.now ≡ take 32 (drop (8 + signature_len_of self.now.pair.ots + 32 * k) self.now.bytes.now) }
+    {
+        &self.path[usize::from(k)]
+    }
+
+    /// The bytes that spell the signature, and no others.
+    pub fn bytes(&self) -> &'a [u8]
+        ensures whole { result ≡ self.now.bytes }
+        ensures spells { Spells signature (signature_of self.now) result.now }
+        ensures len { length result.now ≡ lms_signature_len_of self.now.pair }
+    {
+        self.bytes
+    }
+}

@@ -1,0 +1,75 @@
+//! The bytes of keys and signatures.
+
+ghost use Rattle.std.specs.Prelude.{◌≡◌, ◌+◌, ◌<◌, ◌≤◌, ◌^◌, ℕ, List, ◌++◌, Some, length, take};
+ghost use Rattle.typecodes.specs.Layout.{Spells};
+ghost use Rattle.typecodes.specs.Types.{height_of, lms_code, lms_of_code, ots_code, ots_of_code};
+ghost use Rattle.lmots.specs.Formulas.{message_digest_of};
+ghost use Rattle.lms.specs.Layouts.{public_key, signature};
+ghost use Rattle.lms.specs.Textbook.{path_in, public_bytes, public_of, signature_bytes, signature_size, signed};
+ghost use Rattle.lms.specs.Valid.{IsValid};
+
+use crate::key::LmsPublic;
+use crate::secret::LmsSecret;
+use lmots::LmOts;
+
+/// Writes a public key, 56 bytes (RFC 8554 5.3).
+pub fn write_public(public: &LmsPublic, into: &mut [u8])
+    requires { length into.old ≡ 56 }
+    ensures bytes { into.new ≡ public_bytes public.now }
+    // They spell the key.
+    ensures spells { Spells public_key public.now into.new }
+{
+    let place = put(into, 0, &public.pair.tree.code().to_be_bytes());
+    let place = put(into, place, &public.pair.ots.code().to_be_bytes());
+    let place = put(into, place, &public.identifier);
+    put(into, place, &public.root);
+}
+
+/// Writes the signature of the digest Q by leaf q, with the randomizer C and the leaf's
+/// authentication path (RFC 8554 4.5 and 5.4.1).
+pub fn write_signature(
+    secret: &LmsSecret,
+    q: u32,
+    randomizer: &[u8; 32],
+    digest: &[u8; 32],
+    path: &[[u8; 32]],
+    into: &mut [u8],
+)
+    requires inside { q < 2 ^ height_of secret.now.pair.tree }
+    requires path { length path.now ≡ height_of secret.now.pair.tree }
+    requires room { length into.old ≡ signature_size secret.now.pair }
+    ensures bytes { into.new ≡ signature_bytes (signed secret.now q randomizer.now digest.now path.now) }
+    // They spell the signature.
+    ensures spells { Spells signature (signed secret.now q randomizer.now digest.now path.now) into.new }
+    // Where the digest is a message's and the path is the leaf's, the signature is valid.
+    ensures valid { (message : List ℕ) → digest.now ≡ message_digest_of secret.now.identifier q randomizer.now message
+        → path.now ≡ path_in secret.now q
+        → IsValid (public_of secret.now) message (signed secret.now q randomizer.now digest.now path.now) }
+{
+    let key = LmOts {
+        identifier: secret.identifier,
+        leaf: q,
+    };
+    let ots = secret.pair.ots;
+    let place = put(into, 0, &q.to_be_bytes());
+    let place = put(into, place, &ots.code().to_be_bytes());
+    let place = put(into, place, randomizer);
+    let end = place + 32 * usize::from(ots.chains());
+    key.sign_digest(ots, &secret.seed, digest, &mut into[place..end]);
+    let place = put(into, end, &secret.pair.tree.code().to_be_bytes());
+    put(into, place, path.as_flattened());
+}
+
+// Writes bytes at a place, and tells the place behind them.
+fn put(into: &mut [u8], place: usize, bytes: &[u8]) -> usize
+    requires { place + length bytes.now ≤ length into.old }
+    ensures place { result ≡ place + length bytes.now }
+    ensures bytes { take result into.new ≡ take place into.old ++ bytes.now }
+{
+    let end = place + bytes.len();
+    into[place..end].copy_from_slice(bytes);
+    end
+}
+
+#[cfg(test)]
+mod tests;

@@ -1,0 +1,3 @@
+pub mod Climb
+pub mod Leading
+pub mod Building

@@ -1,0 +1,17 @@
+-- The nodes through which an authentication path leads (RFC 8554 5.4.2, RFC 8391 4.1.10).
+use Rattle.std.specs.Prelude.{◌≡◌, ◌==◌, ℕ, ◌+◌, ◌<◌, ◌/◌, ◌%◌, ◌^◌, List, [], length, slice_index_or, if◌then◌else◌}
+use Rattle.merkle.specs.Tree.{Joins}
+
+-- node k of a list of nodes
+abbrev pub at : List (List ℕ) → ℕ → List ℕ
+at nodes k = slice_index_or nodes k []
+
+-- The nodes above a leaf, the leaf first: each next one is the join of the node before with the
+-- path's, the node before on the right exactly where bit k of q is 1.
+pub record IsAscent (join : Joins) (q : ℕ) (leaf : List ℕ) (path nodes : List (List ℕ)) : Type 0 where
+  pub count : length nodes ≡ length path + 1
+  pub first : at nodes 0 ≡ leaf
+  pub next : (k : ℕ) → k < length path
+      → at nodes (k + 1) ≡ (if q / 2 ^ k % 2 == 1
+      then join k (q / 2 ^ (k + 1)) (at path k) (at nodes k)
+      else join k (q / 2 ^ (k + 1)) (at nodes k) (at path k))

@@ -1,0 +1,105 @@
+use Rattle.std.proofs.Common.{◌≡◌, ◌+◌, ℕ, true, not, [], ◌∷◌, ◌++◌, Some, Ok, Err, List, ap, sym, ◌∙◌, subst, refl, rules}
+use Rattle.state_file.specs.declared.record.Record.TheVariants.{Bound as BoundRecord}
+use Rattle.sign_core.specs.Ledger.{binding_of, key_of, signature_of}
+use Rattle.sign_core.specs.Keeping.{Stores, closes}
+use Rattle.sign_core.specs.World.{Outcome, acked, new_bound}
+use Rattle.sign_core.specs.Calls.{answered, state_of}
+use Rattle.sign_core.proofs.Steps.{append_fails, draw_fails, key_appended, key_snoc, kept_along, signs_along, hindered_signs, undrawn_signs, appended_signs, kept_more}
+use Rattle.sign_core.proofs.signer.Signer.bind.Goals as goal
+
+pub returns-in_err-prepare-clause-step : goal.returns-in_err-prepare-clause-step
+returns-in_err-prepare-clause-step g c =
+    let i = c.self.inside in
+    let list = ap (λ w. g.S.Store.list w.store) c.self.view_is in
+    let told = ap (λ w. g.R.Source.told w.random) c.self.view_is in
+    let open_now = ap (λ w. w.is_open) c.self.view_is ∙ c.requires.open in
+    let kept = c.self.invariant.1 open_now in
+    let none = ap (λ l. binding_of l c.args.name.now) list ∙ c.requires.unbound in
+    let h = c.in_err-prepare.ensures.hindrance in
+    let answer : answered c.from_residual.result c.prepare.new.out.items ≡ Err c.in_err-prepare.field-0.0 = search rules in
+    signs_along (hindered_signs c.limit.result (g.S.Store.list i.store) (g.S.Store.stopped i.store) i.ledger.key i.ledger.bounds.items i.ledger.next (g.R.Source.told i.random) c.args.name.now c.args.message.now.now h.0 c.in_err-prepare.field-0.0 kept none h.1)
+    (c.limit.ensures ∙ ap (λ w. g.S.Store.most w.store) c.self.view_is) (ap (λ l. state_of l true) list) (ap (state_of (g.S.Store.list i.store)) (sym open_now)) told refl refl (sym answer)
+
+pub returns-in_err-randomizer-clause-step : goal.returns-in_err-randomizer-clause-step
+returns-in_err-randomizer-clause-step g c =
+    let i = c.self.inside in
+    let list = ap (λ w. g.S.Store.list w.store) c.self.view_is in
+    let told = ap (λ w. g.R.Source.told w.random) c.self.view_is in
+    let most = c.limit.ensures ∙ ap (λ w. g.S.Store.most w.store) c.self.view_is in
+    let open_now = ap (λ w. w.is_open) c.self.view_is ∙ c.requires.open in
+    let kept = c.self.invariant.1 open_now in
+    let none = ap (λ l. binding_of l c.args.name.now) list ∙ c.requires.unbound in
+    let h = c.in_ok-prepare.ensures.hindrance in
+    let answer : answered c.from_residual-in_err-randomizer.result c.prepare.new.out.items ≡ Err c.in_err-randomizer.field-0.0 = search rules in
+    let failed = draw_fails _ _ _ _ _ c.in_err-randomizer.ensures.drawn in
+    signs_along (undrawn_signs c.limit.result (g.S.Store.list i.store) (g.S.Store.stopped i.store) i.ledger.key i.ledger.bounds.items i.ledger.next (g.R.Source.told i.random) (g.R.Source.told c.draw.new.random) c.args.name.now c.args.message.now.now h.0 kept none h.1 failed.1)
+    most (ap (λ l. state_of l true) list) (ap (state_of (g.S.Store.list i.store)) (sym open_now)) told refl refl (ap Err (sym failed.0) ∙ sym answer)
+
+pub returns-in-Err-clause-step : goal.returns-in-Err-clause-step
+returns-in-Err-clause-step g c =
+    let i = c.self.inside in
+    let list = ap (λ w. g.S.Store.list w.store) c.self.view_is in
+    let told = ap (λ w. g.R.Source.told w.random) c.self.view_is in
+    let most = c.limit.ensures ∙ ap (λ w. g.S.Store.most w.store) c.self.view_is in
+    let open_now = ap (λ w. w.is_open) c.self.view_is ∙ c.requires.open in
+    let kept = c.self.invariant.1 open_now in
+    let none = ap (λ l. binding_of l c.args.name.now) list ∙ c.requires.unbound in
+    let h = c.in_ok-prepare.ensures.hindrance in
+    let p = c.prepare.ensures in
+    let randomizer = c.in_ok-randomizer.randomizer in
+    let bound = new_bound i.ledger.key i.ledger.next c.args.name.now c.args.message.now.now randomizer in
+    let same : c.copied.result ≡ bound = c.copied.ensures ∙ c.next_bound-bound.ensures.bound
+    ∙ (λ j. new_bound (p.key j) (p.next j) c.args.name.now (c.take_all.ensures.text j) randomizer) in
+    let stored = subst (λ entry. Stores {A = Unit {0}} (g.S.Store.list i.store) (BoundRecord entry) (g.S.Store.list c.append.new.store) (g.S.Store.stopped c.append.new.store) (g.S.Store.failures i.store) (g.S.Store.failures c.append.new.store) (Err c.in-Err.fault)) same c.in-Err.ensures.stored in
+    let made = append_fails true _ _ _ _ _ _ _ (signature_of i.ledger.key bound) stored in
+    signs_along (appended_signs c.limit.result (g.S.Store.list i.store) (g.S.Store.list c.append.new.store) (not (closes c.in-Err.fault)) (g.S.Store.stopped i.store) i.ledger.key i.ledger.bounds.items i.ledger.next (g.R.Source.told i.random) (g.R.Source.told c.draw.new.random) c.args.name.now c.args.message.now.now randomizer h.0 made.0 (Err c.in-Err.fault) kept none h.1 c.next_bound-bound.ensures.drawn c.in_ok-randomizer.ensures.drawn.1 made.1)
+    most (ap (λ l. state_of l true) list) (ap (λ b. state_of (g.S.Store.list c.append.new.store) (not b)) (sym c.closes.ensures)) told refl (sym c.take_all.ensures.rest) refl
+
+pub invariant_of-self-in-Ok : goal.invariant_of-self-in-Ok
+invariant_of-self-in-Ok g c =
+    let i = c.self.inside in
+    let p = c.prepare.ensures in
+    let pushed = c.push.ensures in
+    let key = sym p.key ∙ sym pushed.key in
+    let stored = c.in-Ok.ensures.stored in
+    let first = ap key_of stored.0 ∙ key_snoc (g.S.Store.list i.store) (BoundRecord c.copied.result) i.ledger.key c.self.invariant.0 ∙ ap Some key in
+    let leaf : c.next_bound-bound.result.leaf ≡ i.ledger.next = ap (λ b. b.leaf) c.next_bound-bound.ensures.bound ∙ p.next in
+    let list = stored.0 ∙ ap (λ b. g.S.Store.list i.store ++ BoundRecord b ∷ []) c.copied.ensures in (
+      first,
+      λ is_open. kept_along
+          (kept_more (g.S.Store.list i.store) (g.S.Store.stopped i.store) i.ledger.key i.ledger.bounds.items i.ledger.next c.next_bound-bound.result (g.S.Store.list c.append.new.store) (g.S.Store.stopped c.append.new.store) (c.self.invariant.1 is_open) leaf c.in_ok-prepare.ensures.free list stored.1)
+          refl refl key
+          (ap (λ l. l ++ c.next_bound-bound.result ∷ []) (sym p.bounds) ∙ sym pushed.bounds)
+          (ap (λ n. n + 1) (sym p.next) ∙ sym pushed.next),
+    )
+
+pub invariant_of-self-in-Err : goal.invariant_of-self-in-Err
+invariant_of-self-in-Err g c =
+    let i = c.self.inside in
+    let p = c.prepare.ensures in
+    let made = append_fails true (g.S.Store.list i.store) (BoundRecord c.copied.result) (g.S.Store.list c.append.new.store) (g.S.Store.stopped c.append.new.store) (g.S.Store.failures i.store) (g.S.Store.failures c.append.new.store) c.in-Err.fault c.args.name.now c.in-Err.ensures.stored in
+    let first = ap (λ (o : Outcome (List ℕ)). key_of o.state.records) (sym made.1) ∙ key_appended true (g.S.Store.list i.store) (BoundRecord c.copied.result) i.ledger.key c.args.name.now made.0 c.self.invariant.0 in
+    (first ∙ ap Some (sym p.key), search rules)
+
+pub returns-in-Ok-clause-step : goal.returns-in-Ok-clause-step
+returns-in-Ok-clause-step g c =
+    let i = c.self.inside in
+    let list = ap (λ w. g.S.Store.list w.store) c.self.view_is in
+    let told = ap (λ w. g.R.Source.told w.random) c.self.view_is in
+    let most = c.limit.ensures ∙ ap (λ w. g.S.Store.most w.store) c.self.view_is in
+    let open_now = ap (λ w. w.is_open) c.self.view_is ∙ c.requires.open in
+    let kept = c.self.invariant.1 open_now in
+    let none = ap (λ l. binding_of l c.args.name.now) list ∙ c.requires.unbound in
+    let h = c.in_ok-prepare.ensures.hindrance in
+    let p = c.prepare.ensures in
+    let randomizer = c.in_ok-randomizer.randomizer in
+    let bound = new_bound i.ledger.key i.ledger.next c.args.name.now c.args.message.now.now randomizer in
+    let same : c.next_bound-bound.result ≡ bound = c.next_bound-bound.ensures.bound
+    ∙ (λ j. new_bound (p.key j) (p.next j) c.args.name.now (c.take_all.ensures.text j) randomizer) in
+    let stored = c.in-Ok.ensures.stored in
+    let new : g.S.Store.list c.append.new.store ≡ g.S.Store.list i.store ++ BoundRecord bound ∷ [] =
+    stored.0 ∙ ap (λ b. g.S.Store.list i.store ++ BoundRecord b ∷ []) (c.copied.ensures ∙ same) in
+    let out : c.write_bound.new.out.items ≡ signature_of i.ledger.key bound =
+    c.write_bound.ensures ∙ (λ j. signature_of (p.key j) (same j)) in
+    signs_along (appended_signs c.limit.result (g.S.Store.list i.store) (g.S.Store.list i.store ++ BoundRecord bound ∷ []) true (g.S.Store.stopped i.store) i.ledger.key i.ledger.bounds.items i.ledger.next (g.R.Source.told i.random) (g.R.Source.told c.draw.new.random) c.args.name.now c.args.message.now.now randomizer h.0 acked (Ok (signature_of i.ledger.key bound)) kept none h.1 c.next_bound-bound.ensures.drawn c.in_ok-randomizer.ensures.drawn.1 refl)
+    most (ap (λ l. state_of l true) list) (λ j. state_of (sym new j) (sym open_now j)) told refl (sym c.take_all.ensures.rest) (ap Ok (sym out))

@@ -1,0 +1,7 @@
+pub mod Ledger
+pub mod Uses
+pub mod World
+pub mod Once
+pub mod Source
+pub mod Calls
+pub mod Keeping

@@ -1,0 +1,53 @@
+//! The first record of a store.
+
+ghost use Rattle.std.specs.Prelude.{◌≡◌, ◌≤◌, [], false, IfOk, IfErr, OnOk, is_ok};
+ghost use Rattle.sign_core.specs.Calls.{Creates, LeavesSource, RandomCount, StoreCount, published, state_of};
+ghost use Rattle.sign_core.specs.Keeping.{FindsNone, records_of};
+
+use crate::fault::SignFault;
+use crate::source::Source;
+use crate::work::{append, draw, key_from_seed};
+use state_file::{Key, Record, Store, StoreFault};
+use typecodes::LmsPair;
+
+// Looks whether a store has no record yet.
+fn find_none<S: Store>(store: &mut S) -> Result<(), SignFault>
+    ensures finds { FindsNone (S.list store.old) (S.honest store.old) (S.stopped store.old) (S.stopped store.new) (S.failures store.old) (S.failures store.new) result }
+    ensures same { S.list store.new ≡ S.list store.old }
+    ensures honest { S.honest store.new ≡ S.honest store.old }
+    ensures most { S.most store.new ≡ S.most store.old }
+{
+    match store.load(0) {
+        Ok(None) => Ok(()),
+        Ok(Some(_)) => Err(SignFault::KeyThere),
+        Err(StoreFault::Stopped) => Err(SignFault::Stopped),
+        Err(StoreFault::Damaged(slot)) => Err(SignFault::Unreadable(slot)),
+        Err(StoreFault::DeviceFailed) => Err(SignFault::StoreFailed),
+        Err(StoreFault::OutOfMemory) => Err(SignFault::OutOfMemory),
+        Err(StoreFault::Full) => unreachable!(),
+    }
+}
+
+/// Makes a key and appends its record, where none stands.
+pub(crate) fn begin<S: Store, R: Source>(
+    pair: LmsPair,
+    store: &mut S,
+    random: &mut R,
+) -> Result<Key, SignFault>
+    requires { 1 ≤ S.most store.old }
+    ensures step { Creates pair (S.stopped store.old) (S.honest store.old) (state_of (S.list store.old) false) (state_of (S.list store.new) (is_ok result)) (R.told random.old) (R.told random.new) (published result) }
+    ensures leaves { IfErr result (λ fault. LeavesSource fault random.old random.new) }
+    ensures random { RandomCount result (R.failures random.old) (R.failures random.new) }
+    ensures store { StoreCount result (S.failures store.old) (S.failures store.new) }
+    ensures running { OnOk result (S.stopped store.new ≡ false) }
+    ensures list { IfOk result (λ key. S.list store.new ≡ records_of key []) }
+    ensures honest { S.honest store.new ≡ S.honest store.old }
+    ensures most { S.most store.new ≡ S.most store.old }
+{
+    find_none(store)?;
+    let identifier = draw::<R, 16>(random)?;
+    let seed = draw::<R, 32>(random)?;
+    let key = key_from_seed(pair, &identifier, &seed);
+    append(store, &Record::Key(key))?;
+    Ok(key)
+}

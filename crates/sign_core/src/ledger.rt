@@ -1,0 +1,119 @@
+//! The records of a key, kept in memory.
+
+ghost use Rattle.std.specs.Prelude.{◌≡◌, ◌^◌, true, ◌<◌, ◌+◌, ◌∷◌, [], ◌++◌, Bool, Some, None, MatchOption, IfErr, OnOk, find, vec_len, vec_capacity, length};
+ghost use Rattle.typecodes.specs.Types.{height_of};
+ghost use Rattle.lms.specs.Textbook.{path_in, signature_size};
+ghost use Rattle.sign_core.specs.Ledger.{same_bytes};
+
+use crate::fault::SignFault;
+use crate::work::{digest, make_room, sound_path};
+use state_file::{Bound, Key};
+use typecodes::Name;
+
+/// The key, its bindings, and the next leaf.
+#[derive(Debug, Drop)]
+pub(crate) struct Ledger {
+    pub(crate) key: Key,
+    pub(crate) bounds: Vec<Bound>,
+    pub(crate) next: u32,
+}
+
+/// The binding of a name.
+pub(crate) fn find_bound<'a>(bounds: &'a [Bound], name: &Name) -> Option<&'a Bound>
+    ensures { MatchOption result (find (λ bound. same_bytes bound.name name.now) bounds.entry.now ≡ None) (λ found. find (λ bound. same_bytes bound.name name.now) bounds.entry.now ≡ Some found.now) }
+{
+    for bound in bounds {
+        if bound.name == *name {
+            return Some(bound);
+        }
+    }
+    None
+}
+
+impl Ledger {
+    ghost use Rattle.sign_core.specs.Keeping.{fault_of, hindrance};
+    ghost use Rattle.sign_core.specs.Ledger.{is_sound, secret_of};
+    ghost use Rattle.sign_core.specs.Once.{IsDrawn};
+    ghost use Rattle.sign_core.specs.World.{new_bound};
+
+    // Refuses where no leaf is free, or where the store takes no further record.
+    fn check_free(&self, limit: u32) -> Result<(), SignFault>
+        ensures { fault_of result ≡ hindrance limit (height_of self.now.key.pair.tree) self.now.next (length self.now.bounds.items + 1) true true }
+    {
+        if self.next >= 1 << self.key.pair.tree.height() {
+            return Err(SignFault::Exhausted);
+        }
+        if self.bounds.len() + 1 >= limit as usize {
+            return Err(SignFault::LedgerFull);
+        }
+        Ok(())
+    }
+
+    // Makes room for a signature, and for one more binding.
+    fn reserve(&mut self, out: &mut Vec<u8>) -> Result<(), SignFault>
+        ensures room { OnOk result (length out.new.items ≡ signature_size self.old.key.pair) }
+        ensures reserved { OnOk result (vec_len self.new.bounds < vec_capacity self.new.bounds) }
+        ensures refused { IfErr result (λ fault. fault ≡ SignFault.OutOfMemory) }
+        ensures key { self.new.key ≡ self.old.key }
+        ensures bounds { self.new.bounds.items ≡ self.old.bounds.items }
+        ensures next { self.new.next ≡ self.old.next }
+    {
+        make_room(self.key.pair, out)?;
+        self.bounds.reserve(1).map_err(|_| SignFault::OutOfMemory)
+    }
+
+    /// Gets all ready for one more binding: room for it and for its signature, and its leaf's path.
+    /// Refuses where no leaf is free, the store takes no further record, memory is refused, or the
+    /// key's root isn't that of its secret.
+    pub(crate) fn prepare(
+        &mut self,
+        limit: u32,
+        path: &mut [[u8; 32]],
+        out: &mut Vec<u8>,
+    ) -> Result<(), SignFault>
+        requires { length path.old ≡ height_of self.old.key.pair.tree }
+        ensures hindrance { (has_room : Bool) × (fault_of result ≡ hindrance limit (height_of self.old.key.pair.tree) self.old.next (length self.old.bounds.items + 1) has_room (is_sound self.old.key)) }
+        ensures free { OnOk result (self.old.next < 2 ^ height_of self.old.key.pair.tree) }
+        ensures takes { OnOk result (length self.old.bounds.items + 1 < limit) }
+        ensures path { OnOk result (path.new ≡ path_in (secret_of self.old.key) self.old.next) }
+        ensures height { OnOk result (length path.new ≡ height_of self.old.key.pair.tree) }
+        ensures room { OnOk result (length out.new.items ≡ signature_size self.old.key.pair) }
+        ensures reserved { OnOk result (vec_len self.new.bounds < vec_capacity self.new.bounds) }
+        ensures key { self.new.key ≡ self.old.key }
+        ensures bounds { self.new.bounds.items ≡ self.old.bounds.items }
+        ensures next { self.new.next ≡ self.old.next }
+    {
+        self.check_free(limit)?;
+        self.reserve(out)?;
+        if sound_path(&self.key, self.next, path) {
+            Ok(())
+        } else {
+            Err(SignFault::Damaged(0))
+        }
+    }
+
+    /// The binding of a name to the next leaf, and to the message's digest under it.
+    pub(crate) fn next_bound(&self, name: &Name, randomizer: &[u8; 32], text: &[u8]) -> Bound
+        ensures bound { result ≡ new_bound self.now.key self.now.next name.now text.now randomizer.now }
+        ensures drawn { IsDrawn (Some randomizer.now) }
+    {
+        Bound {
+            name: name.copied(),
+            leaf: self.next,
+            randomizer: *randomizer,
+            digest: digest(&self.key, self.next, randomizer, text),
+        }
+    }
+
+    /// Adds a binding to the next leaf, into room that was made for it.
+    pub(crate) fn push(&mut self, bound: Bound)
+        requires room { vec_len self.old.bounds < vec_capacity self.old.bounds }
+        requires next { self.old.next < 2 ^ 25 }
+        ensures bounds { self.new.bounds.items ≡ self.old.bounds.items ++ bound ∷ [] }
+        ensures next { self.new.next ≡ self.old.next + 1 }
+        ensures key { self.new.key ≡ self.old.key }
+    {
+        self.bounds.push_reserved(bound);
+        self.next += 1;
+    }
+}

@@ -1,0 +1,39 @@
+//! A request under a name that is bound.
+
+ghost use Rattle.std.specs.Prelude.{◌≡◌, ◌<◌, ◌^◌, Bool, ℕ, [], None};
+ghost use Rattle.typecodes.specs.Types.{height_of};
+ghost use Rattle.sign_core.specs.Calls.{RandomCount, StoreCount, answered};
+ghost use Rattle.sign_core.specs.World.{repeated};
+ghost use Rattle.sign_core.specs.World.Fate.{acked};
+
+use crate::fault::SignFault;
+use crate::work::{digest, make_room, sound_path, take_all, write_bound};
+use state_file::{Bound, Key};
+
+/// The recorded signature, where the message has the recorded digest.
+pub(crate) fn repeat(
+    key: &Key,
+    bound: &Bound,
+    message: &mut &[u8],
+    out: &mut Vec<u8>,
+) -> Result<(), SignFault>
+    requires { bound.now.leaf < 2 ^ height_of key.now.pair.tree }
+    ensures answer { (has_room : Bool) × (answered result out.new.items ≡ repeated key.now bound.now message.old.now (record { drawn = None; has_room = has_room; fate = acked })) }
+    // It asks neither the source nor the store.
+    ensures random { (n : ℕ) → RandomCount result n n }
+    ensures store { (n : ℕ) → StoreCount result n n }
+    ensures read { message.new.now ≡ [] }
+{
+    let text = take_all(message);
+    if digest(key, bound.leaf, &bound.randomizer, text) != bound.digest {
+        return Err(SignFault::Changed);
+    }
+    make_room(key.pair, out)?;
+    let mut nodes = [[0u8; 32]; 25];
+    let path = &mut nodes[..usize::from(key.pair.tree.height())];
+    if !sound_path(key, bound.leaf, path) {
+        return Err(SignFault::Damaged(0));
+    }
+    write_bound(key, bound, path, out);
+    Ok(())
+}

@@ -1,0 +1,109 @@
+use super::*;
+use std::test::Fail;
+use typecodes::{BadName, LmsPair, LmsType, Name, OtsType};
+
+const fn key() -> Record {
+    Record::Key(Key {
+        pair: LmsPair {
+            tree: LmsType::H5,
+            ots: OtsType::W8,
+        },
+        identifier: [1; 16],
+        seed: [2; 32],
+        root: [3; 32],
+    })
+}
+
+fn bound(name: &[u8], leaf: u32) -> Result<Record, BadName> {
+    Ok(Record::Bound(Bound {
+        name: Name::new(name)?,
+        leaf,
+        randomizer: [4; 32],
+        digest: [5; 32],
+    }))
+}
+
+#[test]
+fn takes_as_many_as_its_limit(rt: HostRuntime) -> Result<(), Fail> {
+    let mut store = MemoryStore::with_limit(rt.alloc(), 2);
+    let second = bound(b"release-1", 7)?;
+    assert_eq!(rt; store.limit(), 2);
+    assert_eq!(rt; store.load(0)?, None);
+    store.append(&key())?;
+    store.append(&second)?;
+    assert_eq!(rt; store.append(&second), Err(StoreFault::Full));
+    assert_eq!(rt; store.load(0)?, Some(key()));
+    assert_eq!(rt; store.load(1)?, Some(second));
+    assert_eq!(rt; store.load(2)?, None);
+    assert_eq!(rt; store.load(u32::MAX)?, None);
+    Ok(())
+}
+
+#[test]
+fn cut_that_leaves_the_old_records(rt: HostRuntime) -> Result<(), Fail> {
+    let mut store = MemoryStore::with_limit(rt.alloc(), 2);
+    let second = bound(b"release-1", 7)?;
+    store.append(&key())?;
+    store.cut_at(1, Cut::Old);
+    assert_eq!(rt; store.append(&second), Err(StoreFault::DeviceFailed));
+    assert_eq!(rt; store.append(&second), Err(StoreFault::Stopped));
+    assert_eq!(rt; store.load(0), Err(StoreFault::Stopped));
+    store.reopen();
+    assert_eq!(rt; store.load(0)?, Some(key()));
+    assert_eq!(rt; store.load(1)?, None);
+    store.append(&second)?;
+    assert_eq!(rt; store.load(1)?, Some(second));
+    Ok(())
+}
+
+#[test]
+fn cut_that_leaves_the_new_record(rt: HostRuntime) -> Result<(), Fail> {
+    let mut store = MemoryStore::with_limit(rt.alloc(), 3);
+    let second = bound(b"release-1", 7)?;
+    store.cut_at(2, Cut::New);
+    store.append(&key())?;
+    assert_eq!(rt; store.append(&second), Err(StoreFault::DeviceFailed));
+    assert_eq!(rt; store.load(1), Err(StoreFault::Stopped));
+    store.reopen();
+    assert_eq!(rt; store.load(0)?, Some(key()));
+    assert_eq!(rt; store.load(1)?, Some(second));
+    assert_eq!(rt; store.load(2)?, None);
+    store.append(&key())?;
+    assert_eq!(rt; store.append(&key()), Err(StoreFault::Full));
+    Ok(())
+}
+
+// A store that is full answers so and brings no cut nearer, and a cut of the 0th append never comes.
+#[test]
+fn appends_that_dont_reach_the_device(rt: HostRuntime) -> Result<(), Fail> {
+    let mut store = MemoryStore::with_limit(rt.alloc(), 1);
+    store.cut_at(2, Cut::Old);
+    store.append(&key())?;
+    assert_eq!(rt; store.append(&key()), Err(StoreFault::Full));
+    let mut store = MemoryStore::with_limit(rt.alloc(), 1);
+    store.cut_at(1, Cut::Old);
+    store.cut_at(0, Cut::Old);
+    store.append(&key())?;
+    Ok(())
+}
+
+#[test]
+fn faults_are_told(rt: HostRuntime) -> Result<(), Fail> {
+    for (fault, text) in [
+        (
+            StoreFault::Stopped,
+            "a call failed, and the place was not opened again since",
+        ),
+        (
+            StoreFault::Damaged(4_294_967_295),
+            "slot 4294967295 spells no record",
+        ),
+        (StoreFault::DeviceFailed, "the device failed"),
+        (StoreFault::OutOfMemory, "out of memory"),
+        (StoreFault::Full, "the store is full"),
+    ] {
+        let told = format!(in rt.alloc(); "{fault}")?;
+        assert_eq!(rt; told.as_str(), text);
+    }
+    Ok(())
+}

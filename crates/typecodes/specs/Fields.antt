@@ -1,0 +1,45 @@
+-- The fields that layouts are made of (RFC 8554 3.1 and 3.2: numbers are big-endian).
+use Rattle.std.specs.Prelude.{ℕ, zero, suc, List, [], ◌∷◌, Option, Some, None}
+use Rattle.std.specs.Simd.{first_chunks}
+use Rattle.byteorder.specs.Endian.{big_number}
+use Rattle.typecodes.specs.declared.fault.Cause.TheVariants.{UnknownType}
+use Rattle.typecodes.specs.declared.types.OtsType.{OtsType}
+use Rattle.typecodes.specs.declared.types.LmsType.{LmsType}
+use Rattle.typecodes.specs.Types.{named, ots_code, ots_types, lms_code, lms_types}
+use Rattle.typecodes.specs.Layout.{Layout, done, refuse, field, ◌>>=◌}
+
+-- a number of 4 bytes
+abbrev pub number : Layout ℕ
+number = field 4 (λ bytes. done (big_number 4 bytes))
+
+-- n bytes
+abbrev pub block : ℕ → Layout (List ℕ)
+block n = field n done
+
+-- n values of 32 bytes, each a field of its own
+unfoldable pub values : ℕ → Layout (List (List ℕ))
+values zero = done []
+values (suc n) = do
+  first ← block 32
+  rest ← values n
+  done (first ∷ rest)
+
+-- the first n values of 32 bytes in the bytes
+abbrev pub values_in : ℕ → List ℕ → List (List ℕ)
+values_in n bytes = first_chunks 32 n bytes
+
+-- the type of a field of 4 bytes, if its code named one
+abbrev pub known : {T : Type 0} → Option T → Layout T
+known (Some t) = done t
+known None = refuse 4 UnknownType
+
+-- a type of a table, by its code in 4 bytes
+abbrev pub typed : {T : Type 0} → (T → ℕ) → List T → Layout T
+typed code types = number >>= λ c. known (named code types c)
+
+-- a type of one-time signatures, and of trees
+unfoldable pub ots_type : Layout OtsType
+ots_type = typed ots_code ots_types
+
+unfoldable pub lms_type : Layout LmsType
+lms_type = typed lms_code lms_types

@@ -1,0 +1,49 @@
+-- How each layout of this project is described, and what follows from a description: which bytes
+-- spell a value, and which fault other bytes have.
+use Rattle.std.specs.Prelude.{◌≡◌, ℕ, ◌+◌, ◌-◌, ◌<◌, ◌⊎◌, List, [], ◌++◌, length}
+use Rattle.typecodes.specs.declared.fault.Cause.{Cause}
+use Rattle.typecodes.specs.declared.fault.Cause.TheVariants.{Truncated, Trailing}
+use Rattle.typecodes.specs.declared.fault.ReadFault.{ReadFault}
+use Rattle.typecodes.specs.Fault.{fault_at}
+
+-- A layout of values V is one field after the other. Which field comes next, and whether one meets
+-- its condition, depends on the bytes of the fields before it.
+pub data Layout (V : Type 0) : Type 0 where
+  -- nothing more: the fields so far are the value
+  done : V → Layout V
+  -- a field that began so many bytes before this place misses its condition
+  refuse : ℕ → Cause → Layout V
+  -- a field of so many bytes, and what comes after these bytes
+  field : ℕ → (List ℕ → Layout V) → Layout V
+
+-- one layout, and then another that depends on its value
+infixl 10 ◌>>=◌
+abbrev pub ◌>>=◌ : {A B : Type 0} → Layout A → (A → Layout B) → Layout B
+(done v) >>= next = next v
+(refuse back cause) >>= next = refuse back cause
+(field n rest) >>= next = field n (λ bytes. rest bytes >>= next)
+
+-- the same, by a name that a contract can use
+abbrev pub followed_by : {A B : Type 0} → Layout A → (A → Layout B) → Layout B
+followed_by first next = first >>= next
+
+-- The bytes spell the value: they are its fields, one after the other, and nothing else.
+abbrev pub Spells : {V : Type 0} → Layout V → V → List ℕ → Type 0
+Spells (done v) value bytes = (v ≡ value) × (bytes ≡ [])
+Spells (refuse back cause) value bytes = ⊥
+Spells (field n next) value bytes =
+    (front : List ℕ) × (rest : List ℕ) × (bytes ≡ front ++ rest) × (length front ≡ n) × Spells (next front) value rest
+
+-- The bytes spell a value of one layout, and behind it one of the layout that depends on this value.
+abbrev pub InTurn : {A B : Type 0} → Layout A → (A → Layout B) → B → List ℕ → Type 0
+InTurn {A = A} first next w bytes =
+    (v : A) × (a : List ℕ) × (b : List ℕ) × (bytes ≡ a ++ b) × Spells first v a × Spells (next v) w b
+
+-- The first fault of bytes that begin at a place: that of the first field from the left that doesn't
+-- fit or misses its condition; and where there is none, that bytes follow the value.
+abbrev pub HasFault : {V : Type 0} → Layout V → List ℕ → ℕ → ReadFault → Type 0
+HasFault (done v) bytes place fault = (0 < length bytes) × (fault ≡ fault_at place Trailing)
+HasFault (refuse back cause) bytes place fault = fault ≡ fault_at (place - back) cause
+HasFault (field n next) bytes place fault =
+    ((length bytes < n) × (fault ≡ fault_at place Truncated))
+    ⊎ ((front : List ℕ) × (rest : List ℕ) × (bytes ≡ front ++ rest) × (length front ≡ n) × HasFault (next front) rest (place + n) fault)

@@ -1,0 +1,79 @@
+-- The types of the profile and their numbers: RFC 8554 4.1, table 1, and 5.1, table 2, for SHA-256
+-- with n = 32.
+use Rattle.std.specs.Prelude.{◌≡◌, ◌==◌, ℕ, ◌+◌, ◌*◌, ◌⊎◌, List, [], ◌∷◌, Option, find}
+use Rattle.typecodes.specs.declared.types.OtsType.{OtsType}
+use Rattle.typecodes.specs.declared.types.OtsType.TheVariants.{W1, W2, W4, W8}
+use Rattle.typecodes.specs.declared.types.LmsType.{LmsType}
+use Rattle.typecodes.specs.declared.types.LmsType.TheVariants.{H5, H10, H15, H20, H25}
+use Rattle.typecodes.specs.declared.types.LmsPair.{LmsPair}
+
+-- the bits of a Winternitz digit
+abbrev pub IsWidth : ℕ → Type 0
+IsWidth w = (w ≡ 1) ⊎ (w ≡ 2) ⊎ (w ≡ 4) ⊎ (w ≡ 8)
+
+-- the type that a code names: the one among these types that has this code
+abbrev pub named : {T : Type 0} → (T → ℕ) → List T → ℕ → Option T
+named code types c = find (λ t. code t == c) types
+
+-- ---- one-time signatures
+
+abbrev pub ots_code : OtsType → ℕ
+ots_code W1 = 1
+ots_code W2 = 2
+ots_code W4 = 3
+ots_code W8 = 4
+
+-- w
+abbrev pub width_of : OtsType → ℕ
+width_of W1 = 1
+width_of W2 = 2
+width_of W4 = 4
+width_of W8 = 8
+
+-- p
+abbrev pub chains_of : OtsType → ℕ
+chains_of W1 = 265
+chains_of W2 = 133
+chains_of W4 = 67
+chains_of W8 = 34
+
+-- a code, a randomizer and a value for each chain
+abbrev pub signature_len_of : OtsType → ℕ
+signature_len_of t = 4 + 32 + 32 * chains_of t
+
+-- all of them
+abbrev pub ots_types : List OtsType
+ots_types = W1 ∷ W2 ∷ W4 ∷ W8 ∷ []
+
+abbrev pub ots_of_code : ℕ → Option OtsType
+ots_of_code c = named ots_code ots_types c
+
+-- ---- trees
+
+abbrev pub lms_code : LmsType → ℕ
+lms_code H5 = 5
+lms_code H10 = 6
+lms_code H15 = 7
+lms_code H20 = 8
+lms_code H25 = 9
+
+-- h
+abbrev pub height_of : LmsType → ℕ
+height_of H5 = 5
+height_of H10 = 10
+height_of H15 = 15
+height_of H20 = 20
+height_of H25 = 25
+
+-- all of them
+abbrev pub lms_types : List LmsType
+lms_types = H5 ∷ H10 ∷ H15 ∷ H20 ∷ H25 ∷ []
+
+abbrev pub lms_of_code : ℕ → Option LmsType
+lms_of_code c = named lms_code lms_types c
+
+-- ---- pairs of both
+
+-- a leaf's index, a one-time signature, the tree's code and a node of each height below the root
+abbrev pub lms_signature_len_of : LmsPair → ℕ
+lms_signature_len_of pair = 8 + signature_len_of pair.ots + 32 * height_of pair.tree

@@ -1,0 +1,160 @@
+//! A cursor over the bytes of a layout.
+
+ghost use Rattle.std.specs.Prelude.{◌≡◌, ◌<◌, ◌≤◌, ◌+◌, ◌*◌, ◌/◌, ◌^◌, length, IfOk, OnOk, OnErr, MatchResult};
+
+use crate::fault::{Cause, ReadFault};
+use crate::types::{LmsType, OtsType};
+use byteorder::{BigEndian, ByteOrder};
+
+/// Hands out the fields of its bytes one after the other, without copying.
+#[derive(Clone, Copy, Debug)]
+pub struct Cursor<'a> {
+    /// The bytes, whole.
+    pub bytes: &'a [u8],
+    /// Where the next field begins.
+    pub place: u32,
+    pub ghost within: { place ≤ length bytes.now },
+}
+
+impl<'a> Cursor<'a> {
+    ghost use Rattle.std.specs.Simd.{first_chunks};
+    ghost use Rattle.typecodes.specs.Fields.{number, block, values, ots_type, lms_type};
+    ghost use Rattle.typecodes.specs.Reading.{read, Gives};
+    ghost use Rattle.typecodes.specs.Fault.{fault_at};
+
+    /// A cursor before the first field.
+    pub fn new(bytes: &'a [u8]) -> Self
+        ensures bytes { result.bytes ≡ bytes.entry }
+        ensures place { result.place ≡ 0 }
+    {
+        Cursor { bytes, place: 0 }
+    }
+
+    /// The next n bytes, a field. A field that doesn't fit leaves the cursor where it is.
+    pub fn block(&mut self, n: u32) -> Result<&'a [u8], ReadFault>
+        requires { self.old.place + n < 2 ^ 32 }
+        ensures read { Gives (λ taken. (taken.now, self.new.place)) result (read (block n) self.old.bytes.now self.old.place) }
+        ensures len { OnOk result (self.new.place ≡ self.old.place + n) }
+        ensures bytes { self.new.bytes ≡ self.old.bytes }
+        ensures err { OnErr result (self.new.place ≡ self.old.place) }
+    {
+        let end = self.place + n;
+        if end as usize > self.bytes.len() {
+            return Err(self.fault(Cause::Truncated));
+        }
+        let taken = &self.bytes[self.place as usize..end as usize];
+        self.place = end;
+        Ok(taken)
+    }
+
+    /// The next N bytes, a field.
+    pub fn array<const N: usize>(&mut self) -> Result<&'a [u8; N], ReadFault>
+        requires { self.old.place + N < 2 ^ 32 }
+        ensures read { Gives (λ taken. (taken.now, self.new.place)) result (read (block N) self.old.bytes.now self.old.place) }
+        ensures len { OnOk result (self.new.place ≡ self.old.place + N) }
+        ensures bytes { self.new.bytes ≡ self.old.bytes }
+        ensures err { OnErr result (self.new.place ≡ self.old.place) }
+    {
+        let fault = self.fault(Cause::Truncated);
+        let taken = self.block(N as u32)?;
+        taken.as_array().ok_or(fault)
+    }
+
+    /// The next number, a field of 4 bytes.
+    pub fn number(&mut self) -> Result<u32, ReadFault>
+        requires { self.old.place + 4 < 2 ^ 32 }
+        ensures read { Gives (λ n. (n, self.new.place)) result (read number self.old.bytes.now self.old.place) }
+        ensures len { OnOk result (self.new.place ≡ self.old.place + 4) }
+        ensures bytes { self.new.bytes ≡ self.old.bytes }
+        ensures err { OnErr result (self.new.place ≡ self.old.place) }
+    {
+        let bytes = self.block(4)?;
+        Ok(BigEndian::read_u32(bytes))
+    }
+
+    /// The next one-time type, by its code in a field of 4 bytes. A code that names none leaves the
+    /// cursor before it.
+    #[tactic(auto, unfolding(crate::specs::Fields::ots_type))]
+    pub fn ots_type(&mut self) -> Result<OtsType, ReadFault>
+        requires { self.old.place + 4 < 2 ^ 32 }
+        ensures read { Gives (λ t. (t, self.new.place)) result (read ots_type self.old.bytes.now self.old.place) }
+        ensures len { OnOk result (self.new.place ≡ self.old.place + 4) }
+        ensures bytes { self.new.bytes ≡ self.old.bytes }
+        ensures err { OnErr result (self.new.place ≡ self.old.place) }
+    {
+        let mut behind = *self;
+        let code = behind.number()?;
+        let named = OtsType::from_code(code).ok_or(self.fault(Cause::UnknownType))?;
+        *self = behind;
+        Ok(named)
+    }
+
+    /// The next tree type, by its code in a field of 4 bytes. A code that names none leaves the
+    /// cursor before it.
+    #[tactic(auto, unfolding(crate::specs::Fields::lms_type))]
+    pub fn lms_type(&mut self) -> Result<LmsType, ReadFault>
+        requires { self.old.place + 4 < 2 ^ 32 }
+        ensures read { Gives (λ t. (t, self.new.place)) result (read lms_type self.old.bytes.now self.old.place) }
+        ensures len { OnOk result (self.new.place ≡ self.old.place + 4) }
+        ensures bytes { self.new.bytes ≡ self.old.bytes }
+        ensures err { OnErr result (self.new.place ≡ self.old.place) }
+    {
+        let mut behind = *self;
+        let code = behind.number()?;
+        let named = LmsType::from_code(code).ok_or(self.fault(Cause::UnknownType))?;
+        *self = behind;
+        Ok(named)
+    }
+
+    /// The next count values of 32 bytes, each a field.
+    pub fn values(&mut self, count: u32) -> Result<&'a [[u8; 32]], ReadFault>
+        requires { self.old.place + 32 * count < 2 ^ 32 }
+        ensures read { Gives (λ taken. (taken.now, self.new.place)) result (read (values count) self.old.bytes.now self.old.place) }
+        ensures count { IfOk result (λ taken. length taken.now ≡ count) }
+        ensures len { OnOk result (self.new.place ≡ self.old.place + 32 * count) }
+        ensures bytes { self.new.bytes ≡ self.old.bytes }
+        ensures err { OnErr result (self.new.place ≡ self.old.place) }
+    {
+        let taken = self.values_joined(count)?;
+        Ok(taken.as_chunks().0)
+    }
+
+    // The bytes of the next count values.
+    fn values_joined(&mut self, count: u32) -> Result<&'a [u8], ReadFault>
+        requires { self.old.place + 32 * count < 2 ^ 32 }
+        ensures read { Gives (λ taken. (first_chunks 32 (length taken.now / 32) taken.now, self.new.place)) result (read (values count) self.old.bytes.now self.old.place) }
+        ensures count { IfOk result (λ taken. length taken.now / 32 ≡ count) }
+        ensures len { OnOk result (self.new.place ≡ self.old.place + 32 * count) }
+        ensures bytes { self.new.bytes ≡ self.old.bytes }
+        ensures err { OnErr result (self.new.place ≡ self.old.place) }
+    {
+        let whole = (self.bytes.len() - self.place as usize) / 32;
+        if whole < count as usize {
+            let place = self.place + 32 * whole as u32;
+            let cause = Cause::Truncated;
+            return Err(ReadFault { place, cause });
+        }
+        self.block(32 * count)
+    }
+
+    /// Refuses bytes that follow the value.
+    pub fn end(&self) -> Result<(), ReadFault>
+        ensures { MatchResult result (λ _. length self.now.bytes.now ≡ self.now.place) (λ e. (self.now.place < length self.now.bytes.now) × (e ≡ fault_at self.now.place Cause.Trailing)) }
+    {
+        if self.place as usize == self.bytes.len() {
+            Ok(())
+        } else {
+            Err(self.fault(Cause::Trailing))
+        }
+    }
+
+    // The fault of the field at the cursor.
+    fn fault(&self, cause: Cause) -> ReadFault
+        ensures { result ≡ fault_at self.now.place cause }
+    {
+        ReadFault {
+            place: self.place,
+            cause,
+        }
+    }
+}

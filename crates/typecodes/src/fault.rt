@@ -1,0 +1,52 @@
+//! Why bytes spell no value.
+
+ghost use Rattle.std.specs.Prelude.{◌≡◌};
+ghost use Rattle.typecodes.specs.Fault.{cause_number};
+
+use std::fmt;
+use thiserror::Error;
+
+/// What is wrong with a field, in the words of the refusal that tells it.
+#[derive(Clone, Copy, Debug, PartialEq, Eq, Error)]
+pub enum Cause {
+    /// 1: the field doesn't fit into the bytes that are left.
+    #[error("a field is cut")]
+    Truncated,
+    /// 2: a type code that names no type of the profile.
+    #[error("a code names no type")]
+    UnknownType,
+    /// 3: a number of levels that is out of range.
+    #[error("a number of levels is out of range")]
+    LevelCount,
+    /// 4: a leaf's index that is at or above the number of leaves.
+    #[error("an index is past the last leaf")]
+    LeafOutOfRange,
+    /// 5: bytes follow the value.
+    #[error("bytes follow the value")]
+    Trailing,
+}
+
+impl Cause {
+    /// The number by which the fault is told, 1 to 5.
+    pub fn number(self) -> u8
+        ensures { result ≡ cause_number self }
+    {
+        match self {
+            Cause::Truncated => 1,
+            Cause::UnknownType => 2,
+            Cause::LevelCount => 3,
+            Cause::LeafOutOfRange => 4,
+            Cause::Trailing => 5,
+        }
+    }
+}
+
+/// The first fault of a list of bytes.
+#[derive(Clone, Copy, Debug, PartialEq, Eq, Error)]
+#[error("{cause} at {place}")]
+pub struct ReadFault {
+    /// How many bytes stand before it.
+    pub place: u32,
+    /// What is wrong.
+    pub cause: Cause,
+}

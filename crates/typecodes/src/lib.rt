@@ -1,0 +1,29 @@
+//! The bytes and numbers that the other crates stand on: the types of the standards' tables with
+//! their codes, `coef`, and the reading of layouts field by field.
+//!
+//! Its model is `specs/Layout.antt`: a layout is a list of fields, each of which may depend on those
+//! before it, and from it follow both which bytes spell a value and which fault other bytes have.
+//! What holds of every layout is proved once, on `layout_laws`, `following_laws` and `field_laws`.
+//! Its contract for the crates above: a code names exactly one type, and a cursor hands out exactly
+//! the field that the layout names, or its fault.
+#![tactic(auto)]
+
+mod coefficient;
+mod count;
+mod cursor;
+mod fault;
+mod laws;
+mod name;
+mod spec;
+#[cfg(test)]
+mod tests;
+mod types;
+
+pub use crate::coefficient::coef;
+pub use crate::count::Count;
+pub use crate::cursor::Cursor;
+pub use crate::fault::{Cause, ReadFault};
+pub use crate::laws::{field_laws, following_laws, layout_laws};
+pub use crate::name::{BadName, Name};
+pub use crate::spec::{BadSpec, Spec};
+pub use crate::types::{LmsPair, LmsType, OtsType};

@@ -1,0 +1,160 @@
+//! The types of RFC 8554's tables (4.1 and 5.1), SHA-256 with n = 32.
+
+ghost use Rattle.std.specs.Prelude.{◌≡◌, ◌≢◌, ◌≤◌, ◌↔◌, All, IfSome};
+ghost use Rattle.typecodes.specs.Types.{IsWidth, chains_of, height_of, lms_code, lms_of_code, lms_signature_len_of, lms_types, ots_code, ots_of_code, ots_types, signature_len_of, width_of};
+
+/// A one-time signature type of LM-OTS (RFC 8554 4.1), by the bits of its Winternitz digits.
+#[derive(Clone, Copy, Debug, PartialEq, Eq)]
+pub enum OtsType {
+    /// Digits of 1 bit.
+    W1,
+    /// Digits of 2 bits.
+    W2,
+    /// Digits of 4 bits.
+    W4,
+    /// Digits of 8 bits.
+    W8,
+}
+
+impl OtsType {
+    /// The type that a code names: 1 to 4 in the order of the widths.
+    pub fn from_code(code: u32) -> Option<Self>
+        ensures named { result ≡ ots_of_code code }
+        ensures some { IfSome result (λ t. ots_code t ≡ code) }
+        ensures none { result ≡ None ↔ All (λ t. ots_code t ≢ code) ots_types }
+    {
+        match code {
+            1 => Some(OtsType::W1),
+            2 => Some(OtsType::W2),
+            3 => Some(OtsType::W4),
+            4 => Some(OtsType::W8),
+            _ => None,
+        }
+    }
+
+    /// The code of the type, 1 to 4.
+    pub fn code(self) -> u32
+        ensures value { result ≡ ots_code self }
+        ensures alone { (other : OtsType) → ots_code other ≡ result → other ≡ self }
+    {
+        match self {
+            OtsType::W1 => 1,
+            OtsType::W2 => 2,
+            OtsType::W4 => 3,
+            OtsType::W8 => 4,
+        }
+    }
+
+    /// w: the bits of one Winternitz digit, 1, 2, 4 or 8.
+    pub fn width(self) -> u8
+        ensures value { result ≡ width_of self }
+        ensures is_width { IsWidth result }
+    {
+        match self {
+            OtsType::W1 => 1,
+            OtsType::W2 => 2,
+            OtsType::W4 => 4,
+            OtsType::W8 => 8,
+        }
+    }
+
+    /// p: the number of chains of a key, from 34 to 265.
+    pub fn chains(self) -> u16
+        ensures value { result ≡ chains_of self }
+        ensures most { result ≤ 265 }
+    {
+        match self {
+            OtsType::W1 => 265,
+            OtsType::W2 => 133,
+            OtsType::W4 => 67,
+            OtsType::W8 => 34,
+        }
+    }
+
+    /// The bytes of a one-time signature: its code, the randomizer and a value for each chain.
+    pub fn signature_len(self) -> u32
+        ensures { result ≡ signature_len_of self }
+    {
+        36 + 32 * u32::from(self.chains())
+    }
+}
+
+/// A tree type of LMS (RFC 8554 5.1), by its height.
+#[derive(Clone, Copy, Debug, PartialEq, Eq)]
+pub enum LmsType {
+    /// 32 leaves.
+    H5,
+    /// 1,024 leaves.
+    H10,
+    /// 32,768 leaves.
+    H15,
+    /// 1,048,576 leaves.
+    H20,
+    /// 33,554,432 leaves.
+    H25,
+}
+
+impl LmsType {
+    /// The type that a code names: 5 to 9 in the order of the heights.
+    pub fn from_code(code: u32) -> Option<Self>
+        ensures named { result ≡ lms_of_code code }
+        ensures some { IfSome result (λ t. lms_code t ≡ code) }
+        ensures none { result ≡ None ↔ All (λ t. lms_code t ≢ code) lms_types }
+    {
+        match code {
+            5 => Some(LmsType::H5),
+            6 => Some(LmsType::H10),
+            7 => Some(LmsType::H15),
+            8 => Some(LmsType::H20),
+            9 => Some(LmsType::H25),
+            _ => None,
+        }
+    }
+
+    /// The code of the type, 5 to 9.
+    pub fn code(self) -> u32
+        ensures value { result ≡ lms_code self }
+        ensures alone { (other : LmsType) → lms_code other ≡ result → other ≡ self }
+    {
+        match self {
+            LmsType::H5 => 5,
+            LmsType::H10 => 6,
+            LmsType::H15 => 7,
+            LmsType::H20 => 8,
+            LmsType::H25 => 9,
+        }
+    }
+
+    /// h: the height of the tree, which has `2^h` leaves.
+    pub fn height(self) -> u8
+        ensures value { result ≡ height_of self }
+        ensures most { result ≤ 25 }
+    {
+        match self {
+            LmsType::H5 => 5,
+            LmsType::H10 => 10,
+            LmsType::H15 => 15,
+            LmsType::H20 => 20,
+            LmsType::H25 => 25,
+        }
+    }
+}
+
+/// The two types of an LMS key: its tree's, and its leaves' one-time signatures'.
+#[derive(Clone, Copy, Debug, PartialEq, Eq)]
+pub struct LmsPair {
+    /// The type of the tree.
+    pub tree: LmsType,
+    /// The one-time type of its leaves.
+    pub ots: OtsType,
+}
+
+impl LmsPair {
+    /// The bytes of a signature: its leaf's index, the one-time signature, the tree's code and the
+    /// nodes of the path.
+    pub fn signature_len(self) -> u32
+        ensures { result ≡ lms_signature_len_of self }
+    {
+        8 + self.ots.signature_len() + 32 * u32::from(self.tree.height())
+    }
+}

@@ -1,0 +1,7 @@
+pub mod Walks
+mod Widths
+mod Bases
+pub mod Coefs
+mod Checksums
+mod Apart
+pub mod Ends

@@ -1,0 +1,18 @@
+//! Winternitz chains and digits, for every width and any step (RFC 8554 4.3 to 4.6, RFC 8391 3.1).
+//!
+//! Its model is `specs/Walk.antt`, a value after steps of a chain, and `specs/Digits.antt`, the
+//! digits of a digest with those of its checksum. Its contract for the crates above: `climb` is the
+//! walk along a chain, and `digits` gives the standard's list and no other. That list has the whole
+//! checksum, and so no other digest has digits that are all at least as great: to come from one
+//! digest's values to another's, some chain would have to be climbed down. `specs/Ends.antt` says
+//! what the ends of all the chains are.
+#![tactic(auto)]
+
+mod chain;
+mod digest;
+
+pub use crate::chain::{Step, climb};
+pub use crate::digest::{Digits, digits};
+
+#[cfg(test)]
+mod tests;

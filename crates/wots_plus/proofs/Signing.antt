@@ -1,0 +1,108 @@
+-- What a signature carries of a key's chains climbs to the ends of these chains, for any step and any
+-- private values.
+use Rattle.std.proofs.Common.{◌≡◌, ◌∙◌, refl, sym, ap, ap₂, subst, ℕ, zero, suc, ◌+◌, ◌-◌, ◌*◌, ◌<◌, ◌≤◌, ◌^◌, List, [], ◌∷◌, ◌++◌, map, length, get_or, take, arith, take_at, drop_at}
+use Rattle.std.specs.List.{concat, range_with_len}
+use Rattle.std.specs.Simd.{first_chunks}
+use Rattle.std.proofs.lemmas.List.FromFn.{fill_by_all, get_or-map-range_with_len, length-map-range_with_len, map-range_with_len_more}
+use Rattle.std.proofs.lemmas.List.{append-nil, take_all}
+use Rattle.std.proofs.lemmas.List.Folds.{concat-append}
+use Rattle.std.proofs.lemmas.Slice.{take-put_mid}
+use borrow.Rule.Slice.PartMut.{put_mid}
+use Rattle.typecodes.specs.Fields.{values_in}
+use Rattle.winternitz.specs.Walk.{Steps, walk, walk_on}
+use Rattle.winternitz.specs.Digits.{digit_count, digits_of}
+use Rattle.winternitz.specs.Ends.{AreEnds, end_of, ends_of}
+use Rattle.winternitz.proofs.Walks.{walk_joined}
+use Rattle.winternitz.proofs.Coefs.{digit_most}
+
+-- the private values, walked to the digits
+abbrev pub signed : Steps → (ℕ → List ℕ) → List ℕ → ℕ → List (List ℕ)
+signed step start digits n = map (λ i. walk step i 0 (get_or digits i 0) (start i)) (range_with_len 0 n)
+
+-- and to the ends of their chains
+abbrev pub ends : Steps → (ℕ → List ℕ) → ℕ → ℕ → List (List ℕ)
+ends step start w n = map (λ i. walk step i 0 (2 ^ w - 1) (start i)) (range_with_len 0 n)
+
+-- the values of a signature climb to the ends of the key's chains
+signed_climbs : (step : Steps) (start : ℕ → List ℕ) (w n : ℕ) (digest : List ℕ) → n ≡ digit_count w
+    → AreEnds step w (digits_of w digest) (signed step start (digits_of w digest) n) (ends step start w n)
+signed_climbs step start w n digest all =
+    let digits = digits_of w digest in
+    let value = λ (i : ℕ). walk step i 0 (get_or digits i 0) (start i) in
+    let end = λ (i : ℕ). walk step i 0 (2 ^ w - 1) (start i) in
+    let count : length digits ≡ digit_count w = length-map-range_with_len _ 0 (digit_count w) in
+    record {
+      count = length-map-range_with_len end 0 n ∙ all ∙ sym count;
+      each = λ i within.
+          let inside : i < n = omega arith in
+          get_or-map-range_with_len end 0 n i i [] inside (omega arith)
+          ∙ sym (walk_joined step i 0 (get_or digits i 0) (2 ^ w - 1) (start i) (omega arith) (digit_most w digest i (omega arith)))
+          ∙ ap (walk step i (get_or digits i 0) (2 ^ w - 1)) (sym (get_or-map-range_with_len value 0 n i i [] inside (omega arith)));
+    }
+
+-- along its chain a value keeps 32 bytes
+walked_size : (step : Steps) (c a n : ℕ) (v : List ℕ) → ((i j : ℕ) (v : List ℕ) → length (step i j v) ≡ 32) → length v ≡ 32
+    → length (walk_on step c a n v) ≡ 32
+unfolding walk_on
+walked_size step c a zero v steps size = size
+walked_size step c a (suc n) v steps size = steps c (a + n) (walk_on step c a n v)
+
+-- values of 32 bytes that are joined are cut out of the bytes again
+pub chunks_of_joined : (n : ℕ) (values : List (List ℕ)) → length values ≡ n → ((i : ℕ) → i < n → length (get_or values i []) ≡ 32)
+    → first_chunks 32 n (concat values) ≡ values
+chunks_of_joined zero [] count sizes = refl
+chunks_of_joined zero (first ∷ rest) count sizes = absurd (omega arith)
+chunks_of_joined (suc n) [] count sizes = absurd (omega arith)
+chunks_of_joined (suc n) (first ∷ rest) count sizes =
+    let size : length first ≡ 32 = sizes 0 (omega arith) in
+    let others = λ (i : ℕ) (within : i < n). sizes (suc i) (omega arith) in
+    ap₂ (λ x xs. x ∷ xs) (take_at first (concat rest) 32 size)
+    (ap (first_chunks 32 n) (drop_at first (concat rest) 32 size) ∙ chunks_of_joined n rest (omega arith) others)
+
+-- one value more behind those that are joined
+pub joined_more : (value : ℕ → List ℕ) (n : ℕ) → concat (map value (range_with_len 0 (n + 1))) ≡ concat (map value (range_with_len 0 n)) ++ value n
+joined_more value n =
+    ap concat (map-range_with_len_more value 0 n n (omega arith))
+    ∙ concat-append (map value (range_with_len 0 n)) (value n ∷ [])
+    ∙ ap (λ last. concat (map value (range_with_len 0 n)) ++ last) (append-nil (value n))
+
+-- the values up to n are written, and value n behind them: so are the values up to n + 1
+pub written_more : (value : ℕ → List ℕ) (n k : ℕ) (before part : List ℕ) → length part ≡ 32 → 32 * n ≤ length before
+    → take (32 * n) before ≡ concat (map value (range_with_len 0 n)) → part ≡ value n
+    → take (32 * (n + 1)) (put_mid (32 * n) k before part) ≡ concat (map value (range_with_len 0 (n + 1)))
+written_more value n k before part size within written is =
+    take-put_mid (32 * n) k before part (32 * (n + 1)) (omega arith) within
+    ∙ ap₂ (λ front back. front ++ back) written is
+    ∙ sym (joined_more value n)
+
+-- once the values of all n chains are written, the bytes are those
+pub written_all : (step : Steps) (start : ℕ → List ℕ) (read digits bytes : List ℕ) (chain n : ℕ)
+    → take (32 * chain) bytes ≡ concat (signed step start read chain) → chain ≡ n → length bytes ≡ 32 * n → read ≡ digits
+    → bytes ≡ concat (signed step start digits n)
+written_all step start read digits bytes chain n written all size digits_are =
+    sym (take_all (32 * chain) bytes (omega arith))
+    ∙ written
+    ∙ ap₂ (λ digits n. concat (signed step start digits n)) digits_are all
+
+-- values that are the ends of all chains are the ends
+pub ends_filled : (step : Steps) (w n : ℕ) (read digits : List ℕ) (values filled : List (List ℕ)) → length filled ≡ n → length read ≡ n
+    → read ≡ digits → ((k : ℕ) → k < n → get_or filled k [] ≡ end_of step w read values k) → filled ≡ ends_of step w digits values
+ends_filled step w n read digits values filled long all digits_are each =
+    fill_by_all (end_of step w read values) filled (length read) [] (long ∙ sym all) (λ k within. each k (omega arith))
+    ∙ ap (λ digits. ends_of step w digits values) digits_are
+
+-- what bytes that hold the values of a signature climb to
+pub bytes_climb : (step : Steps) (start : ℕ → List ℕ) (w n : ℕ) (digest bytes : List ℕ) → n ≡ digit_count w
+    → ((i j : ℕ) (v : List ℕ) → length (step i j v) ≡ 32) → ((i : ℕ) → length (start i) ≡ 32)
+    → bytes ≡ concat (signed step start (digits_of w digest) n)
+    → AreEnds step w (digits_of w digest) (values_in n bytes) (ends step start w n)
+bytes_climb step start w n digest bytes all steps starts are =
+    let digits = digits_of w digest in
+    let value = λ (i : ℕ). walk step i 0 (get_or digits i 0) (start i) in
+    let values = signed step start digits n in
+    let sizes : (i : ℕ) → i < n → length (get_or values i []) ≡ 32 = λ i within.
+    ap length (get_or-map-range_with_len value 0 n i i [] within (omega arith))
+    ∙ walked_size step i 0 (get_or digits i 0 - 0) (start i) steps (starts i) in
+    let held : values_in n bytes ≡ values =
+    ap (values_in n) are ∙ chunks_of_joined n values (length-map-range_with_len value 0 n) sizes in
+    subst (λ held. AreEnds step w digits held (ends step start w n)) (sym held) (signed_climbs step start w n digest all)

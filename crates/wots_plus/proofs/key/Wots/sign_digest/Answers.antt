@@ -1,0 +1,31 @@
+use Rattle.std.proofs.Common.{◌≡◌, ◌∙◌, refl, ap, arith, length}
+use Rattle.std.specs.List.{concat}
+use Rattle.sha2.proofs.Facts256.{length-sha256}
+use Rattle.winternitz.specs.Digits.{digits_of}
+use Rattle.wots_plus.specs.Signed.{private_value, signed_values, step_of}
+use Rattle.wots_plus.proofs.Signing.{bytes_climb, written_all, written_more}
+use Rattle.wots_plus.proofs.key.Wots.sign_digest.Goals as goal
+use Rattle.wots_plus.proofs.key.Wots.sign_digest.Goals.{After-loop-chain}
+
+pub loop-chain-preserved : goal.loop-chain-preserved
+loop-chain-preserved c =
+    written_more _ c.loop-chain.chain _ _ _ (omega arith)
+    (omega (arith, c.digits-digits.ensures.count, ap length c.deref-digit-items.ensures.0)) c.loop-chain.invariant (cc)
+
+-- all values are written
+written : (c : After-loop-chain) → c.loop-chain.into ≡ concat (signed_values c.args.self.now.seed.now.key c.args.self.now.leaf c.args.secret.now c.args.digest.now)
+written c =
+    let read = c.deref-digit-items.ensures.0 in
+    let all : c.loop-chain.chain ≡ 67 = omega (arith, c.digits-digits.ensures.count, ap length read) in
+    written_all (step_of c.args.self.now.seed.now.key c.args.self.now.leaf) (private_value c.args.self.now.seed.now.key c.args.self.now.leaf c.args.secret.now)
+    _ (digits_of 4 c.args.digest.now) c.loop-chain.into c.loop-chain.chain 67 c.loop-chain.invariant all (omega arith) (read ∙ c.digits-digits.ensures.computed)
+
+pub returns-clause-value : goal.returns-clause-value
+returns-clause-value c = written c
+
+pub returns-clause-climbs : goal.returns-clause-climbs
+returns-clause-climbs c =
+    let key = c.args.self.now.seed.now.key in
+    let leaf = c.args.self.now.leaf in
+    bytes_climb (step_of key leaf) (private_value key leaf c.args.secret.now) 4 67 c.args.digest.now c.loop-chain.into
+    refl (λ i j v. length-sha256 _) (λ i. length-sha256 _) (written c)

@@ -1,0 +1,26 @@
+-- L-trees (RFC 8391 4.1.5), over any join of two nodes.
+use Rattle.std.specs.Prelude.{◌≡◌, ℕ, zero, suc, ◌+◌, List, [], ◌∷◌, length, slice_index_or}
+
+-- a node from its two children, by the children's height and the node's index among those of its height
+abbrev pub Joins : Type 0
+Joins = ℕ → ℕ → List ℕ → List ℕ → List ℕ
+
+-- the values of the next height: neighbours joined, the nodes above them numbered from i, and an odd
+-- last value as it is
+unfoldable pub joined : (ℕ → List ℕ → List ℕ → List ℕ) → ℕ → List (List ℕ) → List (List ℕ)
+joined join i [] = []
+joined join i (last ∷ []) = last ∷ []
+joined join i (left ∷ right ∷ rest) = join i left right ∷ joined join (i + 1) rest
+
+-- the values of height k, over those of height 0
+unfoldable pub at_height : Joins → List (List ℕ) → ℕ → List (List ℕ)
+at_height join values zero = values
+at_height join values (suc k) = joined (join k) 0 (at_height join values k)
+
+-- at some height the root alone is left
+abbrev pub IsLTreeRoot : Joins → List (List ℕ) → List ℕ → Type 0
+IsLTreeRoot join values root = (k : ℕ) × (at_height join values k ≡ root ∷ [])
+
+-- the root: the first value, and by then the only one, at a height as great as their number
+abbrev pub l_tree_root : Joins → List (List ℕ) → List ℕ
+l_tree_root join values = slice_index_or (at_height join values (length values)) 0 []

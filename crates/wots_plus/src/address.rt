@@ -1,0 +1,46 @@
+//! The addresses of the hashes.
+
+ghost use Rattle.std.specs.Prelude.{◌≡◌, List, [], ◌∷◌};
+
+/// The address of a hash (RFC 8391 2.5), but for its last word, keyAndMask. The layer and the tree
+/// are 0.
+#[derive(Clone, Copy, Debug, PartialEq, Eq)]
+pub enum Address {
+    /// A step of a one-time key's chain.
+    OneTime { leaf: u32, chain: u32, hash: u32 },
+    /// A node of the L-tree over a one-time key's ends, by the height of its children.
+    LTree { leaf: u32, height: u32, index: u32 },
+    /// A node of the hash tree over the leaves, by the height of its children.
+    HashTree { height: u32, index: u32 },
+}
+
+impl Address {
+    ghost use Rattle.wots_plus.specs.Addresses.{address_of, words_of};
+
+    /// The 32 bytes of the address with a value for keyAndMask.
+    pub fn bytes(&self, key_and_mask: u32) -> [u8; 32]
+        ensures { result ≡ address_of self.now key_and_mask }
+    {
+        let mut bytes = [0; 32];
+        for (i, word) in self.words(key_and_mask).iter().enumerate() {
+            bytes[4 * i..4 * i + 4].copy_from_slice(&word.to_be_bytes());
+        }
+        bytes
+    }
+
+    // The same as numbers of 4 bytes.
+    fn words(&self, key_and_mask: u32) -> [u32; 8]
+        ensures { result ≡ words_of self.now key_and_mask }
+    {
+        let [kind, first, second, third] = match *self {
+            Address::OneTime { leaf, chain, hash } => [0, leaf, chain, hash],
+            Address::LTree {
+                leaf,
+                height,
+                index,
+            } => [1, leaf, height, index],
+            Address::HashTree { height, index } => [2, 0, height, index],
+        };
+        [0, 0, 0, kind, first, second, third, key_and_mask]
+    }
+}

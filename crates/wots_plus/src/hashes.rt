@@ -1,0 +1,111 @@
+//! The keyed hashes (RFC 8391 5.1) and the join of two nodes (4.1.4).
+
+ghost use Rattle.std.specs.Prelude.{◌≡◌, ◌≤◌, ◌++◌};
+ghost use Rattle.sha2.specs.Hashers.{Holds256};
+ghost use Rattle.wots_plus.specs.Addresses.{address_of};
+ghost use Rattle.wots_plus.specs.Begun.{Holds256-prop};
+ghost use Rattle.wots_plus.specs.Formulas as spec;
+ghost use Rattle.wots_plus.specs.Formulas.{prf, to_byte};
+
+use crate::address::Address;
+use sha2::{Digest, Sha256};
+
+/// F(KEY, M), the hash of a chain's step.
+pub fn hash_f(key: &[u8; 32], message: &[u8; 32]) -> [u8; 32]
+    ensures { result ≡ spec.hash_f key.now message.now }
+{
+    let mut hasher = keyed(0, key);
+    hasher.update(message);
+    hasher.finalize()
+}
+
+/// H(KEY, M), the hash of two nodes, M being `left` and then `right`.
+pub fn hash_h(key: &[u8; 32], left: &[u8; 32], right: &[u8; 32]) -> [u8; 32]
+    ensures { result ≡ spec.hash_h key.now (left.now ++ right.now) }
+{
+    let mut hasher = keyed(1, key);
+    hasher.update(left);
+    hasher.update(right);
+    hasher.finalize()
+}
+
+/// H_msg(KEY, M), the digest of a message, by the key r || root || toByte(idx, 32).
+pub fn hash_message(key: &[u8; 96], message: &[u8]) -> [u8; 32]
+    ensures { result ≡ spec.hash_message key.now message.now }
+{
+    let mut hasher = keyed(2, key);
+    hasher.update(message);
+    hasher.finalize()
+}
+
+// A hasher that holds the hash's number in 32 bytes and the key.
+pub(crate) fn keyed(number: u8, key: &[u8]) -> Sha256
+    requires { number ≤ 4 }
+    ensures { Holds256 result (to_byte number 32 ++ key.now) }
+{
+    let mut prefix = [0; 32];
+    prefix[31] = number;
+    let mut hasher = Sha256::new();
+    hasher.update(prefix);
+    hasher.update(key);
+    hasher
+}
+
+/// PRF under one key. The first block of all its messages is the same, and is hashed only once.
+#[derive(Drop)]
+pub struct Prf {
+    /// KEY
+    pub key: [u8; 32],
+    begun: Sha256,
+    ghost holds: { Holds256 begun (to_byte 3 32 ++ key) } by { Holds256-prop begun (to_byte 3 32 ++ key) },
+}
+
+impl Prf {
+    /// PRF under a key.
+    pub fn new(key: [u8; 32]) -> Prf
+        ensures { result.key ≡ key }
+    {
+        let begun = keyed(3, &key);
+        Prf { key, begun }
+    }
+
+    /// PRF(KEY, M)
+    pub fn hash(&self, message: &[u8; 32]) -> [u8; 32]
+        ensures { result ≡ prf self.now.key message.now }
+    {
+        let mut hasher = self.begun();
+        hasher.update(message);
+        hasher.finalize()
+    }
+
+    // A hasher that holds what all messages begin with.
+    fn begun(&self) -> Sha256
+        ensures { Holds256 result (to_byte 3 32 ++ self.now.key) }
+    {
+        match self.begun.clone() {
+            Ok(hasher) => hasher,
+            Err(_) => unreachable!(),
+        }
+    }
+}
+
+/// RAND_HASH(LEFT, RIGHT, SEED, ADRS), the node of an L-tree or a hash tree above two nodes.
+pub fn rand_hash(seed: &Prf, address: &Address, left: &[u8; 32], right: &[u8; 32]) -> [u8; 32]
+    ensures { result ≡ spec.rand_hash seed.now.key (address_of address.now) left.now right.now }
+{
+    let key = seed.hash(&address.bytes(0));
+    let left = xor(left, &seed.hash(&address.bytes(1)));
+    let right = xor(right, &seed.hash(&address.bytes(2)));
+    hash_h(&key, &left, &right)
+}
+
+// The bytes XOR those of a mask.
+pub(crate) fn xor(bytes: &[u8; 32], mask: &[u8; 32]) -> [u8; 32]
+    ensures { result ≡ spec.xor bytes.now mask.now }
+{
+    let mut out = [0; 32];
+    for i in 0..32 {
+        out[i] = bytes[i] ^ mask[i];
+    }
+    out
+}
