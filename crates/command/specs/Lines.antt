@@ -4,8 +4,8 @@ use Rattle.std.specs.Io.KnownBytes.{Appends, Keeps}
 use Rattle.typecodes.specs.Fault.{cause_number}
 use Rattle.typecodes.specs.declared.fault.Cause.{Cause}
 use Rattle.typecodes.specs.declared.fault.Cause.TheVariants.{Truncated, UnknownType, LevelCount, LeafOutOfRange, Trailing}
-use Rattle.lms.specs.Number.{refusal_number}
-use Rattle.lms.specs.declared.refusal.Refusal.TheVariants.{Unreadable, TypeMismatch, RootMismatch}
+use Rattle.typecodes.specs.Refusals.{refusal_number}
+use Rattle.typecodes.specs.declared.refusal.Refusal.TheVariants.{Unreadable, TypeMismatch, LevelMismatch, RootMismatch}
 use Rattle.clap.specs.Words.{IsAmong, fault_of}
 use Rattle.clap.specs.declared.error.kind.ErrorKind.{ErrorKind}
 use Rattle.clap.specs.declared.error.kind.ErrorKind.TheVariants as kind
@@ -38,6 +38,7 @@ name_of (Key fault) = fault_name_of fault.cause
 name_of (Signature (Unreadable fault)) = fault_name_of fault.cause
 name_of (KeyLength length) = codes "KeyLength"
 name_of (Signature (TypeMismatch level)) = codes "TypeMismatch"
+name_of (Signature LevelMismatch) = codes "LevelMismatch"
 name_of (Signature (RootMismatch level)) = codes "RootMismatch"
 name_of OutOfMemory = codes "OutOfMemory"
 name_of FileFailed = codes "FileFailed"
@@ -48,6 +49,7 @@ detail_of (Key fault) = codes " at " ++ decimal fault.place
 detail_of (Signature (Unreadable fault)) = codes " at " ++ decimal fault.place
 detail_of (KeyLength length) = codes " of " ++ decimal length
 detail_of (Signature (TypeMismatch level)) = codes " level " ++ decimal level
+detail_of (Signature LevelMismatch) = []
 detail_of (Signature (RootMismatch level)) = codes " level " ++ decimal level
 detail_of OutOfMemory = []
 detail_of FileFailed = []

@@ -3,9 +3,8 @@
 ghost use Rattle.std.specs.Prelude.{◌≡◌, Some};
 ghost use Rattle.command.specs.Lines.{fault_name_of, name_of, number_of, refusal_line};
 
-use lms::Refusal as LmsRefusal;
 use std::{error, fmt};
-use typecodes::{Cause, ReadFault};
+use typecodes::{Cause, ReadFault, Refusal as SignatureRefusal};
 
 /// Why a command doesn't do what it was asked.
 #[derive(Clone, Copy, Debug, PartialEq, Eq)]
@@ -14,8 +13,8 @@ pub enum Refusal {
     KeyLength(usize),
     /// 1 to 5: the bytes of a public key spell none.
     Key(ReadFault),
-    /// 1 to 5, 10 and 12: a signature isn't verified.
-    Signature(LmsRefusal),
+    /// 1 to 5 and 10 to 12: a signature isn't verified.
+    Signature(SignatureRefusal),
     /// 46: there is no memory.
     OutOfMemory,
     /// 53: a file can't be opened or read.
@@ -41,12 +40,13 @@ impl Refusal {
         ensures { result.now ≡ name_of self.now }
     {
         match self {
-            Refusal::Key(fault) | Refusal::Signature(LmsRefusal::Unreadable(fault)) => {
+            Refusal::Key(fault) | Refusal::Signature(SignatureRefusal::Unreadable(fault)) => {
                 fault_name(fault.cause)
             }
             Refusal::KeyLength(_) => "KeyLength",
-            Refusal::Signature(LmsRefusal::TypeMismatch(_)) => "TypeMismatch",
-            Refusal::Signature(LmsRefusal::RootMismatch(_)) => "RootMismatch",
+            Refusal::Signature(SignatureRefusal::TypeMismatch(_)) => "TypeMismatch",
+            Refusal::Signature(SignatureRefusal::LevelMismatch) => "LevelMismatch",
+            Refusal::Signature(SignatureRefusal::RootMismatch(_)) => "RootMismatch",
             Refusal::OutOfMemory => "OutOfMemory",
             Refusal::FileFailed => "FileFailed",
         }
@@ -75,14 +75,17 @@ impl fmt::Display for Refusal {
         let name = self.name();
         write!(f, "refused {number} {name}")?;
         match self {
-            Refusal::Key(fault) | Refusal::Signature(LmsRefusal::Unreadable(fault)) => {
+            Refusal::Key(fault) | Refusal::Signature(SignatureRefusal::Unreadable(fault)) => {
                 let place = fault.place;
                 write!(f, " at {place}")
             }
             Refusal::KeyLength(length) => write!(f, " of {length}"),
-            Refusal::Signature(LmsRefusal::TypeMismatch(level) | LmsRefusal::RootMismatch(level)) =>
-                write!(f, " level {level}"),
-            Refusal::OutOfMemory | Refusal::FileFailed => Ok(()),
+            Refusal::Signature(
+                SignatureRefusal::TypeMismatch(level) | SignatureRefusal::RootMismatch(level),
+            ) => write!(f, " level {level}"),
+            Refusal::Signature(SignatureRefusal::LevelMismatch)
+            | Refusal::OutOfMemory
+            | Refusal::FileFailed => Ok(()),
         }
     }
 }

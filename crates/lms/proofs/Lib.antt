@@ -2,7 +2,6 @@ pub mod Numbers
 pub mod Fields
 pub mod Leading
 pub mod Comparing
-pub mod Ways
 pub mod OneWay
 pub mod Verdicts
 pub mod Signing

@@ -10,7 +10,7 @@ use Rattle.typecodes.specs.Reading.{OneSpelling}
 use Rattle.typecodes.proofs.OneWay.{one_way-block, one_way-number, one_way-ots_type, one_way-lms_type, one_way-refuse, one_way-values}
 use Rattle.lms.specs.declared.key.LmsPublic.{LmsPublic}
 use Rattle.lms.specs.Layouts.{Signature, public_key, signature, type_end}
-use Rattle.lms.proofs.Ways.{Way, way-bind, way-done, one_way-if}
+use Rattle.typecodes.proofs.Ways.{Way, way-bind, way-done, one_way-if}
 
 -- what follows each field of a public key
 of_root : LmsType → OtsType → List ℕ → List ℕ → Layout LmsPublic

@@ -4,8 +4,8 @@ use Rattle.std.specs.Prelude.{IsOk}
 use Rattle.typecodes.specs.Layout.{Spells}
 use Rattle.typecodes.proofs.Spelling.{no_value, one_fault, one_value}
 use Rattle.lms.specs.declared.key.LmsPublic.{LmsPublic}
-use Rattle.lms.specs.declared.refusal.Refusal.{Refusal}
-use Rattle.lms.specs.declared.refusal.Refusal.TheVariants.{Unreadable, TypeMismatch, RootMismatch}
+use Rattle.typecodes.specs.declared.refusal.Refusal.{Refusal}
+use Rattle.typecodes.specs.declared.refusal.Refusal.TheVariants.{Unreadable, TypeMismatch, LevelMismatch, RootMismatch}
 use Rattle.lms.specs.Layouts.{Signature, signature}
 use Rattle.lms.specs.Valid.{IsValid}
 use Rattle.lms.specs.Verdict.{Verdict}
@@ -21,6 +21,7 @@ accepted key message bytes (Ok x) verdict s spelled valid = refl
 accepted key message bytes (Err (Unreadable fault)) faulty s spelled valid = absurd (no_value signature s bytes 0 fault spelled faulty)
 accepted key message bytes (Err (TypeMismatch level)) (_, (t, t_spelled, differs)) s spelled valid =
     absurd (differs (same_types key bytes s t spelled t_spelled valid.types))
+accepted key message bytes (Err LevelMismatch) never s spelled valid = elim never [ ]
 accepted key message bytes (Err (RootMismatch level)) (_, (t, t_spelled, types, invalid)) s spelled valid =
     absurd (invalid (subst (IsValid key message) (one_value signature s t bytes spelled t_spelled) valid))
 
@@ -28,12 +29,16 @@ accepted key message bytes (Err (RootMismatch level)) (_, (t, t_spelled, types, 
 pub one_refusal : (A : Type 0) (key : LmsPublic) (message bytes : List ℕ) (first second : Refusal) → Verdict {A = A} key message bytes (Err first) → Verdict {A = A} key message bytes (Err second) → first ≡ second
 one_refusal A key message bytes (Unreadable f) (Unreadable g) first second = ap Unreadable (one_fault signature bytes 0 f g first second)
 one_refusal A key message bytes (Unreadable f) (TypeMismatch m) first (_, (s, spelled, _)) = absurd (no_value signature s bytes 0 f spelled first)
+one_refusal A key message bytes (Unreadable f) LevelMismatch first second = elim second [ ]
 one_refusal A key message bytes (Unreadable f) (RootMismatch m) first (_, (s, spelled, _, _)) = absurd (no_value signature s bytes 0 f spelled first)
 one_refusal A key message bytes (TypeMismatch l) (Unreadable g) (_, (s, spelled, _)) second = absurd (no_value signature s bytes 0 g spelled second)
 one_refusal A key message bytes (TypeMismatch l) (TypeMismatch m) first second = ap TypeMismatch (first.0 ∙ sym second.0)
+one_refusal A key message bytes (TypeMismatch l) LevelMismatch first second = elim second [ ]
 one_refusal A key message bytes (TypeMismatch l) (RootMismatch m) (_, (s, spelled, differs)) (_, (t, t_spelled, types, _)) =
     absurd (differs (same_types key bytes t s t_spelled spelled types))
+one_refusal A key message bytes LevelMismatch second_refusal first second = elim first [ ]
 one_refusal A key message bytes (RootMismatch l) (Unreadable g) (_, (s, spelled, _, _)) second = absurd (no_value signature s bytes 0 g spelled second)
 one_refusal A key message bytes (RootMismatch l) (TypeMismatch m) (_, (t, t_spelled, types, _)) (_, (s, spelled, differs)) =
     absurd (differs (same_types key bytes t s t_spelled spelled types))
+one_refusal A key message bytes (RootMismatch l) LevelMismatch first second = elim second [ ]
 one_refusal A key message bytes (RootMismatch l) (RootMismatch m) first second = ap RootMismatch (first.0 ∙ sym second.0)

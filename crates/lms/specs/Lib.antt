@@ -3,5 +3,4 @@ pub mod View
 pub mod Formulas
 pub mod Valid
 pub mod Verdict
-pub mod Number
 pub mod Textbook

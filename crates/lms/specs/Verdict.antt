@@ -2,8 +2,8 @@
 use Rattle.std.specs.Prelude.{◌≡◌, ◌≢◌, ℕ, List, [], Result, Ok, Err}
 use Rattle.typecodes.specs.Layout.{Spells, HasFault}
 use Rattle.lms.specs.declared.key.LmsPublic.{LmsPublic}
-use Rattle.lms.specs.declared.refusal.Refusal.{Refusal}
-use Rattle.lms.specs.declared.refusal.Refusal.TheVariants.{Unreadable, TypeMismatch, RootMismatch}
+use Rattle.typecodes.specs.declared.refusal.Refusal.{Refusal}
+use Rattle.typecodes.specs.declared.refusal.Refusal.TheVariants.{Unreadable, TypeMismatch, LevelMismatch, RootMismatch}
 use Rattle.lms.specs.Layouts.{Signature, signature}
 use Rattle.lms.specs.Valid.{IsValid}
 
@@ -14,6 +14,7 @@ Verdict key message bytes (Ok _) = (s : Signature) × Spells signature s bytes �
 Verdict key message bytes (Err (Unreadable fault)) = HasFault signature bytes 0 fault
 Verdict key message bytes (Err (TypeMismatch level)) =
     (level ≡ 0) × ((s : Signature) × Spells signature s bytes × (s.pair ≢ key.pair))
+Verdict key message bytes (Err LevelMismatch) = ⊥
 Verdict key message bytes (Err (RootMismatch level)) =
     (level ≡ 0) × ((s : Signature) × Spells signature s bytes × (s.pair ≡ key.pair) × (IsValid key message s → ⊥))
 
@@ -22,4 +23,5 @@ abbrev pub LeavesMessage : {A : Type 0} → List ℕ → List ℕ → Result A R
 LeavesMessage old new (Ok _) = new ≡ []
 LeavesMessage old new (Err (Unreadable fault)) = new ≡ old
 LeavesMessage old new (Err (TypeMismatch level)) = new ≡ old
+LeavesMessage old new (Err LevelMismatch) = ⊥
 LeavesMessage old new (Err (RootMismatch level)) = new ≡ []

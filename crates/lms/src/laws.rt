@@ -5,7 +5,7 @@ ghost use Rattle.std.specs.Prelude.{◌≡◌, List, [], ◌++◌, ℕ, Result, 
 ghost use Rattle.typecodes.specs.Layout.{Spells};
 ghost use Rattle.typecodes.specs.Reading.{OneSpelling};
 ghost use Rattle.lms.specs.declared.key.LmsPublic.{LmsPublic};
-ghost use Rattle.lms.specs.declared.refusal.Refusal.{Refusal};
+ghost use Rattle.typecodes.specs.declared.refusal.Refusal.{Refusal};
 ghost use Rattle.lms.specs.Layouts.{Signature, public_key, signature};
 ghost use Rattle.lms.specs.Valid.{IsValid};
 ghost use Rattle.lms.specs.Verdict.{Verdict};

@@ -10,7 +10,6 @@
 mod key;
 mod laws;
 mod nodes;
-mod refusal;
 mod secret;
 mod signature;
 #[cfg(test)]
@@ -20,7 +19,6 @@ mod writing;
 
 pub use crate::key::LmsPublic;
 pub use crate::laws::{spelling_laws, verdict_laws};
-pub use crate::refusal::Refusal;
 pub use crate::secret::{LmsSecret, LmsTree};
 pub use crate::signature::LmsSigView;
 pub use crate::verification::verify;

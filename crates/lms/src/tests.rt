@@ -1,11 +1,11 @@
 //! Refusals in the order of the checks, and a signature that is made here by the standard's formulas,
 //! over SHA-256 alone.
 
-use crate::{LmsPublic, LmsSigView, Refusal, verify};
+use crate::{LmsPublic, LmsSigView, verify};
 use sha2::{Digest, Sha256};
 use std::process::Abort;
 use std::test::Fail;
-use typecodes::{Cause, LmsPair, LmsType, OtsType, ReadFault};
+use typecodes::{Cause, LmsPair, LmsType, OtsType, ReadFault, Refusal};
 
 const PAIR: LmsPair = LmsPair {
     tree: LmsType::H5,
@@ -110,21 +110,6 @@ fn the_last_leaf_is_read(rt: HostRuntime) {
     signature[3] = 31;
     assert!(rt; LmsSigView::read(&signature).is_ok());
     assert_eq!(rt; refusal(&rt, &signature), Refusal::RootMismatch(0));
-}
-
-#[test]
-fn refusals_have_numbers(rt: HostRuntime) {
-    for (cause, number) in [
-        (Cause::Truncated, 1),
-        (Cause::UnknownType, 2),
-        (Cause::LevelCount, 3),
-        (Cause::LeafOutOfRange, 4),
-        (Cause::Trailing, 5),
-    ] {
-        assert_eq!(rt; Refusal::Unreadable(fault(8, cause)).number(), number);
-    }
-    assert_eq!(rt; Refusal::TypeMismatch(0).number(), 10);
-    assert_eq!(rt; Refusal::RootMismatch(0).number(), 12);
 }
 
 // Zeros with the codes of a pair, the tree's at its place, are a signature, and with one byte less they

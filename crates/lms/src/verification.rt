@@ -7,10 +7,10 @@ ghost use Rattle.lms.specs.Verdict.{LeavesMessage, Verdict};
 
 use crate::key::LmsPublic;
 use crate::nodes::Nodes;
-use crate::refusal::Refusal;
 use crate::signature::LmsSigView;
 use lmots::LmOts;
 use merkle::root_from_path;
+use typecodes::Refusal;
 
 /// Verifies that the bytes of a signature sign the message under the key (RFC 8554 5.4.2).
 ///

@@ -4,5 +4,6 @@ pub mod Read
 pub mod Readers
 pub mod Spelling
 pub mod OneWay
+pub mod Ways
 pub mod Steps
 pub mod Values

@@ -7,8 +7,9 @@ use Rattle.byteorder.specs.Numbers.{big_from-cons, big_from-lt}
 use Rattle.typecodes.specs.declared.fault.Cause.{Cause}
 use Rattle.typecodes.specs.declared.fault.Cause.TheVariants.{UnknownType}
 use Rattle.typecodes.specs.Types.{named, lms_code, lms_types, ots_code, ots_types}
+use Rattle.typecodes.specs.XmssTypes.{xmss_code, xmss_types}
 use Rattle.typecodes.specs.Layout.{Layout, done, refuse, ◌>>=◌, Spells}
-use Rattle.typecodes.specs.Fields.{number, block, values, known, typed, lms_type, ots_type}
+use Rattle.typecodes.specs.Fields.{number, block, values, known, typed, lms_type, ots_type, xmss_type}
 use Rattle.typecodes.specs.Reading.{AreBytes, OneSpelling, Shows}
 use Rattle.typecodes.proofs.Bytes.{AreBytes-front, AreBytes-rest}
 use Rattle.typecodes.proofs.Codes.{named-has}
@@ -105,6 +106,10 @@ one_way-ots_type = one_way-typed ots_code ots_types
 pub one_way-lms_type : OneSpelling lms_type
 unfolding lms_type
 one_way-lms_type = one_way-typed lms_code lms_types
+
+pub one_way-xmss_type : OneSpelling xmss_type
+unfolding xmss_type
+one_way-xmss_type = one_way-typed xmss_code xmss_types
 
 -- values of 32 bytes
 pub one_way-values : (n : ℕ) → OneSpelling (values n)

@@ -5,7 +5,9 @@ use Rattle.byteorder.specs.Endian.{big_number}
 use Rattle.typecodes.specs.declared.fault.Cause.TheVariants.{UnknownType}
 use Rattle.typecodes.specs.declared.types.OtsType.{OtsType}
 use Rattle.typecodes.specs.declared.types.LmsType.{LmsType}
+use Rattle.typecodes.specs.declared.xmss.XmssType.{XmssType}
 use Rattle.typecodes.specs.Types.{named, ots_code, ots_types, lms_code, lms_types}
+use Rattle.typecodes.specs.XmssTypes.{xmss_code, xmss_types}
 use Rattle.typecodes.specs.Layout.{Layout, done, refuse, field, ◌>>=◌}
 
 -- a number of 4 bytes
@@ -37,9 +39,12 @@ known None = refuse 4 UnknownType
 abbrev pub typed : {T : Type 0} → (T → ℕ) → List T → Layout T
 typed code types = number >>= λ c. known (named code types c)
 
--- a type of one-time signatures, and of trees
+-- a type of one-time signatures, of LMS trees, and of XMSS
 unfoldable pub ots_type : Layout OtsType
 ots_type = typed ots_code ots_types
 
 unfoldable pub lms_type : Layout LmsType
 lms_type = typed lms_code lms_types
+
+unfoldable pub xmss_type : Layout XmssType
+xmss_type = typed xmss_code xmss_types

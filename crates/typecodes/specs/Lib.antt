@@ -1,6 +1,8 @@
 pub mod Types
+pub mod XmssTypes
 pub mod Coef
 pub mod Fault
+pub mod Refusals
 pub mod Layout
 pub mod Fields
 pub mod Reading

@@ -4,6 +4,7 @@ ghost use Rattle.std.specs.Prelude.{◌≡◌, ◌<◌, ◌≤◌, ◌+◌, ◌*
 
 use crate::fault::{Cause, ReadFault};
 use crate::types::{LmsType, OtsType};
+use crate::xmss::XmssType;
 use byteorder::{BigEndian, ByteOrder};
 
 /// Hands out the fields of its bytes one after the other, without copying.
@@ -18,7 +19,7 @@ pub struct Cursor<'a> {
 
 impl<'a> Cursor<'a> {
     ghost use Rattle.std.specs.Simd.{first_chunks};
-    ghost use Rattle.typecodes.specs.Fields.{number, block, values, ots_type, lms_type};
+    ghost use Rattle.typecodes.specs.Fields.{number, block, values, ots_type, lms_type, xmss_type};
     ghost use Rattle.typecodes.specs.Reading.{read, Gives};
     ghost use Rattle.typecodes.specs.Fault.{fault_at};
 
@@ -102,6 +103,23 @@ impl<'a> Cursor<'a> {
         let mut behind = *self;
         let code = behind.number()?;
         let named = LmsType::from_code(code).ok_or(self.fault(Cause::UnknownType))?;
+        *self = behind;
+        Ok(named)
+    }
+
+    /// The next type of XMSS, by its code in a field of 4 bytes. A code that names none leaves the
+    /// cursor before it.
+    #[tactic(auto, unfolding(crate::specs::Fields::xmss_type))]
+    pub fn xmss_type(&mut self) -> Result<XmssType, ReadFault>
+        requires { self.old.place + 4 < 2 ^ 32 }
+        ensures read { Gives (λ t. (t, self.new.place)) result (read xmss_type self.old.bytes.now self.old.place) }
+        ensures len { OnOk result (self.new.place ≡ self.old.place + 4) }
+        ensures bytes { self.new.bytes ≡ self.old.bytes }
+        ensures err { OnErr result (self.new.place ≡ self.old.place) }
+    {
+        let mut behind = *self;
+        let code = behind.number()?;
+        let named = XmssType::from_code(code).ok_or(self.fault(Cause::UnknownType))?;
         *self = behind;
         Ok(named)
     }

@@ -14,10 +14,12 @@ mod cursor;
 mod fault;
 mod laws;
 mod name;
+mod refusal;
 mod spec;
 #[cfg(test)]
 mod tests;
 mod types;
+mod xmss;
 
 pub use crate::coefficient::coef;
 pub use crate::count::Count;
@@ -25,5 +27,7 @@ pub use crate::cursor::Cursor;
 pub use crate::fault::{Cause, ReadFault};
 pub use crate::laws::{field_laws, following_laws, layout_laws};
 pub use crate::name::{BadName, Name};
+pub use crate::refusal::Refusal;
 pub use crate::spec::{BadSpec, Spec};
 pub use crate::types::{LmsPair, LmsType, OtsType};
+pub use crate::xmss::XmssType;

@@ -150,3 +150,46 @@ fn laws() {
     following_laws::<u8, u8>();
     field_laws::<u8>();
 }
+
+#[test]
+fn refusals_have_numbers(rt: HostRuntime) {
+    for (cause, number) in [
+        (Cause::Truncated, 1),
+        (Cause::UnknownType, 2),
+        (Cause::LevelCount, 3),
+        (Cause::LeafOutOfRange, 4),
+        (Cause::Trailing, 5),
+    ] {
+        assert_eq!(rt; Refusal::Unreadable(fault(8, cause)).number(), number);
+    }
+    assert_eq!(rt; Refusal::TypeMismatch(0).number(), 10);
+    assert_eq!(rt; Refusal::LevelMismatch.number(), 11);
+    assert_eq!(rt; Refusal::RootMismatch(0).number(), 12);
+}
+
+// The codes of the standard's XDR formats, and the lengths of signatures by its 4.1.8.
+#[test]
+fn xmss_types(rt: HostRuntime) -> Result<(), Fail> {
+    for (xmss, code, height, len) in [
+        (XmssType::H10, 1, 10, 2500),
+        (XmssType::H16, 2, 16, 2692),
+        (XmssType::H20, 3, 20, 2820),
+    ] {
+        assert_eq!(rt; XmssType::from_code(code), Some(xmss));
+        assert_eq!(rt; xmss.code(), code);
+        assert_eq!(rt; xmss.height(), height);
+        assert_eq!(rt; xmss.signature_len(), len);
+    }
+    assert_eq!(rt; XmssType::from_code(0), None);
+    assert_eq!(rt; XmssType::from_code(4), None);
+    let bytes = [0, 0, 0, 2, 0, 0, 0, 4, 0];
+    let mut cursor = Cursor::new(&bytes);
+    assert_eq!(rt; cursor.xmss_type()?, XmssType::H16);
+    assert_eq!(rt;
+        cursor.xmss_type().err(),
+        Some(fault(4, Cause::UnknownType))
+    );
+    cursor.block(4)?;
+    assert_eq!(rt; cursor.xmss_type().err(), Some(fault(8, Cause::Truncated)));
+    Ok(())
+}

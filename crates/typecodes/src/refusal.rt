@@ -1,13 +1,14 @@
 //! Why a signature isn't verified.
 
 ghost use Rattle.std.specs.Prelude.{◌≡◌};
-ghost use Rattle.lms.specs.Number.{refusal_number};
+ghost use Rattle.typecodes.specs.Refusals.{refusal_number};
 
+use crate::fault::ReadFault;
 use std::fmt;
 use thiserror::Error;
-use typecodes::ReadFault;
 
-/// The first reason why a signature isn't verified, with its level: 0, the only tree.
+/// The first reason why a signature isn't verified. A level is that of a tree, 0 for the top one; a
+/// scheme of one tree has level 0 alone.
 #[derive(Clone, Copy, Debug, PartialEq, Eq, Error)]
 pub enum Refusal {
     /// 1 to 5: the bytes spell no signature.
@@ -16,19 +17,23 @@ pub enum Refusal {
     /// 10: the signature's tree type or one-time type isn't the key's.
     #[error("level {0}: the signature's types aren't the key's")]
     TypeMismatch(u8),
+    /// 11: the signature hasn't as many levels as the key.
+    #[error("the signature's levels aren't the key's")]
+    LevelMismatch,
     /// 12: the root to which the signature leads isn't the key's.
     #[error("level {0}: the signature doesn't lead to the key's root")]
     RootMismatch(u8),
 }
 
 impl Refusal {
-    /// The number by which the refusal is told: 1 to 5, 10 or 12.
+    /// The number by which the refusal is told: 1 to 5 or 10 to 12.
     pub fn number(&self) -> u8
         ensures { result ≡ refusal_number self.now }
     {
         match self {
             Refusal::Unreadable(fault) => fault.cause.number(),
             Refusal::TypeMismatch(_) => 10,
+            Refusal::LevelMismatch => 11,
             Refusal::RootMismatch(_) => 12,
         }
     }
