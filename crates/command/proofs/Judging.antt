@@ -4,7 +4,7 @@ use Rattle.typecodes.specs.declared.fault.ReadFault.{ReadFault}
 use Rattle.typecodes.specs.Layout.{Spells}
 use Rattle.typecodes.specs.Reading.{Reads}
 use Rattle.lms.specs.declared.key.LmsPublic.{LmsPublic}
-use Rattle.lms.specs.declared.refusal.Refusal.{Refusal as LmsRefusal}
+use Rattle.typecodes.specs.declared.refusal.Refusal.{Refusal as SignatureRefusal}
 use Rattle.lms.specs.Layouts.{public_key}
 use Rattle.lms.specs.Verdict.{Verdict}
 use Rattle.command.specs.Judgement.{Judgement}
@@ -19,7 +19,7 @@ read_key bytes key (Ok k) r spelled told was = let same : k ≡ key = cc (told, 
 read_key bytes key (Err fault) r fault_of told was = absurd (subst (λ r. IsErrAnd r (λ e. e ≡ Key fault)) was told)
 
 -- a verdict on that key is the judgement
-pub judged : {A : Type 0} (public message signature : List ℕ) (key : LmsPublic) (given : Result A LmsRefusal) (r : Result A Refusal)
+pub judged : {A : Type 0} (public message signature : List ℕ) (key : LmsPublic) (given : Result A SignatureRefusal) (r : Result A Refusal)
     → Spells public_key key public → Verdict key message signature given
     → MatchResult given (λ a. r ≡ Ok a) (λ refusal. IsErrAnd r (λ e. e ≡ Signature refusal)) → Judgement public message signature r
 judged public message signature key (Ok a) r spelled verdict told = rw told (key, spelled, verdict)
