@@ -4,11 +4,10 @@ use Rattle.std.proofs.lemmas.Bool.Decides.{nat_tests}
 use Rattle.std.specs.Prelude.{nat_le, if◌then◌else◌}
 use Rattle.typecodes.specs.declared.types.LmsPair.{LmsPair}
 use Rattle.state_file.specs.declared.record.Record.{Record}
-use Rattle.state_file.specs.declared.record.Record.TheVariants.{Key as KeyRecord}
 use Rattle.lms.specs.declared.key.LmsPublic.{LmsPublic}
 use Rattle.sign_core.specs.declared.fault.SignFault.{SignFault}
 use Rattle.sign_core.specs.declared.fault.SignFault.TheVariants.{Changed, Exhausted, RandomFailed, StoreFailed, Stopped, Damaged, OutOfMemory, LedgerFull, Unreadable, KeyThere}
-use Rattle.sign_core.specs.Ledger.{public_key_of}
+use Rattle.sign_core.specs.Ledger.{key_record, public_key_of}
 use Rattle.sign_core.specs.World.{Creation, Fate, State, acked, appended, created, created_after, made, new_key, refused}
 use Rattle.sign_core.specs.Calls.{Creates, DrawsKey, FailsLoad, state_of}
 use Rattle.sign_core.specs.Keeping.{FindsNone}
@@ -59,7 +58,7 @@ undrawn_creates pair stopped honest list told left load none drawn =
     record { chance = chance; step = empty_step pair list chance refl none; load = load; drawn = drawn; possible = tt }
 
 -- a create whose key's record the store is told of
-pub appended_creates : (pair : LmsPair) (stopped honest : Bool) (list new : List Record) (is_open : Bool) (told left : Option (List ℕ)) (identifier seed : List ℕ) (fate : Fate) (answer : Result LmsPublic SignFault) → stopped ≡ false → length list ≡ 0 → AreDrawn (Some (identifier, seed)) → Gives told (identifier ++ seed) left → (let key = new_key pair identifier seed in appended (state_of list false) (KeyRecord key) (public_key_of key) fate ≡ record { state = state_of new is_open; answer = answer }) → Creates pair stopped honest (state_of list false) (state_of new is_open) told left answer
+pub appended_creates : (pair : LmsPair) (stopped honest : Bool) (list new : List Record) (is_open : Bool) (told left : Option (List ℕ)) (identifier seed : List ℕ) (fate : Fate) (answer : Result LmsPublic SignFault) → stopped ≡ false → length list ≡ 0 → AreDrawn (Some (identifier, seed)) → Gives told (identifier ++ seed) left → (let key = new_key pair identifier seed in appended (state_of list false) (key_record key) (public_key_of key) fate ≡ record { state = state_of new is_open; answer = answer }) → Creates pair stopped honest (state_of list false) (state_of new is_open) told left answer
 appended_creates pair stopped honest list new is_open told left identifier seed fate answer load none drawn gave step =
     let chance : Creation = record { failed_load = None; drawn = Some (identifier, seed); has_room = true; fate = fate } in
     record { chance = chance; step = empty_step pair list chance refl none ∙ step; load = load; drawn = (drawn.0, drawn.2, gave); possible = drawn }

@@ -14,12 +14,12 @@ use Rattle.lms.specs.Layouts.{Signature, signature}
 use Rattle.lms.specs.Textbook.{public_of, textbook}
 use Rattle.lms.specs.Valid.{IsValid}
 use Rattle.state_file.specs.declared.record.Bound.{Bound}
-use Rattle.state_file.specs.declared.record.Key.{Key}
+use Rattle.sign_core.specs.declared.key.LmsKey.{LmsKey}
 use Rattle.state_file.specs.declared.record.Record.{Record}
-use Rattle.state_file.specs.declared.record.Record.TheVariants.{Key as KeyRecord, Bound as BoundRecord}
+use Rattle.state_file.specs.declared.record.Record.TheVariants.{Bound as BoundRecord}
 use Rattle.sign_core.specs.declared.fault.SignFault.{SignFault}
 use Rattle.sign_core.specs.declared.fault.SignFault.TheVariants.{Changed, Damaged, OutOfMemory, Stopped, StoreFailed}
-use Rattle.sign_core.specs.Ledger.{binding_of, is_sound, key_of, next_leaf, public_key_of, same_bytes, secret_of, signature_of}
+use Rattle.sign_core.specs.Ledger.{binding_of, is_sound, key_of, key_record, next_leaf, public_key_of, same_bytes, secret_of, signature_of}
 use Rattle.sign_core.specs.Uses.{LeafUse, Uses, Verifies}
 use Rattle.sign_core.specs.World.{Chance, Creation, Handed, Outcome, State, World, acked, after, appended, created, cut_new, cut_old, handed_with, new_bound, new_key, no_memory, refused, repeated, request, requested, requested_of, requested_under}
 use Rattle.sign_core.specs.Once.{IsOnce, IsRecorded, ShareLeaf}
@@ -30,21 +30,21 @@ use Rattle.sign_core.proofs.OnceSteps.{for_request}
 use Rattle.sign_core.proofs.OnceRuns.{IsBinding, IsKept}
 
 -- the textbook signature of a binding
-abbrev signed_for : Key → Bound → Signature
+abbrev signed_for : LmsKey → Bound → Signature
 signed_for key bound = textbook (secret_of key) bound.leaf bound.randomizer bound.digest
 
 -- it is spelled by the binding's bytes
-binding_spelled : (key : Key) (bound : Bound) → IsBinding key bound → Spells signature (signed_for key bound) (signature_of key bound)
+binding_spelled : (key : LmsKey) (bound : Bound) → IsBinding key bound → Spells signature (signed_for key bound) (signature_of key bound)
 binding_spelled key bound fits = textbook_spelled (secret_of key) bound.leaf bound.randomizer bound.digest fits.inside fits.randomizer
 
 -- a sound key is that of its secret
-sound_public : (key : Key) → is_sound key ≡ true → public_of (secret_of key) ≡ public_key_of key
+sound_public : (key : LmsKey) → is_sound key ≡ true → public_of (secret_of key) ≡ public_key_of key
 sound_public key sound =
     let with_root : List ℕ → LmsPublic = λ root. record { pair = key.pair; identifier = key.identifier; root = root } in
     ap with_root ((bytes_decides (public_of (secret_of key)).root key.root).0 sound)
 
 -- and the signature is valid for each message of the bound digest
-binding_valid : (key : Key) (bound : Bound) (message : List ℕ) → IsBinding key bound → is_sound key ≡ true
+binding_valid : (key : LmsKey) (bound : Bound) (message : List ℕ) → IsBinding key bound → is_sound key ≡ true
     → message_digest_of key.identifier bound.leaf bound.randomizer message ≡ bound.digest → IsValid (public_key_of key) message (signed_for key bound)
 binding_valid key bound message fits sound digest =
     let valid = textbook_valid (secret_of key) bound.leaf bound.randomizer message fits.inside in
@@ -62,7 +62,7 @@ handed_spelled world x kept is =
     subst (Spells signature (signed_for is.key is.bound)) (sym is.signature) (binding_spelled is.key is.bound (binding_fits world x kept is))
 
 handed_valid : (world : World) (x : Handed) → IsKept world.state.records world.handed → IsRecorded world.state.records x
-    → (key : Key) × (key_of world.state.records ≡ Some key) × Verifies (public_key_of key) x.message x.signature
+    → (key : LmsKey) × (key_of world.state.records ≡ Some key) × Verifies (public_key_of key) x.message x.signature
 handed_valid world x kept is = (
   is.key,
   is.keyed,
@@ -74,13 +74,13 @@ handed_valid world x kept is = (
 )
 
 -- the use that handed-out bytes make is the binding's
-use_is : (world : World) (key : Key) (x : Handed) (u : LeafUse) → IsKept world.state.records world.handed → key_of world.state.records ≡ Some key
+use_is : (world : World) (key : LmsKey) (x : Handed) (u : LeafUse) → IsKept world.state.records world.handed → key_of world.state.records ≡ Some key
     → (is : IsRecorded world.state.records x) → Uses (public_key_of key) x.message x.signature u
     → (u.leaf ≡ is.bound.leaf) × (u.digest ≡ is.bound.digest)
 use_is world key x u kept keyed is uses =
     let same : key ≡ is.key = cc in
     let read : uses.read ≡ signed_for is.key is.bound = one_value signature uses.read (signed_for is.key is.bound) x.signature uses.spelled (handed_spelled world x kept is) in
-    let digest_by : Signature → Key → List ℕ = λ s k. message_digest_of k.identifier s.index s.randomizer x.message in (
+    let digest_by : Signature → LmsKey → List ℕ = λ s k. message_digest_of k.identifier s.index s.randomizer x.message in (
       uses.leaf ∙ ap (λ s. s.index) read,
       uses.digest ∙ ap (λ s. digest_by s key) read ∙ ap (digest_by (signed_for is.key is.bound)) same ∙ is.digest,
     )
@@ -113,11 +113,11 @@ one_binding world x y u v kept share =
 begins_key : (state : State) (pair : LmsPair) (identifier seed : List ℕ) (chance : Creation) → state.records ≡ []
     → chance.failed_load ≡ None → chance.drawn ≡ Some (identifier, seed) → chance.has_room ≡ true → chance.fate ≡ acked
     → (let key = new_key pair identifier seed in
-    created state pair chance ≡ record { state = record { records = KeyRecord key ∷ []; is_open = true }; answer = Ok (public_key_of key) })
+    created state pair chance ≡ record { state = record { records = key_record key ∷ []; is_open = true }; answer = Ok (public_key_of key) })
 begins_key state pair identifier seed chance empty loaded drawn room fate = rw (loaded, empty, drawn, room, fate) refl
 
 -- an open signer goes by the binding of the name
-open_request : (limit : ℕ) (state : State) (key : Key) (name message : List ℕ) (chance : Chance) (found : Option Bound) → state.is_open ≡ true
+open_request : (limit : ℕ) (state : State) (key : LmsKey) (name message : List ℕ) (chance : Chance) (found : Option Bound) → state.is_open ≡ true
     → key_of state.records ≡ Some key → binding_of state.records name ≡ found
     → requested limit state name message chance ≡ requested_of limit state key name message chance found
 open_request limit state key name message chance found open_now keyed is =
@@ -126,7 +126,7 @@ open_request limit state key name message chance found open_now keyed is =
     under ∙ of_open ∙ ap (requested_of limit state key name message chance) is
 
 -- a free name is bound to the next leaf, where nothing fails
-fresh_request : (limit : ℕ) (state : State) (key : Key) (name message randomizer : List ℕ) (chance : Chance) → is_sound key ≡ true → state.is_open ≡ true
+fresh_request : (limit : ℕ) (state : State) (key : LmsKey) (name message randomizer : List ℕ) (chance : Chance) → is_sound key ≡ true → state.is_open ≡ true
     → key_of state.records ≡ Some key → binding_of state.records name ≡ None
     → next_leaf state.records < 2 ^ height_of key.pair.tree → length state.records < limit
     → chance.has_room ≡ true → chance.drawn ≡ Some randomizer → chance.fate ≡ acked
@@ -158,7 +158,7 @@ failed_request limit state name message chance =
     })
 
 -- a request under sound keys alone is never told of a damaged slot
-never_damaged : (limit : ℕ) (state : State) (name message : List ℕ) (chance : Chance) (slot : ℕ) → ((key : Key) → key_of state.records ≡ Some key → is_sound key ≡ true)
+never_damaged : (limit : ℕ) (state : State) (name message : List ℕ) (chance : Chance) (slot : ℕ) → ((key : LmsKey) → key_of state.records ≡ Some key → is_sound key ≡ true)
     → (requested limit state name message chance).answer ≢ Err (Damaged slot)
 never_damaged limit state name message chance slot sound =
     for_request (λ outcome. outcome.answer ≢ Err (Damaged slot)) limit state name message chance (record {
@@ -176,7 +176,7 @@ never_damaged limit state name message chance slot sound =
     })
 
 -- a closed signer answers none
-closed_under : (limit : ℕ) (state : State) (name message : List ℕ) (chance : Chance) (found : Option Key) → state.is_open ≡ false
+closed_under : (limit : ℕ) (state : State) (name message : List ℕ) (chance : Chance) (found : Option LmsKey) → state.is_open ≡ false
     → requested_under limit state name message chance found ≡ refused state Stopped
 closed_under limit state name message chance (Some key) closed = rw closed refl
 closed_under limit state name message chance None closed = refl
@@ -194,7 +194,7 @@ false_from true never = absurd (never refl)
 false_from false never = refl
 
 -- a message of another digest is refused
-answers_changed : (key : Key) (bound : Bound) (message : List ℕ) (chance : Chance) → message_digest_of key.identifier bound.leaf bound.randomizer message ≢ bound.digest
+answers_changed : (key : LmsKey) (bound : Bound) (message : List ℕ) (chance : Chance) → message_digest_of key.identifier bound.leaf bound.randomizer message ≢ bound.digest
     → repeated key bound message chance ≡ Err Changed
 answers_changed key bound message chance other =
     let digest = message_digest_of key.identifier bound.leaf bound.randomizer message in
@@ -207,7 +207,7 @@ turned true x y = refl
 turned false x y = refl
 
 -- a message of the bound digest gets the signature, unless memory is refused
-answers_repeated : (key : Key) (bound : Bound) (message : List ℕ) (chance : Chance) → is_sound key ≡ true
+answers_repeated : (key : LmsKey) (bound : Bound) (message : List ℕ) (chance : Chance) → is_sound key ≡ true
     → message_digest_of key.identifier bound.leaf bound.randomizer message ≡ bound.digest
     → repeated key bound message chance ≡ (if chance.has_room then Ok (signature_of key bound) else Err OutOfMemory)
 answers_repeated key bound message chance sound same =

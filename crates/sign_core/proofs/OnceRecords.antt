@@ -5,22 +5,28 @@ use Rattle.std.specs.Cmp.Lexicographic.{bytes_decides}
 use Rattle.std.proofs.lemmas.List.Folds.{find-append}
 use Rattle.std.proofs.Math.Nat.{le-max_left, le-max_right}
 use Rattle.state_file.specs.declared.record.Bound.{Bound}
-use Rattle.state_file.specs.declared.record.Key.{Key}
+use Rattle.sign_core.specs.declared.key.LmsKey.{LmsKey}
 use Rattle.state_file.specs.declared.record.Record.{Record}
-use Rattle.state_file.specs.declared.record.Record.TheVariants.{Key as KeyRecord, Bound as BoundRecord}
-use Rattle.sign_core.specs.Ledger.{binding_of, bounds_of, key_of, next_leaf, same_bytes}
+use Rattle.state_file.specs.declared.record.Record.TheVariants.{Key as KeyRecord, Extend as ExtendRecord, Bound as BoundRecord, Retire, Moved}
+use Rattle.sign_core.specs.Ledger.{above_of, binding_of, bounds_of, key_of, next_leaf, same_bytes}
 
 -- the key stays
-pub key_stays : (records : List Record) (entry : Record) (key : Key) → key_of records ≡ Some key → key_of (records ++ entry ∷ []) ≡ Some key
+pub key_stays : (records : List Record) (entry : Record) (key : LmsKey) → key_of records ≡ Some key → key_of (records ++ entry ∷ []) ≡ Some key
 key_stays [] entry key is = absurd (cc)
 key_stays (KeyRecord first ∷ rest) entry key is = is
+key_stays (ExtendRecord extend ∷ rest) entry key is = absurd (cc)
 key_stays (BoundRecord bound ∷ rest) entry key is = absurd (cc)
+key_stays (Retire upto ∷ rest) entry key is = absurd (cc)
+key_stays (Moved ∷ rest) entry key is = absurd (cc)
 
 -- the binding comes behind the others
 pub bounds_and_one : (records : List Record) (bound : Bound) → bounds_of (records ++ BoundRecord bound ∷ []) ≡ bounds_of records ++ bound ∷ []
 bounds_and_one [] bound = refl
 bounds_and_one (KeyRecord key ∷ rest) bound = bounds_and_one rest bound
+bounds_and_one (ExtendRecord extend ∷ rest) bound = bounds_and_one rest bound
 bounds_and_one (BoundRecord first ∷ rest) bound = ap (λ bounds. first ∷ bounds) (bounds_and_one rest bound)
+bounds_and_one (Retire upto ∷ rest) bound = bounds_and_one rest bound
+bounds_and_one (Moved ∷ rest) bound = bounds_and_one rest bound
 
 -- what is bound stays bound
 pub binding_stays : (records : List Record) (new bound : Bound) (name : List ℕ) → binding_of records name ≡ Some bound → binding_of (records ++ BoundRecord new ∷ []) name ≡ Some bound
@@ -62,19 +68,23 @@ pub binding_named : (records : List Record) (name : List ℕ) (bound : Bound) �
 binding_named records name bound is = (bytes_decides bound.name name).0 (found_passes (λ b. same_bytes b.name name) (bounds_of records) bound is)
 
 -- the next leaf is above every leaf
-above : (least : ℕ) (bounds : List Bound) → least ≤ fold max least (map (λ b. b.leaf + 1) bounds)
+above : (least : ℕ) (numbers : List ℕ) → least ≤ fold max least numbers
 above least [] = omega arith
 above least (first ∷ rest) =
-    let others = above (max least (first.leaf + 1)) rest in
-    omega (arith, others, le-max_left least (first.leaf + 1))
+    let others = above (max least first) rest in
+    omega (arith, others, le-max_left least first)
 
-leaf_below : (least : ℕ) (bounds : List Bound) (bound : Bound) → Contains bounds bound → bound.leaf < fold max least (map (λ b. b.leaf + 1) bounds)
+leaf_below : (least : ℕ) (records : List Record) (bound : Bound) → Contains (bounds_of records) bound → bound.leaf < fold max least (map above_of records)
 leaf_below least [] bound (k, within, is) = absurd (omega arith)
-leaf_below least (first ∷ rest) bound (zero, within, is) =
-    let others = above (max least (first.leaf + 1)) rest in
+leaf_below least (KeyRecord key ∷ rest) bound there = leaf_below (max least 0) rest bound there
+leaf_below least (ExtendRecord extend ∷ rest) bound there = leaf_below (max least 0) rest bound there
+leaf_below least (BoundRecord first ∷ rest) bound (zero, within, is) =
+    let others = above (max least (first.leaf + 1)) (map above_of rest) in
     let leaf : first.leaf ≡ bound.leaf = ap (λ b. b.leaf) is in
     omega (arith, others, le-max_right least (first.leaf + 1))
-leaf_below least (first ∷ rest) bound (suc k, within, is) = leaf_below (max least (first.leaf + 1)) rest bound (k, omega arith, is)
+leaf_below least (BoundRecord first ∷ rest) bound (suc k, within, is) = leaf_below (max least (first.leaf + 1)) rest bound (k, omega arith, is)
+leaf_below least (Retire upto ∷ rest) bound there = leaf_below (max least upto) rest bound there
+leaf_below least (Moved ∷ rest) bound there = leaf_below (max least 0) rest bound there
 
 pub below_next : (records : List Record) (bound : Bound) → Contains (bounds_of records) bound → bound.leaf < next_leaf records
-below_next records bound stands = leaf_below 0 (bounds_of records) bound stands
+below_next records bound stands = leaf_below 0 records bound stands

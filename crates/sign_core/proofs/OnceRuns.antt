@@ -6,25 +6,25 @@ use Rattle.std.proofs.lemmas.List.Elements.{Contains-push_cases}
 use Rattle.typecodes.specs.declared.types.LmsPair.{LmsPair}
 use Rattle.typecodes.specs.Types.{height_of}
 use Rattle.state_file.specs.declared.record.Bound.{Bound}
-use Rattle.state_file.specs.declared.record.Key.{Key}
+use Rattle.sign_core.specs.declared.key.LmsKey.{LmsKey}
 use Rattle.state_file.specs.declared.record.Record.{Record}
-use Rattle.state_file.specs.declared.record.Record.TheVariants.{Key as KeyRecord, Bound as BoundRecord}
-use Rattle.sign_core.specs.Ledger.{binding_of, bounds_of, is_sound, key_of, next_leaf, public_key_of, signature_of}
+use Rattle.state_file.specs.declared.record.Record.TheVariants.{Bound as BoundRecord}
+use Rattle.sign_core.specs.Ledger.{binding_of, bounds_of, is_sound, key_of, key_record, next_leaf, public_key_of, signature_of}
 use Rattle.sign_core.specs.World.{Chance, Creation, Event, Fate, Handed, Outcome, State, World, acked, after, appended, beginning, create, created, cut_new, cut_old, handed_with, new_bound, new_key, no_memory, request, requested, run}
 use Rattle.sign_core.specs.Once.{AllEvents, IsDrawn, IsEvent, IsRecorded}
 use Rattle.sign_core.proofs.OnceSteps.{for_create, for_request}
 use Rattle.sign_core.proofs.OnceRecords.{below_next, binding_added, binding_stays, bounds_and_one, key_stays}
 
 -- a binding that can be signed under the key: of one of its leaves, with 32 bytes of C
-pub record IsBinding (key : Key) (bound : Bound) : Type 0 where
+pub record IsBinding (key : LmsKey) (bound : Bound) : Type 0 where
   pub inside : bound.leaf < 2 ^ height_of key.pair.tree
   pub randomizer : length bound.randomizer ≡ 32
 
 -- What every event keeps: the key is sound, its bindings can be signed, no two are of one leaf, and what was
 -- handed out is recorded.
 pub record IsKept (records : List Record) (handed : List Handed) : Type 0 where
-  pub sound : (key : Key) → key_of records ≡ Some key → is_sound key ≡ true
-  pub signed : (key : Key) (bound : Bound) → key_of records ≡ Some key → Contains (bounds_of records) bound → IsBinding key bound
+  pub sound : (key : LmsKey) → key_of records ≡ Some key → is_sound key ≡ true
+  pub signed : (key : LmsKey) (bound : Bound) → key_of records ≡ Some key → Contains (bounds_of records) bound → IsBinding key bound
   pub leaves : (a b : Bound) → Contains (bounds_of records) a → Contains (bounds_of records) b → a.leaf ≡ b.leaf → a ≡ b
   pub recorded : (x : Handed) → Contains handed x → IsRecorded records x
 
@@ -38,7 +38,7 @@ kept_empty = record {
 }
 
 -- a first record that is a sound key
-kept_key : (key : Key) (handed : List Handed) → is_sound key ≡ true → IsKept [] handed → IsKept (KeyRecord key ∷ []) handed
+kept_key : (key : LmsKey) (handed : List Handed) → is_sound key ≡ true → IsKept [] handed → IsKept (key_record key ∷ []) handed
 kept_key key handed sound kept = record {
   sound = λ other is. let same : key ≡ other = cc in subst (λ k. is_sound k ≡ true) same sound;
   signed = λ other bound is (k, within, at). absurd (omega arith);
@@ -58,7 +58,7 @@ recorded_stays records new x is = record {
 }
 
 -- a binding of the next leaf
-kept_bound : (records : List Record) (handed : List Handed) (key : Key) (new : Bound) → IsKept records handed → key_of records ≡ Some key
+kept_bound : (records : List Record) (handed : List Handed) (key : LmsKey) (new : Bound) → IsKept records handed → key_of records ≡ Some key
     → IsBinding key new → new.leaf ≡ next_leaf records → IsKept (records ++ BoundRecord new ∷ []) handed
 kept_bound records handed key new kept keyed fits next =
     let now = key_stays records (BoundRecord new) key keyed in
@@ -98,7 +98,7 @@ kept_silent : (records : List Record) (handed : List Handed) → IsKept records 
 kept_silent records handed kept = subst (IsKept records) (sym (append-nil handed)) kept
 
 -- a free name that is bound to the next leaf
-kept_new : (state : State) (handed : List Handed) (key : Key) (name message randomizer : List ℕ) (fate : Fate) → IsKept state.records handed
+kept_new : (state : State) (handed : List Handed) (key : LmsKey) (name message randomizer : List ℕ) (fate : Fate) → IsKept state.records handed
     → key_of state.records ≡ Some key → binding_of state.records name ≡ None → next_leaf state.records < 2 ^ height_of key.pair.tree → length randomizer ≡ 32
     → (let new = new_bound key (next_leaf state.records) name message randomizer in
     let outcome = appended state (BoundRecord new) (signature_of key new) fate in
@@ -149,12 +149,12 @@ new_key_sound pair identifier seed = let key = new_key pair identifier seed in (
 
 -- a key that is appended where no record stands
 kept_new_key : (state : State) (handed : List Handed) (pair : LmsPair) (identifier seed : List ℕ) (fate : Fate) → IsKept state.records handed → state.records ≡ []
-    → (let new = new_key pair identifier seed in IsKept (appended state (KeyRecord new) (public_key_of new) fate).state.records handed)
+    → (let new = new_key pair identifier seed in IsKept (appended state (key_record new) (public_key_of new) fate).state.records handed)
 kept_new_key state handed pair identifier seed fate kept empty =
     let new = new_key pair identifier seed in
-    let first : IsKept (KeyRecord new ∷ []) handed = kept_key new handed (new_key_sound pair identifier seed) (subst (λ records. IsKept records handed) empty kept) in
-    let more : IsKept (state.records ++ KeyRecord new ∷ []) handed = subst (λ records. IsKept (records ++ KeyRecord new ∷ []) handed) (sym empty) first in
-    elim fate as (λ f. IsKept (appended state (KeyRecord new) (public_key_of new) f).state.records handed) [
+    let first : IsKept (key_record new ∷ []) handed = kept_key new handed (new_key_sound pair identifier seed) (subst (λ records. IsKept records handed) empty kept) in
+    let more : IsKept (state.records ++ key_record new ∷ []) handed = subst (λ records. IsKept (records ++ key_record new ∷ []) handed) (sym empty) first in
+    elim fate as (λ f. IsKept (appended state (key_record new) (public_key_of new) f).state.records handed) [
       | acked ↦ more
       | cut_old ↦ kept
       | cut_new ↦ more

@@ -8,12 +8,12 @@ use Rattle.typecodes.specs.Types.{height_of}
 use Rattle.lmots.specs.Formulas.{message_digest_of}
 use Rattle.lms.specs.declared.key.LmsPublic.{LmsPublic}
 use Rattle.state_file.specs.declared.record.Bound.{Bound}
-use Rattle.state_file.specs.declared.record.Key.{Key}
+use Rattle.sign_core.specs.declared.key.LmsKey.{LmsKey}
 use Rattle.state_file.specs.declared.record.Record.{Record}
-use Rattle.state_file.specs.declared.record.Record.TheVariants.{Key as KeyRecord, Bound as BoundRecord}
+use Rattle.state_file.specs.declared.record.Record.TheVariants.{Bound as BoundRecord}
 use Rattle.sign_core.specs.declared.fault.SignFault.{SignFault}
 use Rattle.sign_core.specs.declared.fault.SignFault.TheVariants.{Changed, Damaged, Exhausted, KeyThere, LedgerFull, OutOfMemory, RandomFailed, Stopped, StoreFailed}
-use Rattle.sign_core.specs.Ledger.{binding_of, is_sound, key_of, next_leaf, public_key_of, same_bytes, signature_of}
+use Rattle.sign_core.specs.Ledger.{binding_of, is_sound, key_of, key_record, next_leaf, public_key_of, same_bytes, signature_of}
 use Rattle.sign_core.specs.World.{Chance, Creation, Outcome, State, appended, bound_anew, bound_to, created, created_after, made, new_bound, new_key, refused, repeated, requested, requested_of, requested_under}
 
 -- what holds of both branches holds of the choice
@@ -31,23 +31,23 @@ not_false false e = absurd (cc)
 -- message's digest; or its name is free, and is bound to the next leaf with this fate.
 pub record EndsOfRequest (P : Outcome (List ℕ) → Type 0) (state : State) (name message : List ℕ) (chance : Chance) : Type 0 where
   pub refused_for : (fault : SignFault) → fault ≢ StoreFailed → ((slot : ℕ) → fault ≢ Damaged slot) → P (refused state fault)
-  pub damaged : (key : Key) → key_of state.records ≡ Some key → not (is_sound key) ≡ true → P (refused state (Damaged 0))
-  pub recorded : (key : Key) (bound : Bound) → key_of state.records ≡ Some key → binding_of state.records name ≡ Some bound
+  pub damaged : (key : LmsKey) → key_of state.records ≡ Some key → not (is_sound key) ≡ true → P (refused state (Damaged 0))
+  pub recorded : (key : LmsKey) (bound : Bound) → key_of state.records ≡ Some key → binding_of state.records name ≡ Some bound
       → message_digest_of key.identifier bound.leaf bound.randomizer message ≡ bound.digest
       → P (record { state = state; answer = Ok (signature_of key bound) })
-  pub bound : (key : Key) (randomizer : List ℕ) → key_of state.records ≡ Some key → binding_of state.records name ≡ None
+  pub bound : (key : LmsKey) (randomizer : List ℕ) → key_of state.records ≡ Some key → binding_of state.records name ≡ None
       → next_leaf state.records < 2 ^ height_of key.pair.tree → chance.drawn ≡ Some randomizer
       → (let new = new_bound key (next_leaf state.records) name message randomizer in P (appended state (BoundRecord new) (signature_of key new) chance.fate))
 
 -- the source's answer
-after_draw : (P : Outcome (List ℕ) → Type 0) (state : State) (key : Key) (name message : List ℕ) (chance : Chance) (drawn : Option (List ℕ)) → chance.drawn ≡ drawn
+after_draw : (P : Outcome (List ℕ) → Type 0) (state : State) (key : LmsKey) (name message : List ℕ) (chance : Chance) (drawn : Option (List ℕ)) → chance.drawn ≡ drawn
     → EndsOfRequest P state name message chance → key_of state.records ≡ Some key → binding_of state.records name ≡ None
     → next_leaf state.records < 2 ^ height_of key.pair.tree → P (bound_to state key name message chance drawn)
 after_draw P state key name message chance None is ends keyed free inside = ends.refused_for RandomFailed (λ e. cc) (λ slot e. cc)
 after_draw P state key name message chance (Some randomizer) is ends keyed free inside = ends.bound key randomizer keyed free inside is
 
 -- a free name
-for_free : (P : Outcome (List ℕ) → Type 0) (limit : ℕ) (state : State) (key : Key) (name message : List ℕ) (chance : Chance)
+for_free : (P : Outcome (List ℕ) → Type 0) (limit : ℕ) (state : State) (key : LmsKey) (name message : List ℕ) (chance : Chance)
     → EndsOfRequest P state name message chance → key_of state.records ≡ Some key → binding_of state.records name ≡ None
     → P (bound_anew limit state key name message chance)
 for_free P limit state key name message chance ends keyed free =
@@ -58,7 +58,7 @@ for_free P limit state key name message chance ends keyed free =
     (λ sound. after_draw P state key name message chance chance.drawn refl ends keyed free (leb-false _ _ left)))))
 
 -- a bound name
-for_bound : (P : Outcome (List ℕ) → Type 0) (state : State) (key : Key) (bound : Bound) (name message : List ℕ) (chance : Chance)
+for_bound : (P : Outcome (List ℕ) → Type 0) (state : State) (key : LmsKey) (bound : Bound) (name message : List ℕ) (chance : Chance)
     → EndsOfRequest P state name message chance → key_of state.records ≡ Some key → binding_of state.records name ≡ Some bound
     → P (record { state = state; answer = repeated key bound message chance })
 for_bound P state key bound name message chance ends keyed named =
@@ -70,14 +70,14 @@ for_bound P state key bound name message chance ends keyed named =
     (λ sound. ends.recorded key bound keyed named ((bytes_decides digest bound.digest).0 (not_false _ same)))))
 
 -- a name that was looked up
-for_found : (P : Outcome (List ℕ) → Type 0) (limit : ℕ) (state : State) (key : Key) (name message : List ℕ) (chance : Chance) (found : Option Bound)
+for_found : (P : Outcome (List ℕ) → Type 0) (limit : ℕ) (state : State) (key : LmsKey) (name message : List ℕ) (chance : Chance) (found : Option Bound)
     → EndsOfRequest P state name message chance → key_of state.records ≡ Some key → binding_of state.records name ≡ found
     → P (requested_of limit state key name message chance found)
 for_found P limit state key name message chance (Some bound) ends keyed named = for_bound P state key bound name message chance ends keyed named
 for_found P limit state key name message chance None ends keyed free = for_free P limit state key name message chance ends keyed free
 
 -- a key that was looked up
-for_key : (P : Outcome (List ℕ) → Type 0) (limit : ℕ) (state : State) (name message : List ℕ) (chance : Chance) (found : Option Key)
+for_key : (P : Outcome (List ℕ) → Type 0) (limit : ℕ) (state : State) (name message : List ℕ) (chance : Chance) (found : Option LmsKey)
     → EndsOfRequest P state name message chance → key_of state.records ≡ found → P (requested_under limit state name message chance found)
 for_key P limit state name message chance (Some key) ends keyed =
     either_way P state.is_open _ _
@@ -93,7 +93,7 @@ for_request P limit state name message chance ends = for_key P limit state name 
 pub record EndsOfCreate (P : Outcome LmsPublic → Type 0) (state : State) (pair : LmsPair) (chance : Creation) : Type 0 where
   pub refused_for : (fault : SignFault) → P (refused state fault)
   pub key : (identifier seed : List ℕ) → state.records ≡ []
-      → (let new = new_key pair identifier seed in P (appended state (KeyRecord new) (public_key_of new) chance.fate))
+      → (let new = new_key pair identifier seed in P (appended state (key_record new) (public_key_of new) chance.fate))
 
 -- a list that isn't as long as 1 is empty
 none_there : (records : List Record) → nat_le 1 (length records) ≡ false → records ≡ []

@@ -4,12 +4,12 @@ use Rattle.std.specs.Prelude.{fold, max, nat_le, nat_lt, if◌then◌else◌, �
 use Rattle.typecodes.specs.Types.{height_of}
 use Rattle.lmots.specs.Formulas.{message_digest_of}
 use Rattle.state_file.specs.declared.record.Bound.{Bound}
-use Rattle.state_file.specs.declared.record.Key.{Key}
+use Rattle.sign_core.specs.declared.key.LmsKey.{LmsKey}
 use Rattle.state_file.specs.declared.record.Record.{Record}
-use Rattle.state_file.specs.declared.record.Record.TheVariants.{Key as KeyRecord, Bound as BoundRecord}
+use Rattle.state_file.specs.declared.record.Record.TheVariants.{Key as KeyRecord, Extend as ExtendRecord, Bound as BoundRecord, Retire, Moved}
 use Rattle.sign_core.specs.declared.fault.SignFault.{SignFault}
 use Rattle.sign_core.specs.declared.fault.SignFault.TheVariants.{Changed, Exhausted, RandomFailed, StoreFailed, Stopped, Damaged, OutOfMemory, LedgerFull, Unreadable, KeyThere}
-use Rattle.sign_core.specs.Ledger.{binding_of, bounds_of, is_sound, key_of, next_leaf, same_bytes, signature_of}
+use Rattle.sign_core.specs.Ledger.{above_of, binding_of, bounds_of, is_sound, key_of, key_record, next_leaf, same_bytes, signature_of}
 use Rattle.sign_core.specs.World.{Chance, Fate, Outcome, State, acked, cut_old, cut_new, no_memory, appended, bound_anew, bound_to, new_bound, refused, repeated, requested, requested_of, requested_under}
 use Rattle.sign_core.specs.Calls.{Leaves, Signs, View, is_read, state_of}
 use Rattle.sign_core.specs.Once.{IsDrawn}
@@ -22,17 +22,17 @@ bounds_of-map [] = refl
 bounds_of-map (bound ∷ rest) = ap (λ all. bound ∷ all) (bounds_of-map rest)
 
 -- the same once more, of records that are kept
-pub kept_bounds : (list : List Record) (stopped : Bool) (key : Key) (bounds : List Bound) (leaf : ℕ) → IsKept list stopped key bounds leaf → bounds_of list ≡ bounds
+pub kept_bounds : (list : List Record) (stopped : Bool) (key : LmsKey) (bounds : List Bound) (leaf : ℕ) → IsKept list stopped key bounds leaf → bounds_of list ≡ bounds
 kept_bounds list stopped key bounds leaf kept = ap bounds_of kept.records ∙ bounds_of-map bounds
 
-pub kept_key : (list : List Record) (stopped : Bool) (key : Key) (bounds : List Bound) (leaf : ℕ) → IsKept list stopped key bounds leaf → key_of list ≡ Some key
+pub kept_key : (list : List Record) (stopped : Bool) (key : LmsKey) (bounds : List Bound) (leaf : ℕ) → IsKept list stopped key bounds leaf → key_of list ≡ Some key
 kept_key list stopped key bounds leaf kept = ap key_of kept.records
 
 pub length-map_bound : (bounds : List Bound) → length (map BoundRecord bounds) ≡ length bounds
 length-map_bound [] = refl
 length-map_bound (bound ∷ rest) = ap suc (length-map_bound rest)
 
-pub kept_length : (list : List Record) (stopped : Bool) (key : Key) (bounds : List Bound) (leaf : ℕ) → IsKept list stopped key bounds leaf → length list ≡ length bounds + 1
+pub kept_length : (list : List Record) (stopped : Bool) (key : LmsKey) (bounds : List Bound) (leaf : ℕ) → IsKept list stopped key bounds leaf → length list ≡ length bounds + 1
 kept_length list stopped key bounds leaf kept = omega (arith, ap length kept.records, length-map_bound bounds)
 
 -- the least number above all leaves, seen from a start on, is no less than that start
@@ -53,48 +53,59 @@ found_below test (bound ∷ rest) found from e =
         omega (arith, above_start (map (λ bound. bound.leaf + 1) rest) (max from (bound.leaf + 1)))
     by_test false there later = later there
 
+-- the next leaf of a key and its bindings
+above-map_bound : (bounds : List Bound) → map above_of (map BoundRecord bounds) ≡ map (λ bound. bound.leaf + 1) bounds
+above-map_bound [] = refl
+above-map_bound (bound ∷ rest) = ap (λ all. (bound.leaf + 1) ∷ all) (above-map_bound rest)
+
+pub next_of-records : (key : LmsKey) (bounds : List Bound) (list : List Record) → list ≡ records_of key bounds → next_leaf list ≡ fold max 0 (map (λ bound. bound.leaf + 1) bounds)
+next_of-records key bounds list is = ap next_leaf is ∙ ap (fold max 0) (above-map_bound bounds)
+
 -- one more binding
 next_snoc : (bounds : List Bound) (bound : Bound) (from : ℕ) → fold max from (map (λ bound. bound.leaf + 1) (bounds ++ bound ∷ [])) ≡ max (fold max from (map (λ bound. bound.leaf + 1) bounds)) (bound.leaf + 1)
 next_snoc [] bound from = refl
 next_snoc (first ∷ rest) bound from = next_snoc rest bound (max from (first.leaf + 1))
 
-records_snoc : (key : Key) (bounds : List Bound) (bound : Bound) → records_of key bounds ++ BoundRecord bound ∷ [] ≡ records_of key (bounds ++ bound ∷ [])
+records_snoc : (key : LmsKey) (bounds : List Bound) (bound : Bound) → records_of key bounds ++ BoundRecord bound ∷ [] ≡ records_of key (bounds ++ bound ∷ [])
 records_snoc key [] bound = refl
-records_snoc key (first ∷ rest) bound = ap (λ all. KeyRecord key ∷ BoundRecord first ∷ all) (ap (drop 1) (records_snoc key rest bound))
+records_snoc key (first ∷ rest) bound = ap (λ all. key_record key ∷ BoundRecord first ∷ all) (ap (drop 1) (records_snoc key rest bound))
 
 -- records with one more binding, to the next leaf
-pub kept_more : (list : List Record) (stopped : Bool) (key : Key) (bounds : List Bound) (leaf : ℕ) (bound : Bound) (new : List Record) (new_stopped : Bool) → IsKept list stopped key bounds leaf → bound.leaf ≡ leaf → leaf < 2 ^ height_of key.pair.tree → new ≡ list ++ BoundRecord bound ∷ [] → new_stopped ≡ false → IsKept new new_stopped key (bounds ++ bound ∷ []) (leaf + 1)
+pub kept_more : (list : List Record) (stopped : Bool) (key : LmsKey) (bounds : List Bound) (leaf : ℕ) (bound : Bound) (new : List Record) (new_stopped : Bool) → IsKept list stopped key bounds leaf → bound.leaf ≡ leaf → leaf < 2 ^ height_of key.pair.tree → new ≡ list ++ BoundRecord bound ∷ [] → new_stopped ≡ false → IsKept new new_stopped key (bounds ++ bound ∷ []) (leaf + 1)
 kept_more list stopped key bounds leaf bound new new_stopped kept is below made running =
     let all : new ≡ records_of key (bounds ++ bound ∷ []) =
     made ∙ ap (λ records. records ++ BoundRecord bound ∷ []) kept.records ∙ records_snoc key bounds bound in
-    let next = ap (λ l. fold max 0 (map (λ bound. bound.leaf + 1) l)) (ap bounds_of all ∙ bounds_of-map (bounds ++ bound ∷ [])) ∙ next_snoc bounds bound 0 in
-    let before = kept.next ∙ ap (λ l. fold max 0 (map (λ bound. bound.leaf + 1) l)) (kept_bounds list stopped key bounds leaf kept) in
+    let next = next_of-records key (bounds ++ bound ∷ []) new all ∙ next_snoc bounds bound 0 in
+    let before = kept.next ∙ next_of-records key bounds list kept.records in
     record { running = running; records = all; next = omega arith; inside = omega arith }
 
 -- a request to a signer that is closed
 pub closed_step : (limit : ℕ) (list : List Record) (name message : List ℕ) (chance : Chance) → requested limit (state_of list false) name message chance ≡ refused (state_of list false) Stopped
-closed_step limit [] name message chance = refl
-closed_step limit (KeyRecord key ∷ rest) name message chance = refl
-closed_step limit (BoundRecord bound ∷ rest) name message chance = refl
+closed_step limit list name message chance =
+    under (key_of list)
+  where
+    under : (found : Option LmsKey) → requested_under limit (state_of list false) name message chance found ≡ refused (state_of list false) Stopped
+    under (Some key) = refl
+    under None = refl
 
 -- a request under a name that is bound
-pub repeated_step : (limit : ℕ) (list : List Record) (key : Key) (bound : Bound) (name message : List ℕ) (chance : Chance) → key_of list ≡ Some key → binding_of list name ≡ Some bound → requested limit (state_of list true) name message chance ≡ record { state = state_of list true; answer = repeated key bound message chance }
+pub repeated_step : (limit : ℕ) (list : List Record) (key : LmsKey) (bound : Bound) (name message : List ℕ) (chance : Chance) → key_of list ≡ Some key → binding_of list name ≡ Some bound → requested limit (state_of list true) name message chance ≡ record { state = state_of list true; answer = repeated key bound message chance }
 repeated_step limit list key bound name message chance is found =
     let state = state_of list true in
     ap (requested_under limit state name message chance) is ∙ ap (requested_of limit state key name message chance) found
 
 -- a request under a name that isn't
-pub unbound_step : (limit : ℕ) (list : List Record) (key : Key) (name message : List ℕ) (chance : Chance) → key_of list ≡ Some key → binding_of list name ≡ None → requested limit (state_of list true) name message chance ≡ bound_anew limit (state_of list true) key name message chance
+pub unbound_step : (limit : ℕ) (list : List Record) (key : LmsKey) (name message : List ℕ) (chance : Chance) → key_of list ≡ Some key → binding_of list name ≡ None → requested limit (state_of list true) name message chance ≡ bound_anew limit (state_of list true) key name message chance
 unbound_step limit list key name message chance is none =
     let state = state_of list true in
     ap (requested_under limit state name message chance) is ∙ ap (requested_of limit state key name message chance) none
 
-abbrev pub answers : ℕ → State → Key → List ℕ → List ℕ → Chance → Option SignFault → Outcome (List ℕ)
+abbrev pub answers : ℕ → State → LmsKey → List ℕ → List ℕ → Chance → Option SignFault → Outcome (List ℕ)
 answers limit state key name message chance (Some fault) = refused state fault
 answers limit state key name message chance None = bound_to state key name message chance chance.drawn
 
 -- what a name that isn't bound is answered, by what hinders
-pub anew_step : (limit : ℕ) (state : State) (key : Key) (name message : List ℕ) (chance : Chance) → bound_anew limit state key name message chance ≡ answers limit state key name message chance (hindrance limit (height_of key.pair.tree) (next_leaf state.records) (length state.records) chance.has_room (is_sound key))
+pub anew_step : (limit : ℕ) (state : State) (key : LmsKey) (name message : List ℕ) (chance : Chance) → bound_anew limit state key name message chance ≡ answers limit state key name message chance (hindrance limit (height_of key.pair.tree) (next_leaf state.records) (length state.records) chance.has_room (is_sound key))
 anew_step limit state key name message chance =
     by_tests (nat_le (2 ^ height_of key.pair.tree) (next_leaf state.records)) (nat_lt limit (length state.records + 1)) chance.has_room (is_sound key)
   where
@@ -108,13 +119,13 @@ anew_step limit state key name message chance =
 -- ---- what each call is
 
 -- what hinders, by the records and by what is kept of them
-hindrance_kept : (limit : ℕ) (list : List Record) (stopped : Bool) (key : Key) (bounds : List Bound) (leaf : ℕ) (has_room : Bool) → IsKept list stopped key bounds leaf → hindrance limit (height_of key.pair.tree) (next_leaf list) (length list) has_room (is_sound key) ≡ hindrance limit (height_of key.pair.tree) leaf (length bounds + 1) has_room (is_sound key)
+hindrance_kept : (limit : ℕ) (list : List Record) (stopped : Bool) (key : LmsKey) (bounds : List Bound) (leaf : ℕ) (has_room : Bool) → IsKept list stopped key bounds leaf → hindrance limit (height_of key.pair.tree) (next_leaf list) (length list) has_room (is_sound key) ≡ hindrance limit (height_of key.pair.tree) leaf (length bounds + 1) has_room (is_sound key)
 hindrance_kept limit list stopped key bounds leaf has_room kept =
     let count = kept_length list stopped key bounds leaf kept in
     λ i. hindrance limit (height_of key.pair.tree) (sym kept.next i) (count i) has_room (is_sound key)
 
 -- a request under a name that isn't bound, by what hinders
-pub anew_kept : (limit : ℕ) (list : List Record) (stopped : Bool) (key : Key) (bounds : List Bound) (leaf : ℕ) (name message : List ℕ) (chance : Chance) (hinders : Option SignFault) → IsKept list stopped key bounds leaf → binding_of list name ≡ None → hinders ≡ hindrance limit (height_of key.pair.tree) leaf (length bounds + 1) chance.has_room (is_sound key) → requested limit (state_of list true) name message chance ≡ answers limit (state_of list true) key name message chance hinders
+pub anew_kept : (limit : ℕ) (list : List Record) (stopped : Bool) (key : LmsKey) (bounds : List Bound) (leaf : ℕ) (name message : List ℕ) (chance : Chance) (hinders : Option SignFault) → IsKept list stopped key bounds leaf → binding_of list name ≡ None → hinders ≡ hindrance limit (height_of key.pair.tree) leaf (length bounds + 1) chance.has_room (is_sound key) → requested limit (state_of list true) name message chance ≡ answers limit (state_of list true) key name message chance hinders
 anew_kept limit list stopped key bounds leaf name message chance hinders kept none is =
     let state = state_of list true in
     unbound_step limit list key name message chance (kept_key list stopped key bounds leaf kept) none
@@ -133,7 +144,7 @@ closed_signs limit list told name message =
     record { chance = chance; step = closed_step limit list name message chance; drawn = refl; possible = tt; read = refl }
 
 -- under a name that is bound
-pub repeat_signs : (limit : ℕ) (list : List Record) (key : Key) (bound : Bound) (told : Option (List ℕ)) (name message : List ℕ) (has_room : Bool) (answer : Result (List ℕ) SignFault) → key_of list ≡ Some key → binding_of list name ≡ Some bound → answer ≡ repeated key bound message (record { drawn = None; has_room = has_room; fate = acked }) → Signs limit (state_of list true) (state_of list true) told told name message [] answer
+pub repeat_signs : (limit : ℕ) (list : List Record) (key : LmsKey) (bound : Bound) (told : Option (List ℕ)) (name message : List ℕ) (has_room : Bool) (answer : Result (List ℕ) SignFault) → key_of list ≡ Some key → binding_of list name ≡ Some bound → answer ≡ repeated key bound message (record { drawn = None; has_room = has_room; fate = acked }) → Signs limit (state_of list true) (state_of list true) told told name message [] answer
 repeat_signs limit list key bound told name message has_room answer is found made =
     let chance : Chance = record { drawn = None; has_room = has_room; fate = acked } in
     let nothing : Option (List ℕ) = None in
@@ -146,7 +157,7 @@ repeat_signs limit list key bound told name message has_room answer is found mad
     }
 
 -- under a new name, where something hinders
-pub hindered_signs : (limit : ℕ) (list : List Record) (stopped : Bool) (key : Key) (bounds : List Bound) (leaf : ℕ) (told : Option (List ℕ)) (name message : List ℕ) (has_room : Bool) (fault : SignFault) → IsKept list stopped key bounds leaf → binding_of list name ≡ None → Some fault ≡ hindrance limit (height_of key.pair.tree) leaf (length bounds + 1) has_room (is_sound key) → Signs limit (state_of list true) (state_of list true) told told name message message (Err fault)
+pub hindered_signs : (limit : ℕ) (list : List Record) (stopped : Bool) (key : LmsKey) (bounds : List Bound) (leaf : ℕ) (told : Option (List ℕ)) (name message : List ℕ) (has_room : Bool) (fault : SignFault) → IsKept list stopped key bounds leaf → binding_of list name ≡ None → Some fault ≡ hindrance limit (height_of key.pair.tree) leaf (length bounds + 1) has_room (is_sound key) → Signs limit (state_of list true) (state_of list true) told told name message message (Err fault)
 hindered_signs limit list stopped key bounds leaf told name message has_room fault kept none is =
     let chance : Chance = record { drawn = None; has_room = has_room; fate = acked } in record {
       chance = chance;
@@ -157,7 +168,7 @@ hindered_signs limit list stopped key bounds leaf told name message has_room fau
     }
 
 -- under a new name, where the source fails
-pub undrawn_signs : (limit : ℕ) (list : List Record) (stopped : Bool) (key : Key) (bounds : List Bound) (leaf : ℕ) (told left : Option (List ℕ)) (name message : List ℕ) (has_room : Bool) → IsKept list stopped key bounds leaf → binding_of list name ≡ None → None ≡ hindrance limit (height_of key.pair.tree) leaf (length bounds + 1) has_room (is_sound key) → left ≡ told → Signs limit (state_of list true) (state_of list true) told left name message message (Err RandomFailed)
+pub undrawn_signs : (limit : ℕ) (list : List Record) (stopped : Bool) (key : LmsKey) (bounds : List Bound) (leaf : ℕ) (told left : Option (List ℕ)) (name message : List ℕ) (has_room : Bool) → IsKept list stopped key bounds leaf → binding_of list name ≡ None → None ≡ hindrance limit (height_of key.pair.tree) leaf (length bounds + 1) has_room (is_sound key) → left ≡ told → Signs limit (state_of list true) (state_of list true) told left name message message (Err RandomFailed)
 undrawn_signs limit list stopped key bounds leaf told left name message has_room kept none is same =
     let chance : Chance = record { drawn = None; has_room = has_room; fate = acked } in record {
       chance = chance;
@@ -168,7 +179,7 @@ undrawn_signs limit list stopped key bounds leaf told left name message has_room
     }
 
 -- under a new name that the store is told of
-pub appended_signs : (limit : ℕ) (list new : List Record) (is_open stopped : Bool) (key : Key) (bounds : List Bound) (leaf : ℕ) (told left : Option (List ℕ)) (name message randomizer : List ℕ) (has_room : Bool) (fate : Fate) (answer : Result (List ℕ) SignFault) → IsKept list stopped key bounds leaf → binding_of list name ≡ None → None ≡ hindrance limit (height_of key.pair.tree) leaf (length bounds + 1) has_room (is_sound key) → IsDrawn (Some randomizer) → Gives told randomizer left → (let bound = new_bound key leaf name message randomizer in appended (state_of list true) (BoundRecord bound) (signature_of key bound) fate ≡ record { state = state_of new is_open; answer = answer }) → Signs limit (state_of list true) (state_of new is_open) told left name message [] answer
+pub appended_signs : (limit : ℕ) (list new : List Record) (is_open stopped : Bool) (key : LmsKey) (bounds : List Bound) (leaf : ℕ) (told left : Option (List ℕ)) (name message randomizer : List ℕ) (has_room : Bool) (fate : Fate) (answer : Result (List ℕ) SignFault) → IsKept list stopped key bounds leaf → binding_of list name ≡ None → None ≡ hindrance limit (height_of key.pair.tree) leaf (length bounds + 1) has_room (is_sound key) → IsDrawn (Some randomizer) → Gives told randomizer left → (let bound = new_bound key leaf name message randomizer in appended (state_of list true) (BoundRecord bound) (signature_of key bound) fate ≡ record { state = state_of new is_open; answer = answer }) → Signs limit (state_of list true) (state_of new is_open) told left name message [] answer
 appended_signs limit list new is_open stopped key bounds leaf told left name message randomizer has_room fate answer kept none is drawn gave made =
     let chance : Chance = record { drawn = Some randomizer; has_room = has_room; fate = fate } in
     let state = state_of list true in record {
@@ -188,7 +199,7 @@ signs_along {name = name} {message = message} signs a b c d e f g =
     (λ i. (a i, b i, c i, d i, e i, f i, g i)) signs
 
 -- a repeat where the record's root isn't the secret's
-pub repeated_unsound : (key : Key) (bound : Bound) (message : List ℕ) → not (same_bytes (message_digest_of key.identifier bound.leaf bound.randomizer message) bound.digest) ≡ false → is_sound key ≡ false → Err (Damaged 0) ≡ repeated key bound message (record { drawn = None; has_room = true; fate = acked })
+pub repeated_unsound : (key : LmsKey) (bound : Bound) (message : List ℕ) → not (same_bytes (message_digest_of key.identifier bound.leaf bound.randomizer message) bound.digest) ≡ false → is_sound key ≡ false → Err (Damaged 0) ≡ repeated key bound message (record { drawn = None; has_room = true; fate = acked })
 repeated_unsound key bound message same unsound =
     by_tests (not (same_bytes (message_digest_of key.identifier bound.leaf bound.randomizer message) bound.digest)) (is_sound key) same unsound
   where
@@ -200,9 +211,9 @@ repeated_unsound key bound message same unsound =
 -- ---- from a signer's fields
 
 -- the same kept, told by equal things
-pub kept_along : {list list' : List Record} {stopped stopped' : Bool} {key key' : Key} {bounds bounds' : List Bound} {leaf leaf' : ℕ} → IsKept list stopped key bounds leaf → list ≡ list' → stopped ≡ stopped' → key ≡ key' → bounds ≡ bounds' → leaf ≡ leaf' → IsKept list' stopped' key' bounds' leaf'
+pub kept_along : {list list' : List Record} {stopped stopped' : Bool} {key key' : LmsKey} {bounds bounds' : List Bound} {leaf leaf' : ℕ} → IsKept list stopped key bounds leaf → list ≡ list' → stopped ≡ stopped' → key ≡ key' → bounds ≡ bounds' → leaf ≡ leaf' → IsKept list' stopped' key' bounds' leaf'
 kept_along kept a b c d e =
-    subst (λ (t : List Record × Bool × Key × List Bound × ℕ). IsKept t.0 t.1 t.2 t.3 t.4) (λ i. (a i, b i, c i, d i, e i)) kept
+    subst (λ (t : List Record × Bool × LmsKey × List Bound × ℕ). IsKept t.0 t.1 t.2 t.3 t.4) (λ i. (a i, b i, c i, d i, e i)) kept
 
 and_false : (b : Bool) → b && false ≡ false
 and_false true = refl
@@ -231,28 +242,31 @@ append_fails was list entry new stopped before after (Unreadable k) value h = ab
 append_fails was list entry new stopped before after KeyThere value h = absurd h
 
 -- the first record stays the first
-pub key_snoc : (list : List Record) (entry : Record) (key : Key) → key_of list ≡ Some key → key_of (list ++ entry ∷ []) ≡ Some key
+pub key_snoc : (list : List Record) (entry : Record) (key : LmsKey) → key_of list ≡ Some key → key_of (list ++ entry ∷ []) ≡ Some key
 key_snoc [] entry key is = absurd (cc)
 key_snoc (KeyRecord first ∷ rest) entry key is = is
+key_snoc (ExtendRecord first ∷ rest) entry key is = absurd (cc)
 key_snoc (BoundRecord first ∷ rest) entry key is = absurd (cc)
+key_snoc (Retire upto ∷ rest) entry key is = absurd (cc)
+key_snoc (Moved ∷ rest) entry key is = absurd (cc)
 
 -- also where an append fails
-pub key_appended : {A : Type 0} (was : Bool) (list : List Record) (entry : Record) (key : Key) (value : A) (fate : Fate) → key_of list ≡ Some key → key_of (appended (state_of list was) entry value fate).state.records ≡ Some key
+pub key_appended : {A : Type 0} (was : Bool) (list : List Record) (entry : Record) (key : LmsKey) (value : A) (fate : Fate) → key_of list ≡ Some key → key_of (appended (state_of list was) entry value fate).state.records ≡ Some key
 key_appended was list entry key value acked is = key_snoc list entry key is
 key_appended was list entry key value cut_old is = is
 key_appended was list entry key value cut_new is = key_snoc list entry key is
 key_appended was list entry key value no_memory is = is
 
 -- what is found among the bindings is the name's binding
-pub kept_binding : (list : List Record) (stopped : Bool) (key : Key) (bounds : List Bound) (leaf : ℕ) (name : List ℕ) (found : Option Bound) → IsKept list stopped key bounds leaf → find (λ bound. same_bytes bound.name name) bounds ≡ found → binding_of list name ≡ found
+pub kept_binding : (list : List Record) (stopped : Bool) (key : LmsKey) (bounds : List Bound) (leaf : ℕ) (name : List ℕ) (found : Option Bound) → IsKept list stopped key bounds leaf → find (λ bound. same_bytes bound.name name) bounds ≡ found → binding_of list name ≡ found
 kept_binding list stopped key bounds leaf name found kept is =
     ap (find (λ bound. same_bytes bound.name name)) (kept_bounds list stopped key bounds leaf kept) ∙ is
 
 -- and its leaf is one of the tree's
-pub found_inside : (list : List Record) (stopped : Bool) (key : Key) (bounds : List Bound) (leaf : ℕ) (test : Bound → Bool) (found : Bound) → IsKept list stopped key bounds leaf → find test bounds ≡ Some found → found.leaf < 2 ^ height_of key.pair.tree
+pub found_inside : (list : List Record) (stopped : Bool) (key : LmsKey) (bounds : List Bound) (leaf : ℕ) (test : Bound → Bool) (found : Bound) → IsKept list stopped key bounds leaf → find test bounds ≡ Some found → found.leaf < 2 ^ height_of key.pair.tree
 found_inside list stopped key bounds leaf test found kept is =
     let below = found_below test bounds found 0 is in
-    let next = kept.next ∙ ap (λ l. fold max 0 (map (λ bound. bound.leaf + 1) l)) (kept_bounds list stopped key bounds leaf kept) in
+    let next = kept.next ∙ next_of-records key bounds list kept.records in
     let inside = kept.inside in
     omega arith
 

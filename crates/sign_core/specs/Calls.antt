@@ -3,7 +3,7 @@ use Rattle.std.specs.Prelude.{◌≡◌, ℕ, ◌+◌, ◌<◌, ◌⊎◌, Bool,
 use Rattle.typecodes.specs.declared.types.LmsPair.{LmsPair}
 use Rattle.typecodes.specs.declared.spec.Spec.{Spec}
 use Rattle.typecodes.specs.declared.spec.Spec.TheVariants.{Lms}
-use Rattle.state_file.specs.declared.record.Key.{Key}
+use Rattle.sign_core.specs.declared.key.LmsKey.{LmsKey}
 use Rattle.state_file.specs.declared.record.Record.{Record}
 use Rattle.lms.specs.declared.key.LmsPublic.{LmsPublic}
 use Rattle.sign_core.specs.declared.fault.SignFault.{SignFault}
@@ -17,7 +17,7 @@ use Rattle.sign_core.specs.World.{Chance, Creation, State, created, requested}
 pub record View (S R : Type 0) : Type 0 where
   pub store : S
   pub random : R
-  pub key : Key
+  pub key : LmsKey
   pub is_open : Bool
 
 abbrev pub state_of : List Record → Bool → State
@@ -106,6 +106,6 @@ LeavesSource (Unreadable slot) old new = new ≡ old
 LeavesSource _ old new = Unit {0}
 
 -- a key's public key, as an answer
-abbrev pub published : Result Key SignFault → Result LmsPublic SignFault
+abbrev pub published : Result LmsKey SignFault → Result LmsPublic SignFault
 published (Ok key) = Ok (public_key_of key)
 published (Err fault) = Err fault

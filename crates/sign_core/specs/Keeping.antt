@@ -2,20 +2,20 @@
 use Rattle.std.specs.Prelude.{◌≡◌, ◌⊎◌, ℕ, ◌+◌, ◌≤◌, ◌<◌, ◌^◌, Bool, true, false, not, List, [], ◌∷◌, ◌++◌, Option, Some, None, Result, Ok, Err, length, map, nat_le, nat_lt, if◌then◌else◌}
 use Rattle.typecodes.specs.Types.{height_of}
 use Rattle.state_file.specs.declared.record.Bound.{Bound}
-use Rattle.state_file.specs.declared.record.Key.{Key}
+use Rattle.sign_core.specs.declared.key.LmsKey.{LmsKey}
 use Rattle.state_file.specs.declared.record.Record.{Record}
-use Rattle.state_file.specs.declared.record.Record.TheVariants.{Key as KeyRecord, Bound as BoundRecord}
+use Rattle.state_file.specs.declared.record.Record.TheVariants.{Bound as BoundRecord}
 use Rattle.sign_core.specs.declared.fault.SignFault.{SignFault}
 use Rattle.sign_core.specs.declared.fault.SignFault.TheVariants.{Exhausted, RandomFailed, StoreFailed, Stopped, Damaged, OutOfMemory, LedgerFull, Unreadable, KeyThere}
-use Rattle.sign_core.specs.Ledger.{next_leaf}
+use Rattle.sign_core.specs.Ledger.{key_record, next_leaf}
 use Rattle.sign_core.specs.Source.{Gives}
 
 -- the records of a key and its bindings
-abbrev pub records_of : Key → List Bound → List Record
-records_of key bounds = KeyRecord key ∷ map BoundRecord bounds
+abbrev pub records_of : LmsKey → List Bound → List Record
+records_of key bounds = key_record key ∷ map BoundRecord bounds
 
 -- The store runs, its records are those of the key and the bindings, and `leaf` is the next leaf.
-pub record IsKept (list : List Record) (stopped : Bool) (key : Key) (bounds : List Bound) (leaf : ℕ) : Type 0 where
+pub record IsKept (list : List Record) (stopped : Bool) (key : LmsKey) (bounds : List Bound) (leaf : ℕ) : Type 0 where
   pub running : stopped ≡ false
   pub records : list ≡ records_of key bounds
   pub next : leaf ≡ next_leaf list

@@ -2,49 +2,76 @@
 use Rattle.std.specs.Prelude.{ℕ, ◌+◌, Bool, List, [], ◌∷◌, Option, Some, None, find, fold, map, max, nat_eq}
 use Rattle.std.specs.Cmp.Lexicographic.{pointwise}
 use Rattle.state_file.specs.declared.record.Bound.{Bound}
-use Rattle.state_file.specs.declared.record.Key.{Key}
 use Rattle.state_file.specs.declared.record.Record.{Record}
-use Rattle.state_file.specs.declared.record.Record.TheVariants.{Key as KeyRecord, Bound as BoundRecord}
+use Rattle.state_file.specs.declared.record.Record.TheVariants.{Key as KeyRecord, Extend as ExtendRecord, Bound as BoundRecord, Retire, Moved}
+use Rattle.state_file.specs.declared.record.Secret.{Secret}
+use Rattle.state_file.specs.declared.record.Secret.TheVariants.{Lms, Hss, Xmss}
+use Rattle.state_file.specs.declared.record.Version.TheVariants.{One}
 use Rattle.lms.specs.declared.key.LmsPublic.{LmsPublic}
 use Rattle.lms.specs.declared.secret.LmsSecret.{LmsSecret}
 use Rattle.lms.specs.Textbook.{public_of, signature_bytes, textbook}
+use Rattle.sign_core.specs.declared.key.LmsKey.{LmsKey}
 
 -- whether two lists of bytes are one
 abbrev pub same_bytes : List ℕ → List ℕ → Bool
 same_bytes a b = pointwise nat_eq a b
 
--- the key: record 0
-abbrev pub key_of : List Record → Option Key
+-- the record of an LMS key, in a file of version 1
+abbrev pub key_record : LmsKey → Record
+key_record key = KeyRecord (record { version = One; secret = Lms key.pair key.identifier key.seed; root = key.root })
+
+-- the LMS key that a secret and a root are; those of another scheme are none
+abbrev pub lms_key : Secret → List ℕ → Option LmsKey
+lms_key (Lms pair identifier seed) root = Some (record { pair = pair; identifier = identifier; seed = seed; root = root })
+lms_key (Hss levels identifier seed) root = None
+lms_key (Xmss tree secret_seed prf_key public_seed) root = None
+
+-- the key: record 0, if it is that of an LMS key
+abbrev pub key_of : List Record → Option LmsKey
 key_of [] = None
-key_of (KeyRecord key ∷ rest) = Some key
+key_of (KeyRecord key ∷ rest) = lms_key key.secret key.root
+key_of (ExtendRecord extend ∷ rest) = None
 key_of (BoundRecord bound ∷ rest) = None
+key_of (Retire upto ∷ rest) = None
+key_of (Moved ∷ rest) = None
 
 -- the bindings, in their order
 abbrev pub bounds_of : List Record → List Bound
 bounds_of [] = []
 bounds_of (KeyRecord key ∷ rest) = bounds_of rest
+bounds_of (ExtendRecord extend ∷ rest) = bounds_of rest
 bounds_of (BoundRecord bound ∷ rest) = bound ∷ bounds_of rest
+bounds_of (Retire upto ∷ rest) = bounds_of rest
+bounds_of (Moved ∷ rest) = bounds_of rest
 
 -- the binding of a name
 abbrev pub binding_of : List Record → List ℕ → Option Bound
 binding_of records name = find (λ bound. same_bytes bound.name name) (bounds_of records)
 
--- the least number above every leaf that a record names
+-- the number above the leaf of the key's tree that a record names, or above those that it retires
+abbrev pub above_of : Record → ℕ
+above_of (KeyRecord key) = 0
+above_of (ExtendRecord extend) = 0
+above_of (BoundRecord bound) = bound.leaf + 1
+above_of (Retire upto) = upto
+above_of Moved = 0
+
+-- the least number above every leaf that a record names or retires
 abbrev pub next_leaf : List Record → ℕ
-next_leaf records = fold max 0 (map (λ bound. bound.leaf + 1) (bounds_of records))
+next_leaf records = fold max 0 (map above_of records)
 
 -- the secret that a key is made from
-abbrev pub secret_of : Key → LmsSecret
+abbrev pub secret_of : LmsKey → LmsSecret
 secret_of key = record { pair = key.pair; identifier = key.identifier; seed = key.seed }
 
 -- the public key that a key's record tells
-abbrev pub public_key_of : Key → LmsPublic
+abbrev pub public_key_of : LmsKey → LmsPublic
 public_key_of key = record { pair = key.pair; identifier = key.identifier; root = key.root }
 
 -- whether the root of the record is that of its secret
-abbrev pub is_sound : Key → Bool
+abbrev pub is_sound : LmsKey → Bool
 is_sound key = same_bytes (public_of (secret_of key)).root key.root
 
 -- The textbook signature of a binding: a function of the records alone.
-abbrev pub signature_of : Key → Bound → List ℕ
+abbrev pub signature_of : LmsKey → Bound → List ℕ
 signature_of key bound = signature_bytes (textbook (secret_of key) bound.leaf bound.randomizer bound.digest)

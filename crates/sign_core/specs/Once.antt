@@ -7,11 +7,11 @@ use Rattle.typecodes.specs.Reading.{AreBytes}
 use Rattle.typecodes.specs.Types.{height_of}
 use Rattle.lmots.specs.Formulas.{message_digest_of}
 use Rattle.state_file.specs.declared.record.Bound.{Bound}
-use Rattle.state_file.specs.declared.record.Key.{Key}
+use Rattle.sign_core.specs.declared.key.LmsKey.{LmsKey}
 use Rattle.state_file.specs.declared.record.Record.{Record}
-use Rattle.state_file.specs.declared.record.Record.TheVariants.{Key as KeyRecord, Bound as BoundRecord}
+use Rattle.state_file.specs.declared.record.Record.TheVariants.{Bound as BoundRecord}
 use Rattle.sign_core.specs.declared.fault.SignFault.TheVariants.{Changed, Damaged, OutOfMemory, Stopped, StoreFailed}
-use Rattle.sign_core.specs.Ledger.{binding_of, is_sound, key_of, next_leaf, public_key_of, signature_of}
+use Rattle.sign_core.specs.Ledger.{binding_of, is_sound, key_of, key_record, next_leaf, public_key_of, signature_of}
 use Rattle.sign_core.specs.Uses.{LeafUse, Uses, Verifies}
 use Rattle.sign_core.specs.World.{Chance, Creation, Event, create, request, Handed, World, acked, after, beginning, created, new_bound, new_key, refused, requested, run}
 
@@ -37,7 +37,7 @@ AllEvents events = AllByRecursion IsEvent events
 -- A signature that was handed out is the recorded one: its name is bound, to the digest of its message
 -- under the bound leaf and C, and its bytes are those of the binding's textbook signature.
 pub record IsRecorded (records : List Record) (x : Handed) : Type 0 where
-  pub key : Key
+  pub key : LmsKey
   pub bound : Bound
   pub keyed : key_of records ≡ Some key
   pub named : binding_of records x.name ≡ Some bound
@@ -46,7 +46,7 @@ pub record IsRecorded (records : List Record) (x : Handed) : Type 0 where
 
 -- Two signatures were handed out, and by their bytes they use one leaf of the key's tree.
 pub record ShareLeaf (world : World) (x y : Handed) (u v : LeafUse) : Type 0 where
-  pub key : Key
+  pub key : LmsKey
   pub keyed : key_of world.state.records ≡ Some key
   pub first : Contains world.handed x
   pub second : Contains world.handed y
@@ -69,7 +69,7 @@ pub record IsOnce (limit : ℕ) (world : World) : Type 0 where
   pub recorded : (x : Handed) → Contains world.handed x → IsRecorded world.state.records x
   -- and is valid for its message under the key
   pub valid : (x : Handed) → Contains world.handed x
-      → (key : Key) × (key_of world.state.records ≡ Some key) × Verifies (public_key_of key) x.message x.signature
+      → (key : LmsKey) × (key_of world.state.records ≡ Some key) × Verifies (public_key_of key) x.message x.signature
   -- what a request answers is handed out
   pub counted : (name message signature : List ℕ) (chance : Chance) → (requested limit world.state name message chance).answer ≡ Ok signature
       → Contains (after limit world (request name message chance)).handed (record { name = name; message = message; signature = signature })
@@ -77,20 +77,20 @@ pub record IsOnce (limit : ℕ) (world : World) : Type 0 where
   pub begins : (pair : LmsPair) (identifier seed : List ℕ) (chance : Creation) → world.state.records ≡ []
       → chance.failed_load ≡ None → chance.drawn ≡ Some (identifier, seed) → chance.has_room ≡ true → chance.fate ≡ acked
       → (let key = new_key pair identifier seed in
-      created world.state pair chance ≡ record { state = record { records = KeyRecord key ∷ []; is_open = true }; answer = Ok (public_key_of key) })
+      created world.state pair chance ≡ record { state = record { records = key_record key ∷ []; is_open = true }; answer = Ok (public_key_of key) })
   -- a request to an open signer whose name is bound to another digest is refused as changed, and changes nothing
-  pub changed : (key : Key) (bound : Bound) (name message : List ℕ) (chance : Chance) → world.state.is_open ≡ true
+  pub changed : (key : LmsKey) (bound : Bound) (name message : List ℕ) (chance : Chance) → world.state.is_open ≡ true
       → key_of world.state.records ≡ Some key → binding_of world.state.records name ≡ Some bound
       → message_digest_of key.identifier bound.leaf bound.randomizer message ≢ bound.digest
       → requested limit world.state name message chance ≡ refused world.state Changed
   -- a repeated one gets the recorded signature, unless memory is refused, and changes nothing
-  pub repeated : (key : Key) (bound : Bound) (name message : List ℕ) (chance : Chance) → world.state.is_open ≡ true
+  pub repeated : (key : LmsKey) (bound : Bound) (name message : List ℕ) (chance : Chance) → world.state.is_open ≡ true
       → key_of world.state.records ≡ Some key → binding_of world.state.records name ≡ Some bound
       → message_digest_of key.identifier bound.leaf bound.randomizer message ≡ bound.digest
       → requested limit world.state name message chance
       ≡ record { state = world.state; answer = if chance.has_room then Ok (signature_of key bound) else Err OutOfMemory }
   -- a new name gets the next leaf, where one is left, the store takes one more record and nothing fails
-  pub fresh : (key : Key) (name message randomizer : List ℕ) (chance : Chance) → world.state.is_open ≡ true
+  pub fresh : (key : LmsKey) (name message randomizer : List ℕ) (chance : Chance) → world.state.is_open ≡ true
       → key_of world.state.records ≡ Some key → binding_of world.state.records name ≡ None
       → next_leaf world.state.records < 2 ^ height_of key.pair.tree → length world.state.records < limit
       → chance.has_room ≡ true → chance.drawn ≡ Some randomizer → chance.fate ≡ acked
@@ -98,7 +98,7 @@ pub record IsOnce (limit : ℕ) (world : World) : Type 0 where
       requested limit world.state name message chance
       ≡ record { state = record { records = world.state.records ++ BoundRecord new ∷ []; is_open = true }; answer = Ok (signature_of key new) })
   -- the recorded root is that of the recorded secret
-  pub sound : (key : Key) → key_of world.state.records ≡ Some key → is_sound key ≡ true
+  pub sound : (key : LmsKey) → key_of world.state.records ≡ Some key → is_sound key ≡ true
   -- so no request is told that a record is damaged
   pub undamaged : (name message : List ℕ) (chance : Chance) (slot : ℕ) → (requested limit world.state name message chance).answer ≢ Err (Damaged slot)
   -- a request whose append the store fails closes the signer

@@ -4,15 +4,15 @@ use Rattle.std.specs.Prelude.{ℕ, ◌+◌, ◌^◌, Bool, true, false, not, Lis
 use Rattle.typecodes.specs.declared.types.LmsPair.{LmsPair}
 use Rattle.typecodes.specs.Types.{height_of}
 use Rattle.state_file.specs.declared.record.Bound.{Bound}
-use Rattle.state_file.specs.declared.record.Key.{Key}
+use Rattle.sign_core.specs.declared.key.LmsKey.{LmsKey}
 use Rattle.state_file.specs.declared.record.Record.{Record}
-use Rattle.state_file.specs.declared.record.Record.TheVariants.{Key as KeyRecord, Bound as BoundRecord}
+use Rattle.state_file.specs.declared.record.Record.TheVariants.{Bound as BoundRecord}
 use Rattle.lmots.specs.Formulas.{message_digest_of}
 use Rattle.lms.specs.declared.key.LmsPublic.{LmsPublic}
 use Rattle.lms.specs.Textbook.{public_of}
 use Rattle.sign_core.specs.declared.fault.SignFault.{SignFault}
 use Rattle.sign_core.specs.declared.fault.SignFault.TheVariants.{Changed, Exhausted, RandomFailed, StoreFailed, Stopped, Damaged, OutOfMemory, LedgerFull, KeyThere}
-use Rattle.sign_core.specs.Ledger.{binding_of, is_sound, key_of, next_leaf, public_key_of, same_bytes, signature_of}
+use Rattle.sign_core.specs.Ledger.{binding_of, is_sound, key_of, key_record, next_leaf, public_key_of, same_bytes, signature_of}
 
 -- ---- appends
 
@@ -55,7 +55,7 @@ pub record Creation : Type 0 where
   pub fate : Fate
 
 -- the key of a pair made from I and SEED
-abbrev pub new_key : LmsPair → List ℕ → List ℕ → Key
+abbrev pub new_key : LmsPair → List ℕ → List ℕ → LmsKey
 new_key pair identifier seed = record {
   pair = pair;
   identifier = identifier;
@@ -67,7 +67,7 @@ abbrev pub made : State → LmsPair → Creation → Option (List ℕ × List �
 made state pair chance None = refused state RandomFailed
 made state pair chance (Some drawn) =
     if chance.has_room
-    then (let key = new_key pair drawn.0 drawn.1 in appended state (KeyRecord key) (public_key_of key) chance.fate)
+    then (let key = new_key pair drawn.0 drawn.1 in appended state (key_record key) (public_key_of key) chance.fate)
     else refused state OutOfMemory
 
 abbrev pub created_after : Option SignFault → State → LmsPair → Creation → Outcome LmsPublic
@@ -89,7 +89,7 @@ pub record Chance : Type 0 where
 
 -- A name that is bound: the recorded signature, where the message has the recorded digest under the bound
 -- leaf and C.
-abbrev pub repeated : Key → Bound → List ℕ → Chance → Result (List ℕ) SignFault
+abbrev pub repeated : LmsKey → Bound → List ℕ → Chance → Result (List ℕ) SignFault
 repeated key bound message chance =
     if not (same_bytes (message_digest_of key.identifier bound.leaf bound.randomizer message) bound.digest) then Err Changed
     else (if not chance.has_room then Err OutOfMemory
@@ -97,7 +97,7 @@ repeated key bound message chance =
     else Ok (signature_of key bound)))
 
 -- the binding of a name to a leaf, and to the message's digest under it
-abbrev pub new_bound : Key → ℕ → List ℕ → List ℕ → List ℕ → Bound
+abbrev pub new_bound : LmsKey → ℕ → List ℕ → List ℕ → List ℕ → Bound
 new_bound key leaf name message randomizer = record {
   name = name;
   leaf = leaf;
@@ -105,14 +105,14 @@ new_bound key leaf name message randomizer = record {
   digest = message_digest_of key.identifier leaf randomizer message;
 }
 
-abbrev pub bound_to : State → Key → List ℕ → List ℕ → Chance → Option (List ℕ) → Outcome (List ℕ)
+abbrev pub bound_to : State → LmsKey → List ℕ → List ℕ → Chance → Option (List ℕ) → Outcome (List ℕ)
 bound_to state key name message chance None = refused state RandomFailed
 bound_to state key name message chance (Some randomizer) =
     let bound = new_bound key (next_leaf state.records) name message randomizer in
     appended state (BoundRecord bound) (signature_of key bound) chance.fate
 
 -- A name that isn't bound: it is bound to the next leaf.
-abbrev pub bound_anew : ℕ → State → Key → List ℕ → List ℕ → Chance → Outcome (List ℕ)
+abbrev pub bound_anew : ℕ → State → LmsKey → List ℕ → List ℕ → Chance → Outcome (List ℕ)
 bound_anew limit state key name message chance =
     if nat_le (2 ^ height_of key.pair.tree) (next_leaf state.records) then refused state Exhausted
     else (if nat_lt limit (length state.records + 1) then refused state LedgerFull
@@ -120,11 +120,11 @@ bound_anew limit state key name message chance =
     else (if not (is_sound key) then refused state (Damaged 0)
     else bound_to state key name message chance chance.drawn)))
 
-abbrev pub requested_of : ℕ → State → Key → List ℕ → List ℕ → Chance → Option Bound → Outcome (List ℕ)
+abbrev pub requested_of : ℕ → State → LmsKey → List ℕ → List ℕ → Chance → Option Bound → Outcome (List ℕ)
 requested_of limit state key name message chance (Some bound) = record { state = state; answer = repeated key bound message chance }
 requested_of limit state key name message chance None = bound_anew limit state key name message chance
 
-abbrev pub requested_under : ℕ → State → List ℕ → List ℕ → Chance → Option Key → Outcome (List ℕ)
+abbrev pub requested_under : ℕ → State → List ℕ → List ℕ → Chance → Option LmsKey → Outcome (List ℕ)
 requested_under limit state name message chance (Some key) =
     if state.is_open then requested_of limit state key name message chance (binding_of state.records name) else refused state Stopped
 requested_under limit state name message chance None = refused state Stopped

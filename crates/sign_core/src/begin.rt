@@ -5,9 +5,10 @@ ghost use Rattle.sign_core.specs.Calls.{Creates, LeavesSource, RandomCount, Stor
 ghost use Rattle.sign_core.specs.Keeping.{FindsNone, records_of};
 
 use crate::fault::SignFault;
+use crate::key::LmsKey;
 use crate::source::Source;
 use crate::work::{append, draw, key_from_seed};
-use state_file::{Key, Record, Store, StoreFault};
+use state_file::{Store, StoreFault};
 use typecodes::LmsPair;
 
 // Looks whether a store has no record yet.
@@ -33,7 +34,7 @@ pub(crate) fn begin<S: Store, R: Source>(
     pair: LmsPair,
     store: &mut S,
     random: &mut R,
-) -> Result<Key, SignFault>
+) -> Result<LmsKey, SignFault>
     requires { 1 ≤ S.most store.old }
     ensures step { Creates pair (S.stopped store.old) (S.honest store.old) (state_of (S.list store.old) false) (state_of (S.list store.new) (is_ok result)) (R.told random.old) (R.told random.new) (published result) }
     ensures leaves { IfErr result (λ fault. LeavesSource fault random.old random.new) }
@@ -48,6 +49,6 @@ pub(crate) fn begin<S: Store, R: Source>(
     let identifier = draw::<R, 16>(random)?;
     let seed = draw::<R, 32>(random)?;
     let key = key_from_seed(pair, &identifier, &seed);
-    append(store, &Record::Key(key))?;
+    append(store, &key.record())?;
     Ok(key)
 }

@@ -6,14 +6,15 @@ ghost use Rattle.lms.specs.Textbook.{path_in, signature_size};
 ghost use Rattle.sign_core.specs.Ledger.{same_bytes};
 
 use crate::fault::SignFault;
+use crate::key::LmsKey;
 use crate::work::{digest, make_room, sound_path};
-use state_file::{Bound, Key};
+use state_file::Bound;
 use typecodes::Name;
 
 /// The key, its bindings, and the next leaf.
 #[derive(Debug, Drop)]
 pub(crate) struct Ledger {
-    pub(crate) key: Key,
+    pub(crate) key: LmsKey,
     pub(crate) bounds: Vec<Bound>,
     pub(crate) next: u32,
 }

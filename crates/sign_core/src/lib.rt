@@ -9,6 +9,7 @@
 
 mod begin;
 mod fault;
+mod key;
 mod ledger;
 mod once;
 mod repeat;

@@ -7,12 +7,13 @@ ghost use Rattle.sign_core.specs.World.{repeated};
 ghost use Rattle.sign_core.specs.World.Fate.{acked};
 
 use crate::fault::SignFault;
+use crate::key::LmsKey;
 use crate::work::{digest, make_room, sound_path, take_all, write_bound};
-use state_file::{Bound, Key};
+use state_file::Bound;
 
 /// The recorded signature, where the message has the recorded digest.
 pub(crate) fn repeat(
-    key: &Key,
+    key: &LmsKey,
     bound: &Bound,
     message: &mut &[u8],
     out: &mut Vec<u8>,

@@ -41,7 +41,7 @@ impl<S: Store, R: Source> Model for Signer<S, R> {
 impl<S: Store, R: Source> Signer<S, R> {
     ghost use Rattle.sign_core.specs.Calls.{Creates, Leaves, LeavesSource, RandomCount, Signs, StoreCount, answered, pair_of, state_of};
     ghost use Rattle.sign_core.specs.Ledger.{binding_of, key_of, public_key_of};
-    ghost use Rattle.state_file.specs.declared.record.Key.{Key};
+    ghost use Rattle.sign_core.specs.declared.key.LmsKey.{LmsKey};
 
     /// Makes a key in a store that has none, and the signer of it: draws I and then SEED, makes the
     /// root, and appends the key's record. A refusal gives back the store and the source.
@@ -57,8 +57,8 @@ impl<S: Store, R: Source> Signer<S, R> {
         ensures created { IfOk result (λ signer. Creates (pair_of spec) (S.stopped store) (S.honest store) (state_of (S.list store) false) (state_of (S.list signer.store) signer.is_open) (R.told random) (R.told signer.random) (Ok (public_key_of signer.key))) }
         ensures refused { IfErr result (λ refused. Creates (pair_of spec) (S.stopped store) (S.honest store) (state_of (S.list store) false) (state_of (S.list refused.given.0) false) (R.told random) (R.told refused.given.1) (Err refused.fault)) }
         ensures leaves { IfErr result (λ refused. LeavesSource refused.fault random refused.given.1) }
-        ensures random { MatchResult result (λ signer. R.failures signer.random ≡ R.failures random) (λ refused. RandomCount {A = Key} (Err refused.fault) (R.failures random) (R.failures refused.given.1)) }
-        ensures store { MatchResult result (λ signer. S.failures signer.store ≡ S.failures store) (λ refused. StoreCount {A = Key} (Err refused.fault) (S.failures store) (S.failures refused.given.0)) }
+        ensures random { MatchResult result (λ signer. R.failures signer.random ≡ R.failures random) (λ refused. RandomCount {A = LmsKey} (Err refused.fault) (R.failures random) (R.failures refused.given.1)) }
+        ensures store { MatchResult result (λ signer. S.failures signer.store ≡ S.failures store) (λ refused. StoreCount {A = LmsKey} (Err refused.fault) (S.failures store) (S.failures refused.given.0)) }
         ensures honest { MatchResult result (λ signer. S.honest signer.store ≡ S.honest store) (λ refused. S.honest refused.given.0 ≡ S.honest store) }
         ensures most { MatchResult result (λ signer. S.most signer.store ≡ S.most store) (λ refused. S.most refused.given.0 ≡ S.most store) }
     {

@@ -1,6 +1,6 @@
 use super::*;
 use lms::verify;
-use state_file::{Cut, Key, MemoryStore, Record, Store};
+use state_file::{Cut, Key, MemoryStore, Record, Secret, Store, Version};
 use std::alloc::{AllocError, Global};
 use std::process::Abort;
 use std::test::*;
@@ -126,8 +126,16 @@ fn what_is_drawn_stands_in_the_records(rt: HostRuntime) -> Result<(), Fail> {
         return Err(Fail::from(SignFault::Damaged(0)));
     };
     let mut drawn = Vec::new(rt.alloc());
-    drawn.extend_from_slice(&key.identifier)?;
-    drawn.extend_from_slice(&key.seed)?;
+    let Secret::Lms {
+        pair: _,
+        identifier,
+        seed,
+    } = key.secret
+    else {
+        return Err(Fail::from(SignFault::Damaged(0)));
+    };
+    drawn.extend_from_slice(&identifier)?;
+    drawn.extend_from_slice(&seed)?;
     drawn.extend_from_slice(&bound.randomizer)?;
     assert_eq!(rt; drawn, tape);
     assert_eq!(rt; key.root, public.root);
@@ -170,9 +178,12 @@ fn a_store_with_a_key(rt: HostRuntime) -> Result<(), Fail> {
     let tape = counting(rt.alloc(), 48)?;
     let mut store = MemoryStore::with_limit(rt.alloc(), 2);
     store.append(&Record::Key(Key {
-        pair: PAIR,
-        identifier: [1; 16],
-        seed: [2; 32],
+        version: Version::One,
+        secret: Secret::Lms {
+            pair: PAIR,
+            identifier: [1; 16],
+            seed: [2; 32],
+        },
         root: [3; 32],
     }))?;
     let source = TapeSource::new(&tape);

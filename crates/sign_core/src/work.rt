@@ -10,15 +10,16 @@ ghost use Rattle.sign_core.specs.Once.{AreDrawn};
 ghost use Rattle.sign_core.specs.World.{new_key};
 
 use crate::fault::SignFault;
+use crate::key::LmsKey;
 use crate::source::Source;
 use lmots::LmOts;
 use lms::{LmsSecret, LmsTree, write_signature};
 use merkle::{TreeHash, path, root, root_from_path};
-use state_file::{Bound, Key, Record, Store, StoreFault};
+use state_file::{Bound, Record, Store, StoreFault};
 use typecodes::LmsPair;
 
 // The secret of a key.
-fn secret(key: &Key) -> LmsSecret
+fn secret(key: &LmsKey) -> LmsSecret
     ensures { result ≡ secret_of key.now }
 {
     LmsSecret {
@@ -29,7 +30,7 @@ fn secret(key: &Key) -> LmsSecret
 }
 
 /// The key of a pair that I and SEED make.
-pub(crate) fn key_from_seed(pair: LmsPair, identifier: &[u8; 16], seed: &[u8; 32]) -> Key
+pub(crate) fn key_from_seed(pair: LmsPair, identifier: &[u8; 16], seed: &[u8; 32]) -> LmsKey
     ensures key { result ≡ new_key pair identifier.now seed.now }
     ensures drawn { AreDrawn (Some (identifier.now, seed.now)) }
 {
@@ -38,7 +39,7 @@ pub(crate) fn key_from_seed(pair: LmsPair, identifier: &[u8; 16], seed: &[u8; 32
         identifier: *identifier,
         seed: *seed,
     };
-    Key {
+    LmsKey {
         pair,
         identifier: *identifier,
         seed: *seed,
@@ -48,7 +49,7 @@ pub(crate) fn key_from_seed(pair: LmsPair, identifier: &[u8; 16], seed: &[u8; 32
 
 /// Writes the path of leaf q, and tells whether the key's root is that of its secret. Each leaf is
 /// made once: all but q for the path, and q for the root to which the path leads.
-pub(crate) fn sound_path(key: &Key, q: u32, into: &mut [[u8; 32]]) -> bool
+pub(crate) fn sound_path(key: &LmsKey, q: u32, into: &mut [[u8; 32]]) -> bool
     requires inside { q < 2 ^ height_of key.now.pair.tree }
     requires room { length into.old ≡ height_of key.now.pair.tree }
     ensures path { into.new ≡ path_in (secret_of key.now) q }
@@ -62,7 +63,7 @@ pub(crate) fn sound_path(key: &Key, q: u32, into: &mut [[u8; 32]]) -> bool
 }
 
 /// Q, the digest of a message by a leaf of the key and C.
-pub(crate) fn digest(key: &Key, leaf: u32, randomizer: &[u8; 32], text: &[u8]) -> [u8; 32]
+pub(crate) fn digest(key: &LmsKey, leaf: u32, randomizer: &[u8; 32], text: &[u8]) -> [u8; 32]
     ensures { result ≡ message_digest_of key.now.identifier leaf randomizer.now text.now }
 {
     let one_time = LmOts {
@@ -82,7 +83,7 @@ pub(crate) fn make_room(pair: LmsPair, out: &mut Vec<u8>) -> Result<(), SignFaul
 }
 
 /// Writes the signature of a binding, with the path of its leaf, into room that was made for it.
-pub(crate) fn write_bound(key: &Key, bound: &Bound, path: &[[u8; 32]], out: &mut Vec<u8>)
+pub(crate) fn write_bound(key: &LmsKey, bound: &Bound, path: &[[u8; 32]], out: &mut Vec<u8>)
     requires inside { bound.now.leaf < 2 ^ height_of key.now.pair.tree }
     requires path { path.now ≡ path_in (secret_of key.now) bound.now.leaf }
     requires length { length path.now ≡ height_of key.now.pair.tree }

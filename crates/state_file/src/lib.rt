@@ -4,6 +4,7 @@
 //! for the crates above: after every call the store has the old records, or the old and the new one.
 #![tactic(auto)]
 
+mod levels;
 mod memory;
 mod record;
 mod refused;
@@ -11,7 +12,8 @@ mod store;
 #[cfg(test)]
 mod tests;
 
+pub use crate::levels::Levels;
 pub use crate::memory::{Cut, MemoryStore};
-pub use crate::record::{Bound, Key, Record};
+pub use crate::record::{Bound, Extend, Key, Record, Secret, Version};
 pub use crate::refused::Refused;
 pub use crate::store::{Store, StoreFault};

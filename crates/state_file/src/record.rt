@@ -2,13 +2,22 @@
 
 ghost use Rattle.std.specs.Prelude.{◌≡◌};
 
-use typecodes::{LmsPair, Name};
+use crate::levels::Levels;
+use typecodes::{LmsPair, Name, XmssType};
 
 /// One record. A list of them stands for a key and all that it has signed.
 #[derive(Debug, PartialEq, Eq, Drop)]
 pub enum Record {
+    /// The key itself, the first record.
     Key(Key),
+    /// A new tree of a lower level of HSS.
+    Extend(Extend),
+    /// A name that is bound to a leaf.
     Bound(Bound),
+    /// The leaves of the bottom tree below `upto` sign nothing any more.
+    Retire { upto: u32 },
+    /// The records go on in a file of version 2. None follows.
+    Moved,
 }
 
 impl Record {
@@ -17,21 +26,132 @@ impl Record {
         ensures { result ≡ self.now }
     {
         match self {
-            Record::Key(key) => Record::Key(*key),
+            Record::Key(key) => Record::Key(key.copied()),
+            Record::Extend(extend) => Record::Extend(*extend),
             Record::Bound(bound) => Record::Bound(bound.copied()),
+            Record::Retire { upto } => Record::Retire { upto: *upto },
+            Record::Moved => Record::Moved,
         }
     }
 }
 
-/// A key: its types, the secret that its leaves are made from, and its root.
+/// A version of the state file.
 #[derive(Clone, Copy, Debug, PartialEq, Eq)]
+pub enum Version {
+    /// Version 1.
+    One,
+}
+
+/// A key: what it is made from, and its root.
+#[derive(Debug, PartialEq, Eq, Drop)]
 pub struct Key {
-    pub pair: LmsPair,
-    /// I, 16 bytes.
+    /// The version of the file that it begins.
+    pub version: Version,
+    /// Its scheme, the scheme's types, and what its leaves are made from.
+    pub secret: Secret,
+    /// The root of the tree, of the top one for HSS, 32 bytes.
+    pub root: [u8; 32],
+}
+
+impl Key {
+    /// The same key once more.
+    pub fn copied(&self) -> Self
+        ensures { result ≡ self.now }
+    {
+        Key {
+            version: self.version,
+            secret: self.secret.copied(),
+            root: self.root,
+        }
+    }
+}
+
+/// What the leaves of a key are made from, by its scheme.
+#[derive(Debug, PartialEq, Eq, Drop)]
+pub enum Secret {
+    /// One tree (RFC 8554 5).
+    Lms {
+        pair: LmsPair,
+        /// I, 16 bytes.
+        identifier: [u8; 16],
+        /// SEED, 32 bytes.
+        seed: [u8; 32],
+    },
+    /// Trees of 1 to 8 levels (RFC 8554 6).
+    Hss {
+        levels: Levels,
+        /// I of the top tree, 16 bytes.
+        identifier: [u8; 16],
+        /// SEED of the top tree, 32 bytes.
+        seed: [u8; 32],
+    },
+    /// One tree of XMSS (RFC 8391 4.1).
+    Xmss {
+        tree: XmssType,
+        /// What the private values are made from, 32 bytes.
+        secret_seed: [u8; 32],
+        /// SK_PRF, 32 bytes.
+        prf_key: [u8; 32],
+        /// The public SEED, 32 bytes.
+        public_seed: [u8; 32],
+    },
+}
+
+impl Secret {
+    /// The same secret once more.
+    pub fn copied(&self) -> Self
+        ensures { result ≡ self.now }
+    {
+        match self {
+            Secret::Lms {
+                pair,
+                identifier,
+                seed,
+            } => Secret::Lms {
+                pair: *pair,
+                identifier: *identifier,
+                seed: *seed,
+            },
+            Secret::Hss {
+                levels,
+                identifier,
+                seed,
+            } => Secret::Hss {
+                levels: levels.copied(),
+                identifier: *identifier,
+                seed: *seed,
+            },
+            Secret::Xmss {
+                tree,
+                secret_seed,
+                prf_key,
+                public_seed,
+            } => Secret::Xmss {
+                tree: *tree,
+                secret_seed: *secret_seed,
+                prf_key: *prf_key,
+                public_seed: *public_seed,
+            },
+        }
+    }
+}
+
+/// A new tree of a lower level of HSS, and the leaf of the tree above that signs its public key.
+#[derive(Clone, Copy, Debug, PartialEq, Eq)]
+pub struct Extend {
+    /// The level of the new tree, from 1.
+    pub level: u8,
+    /// q, the leaf of the tree above that signs it.
+    pub parent_leaf: u32,
+    /// I of the new tree, 16 bytes.
     pub identifier: [u8; 16],
-    /// SEED, 32 bytes.
+    /// SEED of the new tree, 32 bytes.
     pub seed: [u8; 32],
-    /// T[1], 32 bytes.
+    /// C of the parent leaf's signature, 32 bytes.
+    pub randomizer: [u8; 32],
+    /// Q of the parent leaf's signature, 32 bytes.
+    pub digest: [u8; 32],
+    /// T[1] of the new tree, 32 bytes.
     pub root: [u8; 32],
 }
 
@@ -41,9 +161,9 @@ pub struct Bound {
     pub name: Name,
     /// q, the leaf.
     pub leaf: u32,
-    /// C, 32 bytes.
+    /// C, 32 bytes; zeros for XMSS.
     pub randomizer: [u8; 32],
-    /// Q, 32 bytes.
+    /// Q, for XMSS M', 32 bytes.
     pub digest: [u8; 32],
 }
 

@@ -4,12 +4,15 @@ use typecodes::{BadName, LmsPair, LmsType, Name, OtsType};
 
 const fn key() -> Record {
     Record::Key(Key {
-        pair: LmsPair {
-            tree: LmsType::H5,
-            ots: OtsType::W8,
+        version: Version::One,
+        secret: Secret::Lms {
+            pair: LmsPair {
+                tree: LmsType::H5,
+                ots: OtsType::W8,
+            },
+            identifier: [1; 16],
+            seed: [2; 32],
         },
-        identifier: [1; 16],
-        seed: [2; 32],
         root: [3; 32],
     })
 }

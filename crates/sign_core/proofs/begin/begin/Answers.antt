@@ -1,7 +1,6 @@
 use Rattle.std.proofs.Common.{◌≡◌, true, false, is_ok, [], ◌∷◌, ◌++◌, Ok, Err, List, ap, sym, ◌∙◌, subst, refl, rules, inl, inr}
 use Rattle.state_file.specs.declared.record.Record.{Record}
-use Rattle.state_file.specs.declared.record.Record.TheVariants.{Key as KeyRecord}
-use Rattle.sign_core.specs.Ledger.{public_key_of}
+use Rattle.sign_core.specs.Ledger.{key_record, public_key_of}
 use Rattle.sign_core.specs.Keeping.{Stores}
 use Rattle.sign_core.specs.World.{acked, new_key}
 use Rattle.sign_core.specs.Calls.{published, state_of}
@@ -45,7 +44,7 @@ returns-in_err-append-clause-step g c =
     let identifier = c.in_ok-identifier.identifier in
     let seed = c.in_ok-seed.seed in
     let key = new_key c.args.pair identifier seed in
-    let same = ap KeyRecord c.key_from_seed-key.ensures.key in
+    let same = c.record.ensures ∙ ap key_record c.key_from_seed-key.ensures.key in
     let list = g.S.Store.list c.append.new.store in
     let stored = subst (λ (t : List Record × Record). Stores {A = Unit {0}} t.0 t.1 list (g.S.Store.stopped c.append.new.store) (g.S.Store.failures c.find_none.new.store) (g.S.Store.failures c.append.new.store) (Err c.in_err-append.field-0.0)) (λ i. (c.find_none.ensures.same i, same i)) c.in_err-append.ensures.stored in
     let made = append_fails false _ _ _ _ _ _ _ (public_key_of key) stored in
@@ -61,7 +60,7 @@ returns-clause-step g c =
     let seed = c.in_ok-seed.seed in
     let key = new_key c.args.pair identifier seed in
     let same = c.key_from_seed-key.ensures.key in
-    let list : g.S.Store.list c.append.new.store ≡ g.S.Store.list c.args.store.now ++ KeyRecord key ∷ [] =
-    c.in_ok-append.ensures.stored.0 ∙ (λ i. c.find_none.ensures.same i ++ KeyRecord (same i) ∷ []) in
-    creates_along (appended_creates c.args.pair _ _ _ (g.S.Store.list c.args.store.now ++ KeyRecord key ∷ []) true _ _ identifier seed acked (Ok (public_key_of key)) none.0 none.1 c.key_from_seed-key.ensures.drawn (gives_both _ _ _ _ _ first.drawn.1 second.drawn.1) refl)
+    let list : g.S.Store.list c.append.new.store ≡ g.S.Store.list c.args.store.now ++ key_record key ∷ [] =
+    c.in_ok-append.ensures.stored.0 ∙ (λ i. c.find_none.ensures.same i ++ (c.record.ensures ∙ ap key_record same) i ∷ []) in
+    creates_along (appended_creates c.args.pair _ _ _ (g.S.Store.list c.args.store.now ++ key_record key ∷ []) true _ _ identifier seed acked (Ok (public_key_of key)) none.0 none.1 c.key_from_seed-key.ensures.drawn (gives_both _ _ _ _ _ first.drawn.1 second.drawn.1) refl)
     (λ i. state_of (sym list i) true) refl (λ i. Ok (public_key_of (sym same i)))
