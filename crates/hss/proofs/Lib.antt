@@ -1,0 +1,4 @@
+pub mod Numbers
+pub mod Passing
+pub mod Walking
+pub mod OneWay

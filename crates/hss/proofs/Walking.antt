@@ -1,0 +1,425 @@
+-- Where the levels of a signature stand in the bytes that spell it.
+use Rattle.std.proofs.Common.{◌≡◌, ◌∙◌, refl, sym, ap, ap₂, ℕ, zero, suc, ◌+◌, ◌-◌, ◌<◌, ◌≤◌, inl, inr, Bool, true, false, cond, nat_le, List, [], ◌∷◌, length, map, take, drop, get_or, Option, Some, None, Result, Ok, Err, subst, arith, add-zero, length-append, length-drop, add-one, length-take-le}
+use Rattle.std.specs.Prelude.{◌&&◌, sum_by}
+use Rattle.std.proofs.lemmas.Bool.{cases_lt, lt-leb}
+use Rattle.std.proofs.lemmas.List.Sums.{sum_by-cons, sum_by_push}
+use Rattle.std.proofs.lemmas.List.{drop-map, get_or_append_left, get_or_at, get_or-drop, length-map, take-append-le, take-map, take_all, take_more}
+use Rattle.std.proofs.Math.Bool.{and-false}
+use Rattle.std.proofs.Math.Nat.{sub-zero}
+use Rattle.byteorder.specs.Endian.{big_number}
+use Rattle.typecodes.specs.declared.fault.Cause.TheVariants.{LevelCount}
+use Rattle.typecodes.specs.declared.fault.ReadFault.{ReadFault}
+use Rattle.typecodes.specs.declared.types.LmsType.{LmsType}
+use Rattle.typecodes.specs.declared.types.OtsType.{OtsType}
+use Rattle.typecodes.specs.Types.{lms_code, lms_signature_len_of, lms_types, named, ots_code, ots_types}
+use Rattle.typecodes.specs.Layout.{Layout, done, refuse, ◌>>=◌, Spells}
+use Rattle.typecodes.specs.Fields.{block, known, lms_type, number, ots_type, typed}
+use Rattle.typecodes.specs.Reading.{and_then, read}
+use Rattle.typecodes.proofs.Read.{read-bind, read-cut, read-fits, read-stands}
+use Rattle.typecodes.proofs.Spelling.{in_turn}
+use Rattle.typecodes.proofs.Steps.{ends-spelled}
+use Rattle.lms.specs.declared.key.LmsPublic.{LmsPublic}
+use Rattle.lms.specs.Layouts.{Signature as LmsSignature, public_key as lms_public_key, signature as lms_signature}
+use Rattle.lms.proofs.Parts.{laid_out, part_read}
+use Rattle.hss.specs.Ends.{end_of}
+use Rattle.hss.specs.Spelled.{read_value, spelled_by}
+use Rattle.hss.specs.Layouts.{Signature, SignedKey, level_number, signature, signed_key, signed_keys}
+use Rattle.hss.specs.Levels.{key_at, keys_of, level_count, signature_at, signatures_of, start_of}
+
+-- ---- how long the parts are
+
+-- a block is as long as it says
+block-size : (n : ℕ) (v bytes : List ℕ) → Spells (block n) v bytes → length bytes ≡ n
+block-size n v bytes (front, rest, bytes_are, len, (_, ended)) = omega (arith, ap length bytes_are, length-append front rest, ap length ended)
+
+-- a type that its code named takes no more bytes
+known-size : {T : Type 0} (found : Option T) (t : T) (bytes : List ℕ) → Spells (known found) t bytes → length bytes ≡ 0
+known-size (Some u) t bytes spelled = ap length spelled.1
+known-size None t bytes spelled = absurd spelled
+
+-- a type takes 4 bytes
+typed-size : {T : Type 0} (code : T → ℕ) (types : List T) (t : T) (bytes : List ℕ) → Spells (typed code types) t bytes → length bytes ≡ 4
+typed-size code types t bytes spelled =
+    let (c, a, b, bytes_are, (front, rest, a_is, len, (_, ended)), known_spelled) = in_turn number (λ c. known (named code types c)) t bytes spelled in
+    omega (arith, ap length bytes_are, length-append a b, ap length a_is, length-append front rest, ap length ended, known-size (named code types c) t b known_spelled)
+
+-- what stands behind each field of a public key
+behind_identifier : LmsType → OtsType → List ℕ → Layout LmsPublic
+behind_identifier tree ots identifier = block 32 >>= λ root. done (record { pair = record { tree = tree; ots = ots }; identifier = identifier; root = root })
+
+behind_ots : LmsType → OtsType → Layout LmsPublic
+behind_ots tree ots = block 16 >>= behind_identifier tree ots
+
+behind_tree : LmsType → Layout LmsPublic
+behind_tree tree = ots_type >>= behind_ots tree
+
+-- I and the root take 48 bytes
+hashes-size : (tree : LmsType) (ots : OtsType) (key : LmsPublic) (bytes : List ℕ) → Spells (behind_ots tree ots) key bytes → length bytes ≡ 48
+unfolding behind_ots behind_identifier
+hashes-size tree ots key bytes spelled =
+    let (identifier, a, b, bytes_are, identifier_spelled, behind) = in_turn (block 16) (behind_identifier tree ots) key bytes spelled in
+    let (root, f, g, b_is, root_spelled, ended) = in_turn (block 32) (λ root. done (record { pair = record { tree = tree; ots = ots }; identifier = identifier; root = root })) key b behind in
+    omega (arith, ap length bytes_are, length-append a b, block-size 16 identifier a identifier_spelled, ap length b_is, length-append f g, block-size 32 root f root_spelled, ap length ended.1)
+
+-- a public key takes 56 bytes
+public-size : (key : LmsPublic) (bytes : List ℕ) → Spells lms_public_key key bytes → length bytes ≡ 56
+unfolding lms_public_key lms_type ots_type behind_tree behind_ots behind_identifier
+public-size key bytes spelled =
+    let (tree, a, rest, bytes_are, tree_spelled, behind) = in_turn lms_type behind_tree key bytes spelled in
+    let (ots, b, hashes, rest_is, ots_spelled, last) = in_turn ots_type (behind_ots tree) key rest behind in
+    omega (
+      arith,
+      ap length bytes_are,
+      length-append a rest,
+      typed-size lms_code lms_types tree a tree_spelled,
+      ap length rest_is,
+      length-append b hashes,
+      typed-size ots_code ots_types ots b ots_spelled,
+      hashes-size tree ots key hashes last,
+    )
+
+-- so does one that is read, wherever it stands
+public-end : (key : LmsPublic) (bytes : List ℕ) (place end : ℕ) → place ≤ length bytes → read lms_public_key bytes place ≡ Ok (key, end) → end ≡ place + 56
+public-end key bytes place end within found =
+    let (a, after, rest_is, end_is, spelled) = read-stands lms_public_key key bytes place end within found in
+    omega (arith, end_is, public-size key a spelled)
+
+-- what is read ends within the bytes
+ends-within : {V : Type 0} (layout : Layout V) (v : V) (bytes : List ℕ) (place end : ℕ) → place ≤ length bytes → read layout bytes place ≡ Ok (v, end) → (place ≤ end) × (end ≤ length bytes)
+ends-within layout v bytes place end within found =
+    let (a, after, rest_is, end_is, spelled) = read-stands layout v bytes place end within found in
+    (omega (arith, end_is), omega (arith, end_is, ap length rest_is, length-drop place bytes, length-append a after))
+
+-- a tree's signature is as long as its types say
+signature-end : (s : LmsSignature) (bytes : List ℕ) (place end : ℕ) → place ≤ length bytes → read lms_signature bytes place ≡ Ok (s, end) → end ≡ place + lms_signature_len_of s.pair
+signature-end s bytes place end within found =
+    let part = take (end - place) (drop place bytes) in
+    let size = (laid_out s part (part_read lms_signature s bytes place end within found)).size in
+    let (up, inside) = ends-within lms_signature s bytes place end within found in
+    let all : length part ≡ end - place = length-take-le (end - place) (drop place bytes) (omega (arith, length-drop place bytes)) in
+    omega (arith, sym size ∙ all)
+
+-- ---- signed keys, one after the other
+
+-- what two layouts read, one after the other, is read in turn
+turn : {V W : Type 0} (first : Layout V) (next : V → Layout W) (bytes : List ℕ) (place : ℕ) (x : W × ℕ) → read (first >>= next) bytes place ≡ Ok x
+    → (y : V × ℕ) × (read first bytes place ≡ Ok y) × (read (next y.0) bytes y.1 ≡ Ok x)
+turn {V = V} {W = W} first next bytes place x found =
+    let split : (r : Result (V × ℕ) ReadFault) → and_then r (λ y. read (next y.0) bytes y.1) ≡ Ok x → (y : V × ℕ) × (r ≡ Ok y) × (read (next y.0) bytes y.1 ≡ Ok x) =
+    λ r. elim r as (λ r. and_then r (λ y. read (next y.0) bytes y.1) ≡ Ok x → (y : V × ℕ) × (r ≡ Ok y) × (read (next y.0) bytes y.1 ≡ Ok x)) [
+      | Ok y ↦ λ e. (y, refl, e)
+      | Err fault ↦ λ e. absurd (cc)
+    ] in
+    split (read first bytes place) (sym (read-bind first next bytes place) ∙ found)
+
+-- and back
+from-turn : {V W : Type 0} (first : Layout V) (next : V → Layout W) (bytes : List ℕ) (place : ℕ) (y : V × ℕ) → read first bytes place ≡ Ok y
+    → read (first >>= next) bytes place ≡ read (next y.0) bytes y.1
+from-turn first next bytes place y found = read-bind first next bytes place ∙ ap (λ r. and_then r (λ y. read (next y.0) bytes y.1)) found
+
+-- one more behind those that were read
+keys-more : (n : ℕ) (bytes : List ℕ) (place middle end : ℕ) (first : SignedKey) (rest : List SignedKey) → read signed_key bytes place ≡ Ok (first, middle)
+    → read (signed_keys n) bytes middle ≡ Ok (rest, end) → read (signed_keys (suc n)) bytes place ≡ Ok (first ∷ rest, end)
+unfolding signed_keys
+keys-more n bytes place middle end first rest first_found rest_found =
+    from-turn signed_key (λ first. signed_keys n >>= λ rest. done (first ∷ rest)) bytes place (first, middle) first_found
+    ∙ from-turn (signed_keys n) (λ rest. done (first ∷ rest)) bytes middle (rest, end) rest_found
+
+-- the first of them, and the others
+keys-split : (n : ℕ) (bytes : List ℕ) (place end : ℕ) (keys : List SignedKey) → read (signed_keys (suc n)) bytes place ≡ Ok (keys, end)
+    → (first : SignedKey) × (middle : ℕ) × (rest : List SignedKey) × (keys ≡ first ∷ rest) × (read signed_key bytes place ≡ Ok (first, middle)) × (read (signed_keys n) bytes middle ≡ Ok (rest, end))
+unfolding signed_keys
+keys-split n bytes place end keys found =
+    let (x, x_found, behind) = turn signed_key (λ first. signed_keys n >>= λ rest. done (first ∷ rest)) bytes place (keys, end) found in
+    let (y, y_found, same) = turn (signed_keys n) (λ rest. done (x.0 ∷ rest)) bytes x.1 (keys, end) behind in
+    let pair : ◌≡◌ {A = List SignedKey × ℕ} (x.0 ∷ y.0, y.1) (keys, end) = cc in
+    (x.0, x.1, y.0, sym (ap (λ p. p.0) pair), x_found, y_found ∙ ap (λ at. Ok (y.0, at)) (ap (λ p. p.1) pair))
+
+-- the first i of them, and the others
+keys-prefix : (i n : ℕ) (bytes : List ℕ) (place end : ℕ) (keys : List SignedKey) → i ≤ n → read (signed_keys n) bytes place ≡ Ok (keys, end)
+    → (middle : ℕ) × (read (signed_keys i) bytes place ≡ Ok (take i keys, middle)) × (read (signed_keys (n - i)) bytes middle ≡ Ok (drop i keys, end))
+unfolding signed_keys
+keys-prefix zero n bytes place end keys within found = (place, refl, rw (sub-zero n) found)
+keys-prefix (suc i) zero bytes place end keys within found = absurd (omega arith)
+keys-prefix (suc i) (suc n) bytes place end keys within found =
+    let (first, next, rest, keys_are, first_found, rest_found) = keys-split n bytes place end keys found in
+    let (middle, front, back) = keys-prefix i n bytes next end rest (omega arith) rest_found in
+    let left : suc n - suc i ≡ n - i = omega arith in (
+      middle,
+      keys-more i bytes place next middle first (take i rest) first_found front ∙ ap (λ ks. Ok (ks, middle)) (sym (ap (take (suc i)) keys_are)),
+      ap (λ k. read (signed_keys k) bytes middle) left ∙ back ∙ ap (λ ks. Ok (ks, end)) (sym (ap (drop (suc i)) keys_are)),
+    )
+
+-- what a signature and the key behind it take
+abbrev taken : LmsSignature → ℕ
+taken above = lms_signature_len_of above.pair + 56
+
+-- a signed key, by its parts
+signed_key-split : (bytes : List ℕ) (place end : ℕ) (signed : SignedKey) → place ≤ length bytes → read signed_key bytes place ≡ Ok (signed, end)
+    → (read lms_signature bytes place ≡ Ok (signed.signature, place + lms_signature_len_of signed.signature.pair))
+    × (read lms_public_key bytes (place + lms_signature_len_of signed.signature.pair) ≡ Ok (signed.key, end)) × (end ≡ place + taken signed.signature) × (end ≤ length bytes)
+unfolding signed_key
+signed_key-split bytes place end signed within found =
+    let (x, x_found, behind) = turn lms_signature (λ s. lms_public_key >>= λ key. done (record { signature = s; key = key })) bytes place (signed, end) found in
+    let (y, y_found, same) = turn lms_public_key (λ key. done (record { signature = x.0; key = key })) bytes x.1 (signed, end) behind in
+    let built : SignedKey = record { signature = x.0; key = y.0 } in
+    let pair : ◌≡◌ {A = SignedKey × ℕ} (built, y.1) (signed, end) = cc in
+    let signature_is : x.0 ≡ signed.signature = ap (λ p. p.0.signature) pair in
+    let key_is : y.0 ≡ signed.key = ap (λ p. p.0.key) pair in
+    let end_is : y.1 ≡ end = ap (λ p. p.1) pair in
+    let inside = ends-within lms_signature x.0 bytes place x.1 within x_found in
+    let middle : x.1 ≡ place + lms_signature_len_of signed.signature.pair = signature-end x.0 bytes place x.1 within x_found ∙ ap (λ s. place + lms_signature_len_of s.pair) signature_is in
+    let last = public-end y.0 bytes x.1 y.1 inside.1 y_found in
+    let final = ends-within lms_public_key y.0 bytes x.1 y.1 inside.1 y_found in (
+      x_found ∙ ap₂ (λ s at. Ok (s, at)) signature_is middle,
+      ap (λ at. read lms_public_key bytes at) (sym middle) ∙ y_found ∙ ap₂ (λ k at. Ok (k, at)) key_is end_is,
+      omega (arith, middle, last, end_is),
+      omega (arith, final.1, end_is),
+    )
+
+-- signed keys are as many as they are to be, and end behind all of them
+keys-end : (n : ℕ) (bytes : List ℕ) (place end : ℕ) (keys : List SignedKey) → place ≤ length bytes → read (signed_keys n) bytes place ≡ Ok (keys, end)
+    → (length keys ≡ n) × (end ≡ place + sum_by taken (map (λ signed. signed.signature) keys)) × (end ≤ length bytes)
+unfolding signed_keys
+keys-end zero bytes place end keys within found =
+    let pair : ◌≡◌ {A = List SignedKey × ℕ} ([], place) (keys, end) = cc in
+    let keys_are = ap (λ p. p.0) pair in
+    let end_is = ap (λ p. p.1) pair in (
+      ap length (sym keys_are),
+      omega (arith, end_is, ap (λ ks. sum_by taken (map (λ signed. signed.signature) ks)) keys_are),
+      omega (arith, end_is),
+    )
+keys-end (suc n) bytes place end keys within found =
+    let (first, middle, rest, keys_are, first_found, rest_found) = keys-split n bytes place end keys found in
+    let parts = signed_key-split bytes place middle first within first_found in
+    let others = keys-end n bytes middle end rest parts.3 rest_found in (
+      ap length keys_are ∙ ap suc others.0,
+      omega (arith, others.1, parts.2, ap (λ ks. sum_by taken (map (λ signed. signed.signature) ks)) keys_are, sum_by-cons taken first.signature (map (λ signed. signed.signature) rest)),
+      others.2,
+    )
+
+-- ---- a whole signature
+
+-- a number of levels that is read lies between the bounds, and stands at the place
+level_number-read : (low high : ℕ) (bytes : List ℕ) (place : ℕ) (x : ℕ × ℕ) → read (level_number low high) bytes place ≡ Ok x
+    → (x.0 ≡ big_number 4 (take 4 (drop place bytes))) × (x.0 ≤ high) × (x.1 ≡ place + 4) × (place + 4 ≤ length bytes)
+unfolding level_number
+level_number-read low high bytes place x found =
+    let tested : ℕ → Layout ℕ = λ n. cond (nat_le low n && nat_le n high) (done n) (refuse 4 LevelCount) in
+    let n = big_number 4 (take 4 (drop place bytes)) in
+    elim (cases_lt (length bytes) (place + 4)) [
+      | inl cut ↦ absurd (let e = sym (read-cut 4 (λ b. done (big_number 4 b) >>= tested) bytes place cut) ∙ found in cc)
+      | inr fits ↦
+          let behind : read (tested n) bytes (place + 4) ≡ Ok x = sym (read-fits 4 (λ b. done (big_number 4 b) >>= tested) bytes place fits) ∙ found in
+          elim (cases_lt high n) [
+            | inl past ↦ absurd (
+                let off : (nat_le low n && nat_le n high) ≡ false = rw (lt-leb n high past) (and-false (nat_le low n)) in
+                let e : read (cond false (done n) (refuse 4 LevelCount)) bytes (place + 4) ≡ Ok x = rw (off) at behind in
+                cc)
+            | inr below ↦
+                let split : (b : Bool) → read (cond b (done n) (refuse 4 LevelCount)) bytes (place + 4) ≡ Ok x → (x.0 ≡ n) × (x.1 ≡ place + 4) =
+                λ b. elim b as (λ b. read (cond b (done n) (refuse 4 LevelCount)) bytes (place + 4) ≡ Ok x → (x.0 ≡ n) × (x.1 ≡ place + 4)) [
+                  | true ↦ λ e. let pair : ◌≡◌ {A = ℕ × ℕ} (n, place + 4) x = cc in (sym (ap (λ p. p.0) pair), sym (ap (λ p. p.1) pair))
+                  | false ↦ λ e. absurd (cc)
+                ] in
+                let parts = split (nat_le low n && nat_le n high) behind in
+                (parts.0, omega (arith, parts.0), parts.1, fits)
+          ]
+    ]
+
+-- what is read of a signature, part by part
+pub record IsRead (s : Signature) (bytes : List ℕ) : Type 0 where
+  pub number : length s.signed ≡ big_number 4 (take 4 bytes)
+  pub few : length s.signed ≤ 7
+  pub long : 4 ≤ length bytes
+  pub end : ℕ
+  pub keys : read (signed_keys (length s.signed)) bytes 4 ≡ Ok (s.signed, end)
+  pub bottom : read lms_signature bytes end ≡ Ok (s.bottom, length bytes)
+
+pub is_read : (s : Signature) (bytes : List ℕ) → read signature bytes 0 ≡ Ok (s, length bytes) → IsRead s bytes
+unfolding signature
+is_read s bytes found =
+    let behind_keys : List SignedKey → Layout Signature = λ signed. lms_signature >>= λ bottom. done (record { signed = signed; bottom = bottom }) in
+    let (n, n_found, behind) = turn (level_number 0 7) (λ above. signed_keys above >>= behind_keys) bytes 0 (s, length bytes) found in
+    let number = level_number-read 0 7 bytes 0 n n_found in
+    let (keys, keys_found, behind') = turn (signed_keys n.0) behind_keys bytes n.1 (s, length bytes) behind in
+    let (bottom, bottom_found, same) = turn lms_signature (λ bottom. done (record { signed = keys.0; bottom = bottom })) bytes keys.1 (s, length bytes) behind' in
+    let built : Signature = record { signed = keys.0; bottom = bottom.0 } in
+    let pair : ◌≡◌ {A = Signature × ℕ} (built, bottom.1) (s, length bytes) = cc in
+    let keys_are : keys.0 ≡ s.signed = ap (λ p. p.0.signed) pair in
+    let bottom_is : bottom.0 ≡ s.bottom = ap (λ p. p.0.bottom) pair in
+    let end_is : bottom.1 ≡ length bytes = ap (λ p. p.1) pair in
+    let at_four : n.1 ≡ 4 = number.2 in
+    let counted = keys-end n.0 bytes n.1 keys.1 keys.0 (omega (arith, number.2, number.3)) keys_found in
+    let count : n.0 ≡ length s.signed = sym counted.0 ∙ ap length keys_are in
+    record {
+      number = sym count ∙ number.0;
+      few = omega (arith, count, number.1);
+      long = omega (arith, number.3);
+      end = keys.1;
+      keys = ap₂ (λ k at. read (signed_keys k) bytes at) (sym count) (sym at_four) ∙ keys_found ∙ ap (λ ks. Ok (ks, keys.1)) keys_are;
+      bottom = bottom_found ∙ ap₂ (λ b at. Ok (b, at)) bottom_is end_is;
+    }
+
+-- the levels above level i end where it begins
+starts : (s : Signature) (i : ℕ) → i ≤ length s.signed → 4 + sum_by taken (map (λ signed. signed.signature) (take i s.signed)) ≡ start_of s i
+starts s i within =
+    let above = map (λ signed. signed.signature) s.signed in
+    let few : i ≤ length above = omega (arith, length-map s.signed (λ signed. signed.signature)) in
+    ap (λ front. 4 + sum_by taken front) (sym (take-map (λ signed. signed.signature) i s.signed) ∙ sym (take-append-le i above (s.bottom ∷ []) few))
+
+-- so many signed keys stand before level i
+pub above_read : (s : Signature) (bytes : List ℕ) (i : ℕ) → IsRead s bytes → i ≤ length s.signed → read (signed_keys i) bytes 4 ≡ Ok (take i s.signed, start_of s i)
+above_read s bytes i parts within =
+    let (middle, front, back) = keys-prefix i (length s.signed) bytes 4 parts.end s.signed within parts.keys in
+    let ends = keys-end i bytes 4 middle (take i s.signed) parts.long front in
+    front ∙ ap (λ at. Ok (take i s.signed, at)) (ends.1 ∙ starts s i within)
+
+-- each level begins behind the signature and the key of the one above
+start-more : (s : Signature) (i : ℕ) → i < length s.signed → start_of s (i + 1) ≡ start_of s i + taken (signature_at s i)
+start-more s i within =
+    let all = signatures_of s in
+    let above = map (λ signed. signed.signature) s.signed in
+    let size : i < length all = omega (arith, length-append above (s.bottom ∷ []), length-map s.signed (λ signed. signed.signature)) in
+    let sum : sum_by taken (take (i + 1) all) ≡ sum_by taken (take i all) + taken (signature_at s i) =
+    ap (sum_by taken) (take_more all i s.bottom size) ∙ sum_by_push taken (take i all) (signature_at s i) in
+    omega (arith, sum)
+
+-- the signature and the key of a level above the bottom are those of its signed key
+signature_at-above : (s : Signature) (i : ℕ) (first : SignedKey) (rest : List SignedKey) → i < length s.signed → drop i s.signed ≡ first ∷ rest → first.signature ≡ signature_at s i
+signature_at-above s i first rest within is =
+    let of : SignedKey → LmsSignature = λ signed. signed.signature in
+    let above = map of s.signed in
+    let size : i < length above = omega (arith, length-map s.signed of) in
+    sym (ap (λ xs. get_or (map of xs) 0 s.bottom) is) ∙ sym (ap (λ xs. get_or xs 0 s.bottom) (drop-map of i s.signed))
+    ∙ get_or-drop i above 0 s.bottom ∙ ap (λ k. get_or above k s.bottom) (add-zero i) ∙ sym (get_or_append_left above (s.bottom ∷ []) s.bottom i size)
+
+key_at-below : (top : LmsPublic) (s : Signature) (i : ℕ) (first : SignedKey) (rest : List SignedKey) → drop i s.signed ≡ first ∷ rest → first.key ≡ key_at top s (i + 1)
+key_at-below top s i first rest is =
+    let of : SignedKey → LmsPublic = λ signed. signed.key in
+    sym (ap (λ xs. get_or (map of xs) 0 top) is) ∙ sym (ap (λ xs. get_or xs 0 top) (drop-map of i s.signed))
+    ∙ get_or-drop i (map of s.signed) 0 top ∙ ap (λ k. get_or (map of s.signed) k top) (add-zero i) ∙ sym (ap (λ k. get_or (keys_of top s) k top) (add-one i))
+
+-- a signature above the bottom stands where its level begins, and behind it the next level's key
+pub signed_read : (s : Signature) (bytes : List ℕ) (i : ℕ) (top : LmsPublic) → IsRead s bytes → i < length s.signed
+    → (read lms_signature bytes (start_of s i) ≡ Ok (signature_at s i, start_of s i + lms_signature_len_of (signature_at s i).pair))
+    × (read lms_public_key bytes (start_of s i + lms_signature_len_of (signature_at s i).pair) ≡ Ok (key_at top s (i + 1), start_of s (i + 1)))
+signed_read s bytes i top parts within =
+    let n = length s.signed in
+    let left : n - i ≡ suc (n - (i + 1)) = omega arith in
+    let (middle, front, back) = keys-prefix i n bytes 4 parts.end s.signed (omega arith) parts.keys in
+    let ends = keys-end i bytes 4 middle (take i s.signed) parts.long front in
+    let at : middle ≡ start_of s i = ends.1 ∙ starts s i (omega arith) in
+    let (first, next, rest, keys_are, first_found, rest_found) = keys-split (n - (i + 1)) bytes middle parts.end (drop i s.signed) (ap (λ k. read (signed_keys k) bytes middle) (sym left) ∙ back) in
+    let (signature_found, key_found, next_is, _) = signed_key-split bytes middle next first ends.2 first_found in
+    let signature_is = signature_at-above s i first rest within keys_are in
+    let key_is = key_at-below top s i first rest keys_are in
+    let next_at : next ≡ start_of s (i + 1) = next_is ∙ ap₂ (λ at s. at + taken s) at signature_is ∙ sym (start-more s i within) in (
+      ap (λ at. read lms_signature bytes at) (sym at) ∙ signature_found ∙ ap₂ (λ at s. Ok (s, at + lms_signature_len_of s.pair)) at signature_is,
+      ap₂ (λ at s. read lms_public_key bytes (at + lms_signature_len_of s.pair)) (sym at) (sym signature_is) ∙ key_found ∙ ap₂ (λ k at. Ok (k, at)) key_is next_at,
+    )
+
+-- the bottom one stands behind all signed keys
+pub bottom_read : (s : Signature) (bytes : List ℕ) → IsRead s bytes
+    → read lms_signature bytes (start_of s (length s.signed)) ≡ Ok (signature_at s (length s.signed), length bytes)
+bottom_read s bytes parts =
+    let n = length s.signed in
+    let above = map (λ signed. signed.signature) s.signed in
+    let ends = keys-end n bytes 4 parts.end s.signed parts.long parts.keys in
+    let at : parts.end ≡ start_of s n = ends.1 ∙ ap (λ keys. 4 + sum_by taken (map (λ signed. signed.signature) keys)) (sym (take_all n s.signed (omega arith))) ∙ starts s n (omega arith) in
+    let bottom_is : s.bottom ≡ signature_at s n = sym (get_or_at above s.bottom [] s.bottom n (length-map s.signed (λ signed. signed.signature))) in
+    ap (λ at. read lms_signature bytes at) (sym at) ∙ parts.bottom ∙ ap (λ b. Ok (b, length bytes)) bottom_is
+
+-- So every level's signature stands where its level begins, and is as long as its types say.
+pub level_read : (s : Signature) (bytes : List ℕ) (i : ℕ) → IsRead s bytes → i < level_count s
+    → read lms_signature bytes (start_of s i) ≡ Ok (signature_at s i, start_of s i + lms_signature_len_of (signature_at s i).pair)
+level_read s bytes i parts within =
+    let n = length s.signed in
+    elim (cases_lt i n) [
+      | inl above ↦ (signed_read s bytes i (record { pair = s.bottom.pair; identifier = []; root = [] }) parts above).0
+      | inr past ↦
+          let same : i ≡ n = omega arith in
+          let found = bottom_read s bytes parts in
+          let ends = keys-end n bytes 4 parts.end s.signed parts.long parts.keys in
+          let at : parts.end ≡ start_of s n = ends.1 ∙ ap (λ keys. 4 + sum_by taken (map (λ signed. signed.signature) keys)) (sym (take_all n s.signed (omega arith))) ∙ starts s n (omega arith) in
+          let inside : start_of s n ≤ length bytes = omega (arith, at, ends.2) in
+          let end_is = signature-end (signature_at s n) bytes (start_of s n) (length bytes) inside found in
+          ap (λ k. read lms_signature bytes (start_of s k)) same ∙ found ∙ ap (λ at. Ok (signature_at s n, at)) end_is
+          ∙ ap (λ k. Ok (signature_at s k, start_of s k + lms_signature_len_of (signature_at s k).pair)) (sym same)
+    ]
+
+-- Signed keys that were passed, and a bottom signature behind them, are a signature, and this is the one that the bytes spell.
+pub whole_read : (bytes : List ℕ) (above four place end : ℕ) (bottom : LmsSignature) → read (level_number 0 7) bytes 0 ≡ Ok (above, four) → end_of (read (signed_keys above) bytes four) ≡ Ok place
+    → read lms_signature bytes place ≡ Ok (bottom, end) → (read signature bytes 0 ≡ Ok (spelled_by bytes, end)) × (above + 1 ≡ level_count (spelled_by bytes))
+unfolding signature
+whole_read bytes above four place end bottom number passed bottom_found =
+    let behind_keys : List SignedKey → Layout Signature = λ signed. lms_signature >>= λ bottom. done (record { signed = signed; bottom = bottom }) in
+    elim (read (signed_keys above) bytes four) as (λ r. read (signed_keys above) bytes four ≡ r → end_of r ≡ Ok place → (read signature bytes 0 ≡ Ok (spelled_by bytes, end)) × (above + 1 ≡ level_count (spelled_by bytes))) [
+      | Ok x ↦ λ keys_found ends.
+          let at : x.1 ≡ place = cc in
+          let s : Signature = record { signed = x.0; bottom = bottom } in
+          let found : read signature bytes 0 ≡ Ok (s, end) =
+          from-turn (level_number 0 7) (λ above. signed_keys above >>= behind_keys) bytes 0 (above, four) number
+          ∙ from-turn (signed_keys above) behind_keys bytes four x keys_found
+          ∙ ap (λ at. read (behind_keys x.0) bytes at) at
+          ∙ from-turn lms_signature (λ bottom. done (record { signed = x.0; bottom = bottom })) bytes place (bottom, end) bottom_found in
+          let is : spelled_by bytes ≡ s = ap read_value found in
+          let inside = level_number-read 0 7 bytes 0 (above, four) number in
+          let counted = keys-end above bytes four x.1 x.0 (omega (arith, inside.2, inside.3)) keys_found in
+          (found ∙ ap (λ s. Ok (s, end)) (sym is), omega (arith, counted.0, ap (λ s. length s.signed) is))
+      | Err fault ↦ λ keys_found ends. absurd (cc)
+    ] refl passed
+
+-- a fault of the signed keys is the signature's
+pub whole_faulty : (bytes : List ℕ) (above four : ℕ) (fault : ReadFault) → read (level_number 0 7) bytes 0 ≡ Ok (above, four) → end_of (read (signed_keys above) bytes four) ≡ Err fault
+    → read signature bytes 0 ≡ Err fault
+unfolding signature
+whole_faulty bytes above four fault number passed =
+    let behind_keys : List SignedKey → Layout Signature = λ signed. lms_signature >>= λ bottom. done (record { signed = signed; bottom = bottom }) in
+    from-turn (level_number 0 7) (λ above. signed_keys above >>= behind_keys) bytes 0 (above, four) number
+    ∙ read-bind (signed_keys above) behind_keys bytes four
+    ∙ (elim (read (signed_keys above) bytes four) as (λ r. end_of r ≡ Err fault → and_then r (λ x. read (behind_keys x.0) bytes x.1) ≡ Err fault) [
+      | Ok x ↦ λ ends. absurd (cc)
+      | Err other ↦ λ ends. let same : other ≡ fault = cc in ap Err same
+    ] passed)
+
+-- ---- what a view finds in its bytes
+
+-- where the levels above level i end
+pub start_found : (s : Signature) (bytes : List ℕ) (i : ℕ) → read signature bytes 0 ≡ Ok (s, length bytes) → i < level_count s → end_of (read (signed_keys i) bytes 4) ≡ Ok (start_of s i)
+start_found s bytes i found within = ap end_of (above_read s bytes i (is_read s bytes found) (omega arith))
+
+-- no level begins past the end
+pub start_inside : (s : Signature) (bytes : List ℕ) (i : ℕ) → read signature bytes 0 ≡ Ok (s, length bytes) → i < level_count s → start_of s i ≤ length bytes
+start_inside s bytes i found within =
+    let parts = is_read s bytes found in
+    (keys-end i bytes 4 (start_of s i) (take i s.signed) parts.long (above_read s bytes i parts (omega arith))).2
+
+-- the signature of level i
+pub level_found : (s : Signature) (bytes : List ℕ) (i : ℕ) → read signature bytes 0 ≡ Ok (s, length bytes) → i < level_count s
+    → read lms_signature bytes (start_of s i) ≡ Ok (signature_at s i, start_of s i + lms_signature_len_of (signature_at s i).pair)
+level_found s bytes i found within = level_read s bytes i (is_read s bytes found) within
+
+-- the key of level i
+pub key_found : (s : Signature) (bytes : List ℕ) (top : LmsPublic) (i : ℕ) → read signature bytes 0 ≡ Ok (s, length bytes) → 1 ≤ i → i < level_count s
+    → (read lms_public_key bytes (start_of s i - 56) ≡ Ok (key_at top s i, start_of s i)) × (start_of s i - 56 ≤ length bytes)
+key_found s bytes top i found above within =
+    let below : i ≡ (i - 1) + 1 = omega arith in
+    let key = (signed_read s bytes (i - 1) top (is_read s bytes found) (omega arith)).1 in
+    let next = start-more s (i - 1) (omega arith) in
+    let before : start_of s (i - 1) + lms_signature_len_of (signature_at s (i - 1)).pair ≡ start_of s i - 56 = omega (arith, next, ap (start_of s) below) in (
+      ap (λ at. read lms_public_key bytes at) (sym before) ∙ key ∙ ap (λ i. Ok (key_at top s i, start_of s i)) (sym below),
+      omega (arith, start_inside s bytes i found within),
+    )
+
+-- the 56 bytes before a level's signature spell its key
+pub key_spelled : (s : Signature) (bytes : List ℕ) (top : LmsPublic) (i : ℕ) → read signature bytes 0 ≡ Ok (s, length bytes) → 1 ≤ i → i < level_count s
+    → Spells lms_public_key (key_at top s i) (take 56 (drop (start_of s i - 56) bytes))
+key_spelled s bytes top i found above within =
+    let (key, inside) = key_found s bytes top i found above within in
+    let place = start_of s i - 56 in
+    let size = public-end (key_at top s i) bytes place (start_of s i) inside key in
+    let long : start_of s i - place ≡ 56 = omega (arith, size) in
+    let part = take (start_of s i - place) (drop place bytes) in
+    let spelled = ends-spelled lms_public_key part (key_at top s i) (length part) (part_read lms_public_key (key_at top s i) bytes place (start_of s i) inside key) refl in
+    subst (λ n. Spells lms_public_key (key_at top s i) (take n (drop place bytes))) long spelled

@@ -1,0 +1,33 @@
+//! Public keys.
+
+ghost use Rattle.std.specs.Prelude.{◌≡◌};
+ghost use Rattle.typecodes.specs.Reading.{Reads};
+
+use crate::levels::number_at;
+use lms::LmsPublic;
+use typecodes::{Cursor, ReadFault};
+
+/// The public key of one to eight levels of trees (RFC 8554 6.1).
+#[derive(Clone, Copy, Debug, PartialEq, Eq)]
+pub struct HssPublic {
+    /// L, the number of levels, 1 to 8.
+    pub levels: u8,
+    /// The public key of the top tree.
+    pub top: LmsPublic,
+}
+
+impl HssPublic {
+    ghost use Rattle.hss.specs.Layouts.{public_key};
+
+    /// The key that the bytes spell, 60 bytes and no more. Otherwise their first fault (1, 2, 3 or 5).
+    #[tactic(auto, using(typecodes::proofs::Steps::steps, typecodes::proofs::Steps::reading), unfolding(crate::specs::Layouts::public_key))]
+    pub fn read(bytes: &[u8]) -> Result<Self, ReadFault>
+        ensures { Reads public_key (λ key. key) bytes.now result }
+    {
+        let mut cursor = Cursor::new(bytes);
+        let levels = number_at(&mut cursor, 1, 8)?;
+        let top = LmsPublic::from_cursor(&mut cursor)?;
+        cursor.end()?;
+        Ok(HssPublic { levels, top })
+    }
+}
