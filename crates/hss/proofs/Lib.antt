@@ -2,3 +2,5 @@ pub mod Numbers
 pub mod Passing
 pub mod Walking
 pub mod OneWay
+pub mod Verifying
+pub mod Verdicts

@@ -3,3 +3,6 @@ pub mod Levels
 pub mod Ends
 pub mod Spelled
 pub mod View
+pub mod Valid
+pub mod Verdict
+pub mod Steps

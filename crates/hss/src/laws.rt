@@ -1,11 +1,14 @@
-//! Laws of spellings. The functions do nothing: what their contracts say is proved of every key and
-//! every signature.
+//! Laws of spellings and of verdicts. The functions do nothing: what their contracts say is proved of
+//! every key and every signature.
 
-ghost use Rattle.std.specs.Prelude.{◌≡◌, List, [], ◌++◌, ℕ};
+ghost use Rattle.std.specs.Prelude.{◌≡◌, List, [], ◌++◌, ℕ, Result, Err, IsOk};
+ghost use Rattle.typecodes.specs.declared.refusal.Refusal.{Refusal};
 ghost use Rattle.typecodes.specs.Layout.{Spells};
 ghost use Rattle.typecodes.specs.Reading.{OneSpelling};
 ghost use Rattle.hss.specs.declared.key.HssPublic.{HssPublic};
 ghost use Rattle.hss.specs.Layouts.{Signature, public_key, signature};
+ghost use Rattle.hss.specs.Valid.{IsValid};
+ghost use Rattle.hss.specs.Verdict.{Verdict};
 
 /// What holds of the spellings of public keys and of signatures: no value has two, no bytes spell two
 /// values, and no spelling begins another.
@@ -16,4 +19,11 @@ pub fn spelling_laws()
     ensures signature_once { OneSpelling signature }
     ensures one_signature { (s other : Signature) (a : List ℕ) → Spells signature s a → Spells signature other a → s ≡ other }
     ensures no_longer_signature { (s other : Signature) (a b : List ℕ) → Spells signature s a → Spells signature other (a ++ b) → b ≡ [] }
+{}
+
+/// What holds of the answers of verification: bytes that spell a valid signature are refused by none
+/// (`accepted`), and no bytes have two refusals (`one_refusal`).
+pub fn verdict_laws()
+    ensures accepted { (key : HssPublic) (message bytes : List ℕ) (result : Result (Unit {0}) Refusal) → Verdict key message bytes result → (s : Signature) → Spells signature s bytes → IsValid key message s → IsOk result }
+    ensures one_refusal { (key : HssPublic) (message bytes : List ℕ) (first second : Refusal) → Verdict {A = Unit {0}} key message bytes (Err first) → Verdict {A = Unit {0}} key message bytes (Err second) → first ≡ second }
 {}

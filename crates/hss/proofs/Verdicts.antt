@@ -1,0 +1,82 @@
+-- The answers of verification are told by the key, the message and the bytes alone.
+use Rattle.std.proofs.Common.{◌≡◌, ℕ, inl, inr, List, Result, Ok, Err, refl, sym, ap, subst, ◌∙◌}
+use Rattle.std.specs.Prelude.{◌≢◌, IsOk}
+use Rattle.std.proofs.lemmas.Bool.{cases_order}
+use Rattle.typecodes.specs.declared.refusal.Refusal.{Refusal}
+use Rattle.typecodes.specs.declared.refusal.Refusal.TheVariants.{Unreadable, TypeMismatch, LevelMismatch, RootMismatch}
+use Rattle.typecodes.specs.Layout.{Spells}
+use Rattle.typecodes.proofs.Spelling.{no_value, one_fault, one_value}
+use Rattle.hss.specs.declared.key.HssPublic.{HssPublic}
+use Rattle.hss.specs.Layouts.{Signature, signature}
+use Rattle.hss.specs.Levels.{key_at, level_count, signature_at}
+use Rattle.hss.specs.Valid.{IsValid, IsValidAt}
+use Rattle.hss.specs.Verdict.{Reaches, Verdict}
+
+-- the level that was come to isn't valid
+abbrev Fails : HssPublic → List ℕ → List ℕ → Signature → ℕ → Type 0
+Fails key message bytes s i = Reaches key message bytes s i × (IsValidAt key.top message s i → ⊥)
+
+-- one whose types are others isn't
+fails-types : (key : HssPublic) (message bytes : List ℕ) (s : Signature) (i : ℕ) → Reaches key message bytes s i → ((signature_at s i).pair ≢ (key_at key.top s i).pair) → Fails key message bytes s i
+fails-types key message bytes s i reaches differs = (reaches, λ valid. differs valid.types)
+
+-- a valid signature fails at no level
+never-fails : (key : HssPublic) (message bytes : List ℕ) (s t : Signature) (i : ℕ) → Fails key message bytes t i → Spells signature s bytes → IsValid key message s → ⊥
+never-fails key message bytes s t i (reaches, fails) spelled valid =
+    fails (subst (λ s. IsValidAt key.top message s i) (one_value signature s t bytes spelled reaches.spelled) (valid.levels i reaches.inside))
+
+-- the level at which one fails is the only one
+same_level : (key : HssPublic) (message bytes : List ℕ) (s t : Signature) (i j : ℕ) → Fails key message bytes s i → Fails key message bytes t j → i ≡ j
+same_level key message bytes s t i j (s_reaches, s_fails) (t_reaches, t_fails) =
+    let same = one_value signature s t bytes s_reaches.spelled t_reaches.spelled in
+    elim (cases_order i j) [
+      | inl e ↦ e
+      | inr (inl below) ↦ absurd (s_fails (subst (λ s. IsValidAt key.top message s i) (sym same) (t_reaches.above i below)))
+      | inr (inr above) ↦ absurd (t_fails (subst (λ s. IsValidAt key.top message s j) same (s_reaches.above j above)))
+    ]
+
+-- a level's types are told once
+same_types : (key : HssPublic) (message bytes : List ℕ) (s t : Signature) (i j : ℕ) → Reaches key message bytes s i → Reaches key message bytes t j → i ≡ j
+    → (signature_at s i).pair ≡ (key_at key.top s i).pair → (signature_at t j).pair ≡ (key_at key.top t j).pair
+same_types key message bytes s t i j s_reaches t_reaches same types =
+    let is = one_value signature s t bytes s_reaches.spelled t_reaches.spelled in
+    subst (λ j. (signature_at t j).pair ≡ (key_at key.top t j).pair) same (subst (λ s. (signature_at s i).pair ≡ (key_at key.top s i).pair) is types)
+
+-- a signature that is come to has the key's levels
+counted : (key : HssPublic) (message bytes : List ℕ) (s t : Signature) (i : ℕ) → Reaches key message bytes s i → Spells signature t bytes → level_count t ≡ key.levels
+counted key message bytes s t i reaches spelled = ap level_count (one_value signature t s bytes spelled reaches.spelled) ∙ reaches.count
+
+-- a valid signature is refused by no answer
+pub accepted : {A : Type 0} (key : HssPublic) (message bytes : List ℕ) (result : Result A Refusal) → Verdict key message bytes result → (s : Signature) → Spells signature s bytes → IsValid key message s → IsOk result
+accepted key message bytes (Ok x) verdict s spelled valid = refl
+accepted key message bytes (Err (Unreadable fault)) faulty s spelled valid = absurd (no_value signature s bytes 0 fault spelled faulty)
+accepted key message bytes (Err LevelMismatch) (t, t_spelled, differs) s spelled valid =
+    absurd (differs (ap level_count (one_value signature t s bytes t_spelled spelled) ∙ valid.count))
+accepted key message bytes (Err (TypeMismatch i)) (t, reaches, differs) s spelled valid =
+    absurd (never-fails key message bytes s t i (fails-types key message bytes t i reaches differs) spelled valid)
+accepted key message bytes (Err (RootMismatch i)) (t, reaches, types, fails) s spelled valid = absurd (never-fails key message bytes s t i (reaches, fails) spelled valid)
+
+-- two refusals of the same bytes are one
+pub one_refusal : (A : Type 0) (key : HssPublic) (message bytes : List ℕ) (first second : Refusal) → Verdict {A = A} key message bytes (Err first) → Verdict {A = A} key message bytes (Err second) → first ≡ second
+one_refusal A key message bytes (Unreadable f) (Unreadable g) first second = ap Unreadable (one_fault signature bytes 0 f g first second)
+one_refusal A key message bytes (Unreadable f) LevelMismatch first (s, spelled, _) = absurd (no_value signature s bytes 0 f spelled first)
+one_refusal A key message bytes (Unreadable f) (TypeMismatch j) first (s, reaches, _) = absurd (no_value signature s bytes 0 f reaches.spelled first)
+one_refusal A key message bytes (Unreadable f) (RootMismatch j) first (s, reaches, _, _) = absurd (no_value signature s bytes 0 f reaches.spelled first)
+one_refusal A key message bytes LevelMismatch (Unreadable g) (s, spelled, _) second = absurd (no_value signature s bytes 0 g spelled second)
+one_refusal A key message bytes LevelMismatch LevelMismatch first second = refl
+one_refusal A key message bytes LevelMismatch (TypeMismatch j) (s, spelled, differs) (t, reaches, _) = absurd (differs (counted key message bytes t s j reaches spelled))
+one_refusal A key message bytes LevelMismatch (RootMismatch j) (s, spelled, differs) (t, reaches, _, _) = absurd (differs (counted key message bytes t s j reaches spelled))
+one_refusal A key message bytes (TypeMismatch i) (Unreadable g) (s, reaches, _) second = absurd (no_value signature s bytes 0 g reaches.spelled second)
+one_refusal A key message bytes (TypeMismatch i) LevelMismatch (s, reaches, _) (t, spelled, differs) = absurd (differs (counted key message bytes s t i reaches spelled))
+one_refusal A key message bytes (TypeMismatch i) (TypeMismatch j) (s, s_reaches, s_differs) (t, t_reaches, t_differs) =
+    ap TypeMismatch (same_level key message bytes s t i j (fails-types key message bytes s i s_reaches s_differs) (fails-types key message bytes t j t_reaches t_differs))
+one_refusal A key message bytes (TypeMismatch i) (RootMismatch j) (s, s_reaches, differs) (t, t_reaches, types, fails) =
+    let same = same_level key message bytes t s j i (t_reaches, fails) (fails-types key message bytes s i s_reaches differs) in
+    absurd (differs (same_types key message bytes t s j i t_reaches s_reaches same types))
+one_refusal A key message bytes (RootMismatch i) (Unreadable g) (s, reaches, _, _) second = absurd (no_value signature s bytes 0 g reaches.spelled second)
+one_refusal A key message bytes (RootMismatch i) LevelMismatch (s, reaches, _, _) (t, spelled, differs) = absurd (differs (counted key message bytes s t i reaches spelled))
+one_refusal A key message bytes (RootMismatch i) (TypeMismatch j) (s, s_reaches, types, fails) (t, t_reaches, differs) =
+    let same = same_level key message bytes s t i j (s_reaches, fails) (fails-types key message bytes t j t_reaches differs) in
+    absurd (differs (same_types key message bytes s t i j s_reaches t_reaches same types))
+one_refusal A key message bytes (RootMismatch i) (RootMismatch j) (s, s_reaches, _, s_fails) (t, t_reaches, _, t_fails) =
+    ap RootMismatch (same_level key message bytes s t i j (s_reaches, s_fails) (t_reaches, t_fails))
