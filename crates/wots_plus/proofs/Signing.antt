@@ -24,7 +24,7 @@ abbrev pub ends : Steps → (ℕ → List ℕ) → ℕ → ℕ → List (List �
 ends step start w n = map (λ i. walk step i 0 (2 ^ w - 1) (start i)) (range_with_len 0 n)
 
 -- the values of a signature climb to the ends of the key's chains
-signed_climbs : (step : Steps) (start : ℕ → List ℕ) (w n : ℕ) (digest : List ℕ) → n ≡ digit_count w
+pub signed_climbs : (step : Steps) (start : ℕ → List ℕ) (w n : ℕ) (digest : List ℕ) → n ≡ digit_count w
     → AreEnds step w (digits_of w digest) (signed step start (digits_of w digest) n) (ends step start w n)
 signed_climbs step start w n digest all =
     let digits = digits_of w digest in
@@ -46,6 +46,15 @@ walked_size : (step : Steps) (c a n : ℕ) (v : List ℕ) → ((i j : ℕ) (v : 
 unfolding walk_on
 walked_size step c a zero v steps size = size
 walked_size step c a (suc n) v steps size = steps c (a + n) (walk_on step c a n v)
+
+-- so the values of a signature have
+pub signed_sizes : (step : Steps) (start : ℕ → List ℕ) (digits : List ℕ) (n : ℕ)
+    → ((i j : ℕ) (v : List ℕ) → length (step i j v) ≡ 32) → ((i : ℕ) → length (start i) ≡ 32)
+    → (i : ℕ) → i < n → length (get_or (signed step start digits n) i []) ≡ 32
+signed_sizes step start digits n steps starts i within =
+    let value = λ (i : ℕ). walk step i 0 (get_or digits i 0) (start i) in
+    ap length (get_or-map-range_with_len value 0 n i i [] within (omega arith))
+    ∙ walked_size step i 0 (get_or digits i 0 - 0) (start i) steps (starts i)
 
 -- values of 32 bytes that are joined are cut out of the bytes again
 pub chunks_of_joined : (n : ℕ) (values : List (List ℕ)) → length values ≡ n → ((i : ℕ) → i < n → length (get_or values i []) ≡ 32)
@@ -100,9 +109,7 @@ bytes_climb step start w n digest bytes all steps starts are =
     let digits = digits_of w digest in
     let value = λ (i : ℕ). walk step i 0 (get_or digits i 0) (start i) in
     let values = signed step start digits n in
-    let sizes : (i : ℕ) → i < n → length (get_or values i []) ≡ 32 = λ i within.
-    ap length (get_or-map-range_with_len value 0 n i i [] within (omega arith))
-    ∙ walked_size step i 0 (get_or digits i 0 - 0) (start i) steps (starts i) in
+    let sizes = signed_sizes step start digits n steps starts in
     let held : values_in n bytes ≡ values =
     ap (values_in n) are ∙ chunks_of_joined n values (length-map-range_with_len value 0 n) sizes in
     subst (λ held. AreEnds step w digits held (ends step start w n)) (sym held) (signed_climbs step start w n digest all)

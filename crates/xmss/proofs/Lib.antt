@@ -1,0 +1,9 @@
+pub mod Fields
+pub mod Behind
+pub mod OneWay
+pub mod Verdicts
+pub mod Leading
+pub mod Verifying
+pub mod Signing
+pub mod Parts
+pub mod SigningBytes

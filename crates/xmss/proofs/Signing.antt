@@ -1,0 +1,50 @@
+-- The textbook signature is valid.
+use Rattle.std.proofs.Common.{◌≡◌, ◌∙◌, refl, ap, ℕ, ◌<◌, ◌^◌, List, length, arith, subst, sym}
+use Rattle.std.proofs.lemmas.List.FromFn.{length-map-range_with_len}
+use Rattle.typecodes.specs.XmssTypes.{xmss_height_of}
+use Rattle.merkle.specs.Ascent.{at}
+use Rattle.merkle.proofs.Climb.{climbed_is_ascent, climbed_nodes, climbed_nodes_at}
+use Rattle.merkle.proofs.Leading.{climbed_to_root}
+use Rattle.wots_plus.specs.Signed.{ends_of_secret, private_value, step_of}
+use Rattle.wots_plus.proofs.Signing.{signed_climbs}
+use Rattle.xmss.specs.declared.secret.XmssSecret.{XmssSecret}
+use Rattle.xmss.specs.Textbook.{digest_in, joins_of, leaves_of, path_in, public_of, root_in, signed, textbook}
+use Rattle.xmss.specs.Valid.{IsValid}
+
+-- the path of a leaf is as long as the tree is high
+path_long : (secret : XmssSecret) (i : ℕ) → length (path_in secret i) ≡ xmss_height_of secret.tree
+path_long secret i = length-map-range_with_len _ 0 (xmss_height_of secret.tree)
+
+-- the nodes above leaf i along its path end at the root
+path_ends : (secret : XmssSecret) (i : ℕ) → i < 2 ^ xmss_height_of secret.tree
+    → at (climbed_nodes (joins_of secret) i (leaves_of secret i) (path_in secret i)) (xmss_height_of secret.tree) ≡ root_in secret
+path_ends secret i inside =
+    let h = xmss_height_of secret.tree in
+    let path = path_in secret i in
+    let long : length path ≡ h = path_long secret i in
+    climbed_nodes_at (joins_of secret) i (leaves_of secret i) path h (omega arith)
+    ∙ climbed_to_root (leaves_of secret) (joins_of secret) h i (leaves_of secret i) path inside refl refl
+
+-- The textbook signature of a message is valid under the secret's public key.
+textbook_valid : (secret : XmssSecret) (i : ℕ) (message : List ℕ) → i < 2 ^ xmss_height_of secret.tree
+    → IsValid (public_of secret) message (textbook secret i (digest_in secret (root_in secret) i message))
+textbook_valid secret i message inside = record {
+  leaf = inside;
+  height = path_long secret i;
+  leads = record {
+    ends = ends_of_secret secret.public_seed i secret.secret_seed;
+    climbed = signed_climbs (step_of secret.public_seed i) (private_value secret.public_seed i secret.secret_seed) 4 67 (digest_in secret (root_in secret) i message) refl;
+    nodes = climbed_nodes (joins_of secret) i (leaves_of secret i) (path_in secret i);
+    ascent = climbed_is_ascent (joins_of secret) i (leaves_of secret i) (path_in secret i);
+    last = ap (at (climbed_nodes (joins_of secret) i (leaves_of secret i) (path_in secret i))) (path_long secret i) ∙ path_ends secret i inside;
+  };
+}
+
+-- The same of a signature that was made with a digest and a path, where these are the textbook's.
+pub signed_valid : (secret : XmssSecret) (i : ℕ) (message digest : List ℕ) (path : List (List ℕ)) → i < 2 ^ xmss_height_of secret.tree
+    → digest ≡ digest_in secret (root_in secret) i message → path ≡ path_in secret i
+    → IsValid (public_of secret) message (signed secret i digest path)
+signed_valid secret i message digest path inside digest_is path_is =
+    subst (λ d. IsValid (public_of secret) message (signed secret i d path)) (sym digest_is)
+    (subst (λ p. IsValid (public_of secret) message (signed secret i (digest_in secret (root_in secret) i message) p)) (sym path_is)
+    (textbook_valid secret i message inside))

@@ -1,0 +1,31 @@
+use Rattle.std.proofs.Common.{◌≡◌, ◌∙◌, sym, ap, subst, arith, ◌+◌, ◌-◌, ◌*◌}
+use Rattle.std.specs.List.{concat}
+use Rattle.std.proofs.lemmas.List.Concat.{concat_is}
+use Rattle.typecodes.specs.Layout.{Spells}
+use Rattle.wots_plus.specs.Signed.{signed_values}
+use Rattle.xmss.specs.Layouts.{Signature, signature}
+use Rattle.xmss.specs.Textbook.{signature_bytes, signed}
+use Rattle.xmss.proofs.Signing.{signed_valid}
+use Rattle.xmss.proofs.SigningBytes.{signed_spelled, written_in_turn}
+use Rattle.xmss.proofs.writing.write_signature.Goals as goal
+
+pub returns : goal.returns
+returns c =
+    let secret = c.args.secret.now in
+    let s : Signature = signed secret c.args.index c.args.digest.now c.args.path.now in
+    let end = c.put-place-2.result + 32 * 67 in
+    let values = c.sign_digest.ensures.value ∙ ap (λ seed. concat (signed_values seed c.args.index secret.secret_seed c.args.digest.now)) c.new-seed.ensures in
+    let written : c.put.new.into ≡ signature_bytes s =
+    written_in_turn _ _ _ _ _ c.sign_digest.new.into _ _ _ _ _ _ c.put-place-2.result (end - c.put-place-2.result) end _
+    c.put-place.ensures.bytes c.put-place-2.ensures.bytes c.put.ensures.bytes
+    (omega arith) (omega arith) (omega arith)
+    c.to_be_bytes.ensures
+    c.randomizer.ensures
+    values
+    (c.as_flattened.ensures.value ∙ sym (concat_is c.args.path.now)) in
+    record {
+      bytes = written;
+      spells = subst (Spells (signature secret.tree) s) (sym written)
+          (signed_spelled secret c.args.index c.args.digest.now c.args.path.now c.requires.inside c.requires.path (λ i within. c.told-path i (omega arith)));
+      valid = λ message digest path. signed_valid secret c.args.index message _ _ c.requires.inside digest path;
+    }

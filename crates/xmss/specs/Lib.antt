@@ -1,0 +1,6 @@
+pub mod Layouts
+pub mod View
+pub mod Formulas
+pub mod Valid
+pub mod Verdict
+pub mod Textbook

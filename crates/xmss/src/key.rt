@@ -1,0 +1,47 @@
+//! Public keys.
+
+ghost use Rattle.std.specs.Prelude.{◌≡◌, ◌+◌, ◌<◌, ◌^◌, OnOk};
+ghost use Rattle.typecodes.specs.Reading.{Gives, Reads, read};
+
+use typecodes::{Cursor, ReadFault, XmssType};
+
+/// The public key of a tree (RFC 8391 4.1.7).
+#[derive(Clone, Copy, Debug, PartialEq, Eq)]
+pub struct XmssPublic {
+    /// The tree's type.
+    pub tree: XmssType,
+    /// The tree's root, 32 bytes.
+    pub root: [u8; 32],
+    /// SEED, 32 bytes.
+    pub seed: [u8; 32],
+}
+
+impl XmssPublic {
+    ghost use Rattle.xmss.specs.Layouts.{public_key};
+
+    /// The key that the bytes spell, 68 bytes and no more: its type, the root and SEED. Otherwise their
+    /// first fault (1, 2 or 5).
+    #[tactic(auto, using(typecodes::proofs::Steps::steps))]
+    pub fn read(bytes: &[u8]) -> Result<Self, ReadFault>
+        ensures { Reads public_key (λ key. key) bytes.now result }
+    {
+        let mut cursor = Cursor::new(bytes);
+        let key = Self::from_cursor(&mut cursor)?;
+        cursor.end()?;
+        Ok(key)
+    }
+
+    // The key at a cursor.
+    #[tactic(auto, using(typecodes::proofs::Steps::reading), unfolding(crate::specs::Layouts::public_key))]
+    fn from_cursor(cursor: &mut Cursor<'_>) -> Result<Self, ReadFault>
+        requires { cursor.old.place + 68 < 2 ^ 32 }
+        ensures read { Gives (λ key. (key, cursor.new.place)) result (read public_key cursor.old.bytes.now cursor.old.place) }
+        ensures len { OnOk result (cursor.new.place ≡ cursor.old.place + 68) }
+        ensures bytes { cursor.new.bytes ≡ cursor.old.bytes }
+    {
+        let tree = cursor.xmss_type()?;
+        let root = *cursor.array()?;
+        let seed = *cursor.array()?;
+        Ok(XmssPublic { tree, root, seed })
+    }
+}

@@ -1,0 +1,28 @@
+//! XMSS keys, signatures and their verification (RFC 8391 4.1), for SHA-256 with n = 32 and w = 16.
+//!
+//! Its model is `specs/Layouts.antt`, how keys and signatures are spelled, and `specs/Valid.antt`,
+//! which signatures are valid. Its contract for the crates above: `verify` is Ok exactly on the
+//! spellings of valid signatures, and else tells the first refusal; what `write_signature` writes is
+//! the textbook signature of `specs/Textbook.antt`, which is valid. That keys and signatures are
+//! spelled in one way, and that an answer of `verify` is the only one, stands on `spelling_laws` and
+//! `verdict_laws`.
+#![tactic(auto)]
+
+mod digest;
+mod key;
+mod laws;
+mod nodes;
+mod secret;
+mod signature;
+#[cfg(test)]
+mod tests;
+mod verification;
+mod writing;
+
+pub use crate::digest::message_digest;
+pub use crate::key::XmssPublic;
+pub use crate::laws::{spelling_laws, verdict_laws};
+pub use crate::secret::{XmssSecret, XmssTree};
+pub use crate::signature::XmssSigView;
+pub use crate::verification::verify;
+pub use crate::writing::{write_public, write_signature};

@@ -1,0 +1,89 @@
+//! Secrets, and the trees that they make.
+
+ghost use Rattle.std.specs.Prelude.{◌≡◌};
+ghost use Rattle.xmss.specs.Formulas.{randomizer_of};
+ghost use Rattle.xmss.specs.Textbook.{digest_in, joins_of, leaves_of};
+
+use crate::digest::{index_bytes, message_digest};
+use crate::nodes::Nodes;
+use merkle::{NodeHash, TreeHash};
+use typecodes::{Count, XmssType};
+use wots_plus::{Prf, Wots};
+
+/// What an XMSS key is made from (RFC 8391 4.1.3).
+#[derive(Clone, Copy, Debug)]
+pub struct XmssSecret {
+    /// The tree's type.
+    pub tree: XmssType,
+    /// S_XMSS, of which all private values are made, 32 bytes (RFC 8391 4.1.11).
+    pub secret_seed: [u8; 32],
+    /// SK_PRF, of which the randomizers are made, 32 bytes.
+    pub prf_key: [u8; 32],
+    /// SEED, 32 bytes. It is public.
+    pub public_seed: [u8; 32],
+}
+
+impl XmssSecret {
+    /// r, the randomizer of leaf `index`'s signature (RFC 8391 4.1.9).
+    pub fn randomizer(&self, index: u32) -> [u8; 32]
+        ensures { result ≡ randomizer_of self.now.prf_key index }
+    {
+        Prf::new(self.prf_key).hash(&index_bytes(index))
+    }
+
+    /// M', the digest of a message that leaf `index` signs in the tree with this root, by the leaf's
+    /// randomizer (RFC 8391 4.1.9).
+    pub fn message_digest(&self, root: &[u8; 32], index: u32, message: &[u8]) -> [u8; 32]
+        ensures { result ≡ digest_in self.now root.now index message.now }
+    {
+        message_digest(&self.randomizer(index), root, index, message)
+    }
+}
+
+/// The tree of a secret (RFC 8391 4.1.6), each leaf made of the ends of its one-time key's chains.
+#[derive(Drop)]
+pub struct XmssTree {
+    secret: XmssSecret,
+    // PRF under the secret's SEED.
+    seed: Prf,
+    // How many leaves were made, for contracts alone.
+    made: Count,
+    ghost seeded: { seed.key ≡ secret.public_seed },
+}
+
+impl XmssTree {
+    /// The tree of a secret, of which no leaf was made yet.
+    pub fn new(secret: XmssSecret) -> Self
+        ensures secret { result.secret ≡ secret }
+        ensures made { result.made ≡ 0 }
+    {
+        XmssTree {
+            secret,
+            seed: Prf::new(secret.public_seed),
+            made: Count::new(),
+        }
+    }
+}
+
+impl NodeHash for XmssTree {
+    ghost join_of = { λ tree. joins_of tree.secret };
+
+    fn join(&self, height: u8, index: u32, left: &[u8; 32], right: &[u8; 32]) -> [u8; 32] {
+        Nodes { seed: &self.seed }.join(height, index, left, right)
+    }
+}
+
+impl TreeHash for XmssTree {
+    ghost leaf_of = { λ tree. leaves_of tree.secret };
+
+    ghost made = { λ tree. tree.made };
+
+    fn leaf(&mut self, i: u32) -> [u8; 32] {
+        self.made.add_one();
+        let key = Wots {
+            seed: &self.seed,
+            leaf: i,
+        };
+        key.public_value(&self.secret.secret_seed)
+    }
+}

@@ -1,0 +1,126 @@
+//! Signatures, as views of their bytes.
+
+ghost use Rattle.std.specs.Prelude.{◌≡◌, ◌+◌, ◌*◌, ◌<◌, ◌^◌, [], length, take, drop, slice_index_or, OnOk, IfOk, Ok};
+ghost use Rattle.byteorder.specs.Endian.{big_number};
+ghost use Rattle.typecodes.specs.Layout.{Spells};
+ghost use Rattle.typecodes.specs.Fields.{values_in};
+ghost use Rattle.typecodes.specs.Reading.{Gives, Reads, read};
+ghost use Rattle.typecodes.specs.XmssTypes.{xmss_height_of, xmss_signature_len_of};
+ghost use Rattle.xmss.specs.Layouts as spec;
+ghost use Rattle.xmss.specs.Layouts.{chains_in, signature, signature_with};
+
+use typecodes::{Cause, Cursor, ReadFault, XmssType};
+
+/// A signature of one tree (RFC 8391 4.1.8), as a view of the bytes that spell it.
+#[derive(Clone, Copy, Debug)]
+pub struct XmssSigView<'a> {
+    pub(crate) tree: XmssType,
+    pub(crate) index: u32,
+    pub(crate) randomizer: &'a [u8; 32],
+    pub(crate) chains: &'a [[u8; 32]],
+    pub(crate) path: &'a [[u8; 32]],
+    pub(crate) bytes: &'a [u8],
+    ghost inside: { index < 2 ^ xmss_height_of tree },
+    ghost chain_count: { length chains.now ≡ 67 },
+    ghost path_length: { length path.now ≡ xmss_height_of tree },
+    ghost spelled: { read (signature tree) bytes.now 0 ≡ Ok (signature_with index randomizer.now chains.now path.now, length bytes.now) },
+    ghost size: { length bytes.now ≡ xmss_signature_len_of tree },
+    ghost index_at: { index ≡ big_number 4 (take 4 bytes.now) },
+    ghost randomizer_at: { randomizer.now ≡ take 32 (drop 4 bytes.now) },
+    ghost chains_at: { chains.now ≡ chains_in (drop 36 bytes.now) },
+    ghost path_at: { path.now ≡ values_in (xmss_height_of tree) (drop 2180 bytes.now) },
+}
+
+impl<'a> XmssSigView<'a> {
+    ghost use Rattle.xmss.specs.View.{signature_of};
+
+    /// The signature of a type that the bytes spell, and no more: 2500, 2692 or 2820 bytes. Otherwise
+    /// their first fault (1, 4 or 5). An index that is no leaf of the tree is told before what follows
+    /// it is read.
+    #[tactic(auto, using(crate::proofs::Fields::fields), unfolding(crate::specs::Layouts::signature))]
+    pub fn read(tree: XmssType, bytes: &'a [u8]) -> Result<Self, ReadFault>
+        ensures reads { Reads (signature tree) signature_of bytes.entry.now result }
+        ensures tree { IfOk result (λ view. view.tree ≡ tree) }
+        ensures whole { IfOk result (λ view. view.bytes.now ≡ bytes.entry.now) }
+    {
+        let mut cursor = Cursor::new(bytes);
+        let index = leaf_index(&mut cursor, tree)?;
+        let randomizer = cursor.array()?;
+        let chains = cursor.values(67)?;
+        let path = cursor.values(u32::from(tree.height()))?;
+        cursor.end()?;
+        Ok(XmssSigView {
+            tree,
+            index,
+            randomizer,
+            chains,
+            path,
+            bytes,
+        })
+    }
+
+    /// idx, the index of its leaf.
+    pub fn index(&self) -> u32
+        ensures value { result ≡ (signature_of self.now).index }
+        ensures range { result ≡ big_number 4 (take 4 self.now.bytes.now) }
+        ensures inside { result < 2 ^ xmss_height_of self.now.tree }
+    {
+        self.index
+    }
+
+    /// r, the randomizer, 32 bytes from byte 4 on.
+    pub fn r(&self) -> &'a [u8; 32]
+        ensures value { result.now ≡ (signature_of self.now).randomizer }
+        ensures range { result.now ≡ take 32 (drop 4 self.now.bytes.now) }
+    {
+        self.randomizer
+    }
+
+    /// The value of chain i, 32 bytes. The caller keeps i below 67.
+    pub fn chain(&self, i: u16) -> &'a [u8; 32]
+        requires { i < 67 }
+        ensures value { result.now ≡ slice_index_or (signature_of self.now).chains i [] }
+        ensures range { result.now ≡ take 32 (drop (36 + 32 * i) self.now.bytes.now) }
+    {
+        &self.chains[usize::from(i)]
+    }
+
+    /// Node k of the path, that of height k, 32 bytes. The caller keeps k below the tree's height.
+    pub fn node(&self, k: u8) -> &'a [u8; 32]
+        requires { k < xmss_height_of self.now.tree }
+        ensures value { result.now ≡ slice_index_or (signature_of self.now).path k [] }
+        ensures range { result.now ≡ take 32 (drop (2180 + 32 * k) self.now.bytes.now) }
+    {
+        &self.path[usize::from(k)]
+    }
+
+    /// The bytes that spell the signature, and no others.
+    pub fn bytes(&self) -> &'a [u8]
+        ensures whole { result ≡ self.now.bytes }
+        ensures spells { Spells (signature self.now.tree) (signature_of self.now) result.now }
+        ensures len { length result.now ≡ xmss_signature_len_of self.now.tree }
+    {
+        self.bytes
+    }
+}
+
+// The index of a leaf of a tree at a cursor, a field of 4 bytes. Any other index is told at once.
+#[tactic(auto, using(crate::proofs::Fields::fields), unfolding(crate::specs::Layouts::leaf_index))]
+fn leaf_index(cursor: &mut Cursor<'_>, tree: XmssType) -> Result<u32, ReadFault>
+    requires { cursor.old.place + 4 < 2 ^ 32 }
+    ensures read { Gives (λ index. (index, cursor.new.place)) result (read (spec.leaf_index (xmss_height_of tree)) cursor.old.bytes.now cursor.old.place) }
+    ensures inside { IfOk result (λ index. index < 2 ^ xmss_height_of tree) }
+    ensures range { IfOk result (λ index. index ≡ big_number 4 (take 4 (drop cursor.old.place cursor.old.bytes.now))) }
+    ensures len { OnOk result (cursor.new.place ≡ cursor.old.place + 4) }
+    ensures bytes { cursor.new.bytes ≡ cursor.old.bytes }
+{
+    let place = cursor.place;
+    let index = cursor.number()?;
+    if index >= 1 << tree.height() {
+        return Err(ReadFault {
+            place,
+            cause: Cause::LeafOutOfRange,
+        });
+    }
+    Ok(index)
+}

@@ -1,0 +1,70 @@
+//! The bytes of keys and signatures.
+
+ghost use Rattle.std.specs.Prelude.{◌≡◌, ◌+◌, ◌<◌, ◌≤◌, ◌^◌, ℕ, List, ◌++◌, length, take};
+ghost use Rattle.typecodes.specs.Layout.{Spells};
+ghost use Rattle.typecodes.specs.XmssTypes.{xmss_height_of, xmss_signature_len_of};
+ghost use Rattle.xmss.specs.Layouts.{public_key, signature};
+ghost use Rattle.xmss.specs.Textbook.{digest_in, path_in, public_bytes, public_of, root_in, signature_bytes, signed};
+ghost use Rattle.xmss.specs.Valid.{IsValid};
+
+use crate::key::XmssPublic;
+use crate::secret::XmssSecret;
+use wots_plus::{Prf, Wots};
+
+/// Writes a public key, 68 bytes (RFC 8391 4.1.7).
+pub fn write_public(public: &XmssPublic, into: &mut [u8])
+    requires { length into.old ≡ 68 }
+    ensures bytes { into.new ≡ public_bytes public.now }
+    // They spell the key.
+    ensures spells { Spells public_key public.now into.new }
+{
+    let place = put(into, 0, &public.tree.code().to_be_bytes());
+    let place = put(into, place, &public.root);
+    put(into, place, &public.seed);
+}
+
+/// Writes the signature of the digest M' by leaf `index`, with the leaf's randomizer and its
+/// authentication path (RFC 8391 4.1.9).
+pub fn write_signature(
+    secret: &XmssSecret,
+    index: u32,
+    digest: &[u8; 32],
+    path: &[[u8; 32]],
+    into: &mut [u8],
+)
+    requires inside { index < 2 ^ xmss_height_of secret.now.tree }
+    requires path { length path.now ≡ xmss_height_of secret.now.tree }
+    requires room { length into.old ≡ xmss_signature_len_of secret.now.tree }
+    ensures bytes { into.new ≡ signature_bytes (signed secret.now index digest.now path.now) }
+    // They spell the signature.
+    ensures spells { Spells (signature secret.now.tree) (signed secret.now index digest.now path.now) into.new }
+    // Where the digest is a message's and the path is the leaf's, the signature is valid.
+    ensures valid { (message : List ℕ) → digest.now ≡ digest_in secret.now (root_in secret.now) index message
+        → path.now ≡ path_in secret.now index
+        → IsValid (public_of secret.now) message (signed secret.now index digest.now path.now) }
+{
+    let place = put(into, 0, &index.to_be_bytes());
+    let place = put(into, place, &secret.randomizer(index));
+    let end = place + 32 * 67;
+    let seed = Prf::new(secret.public_seed);
+    let key = Wots {
+        seed: &seed,
+        leaf: index,
+    };
+    key.sign_digest(&secret.secret_seed, digest, &mut into[place..end]);
+    put(into, end, path.as_flattened());
+}
+
+// Writes bytes at a place, and tells the place behind them.
+pub(crate) fn put(into: &mut [u8], place: usize, bytes: &[u8]) -> usize
+    requires { place + length bytes.now ≤ length into.old }
+    ensures place { result ≡ place + length bytes.now }
+    ensures bytes { take result into.new ≡ take place into.old ++ bytes.now }
+{
+    let end = place + bytes.len();
+    into[place..end].copy_from_slice(bytes);
+    end
+}
+
+#[cfg(test)]
+mod tests;
