@@ -5,5 +5,6 @@ pub mod Readers
 pub mod Spelling
 pub mod OneWay
 pub mod Ways
+pub mod Sizes
 pub mod Steps
 pub mod Values
