@@ -1,2 +1,5 @@
 pub mod Store
 pub mod Memory
+pub mod Slots
+pub mod Writing
+pub mod Contents

@@ -8,6 +8,7 @@ mod levels;
 mod memory;
 mod record;
 mod refused;
+mod slot;
 mod store;
 #[cfg(test)]
 mod tests;

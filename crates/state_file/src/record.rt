@@ -1,6 +1,9 @@
 //! The records of a key.
 
 ghost use Rattle.std.specs.Prelude.{◌≡◌};
+ghost use Rattle.typecodes.specs.Types.{named};
+ghost use Rattle.state_file.specs.Slots.{version_code, versions};
+ghost use Rattle.state_file.specs.declared.record.Version.{Version as V};
 
 use crate::levels::Levels;
 use typecodes::{LmsPair, Name, XmssType};
@@ -40,6 +43,28 @@ impl Record {
 pub enum Version {
     /// Version 1.
     One,
+}
+
+impl Version {
+    /// The version that a code names.
+    pub fn from_code(code: u16) -> Option<Self>
+        ensures named { result ≡ named version_code versions code }
+    {
+        match code {
+            1 => Some(Version::One),
+            _ => None,
+        }
+    }
+
+    /// The code of the version: 1.
+    pub fn code(self) -> u16
+        ensures value { result ≡ version_code self }
+        ensures alone { (other : V) → version_code other ≡ result → other ≡ self }
+    {
+        match self {
+            Version::One => 1,
+        }
+    }
 }
 
 /// A key: what it is made from, and its root.

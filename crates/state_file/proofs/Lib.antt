@@ -1,0 +1,4 @@
+pub mod Pairs
+pub mod Visible
+pub mod Blocks
+pub mod Written

@@ -1,0 +1,7 @@
+//! Slots: how a record stands in the bytes 1 to 223 of one.
+
+mod fields;
+mod levels;
+mod reading;
+mod tag;
+mod writing;
