@@ -2,3 +2,5 @@ pub mod Pairs
 pub mod Visible
 pub mod Blocks
 pub mod Written
+pub mod Shown
+pub mod Contents

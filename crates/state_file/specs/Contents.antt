@@ -101,6 +101,13 @@ pub record IsWhole (content : List ℕ) (k : ℕ) : Type 0 where
   pub entry : Record
   pub held : Holds content k entry
 
+-- The content begins with slots that hold these records, and the next gate lies in it.
+pub record Begins (content : List ℕ) (records : List Record) : Type 0 where
+  pub few : length records ≤ most_records
+  pub ends : 256 * length records < length content
+  pub opened : (k : ℕ) → k < length records → IsOpen content k
+  pub held : (k : ℕ) (entry : Record) → slice_get records k ≡ Some entry → Holds content k entry
+
 -- Slot k is the first that is open and isn't whole, behind whole ones.
 pub record IsDamagedAt (content : List ℕ) (k : ℕ) : Type 0 where
   pub may : MayHaveKey content

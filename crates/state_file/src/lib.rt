@@ -1,9 +1,12 @@
-//! Records of a key, and the stores that keep them.
+//! Records of a key, how they stand in the slots of a state file, and the stores that keep them.
 //!
-//! Its model is `specs/Store.antt`: what each call of a store does to its list of records. Its contract
-//! for the crates above: after every call the store has the old records, or the old and the new one.
+//! Its models are `specs/Store.antt`, what each call of a store does to its list of records;
+//! `specs/Slots.antt`, how a slot spells a record; and `specs/Contents.antt`, what a content of a disk is
+//! as a state file. Its contract for the crates above: after every call a store has the old records, or
+//! the old and the new one.
 #![tactic(auto)]
 
+mod laws;
 mod levels;
 mod memory;
 mod record;
@@ -13,6 +16,7 @@ mod store;
 #[cfg(test)]
 mod tests;
 
+pub use crate::laws::{content_laws, slot_laws};
 pub use crate::levels::Levels;
 pub use crate::memory::{Cut, MemoryStore};
 pub use crate::record::{Bound, Extend, Key, Record, Secret, Version};

@@ -1,0 +1,283 @@
+-- What opening tells of a content: something, and one thing.
+use Rattle.std.proofs.Common.{◌≡◌, ◌⊎◌, inl, inr, ℕ, zero, suc, ◌+◌, ◌*◌, ◌<◌, true, List, [], ◌∷◌, ◌++◌, length, get_or, Option, Some, None, refl, sym, ap, ◌∙◌, subst, arith, true≢false, length-append}
+use Rattle.std.specs.Prelude.{◌==◌, slice_get}
+use Rattle.std.specs.Cmp.Lexicographic.{bytes_decides, pointwise}
+use Rattle.std.proofs.lemmas.Bool.{cases_Bool, cases_eq, cases_lt, cases_order}
+use Rattle.std.proofs.lemmas.List.{same_lists}
+use Rattle.std.proofs.lemmas.Option.{slice_get_cases, slice_get_within, slice_get-get_or}
+use Rattle.typecodes.proofs.Readers.{either}
+use Rattle.typecodes.proofs.Spelling.{no_value, one_value}
+use Rattle.state_file.specs.declared.record.Record.{Record}
+use Rattle.state_file.specs.declared.record.Record.TheVariants.{Key as KeyRecord}
+use Rattle.state_file.specs.declared.record.Version.{Version}
+use Rattle.state_file.specs.Contents.{Begins, HasNoKey, Holds, IsClosed, IsDamagedAt, IsOpen, IsWhole, MayHaveKey, Opening, Opens, SpellsRecords, begins_key, damaged, fields_at, most_records, no_key, no_key_file, previous_tag, spelled, tag_at, tag_of, unknown_version, version_of}
+use Rattle.state_file.specs.Slots.{slot_record}
+use Rattle.state_file.proofs.Shown.{key-begins, key-first}
+
+-- ---- slots
+
+-- a gate is open or closed, not both
+pub not_both : (content : List ℕ) (k : ℕ) → IsOpen content k → IsClosed content k → ⊥
+not_both content k opened (value, is, other) = let same : value ≡ 0xA5 = cc in other same
+
+-- and one of them where the content reaches so far
+pub open_or_closed : (content : List ℕ) (k : ℕ) → 256 * k < length content → IsOpen content k ⊎ IsClosed content k
+open_or_closed content k reaches =
+    elim (slice_get_cases content (256 * k)).1 [
+      | inl (value, _, is, _) ↦ elim (cases_eq value 0xA5) [
+        | inl same ↦ inl (is ∙ ap Some same)
+        | inr other ↦ inr (value, is, other)
+      ]
+      | inr (past, _) ↦ absurd (omega (arith, past))
+    ]
+
+pub open-reaches : (content : List ℕ) (k : ℕ) → IsOpen content k → 256 * k < length content
+open-reaches content k opened = slice_get_within content (256 * k) 0xA5 opened
+
+pub closed-reaches : (content : List ℕ) (k : ℕ) → IsClosed content k → 256 * k < length content
+closed-reaches content k (value, is, _) = slice_get_within content (256 * k) value is
+
+-- a slot holds one record
+one_held : (content : List ℕ) (k : ℕ) (entry other : Record) → Holds content k entry → Holds content k other → entry ≡ other
+one_held content k entry other first second = one_value slot_record entry other (fields_at content k) first.spelled second.spelled
+
+-- a slot holds a record or none
+held_or_not : (content : List ℕ) (k : ℕ) → ((entry : Record) × Holds content k entry) ⊎ ((entry : Record) → Holds content k entry → ⊥)
+held_or_not content k =
+    let fields = fields_at content k in
+    let tag = tag_of (previous_tag content k) fields in
+    elim (either slot_record fields) [
+      | inl (entry, is) ↦ elim (cases_Bool (pointwise (λ a b. a == b) (tag_at content k) tag)) [
+        | inl same ↦ inl (entry, record { spelled = is; tagged = (bytes_decides (tag_at content k) tag).0 same })
+        | inr other ↦ inr (λ _ held. true≢false (sym ((bytes_decides (tag_at content k) tag).1 held.tagged) ∙ other))
+      ]
+      | inr (fault, faulty) ↦ inr (λ entry held. no_value slot_record entry fields 0 fault held.spelled faulty)
+    ]
+
+-- an open slot is whole or not
+pub whole_or_not : (content : List ℕ) (k : ℕ) → IsOpen content k → IsWhole content k ⊎ (IsWhole content k → ⊥)
+whole_or_not content k opened =
+    elim (cases_lt k most_records) [
+      | inl few ↦ elim (cases_lt (256 * (k + 1)) (length content)) [
+        | inl ends ↦ elim (held_or_not content k) [
+          | inl (entry, held) ↦ inl (record { opened = opened; few = few; ends = ends; entry = entry; held = held })
+          | inr none ↦ inr (λ whole. none whole.entry whole.held)
+        ]
+        | inr short ↦ inr (λ whole. omega (arith, short, whole.ends))
+      ]
+      | inr many ↦ inr (λ whole. omega (arith, many, whole.few))
+    ]
+
+-- ---- beginnings
+
+-- no slot yet
+pub begins-none : (content : List ℕ) → MayHaveKey content → Begins content []
+begins-none content may = record {
+  few = omega arith;
+  ends = omega (arith, may.long);
+  opened = λ k below. absurd (omega (arith, below));
+  held = λ k entry is. absurd (omega (arith, slice_get_within {A = Record} [] k entry is));
+}
+
+-- the last of more records, or one before it
+snoc_get : {A : Type 0} (xs : List A) (x : A) (k : ℕ) (y : A) → slice_get (xs ++ x ∷ []) k ≡ Some y → (slice_get xs k ≡ Some y) ⊎ ((k ≡ length xs) × (x ≡ y))
+snoc_get [] x zero y is = inr (refl, cc)
+snoc_get [] x (suc k) y is = absurd (cc)
+snoc_get (first ∷ xs) x zero y is = inl is
+snoc_get (first ∷ xs) x (suc k) y is = elim (snoc_get xs x k y is) [ inl there ↦ inl there | inr last ↦ inr (ap suc last.0, last.1) ]
+
+-- one slot more, if it is whole
+pub begins-more : (content : List ℕ) (records : List Record) → Begins content records → (whole : IsWhole content (length records)) → Begins content (records ++ whole.entry ∷ [])
+begins-more content records begins whole =
+    let count : length (records ++ whole.entry ∷ []) ≡ length records + 1 = length-append records (whole.entry ∷ []) in record {
+      few = omega (arith, count, whole.few);
+      ends = omega (arith, count, whole.ends);
+      opened = λ k below. elim (cases_lt k (length records)) [
+        | inl before ↦ begins.opened k before
+        | inr last ↦ let same : length records ≡ k = omega (arith, below, count, last) in subst (IsOpen content) same whole.opened
+      ];
+      held = λ k entry is. elim (snoc_get records whole.entry k entry is) [
+        | inl there ↦ begins.held k entry there
+        | inr last ↦ subst (λ (p : ℕ × Record). Holds content p.0 p.1) (λ i. (sym last.0 i, last.1 i)) whole.held
+      ];
+    }
+
+-- its slots are whole
+pub begins-whole : (content : List ℕ) (records : List Record) (k : ℕ) → Begins content records → k < length records → IsWhole content k
+begins-whole content records k begins below =
+    elim (slice_get_cases records k).1 [
+      | inl (entry, _, is, _) ↦ record {
+        opened = begins.opened k below;
+        few = omega (arith, begins.few, below);
+        ends = omega (arith, begins.ends, below);
+        entry = entry;
+        held = begins.held k entry is;
+      }
+      | inr (past, _) ↦ absurd (omega (arith, past, below))
+    ]
+
+-- and where the next gate is closed it is all
+pub begins-all : (content : List ℕ) (records : List Record) → Begins content records → MayHaveKey content → begins_key (fields_at content 0) ≡ true → IsClosed content (length records) → SpellsRecords content records
+begins-all content records begins may key closed =
+    elim (slice_get_cases records 0).1 [
+      | inl (entry, _, is, _) ↦ let (first, same) = key-first entry (fields_at content 0) (begins.held 0 entry is).spelled key in record {
+        few = begins.few;
+        opened = begins.opened;
+        closed = closed;
+        first = (first, is ∙ ap Some same);
+        held = begins.held;
+      }
+      | inr (past, _) ↦
+          let none : length records ≡ 0 = omega (arith, past) in
+          absurd (not_both content 0 may.opened (subst (IsClosed content) none closed))
+    ]
+
+-- records that are spelled begin the content
+pub spelled-begins : (content : List ℕ) (records : List Record) → SpellsRecords content records → Begins content records
+spelled-begins content records is = record {
+  few = is.few;
+  ends = closed-reaches content (length records) is.closed;
+  opened = is.opened;
+  held = is.held;
+}
+
+-- ---- something is told
+
+-- what the next gate tells, where a whole slot leads on
+judged : (content : List ℕ) (records : List Record) → Begins content records → MayHaveKey content → begins_key (fields_at content 0) ≡ true
+    → ((version : Version) × (version_of (fields_at content 0) ≡ Some version)) → (IsWhole content (length records) → (opening : Opening) × Opens content opening) → (opening : Opening) × Opens content opening
+judged content records begins may key version more =
+    elim (open_or_closed content (length records) begins.ends) [
+      | inr closed ↦ (spelled records, begins-all content records begins may key closed)
+      | inl opened ↦ elim (whole_or_not content (length records) opened) [
+        | inr other ↦ (
+          damaged (length records),
+          record {
+            may = may;
+            key = key;
+            version = version;
+            before = λ j below. begins-whole content records j begins below;
+            opened = opened;
+            damaged = other;
+          },
+        )
+        | inl whole ↦ more whole
+      ]
+    ]
+
+-- so from whole slot to whole slot, up to the most
+told_from : (content : List ℕ) (left : ℕ) (records : List Record) → left + length records ≡ most_records → Begins content records → MayHaveKey content → begins_key (fields_at content 0) ≡ true
+    → ((version : Version) × (version_of (fields_at content 0) ≡ Some version)) → (opening : Opening) × Opens content opening
+told_from content zero records count begins may key version = judged content records begins may key version (λ whole. absurd (omega (arith, count, whole.few)))
+told_from content (suc left) records count begins may key version =
+    judged content records begins may key version (λ whole.
+    told_from content left (records ++ whole.entry ∷ []) (omega (arith, count, length-append records (whole.entry ∷ []))) (begins-more content records begins whole) may key version)
+
+told_version : (content : List ℕ) → MayHaveKey content → begins_key (fields_at content 0) ≡ true → (found : Option Version) → version_of (fields_at content 0) ≡ found → (opening : Opening) × Opens content opening
+told_version content may key None is = (unknown_version, record { may = may; key = key; other = is })
+told_version content may key (Some version) is = told_from content most_records [] (omega arith) (begins-none content may) may key (version, is)
+
+told_key : (content : List ℕ) → MayHaveKey content → (opening : Opening) × Opens content opening
+told_key content may =
+    elim (cases_Bool (begins_key (fields_at content 0))) [
+      | inl key ↦ told_version content may key (version_of (fields_at content 0)) refl
+      | inr other ↦ (no_key_file, record { may = may; other = other })
+    ]
+
+-- every content tells something
+pub some_opening : (content : List ℕ) → (opening : Opening) × Opens content opening
+some_opening content =
+    elim (cases_lt (length content) 257) [
+      | inl short ↦ (no_key, inl short)
+      | inr long ↦ elim (open_or_closed content 0 (omega (arith, long))) [
+        | inl opened ↦ told_key content (record { long = long; opened = opened })
+        | inr closed ↦ (no_key, inr closed)
+      ]
+    ]
+
+-- ---- and no more
+
+-- where no key can stand, none may
+no_key_may : (content : List ℕ) → HasNoKey content → MayHaveKey content → ⊥
+no_key_may content (inl short) may = omega (arith, short, may.long)
+no_key_may content (inr closed) may = not_both content 0 may.opened closed
+
+-- where records are spelled, a key may stand
+spelled-may : (content : List ℕ) (records : List Record) → SpellsRecords content records → MayHaveKey content
+spelled-may content records is =
+    let some = slice_get_within records 0 (KeyRecord is.first.0) is.first.1 in
+    record { long = omega (arith, some, closed-reaches content (length records) is.closed); opened = is.opened 0 some }
+
+-- its first slot is a Key's, of a known version
+spelled-key : (content : List ℕ) (records : List Record) → SpellsRecords content records → (begins_key (fields_at content 0) ≡ true) × ((version : Version) × (version_of (fields_at content 0) ≡ Some version))
+spelled-key content records is = key-begins is.first.0 (fields_at content 0) (is.held 0 (KeyRecord is.first.0) is.first.1).spelled
+
+-- lists of records that are spelled have one length
+not_shorter : (content : List ℕ) (xs ys : List Record) → SpellsRecords content xs → SpellsRecords content ys → length xs < length ys → ⊥
+not_shorter content xs ys first second shorter = not_both content (length xs) (second.opened (length xs) shorter) first.closed
+
+one_length : (content : List ℕ) (xs ys : List Record) → SpellsRecords content xs → SpellsRecords content ys → length xs ≡ length ys
+one_length content xs ys first second =
+    elim (cases_order (length xs) (length ys)) [
+      | inl same ↦ same
+      | inr (inl shorter) ↦ absurd (not_shorter content xs ys first second shorter)
+      | inr (inr longer) ↦ absurd (not_shorter content ys xs second first longer)
+    ]
+
+-- and are one
+pub one_list : (content : List ℕ) (xs ys : List Record) → SpellsRecords content xs → SpellsRecords content ys → xs ≡ ys
+one_list content xs ys first second =
+    let count = one_length content xs ys first second in
+    same_lists xs ys count (λ k d below.
+    one_held content k (get_or xs k d) (get_or ys k d)
+    (first.held k (get_or xs k d) (slice_get-get_or xs k d below))
+    (second.held k (get_or ys k d) (slice_get-get_or ys k d (omega (arith, below, count)))))
+
+-- where records are spelled, no slot is damaged
+spelled-whole : (content : List ℕ) (records : List Record) (k : ℕ) → SpellsRecords content records → IsDamagedAt content k → ⊥
+spelled-whole content records k is harm =
+    elim (cases_order k (length records)) [
+      | inl same ↦ not_both content k harm.opened (subst (IsClosed content) (sym same) is.closed)
+      | inr (inl below) ↦ harm.damaged (begins-whole content records k (spelled-begins content records is) below)
+      | inr (inr above) ↦ not_both content (length records) (harm.before (length records) above).opened is.closed
+    ]
+
+-- one slot is the first damaged one
+one_damaged : (content : List ℕ) (j k : ℕ) → IsDamagedAt content j → IsDamagedAt content k → j ≡ k
+one_damaged content j k first second =
+    elim (cases_order j k) [
+      | inl same ↦ same
+      | inr (inl below) ↦ absurd (first.damaged (second.before j below))
+      | inr (inr above) ↦ absurd (second.damaged (first.before k above))
+    ]
+
+-- a version is known or not
+known_or_not : (found : Option Version) (version : Version) → found ≡ Some version → found ≡ None → ⊥
+known_or_not found version known unknown = absurd (let clash = sym known ∙ unknown in cc)
+
+pub one_opening : (content : List ℕ) (opening other : Opening) → Opens content opening → Opens content other → opening ≡ other
+one_opening content (spelled xs) (spelled ys) a b = ap spelled (one_list content xs ys a b)
+one_opening content (spelled xs) no_key a b = absurd (no_key_may content b (spelled-may content xs a))
+one_opening content (spelled xs) no_key_file a b = absurd (true≢false (sym (spelled-key content xs a).0 ∙ b.other))
+one_opening content (spelled xs) unknown_version a b = let (version, known) = (spelled-key content xs a).1 in absurd (known_or_not _ version known b.other)
+one_opening content (spelled xs) (damaged k) a b = absurd (spelled-whole content xs k a b)
+one_opening content no_key (spelled ys) a b = absurd (no_key_may content a (spelled-may content ys b))
+one_opening content no_key no_key a b = refl
+one_opening content no_key no_key_file a b = absurd (no_key_may content a b.may)
+one_opening content no_key unknown_version a b = absurd (no_key_may content a b.may)
+one_opening content no_key (damaged k) a b = absurd (no_key_may content a b.may)
+one_opening content no_key_file (spelled ys) a b = absurd (true≢false (sym (spelled-key content ys b).0 ∙ a.other))
+one_opening content no_key_file no_key a b = absurd (no_key_may content b a.may)
+one_opening content no_key_file no_key_file a b = refl
+one_opening content no_key_file unknown_version a b = absurd (true≢false (sym b.key ∙ a.other))
+one_opening content no_key_file (damaged k) a b = absurd (true≢false (sym b.key ∙ a.other))
+one_opening content unknown_version (spelled ys) a b = let (version, known) = (spelled-key content ys b).1 in absurd (known_or_not _ version known a.other)
+one_opening content unknown_version no_key a b = absurd (no_key_may content b a.may)
+one_opening content unknown_version no_key_file a b = absurd (true≢false (sym a.key ∙ b.other))
+one_opening content unknown_version unknown_version a b = refl
+one_opening content unknown_version (damaged k) a b = absurd (known_or_not _ b.version.0 b.version.1 a.other)
+one_opening content (damaged j) (spelled ys) a b = absurd (spelled-whole content ys j b a)
+one_opening content (damaged j) no_key a b = absurd (no_key_may content b a.may)
+one_opening content (damaged j) no_key_file a b = absurd (true≢false (sym a.key ∙ b.other))
+one_opening content (damaged j) unknown_version a b = absurd (known_or_not _ a.version.0 a.version.1 b.other)
+one_opening content (damaged j) (damaged k) a b = ap damaged (one_damaged content j k a b)
