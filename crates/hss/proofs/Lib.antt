@@ -4,3 +4,5 @@ pub mod Walking
 pub mod OneWay
 pub mod Verifying
 pub mod Verdicts
+pub mod Making
+pub mod Bytes

@@ -1,5 +1,5 @@
 -- Where the levels of a signature stand in the bytes that spell it.
-use Rattle.std.proofs.Common.{◌≡◌, ◌∙◌, refl, sym, ap, ap₂, ℕ, zero, suc, ◌+◌, ◌-◌, ◌<◌, ◌≤◌, inl, inr, Bool, true, false, cond, nat_le, List, [], ◌∷◌, length, map, take, drop, get_or, Option, Some, None, Result, Ok, Err, subst, arith, add-zero, length-append, length-drop, add-one, length-take-le}
+use Rattle.std.proofs.Common.{◌≡◌, ◌∙◌, refl, sym, ap, ap₂, ℕ, zero, suc, ◌+◌, ◌-◌, ◌*◌, ◌<◌, ◌≤◌, inl, inr, Bool, true, false, cond, nat_le, List, [], ◌∷◌, length, map, take, drop, get_or, Option, Some, None, Result, Ok, Err, subst, arith, add-zero, length-append, length-drop, add-one, length-take-le}
 use Rattle.std.specs.Prelude.{◌&&◌, sum_by}
 use Rattle.std.proofs.lemmas.Bool.{cases_lt, lt-leb}
 use Rattle.std.proofs.lemmas.List.Sums.{sum_by-cons, sum_by_push}
@@ -21,6 +21,7 @@ use Rattle.typecodes.proofs.Steps.{ends-spelled}
 use Rattle.lms.specs.declared.key.LmsPublic.{LmsPublic}
 use Rattle.lms.specs.Layouts.{Signature as LmsSignature, public_key as lms_public_key, signature as lms_signature}
 use Rattle.lms.proofs.Parts.{laid_out, part_read}
+use Rattle.hss.specs.Bytes.{signature_size}
 use Rattle.hss.specs.Ends.{end_of}
 use Rattle.hss.specs.Spelled.{read_value, spelled_by}
 use Rattle.hss.specs.Layouts.{Signature, SignedKey, level_number, signature, signed_key, signed_keys}
@@ -423,3 +424,23 @@ key_spelled s bytes top i found above within =
     let part = take (start_of s i - place) (drop place bytes) in
     let spelled = ends-spelled lms_public_key part (key_at top s i) (length part) (part_read lms_public_key (key_at top s i) bytes place (start_of s i) inside key) refl in
     subst (λ n. Spells lms_public_key (key_at top s i) (take n (drop place bytes))) long spelled
+
+-- signatures with a key behind each
+with-keys : (signatures : List LmsSignature) → sum_by taken signatures ≡ sum_by lms_signature_len_of (map (λ s. s.pair) signatures) + 56 * length signatures
+with-keys [] = refl
+with-keys (s ∷ rest) = omega (arith, with-keys rest, sum_by-cons taken s rest, sum_by-cons lms_signature_len_of s.pair (map (λ s. s.pair) rest))
+
+-- all of a signature
+pub whole-size : (s : Signature) (bytes : List ℕ) → read signature bytes 0 ≡ Ok (s, length bytes) → length bytes ≡ signature_size (map (λ level. level.pair) (signatures_of s))
+whole-size s bytes found =
+    let parts = is_read s bytes found in
+    let of : SignedKey → LmsSignature = λ signed. signed.signature in
+    let above = map of s.signed in
+    let all = signatures_of s in
+    let n = length s.signed in
+    let keys = keys-end n bytes 4 parts.end s.signed parts.long parts.keys in
+    let bottom = signature-end s.bottom bytes parts.end (length bytes) keys.2 parts.bottom in
+    let sum : sum_by taken all ≡ sum_by taken above + taken s.bottom = sum_by_push taken above s.bottom in
+    let count : length all ≡ n + 1 = omega (arith, length-append above (s.bottom ∷ []), length-map s.signed of) in
+    let pairs : length (map (λ level. level.pair) all) ≡ n + 1 = length-map all (λ level. level.pair) ∙ count in
+    omega (arith, keys.1, bottom, sum, with-keys all, count, pairs)

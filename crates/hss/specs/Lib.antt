@@ -6,3 +6,6 @@ pub mod View
 pub mod Valid
 pub mod Verdict
 pub mod Steps
+pub mod Textbook
+pub mod Bytes
+pub mod Making

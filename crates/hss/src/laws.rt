@@ -1,12 +1,15 @@
-//! Laws of spellings and of verdicts. The functions do nothing: what their contracts say is proved of
+//! Laws of spellings, of verdicts and of textbook signatures. The functions do nothing: what their contracts say is proved of
 //! every key and every signature.
 
-ghost use Rattle.std.specs.Prelude.{◌≡◌, List, [], ◌++◌, ℕ, Result, Err, IsOk};
+ghost use Rattle.std.specs.Prelude.{◌≡◌, List, [], ◌∷◌, ◌++◌, ℕ, ◌+◌, ◌≤◌, length, Result, Err, IsOk};
 ghost use Rattle.typecodes.specs.declared.refusal.Refusal.{Refusal};
 ghost use Rattle.typecodes.specs.Layout.{Spells};
 ghost use Rattle.typecodes.specs.Reading.{OneSpelling};
 ghost use Rattle.hss.specs.declared.key.HssPublic.{HssPublic};
-ghost use Rattle.hss.specs.Layouts.{Signature, public_key, signature};
+ghost use Rattle.lmots.specs.Formulas.{u32str};
+ghost use Rattle.lms.specs.Layouts.{signature as lms_signature};
+ghost use Rattle.hss.specs.Layouts.{Signature, SignedKey, public_key, signature, signed_key, signed_keys};
+ghost use Rattle.hss.specs.Textbook.{Signing, Signs, public_of, textbook};
 ghost use Rattle.hss.specs.Valid.{IsValid};
 ghost use Rattle.hss.specs.Verdict.{Verdict};
 
@@ -26,4 +29,19 @@ pub fn spelling_laws()
 pub fn verdict_laws()
     ensures accepted { (key : HssPublic) (message bytes : List ℕ) (result : Result (Unit {0}) Refusal) → Verdict key message bytes result → (s : Signature) → Spells signature s bytes → IsValid key message s → IsOk result }
     ensures one_refusal { (key : HssPublic) (message bytes : List ℕ) (first second : Refusal) → Verdict {A = Unit {0}} key message bytes (Err first) → Verdict {A = Unit {0}} key message bytes (Err second) → first ≡ second }
+{}
+
+/// What holds of the textbook signatures of any levels: they are valid under the levels' key.
+pub fn textbook_law()
+    ensures { (above : List Signing) (bottom : Signing) (message : List ℕ) → Signs above bottom message → IsValid (public_of above bottom) message (textbook above bottom) }
+{}
+
+/// What holds of a signature whose parts are written one by one: signed keys that stand one behind the
+/// other spell themselves (`none`, `more`), and with their number before them and the bottom level's
+/// signature behind them they spell the signature (`whole`).
+pub fn joining_laws()
+    ensures none { Spells (signed_keys 0) [] [] }
+    ensures more { (n : ℕ) (keys : List SignedKey) (last : SignedKey) (a b : List ℕ) → Spells (signed_keys n) keys a → Spells signed_key last b → Spells (signed_keys (n + 1)) (keys ++ last ∷ []) (a ++ b) }
+    ensures whole { (s : Signature) (a b : List ℕ) → length s.signed ≤ 7 → Spells (signed_keys (length s.signed)) s.signed a → Spells lms_signature s.bottom b
+        → Spells signature s (u32str (length s.signed) ++ a ++ b) }
 {}

@@ -1,19 +1,24 @@
-//! HSS keys, signatures and their verification, one to eight levels of LMS trees (RFC 8554, section 6).
+//! HSS keys, signatures, their verification and their writing, one to eight levels of LMS trees (RFC
+//! 8554, section 6).
 //!
-//! Its model is `specs/Layouts.antt`, how keys and signatures are spelled, and `specs/Valid.antt`,
-//! which signatures are valid. Its contract for the crates above: `verify` is Ok exactly on the
-//! spellings of valid signatures, and else tells the first refusal. That keys and signatures are
-//! spelled in one way, and that an answer of `verify` is the only one, stands on `spelling_laws` and
-//! `verdict_laws`.
+//! Its model is `specs/Layouts.antt`, how keys and signatures are spelled, `specs/Valid.antt`, which
+//! signatures are valid, and `specs/Textbook.antt`, the signature that the levels' secrets make. Its
+//! contract for the crates above: `verify` is Ok exactly on the spellings of valid signatures, and else
+//! tells the first refusal; `write_signature` writes the textbook signature, which is valid. The laws
+//! stand on `spelling_laws`, `verdict_laws`, `textbook_law` and `joining_laws`.
 #![tactic(auto)]
 
 mod key;
 mod laws;
 mod levels;
 mod signature;
+mod signing;
 mod verification;
+mod writing;
 
 pub use crate::key::HssPublic;
-pub use crate::laws::{spelling_laws, verdict_laws};
+pub use crate::laws::{joining_laws, spelling_laws, textbook_law, verdict_laws};
 pub use crate::signature::HssSigView;
+pub use crate::signing::Level;
 pub use crate::verification::verify;
+pub use crate::writing::{signature_len, write_public, write_signature, write_signed_key};

@@ -1,6 +1,6 @@
 //! Signatures, as views of their bytes.
 
-ghost use Rattle.std.specs.Prelude.{◌≡◌, ◌+◌, ◌-◌, ◌*◌, ◌<◌, ◌≤◌, ◌^◌, Ok, OnOk, IfOk, length, take, drop};
+ghost use Rattle.std.specs.Prelude.{◌≡◌, ◌+◌, ◌-◌, ◌*◌, ◌<◌, ◌≤◌, ◌^◌, Ok, OnOk, IfOk, length, map, take, drop};
 ghost use Rattle.byteorder.specs.Endian.{big_number};
 ghost use Rattle.typecodes.specs.Layout.{Spells};
 ghost use Rattle.typecodes.specs.Reading.{Gives, Reads, read};
@@ -8,9 +8,10 @@ ghost use Rattle.typecodes.specs.Types.{lms_signature_len_of};
 ghost use Rattle.lms.specs.declared.key.LmsPublic.{LmsPublic};
 ghost use Rattle.lms.specs.Layouts.{public_key as lms_public_key, signature as lms_signature};
 ghost use Rattle.lms.specs.View.{signature_of as lms_signature_of};
+ghost use Rattle.hss.specs.Bytes.{signature_size};
 ghost use Rattle.hss.specs.Ends.{end_of};
 ghost use Rattle.hss.specs.Layouts.{signature, signed_key, signed_keys};
-ghost use Rattle.hss.specs.Levels.{key_at, level_count, signature_at, start_of};
+ghost use Rattle.hss.specs.Levels.{key_at, level_count, signature_at, signatures_of, start_of};
 ghost use Rattle.hss.specs.Spelled.{spelled_by};
 
 use crate::levels::number_at;
@@ -97,6 +98,7 @@ impl<'a> HssSigView<'a> {
     pub fn bytes(&self) -> &'a [u8]
         ensures whole { result ≡ self.now.bytes }
         ensures spells { Spells signature (signature_of self.now) result.now }
+        ensures len { length result.now ≡ signature_size (map (λ level. level.pair) (signatures_of (signature_of self.now))) }
     {
         self.bytes
     }

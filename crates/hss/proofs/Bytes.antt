@@ -1,0 +1,173 @@
+-- The bytes of keys and signatures spell them.
+use Rattle.std.proofs.Common.{◌≡◌, ◌∙◌, refl, sym, ap, ap₂, ℕ, zero, suc, ◌+◌, ◌-◌, ◌*◌, ◌<◌, ◌≤◌, ◌^◌, cond, nat_le, List, [], ◌∷◌, ◌++◌, length, map, take, get_or, subst, subst₂, arith, add-one, append-nil, append_assoc, le-leb, length-append}
+use Rattle.std.specs.Prelude.{◌&&◌, sum_by}
+use Rattle.std.specs.List.{flat_map}
+use Rattle.std.proofs.lemmas.List.{drop_all, get_or_append_left, get_or_default, length-map, map-append, take_more}
+use Rattle.std.proofs.lemmas.List.Concat.{flat_map-append}
+use Rattle.std.proofs.lemmas.List.Sums.{sum_by-cons, sum_by-take-le, sum_by_push}
+use Rattle.std.proofs.lemmas.Slice.{take-put_mid}
+use borrow.Rule.Slice.PartMut.{Post-is, post_of, put_mid}
+use Rattle.byteorder.specs.Endian.{big_number}
+use Rattle.byteorder.specs.Numbers.{big_number-reads_back}
+use Rattle.typecodes.specs.declared.fault.Cause.TheVariants.{LevelCount}
+use Rattle.typecodes.specs.declared.types.LmsPair.{LmsPair}
+use Rattle.typecodes.specs.Types.{lms_signature_len_of}
+use Rattle.typecodes.specs.Layout.{Layout, Spells, done, refuse, ◌>>=◌}
+use Rattle.typecodes.specs.Fields.{number}
+use Rattle.typecodes.proofs.Spelling.{from_turn, in_turn}
+use Rattle.lmots.specs.Formulas.{u32str}
+use Rattle.lms.specs.declared.key.LmsPublic.{LmsPublic}
+use Rattle.lms.specs.Layouts.{Signature as LmsSignature, public_key as lms_public_key, signature as lms_signature}
+use Rattle.lms.specs.Textbook.{public_bytes as lms_public_bytes, signature_bytes as lms_signature_bytes}
+use Rattle.hss.specs.declared.key.HssPublic.{HssPublic}
+use Rattle.hss.specs.declared.signing.Level.{Level}
+use Rattle.hss.specs.Bytes.{public_bytes, signature_bytes, signature_size, signed_key_bytes}
+use Rattle.hss.specs.Layouts.{Signature, SignedKey, level_number, public_key, signature, signed_key, signed_keys}
+use Rattle.hss.specs.Making.{key_of, pairs_of, part_size, signature_by, signed_by, signed_key_by}
+use Rattle.hss.specs.Textbook.{level_in, levels_in}
+use Rattle.hss.proofs.Making.{signed-at, signed-count}
+
+-- the last field of a layout ends its bytes
+last_field : {V W : Type 0} (first : Layout V) (next : V → Layout W) (v : V) (w : W) (bytes : List ℕ) → Spells first v bytes → Spells (next v) w [] → Spells (first >>= next) w bytes
+last_field first next v w bytes spelled ended = subst (Spells (first >>= next) w) (append-nil bytes) (from_turn first next v w bytes [] spelled ended)
+
+-- 4 bytes spell their number
+number_spelled : (x : ℕ) → x < 2 ^ 32 → Spells number x (u32str x)
+number_spelled x small = (u32str x, [], sym (append-nil (u32str x)), refl, (ap (big_number 4) (sym (append-nil (u32str x))) ∙ big_number-reads_back 4 x [] small, refl))
+
+-- a number of levels within its bounds is spelled by 4 bytes
+level_number-spelled : (low high n : ℕ) → low ≤ n → n ≤ high → high ≤ 8 → Spells (level_number low high) n (u32str n)
+unfolding level_number
+level_number-spelled low high n above below small =
+    let tested : ℕ → Layout ℕ = λ n. cond (nat_le low n && nat_le n high) (done n) (refuse 4 LevelCount) in
+    let ended : Spells (tested n) n [] = rw (le-leb low n above, le-leb n high below) (refl, refl) in
+    last_field number tested n n (u32str n) (number_spelled n (omega arith)) ended
+
+-- a public key of 1 to 8 levels, if its top tree's is
+pub key-spelled : (key : HssPublic) → 1 ≤ key.levels → key.levels ≤ 8 → Spells lms_public_key key.top (lms_public_bytes key.top) → Spells public_key key (public_bytes key)
+unfolding public_key
+key-spelled key some most top =
+    let behind : ℕ → Layout HssPublic = λ levels. lms_public_key >>= λ top. done (record { levels = levels; top = top }) in
+    from_turn (level_number 1 8) behind key.levels key (u32str key.levels) (lms_public_bytes key.top) (level_number-spelled 1 8 key.levels some most (omega arith))
+    (last_field lms_public_key (λ top. done (record { levels = key.levels; top = top })) key.top key (lms_public_bytes key.top) top (refl, refl))
+
+-- a signed key, by its parts
+pub signed_key-spelled : (signed : SignedKey) (a b : List ℕ) → Spells lms_signature signed.signature a → Spells lms_public_key signed.key b → Spells signed_key signed (a ++ b)
+unfolding signed_key
+signed_key-spelled signed a b signature_spelled key_spelled =
+    let behind : LmsSignature → Layout SignedKey = λ s. lms_public_key >>= λ key. done (record { signature = s; key = key }) in
+    from_turn lms_signature behind signed.signature signed a b signature_spelled
+    (last_field lms_public_key (λ key. done (record { signature = signed.signature; key = key })) signed.key signed b key_spelled (refl, refl))
+
+-- no signed keys
+pub keys-none : Spells (signed_keys 0) [] []
+unfolding signed_keys
+keys-none = (refl, refl)
+
+-- one more behind them
+keys-push : (n : ℕ) (keys : List SignedKey) (last : SignedKey) (a b : List ℕ) → Spells (signed_keys n) keys a → Spells signed_key last b → Spells (signed_keys (suc n)) (keys ++ last ∷ []) (a ++ b)
+unfolding signed_keys
+keys-push zero keys last a b spelled last_spelled =
+    let next : SignedKey → Layout (List SignedKey) = λ first. done [] >>= λ rest. done (first ∷ rest) in
+    let one : Spells (signed_keys 1) (last ∷ []) b = last_field signed_key next last (last ∷ []) b last_spelled (refl, refl) in
+    subst (λ keys. Spells (signed_keys 1) (keys ++ last ∷ []) (a ++ b)) spelled.0
+    (subst (λ a. Spells (signed_keys 1) (last ∷ []) (a ++ b)) (sym spelled.1) one)
+keys-push (suc n) keys last a b spelled last_spelled =
+    let next : (k : ℕ) → SignedKey → Layout (List SignedKey) = λ k first. signed_keys k >>= λ rest. done (first ∷ rest) in
+    let (first, c, d, a_is, first_spelled, behind) = in_turn signed_key (next n) keys a spelled in
+    let (rest, e, f, d_is, rest_spelled, ended) = in_turn (signed_keys n) (λ rest. done (first ∷ rest)) keys d behind in
+    let more = keys-push n rest last e b rest_spelled last_spelled in
+    let all : Spells (signed_keys (suc (suc n))) (first ∷ (rest ++ last ∷ [])) (c ++ (e ++ b)) =
+    from_turn signed_key (next (suc n)) first (first ∷ (rest ++ last ∷ [])) c (e ++ b) first_spelled
+    (last_field (signed_keys (suc n)) (λ rest. done (first ∷ rest)) (rest ++ last ∷ []) (first ∷ (rest ++ last ∷ [])) (e ++ b) more (refl, refl)) in
+    let whole : a ≡ c ++ e = a_is ∙ ap (λ d. c ++ d) (d_is ∙ ap (λ f. e ++ f) ended.1 ∙ append-nil e) in
+    let bytes : c ++ (e ++ b) ≡ a ++ b = sym (append_assoc c e b) ∙ ap (λ a. a ++ b) (sym whole) in
+    subst₂ (Spells (signed_keys (suc (suc n)))) (ap (λ keys. keys ++ last ∷ []) ended.0) bytes all
+
+pub keys-more : (n : ℕ) (keys : List SignedKey) (last : SignedKey) (a b : List ℕ) → Spells (signed_keys n) keys a → Spells signed_key last b → Spells (signed_keys (n + 1)) (keys ++ last ∷ []) (a ++ b)
+keys-more n keys last a b spelled last_spelled = subst (λ m. Spells (signed_keys m) (keys ++ last ∷ []) (a ++ b)) (sym (add-one n)) (keys-push n keys last a b spelled last_spelled)
+
+-- so many signed keys and a bottom signature, behind their number
+pub whole-spelled : (s : Signature) (a b : List ℕ) → length s.signed ≤ 7 → Spells (signed_keys (length s.signed)) s.signed a → Spells lms_signature s.bottom b
+    → Spells signature s (u32str (length s.signed) ++ a ++ b)
+unfolding signature
+whole-spelled s a b few keys bottom =
+    let n = length s.signed in
+    let behind_keys : List SignedKey → Layout Signature = λ signed. lms_signature >>= λ bottom. done (record { signed = signed; bottom = bottom }) in
+    subst (Spells signature s) (sym (append_assoc (u32str n) a b))
+    (from_turn (level_number 0 7) (λ above. signed_keys above >>= behind_keys) n s (u32str n) (a ++ b) (level_number-spelled 0 7 n (omega arith) few (omega arith))
+    (from_turn (signed_keys n) behind_keys s.signed s a b keys
+    (last_field lms_signature (λ bottom. done (record { signed = s.signed; bottom = bottom })) s.bottom s b bottom (refl, refl))))
+
+-- ---- how long the parts are
+
+-- one more part behind those before it, and within all
+pub part-more : (above : List Level) (i : ℕ) (level : Level) → i < length above → level ≡ get_or above i level
+    → (sum_by part_size (take (i + 1) above) ≡ sum_by part_size (take i above) + part_size level) × (sum_by part_size (take (i + 1) above) ≤ sum_by part_size above)
+part-more above i level within is =
+    let sum : sum_by part_size (take (i + 1) above) ≡ sum_by part_size (take i above) + part_size (get_or above i level) =
+    ap (sum_by part_size) (take_more above i level within) ∙ sum_by_push part_size (take i above) (get_or above i level) in
+    (sum ∙ ap (λ l. sum_by part_size (take i above) + part_size l) (sym is), sum_by-take-le part_size above (i + 1))
+
+-- the parts and the bottom's signature are as long as the levels' types say
+pub size-parts : (above : List Level) (bottom : Level) → signature_size (pairs_of above bottom) ≡ 4 + sum_by part_size above + lms_signature_len_of bottom.secret.pair
+size-parts above bottom =
+    let pair : Level → LmsPair = λ level. level.secret.pair in
+    let levels = levels_in above bottom in
+    let count : length (map pair levels) ≡ length above + 1 = omega (arith, length-map levels pair, length-append above (bottom ∷ [])) in
+    let sum : sum_by lms_signature_len_of (map pair levels) ≡ sum_by lms_signature_len_of (map pair above) + lms_signature_len_of bottom.secret.pair =
+    ap (sum_by lms_signature_len_of) (map-append pair above (bottom ∷ [])) ∙ sum_by_push lms_signature_len_of (map pair above) (bottom.secret.pair) in
+    omega (arith, count, sum, parts above)
+  where
+    parts : (above : List Level) → sum_by part_size above ≡ sum_by lms_signature_len_of (map (λ level. level.secret.pair) above) + 56 * length above
+    parts [] = refl
+    parts (level ∷ above) =
+        omega (arith, parts above, sum_by-cons part_size level above, sum_by-cons lms_signature_len_of level.secret.pair (map (λ level. level.secret.pair) above))
+
+-- ---- a part that is written behind those before it
+
+-- the next signed key is that of the level and the key below
+signed-next : (above : List Level) (bottom level : Level) (next : LmsPublic) (i : ℕ) → i < length above → level ≡ get_or above i level → next ≡ key_of (level_in above bottom (i + 1))
+    → get_or (signed_by above bottom).signed i (signed_key_by level next) ≡ signed_key_by level next
+signed-next above bottom level next i within is next_is =
+    let here : level_in above bottom i ≡ level = get_or_append_left above (bottom ∷ []) bottom i within ∙ get_or_default above i bottom level within ∙ sym is in
+    signed-at signature_by key_of above bottom i (signed_key_by level next) within ∙ ap₂ (λ l k. signed_key_by l k) here (sym next_is)
+
+module _ (above : List Level) (bottom level : Level) (next : LmsPublic) (i : ℕ) (within : i < length above) (is : level ≡ get_or above i level) (next_is : next ≡ key_of (level_in above bottom (i + 1))) where
+  -- one more signed key
+  signed-more : take (i + 1) (signed_by above bottom).signed ≡ take i (signed_by above bottom).signed ++ signed_key_by level next ∷ []
+  signed-more =
+      let signed = (signed_by above bottom).signed in
+      take_more signed i (signed_key_by level next) (omega (arith, signed-count signature_by key_of above bottom))
+      ∙ ap (λ one. take i signed ++ one ∷ []) (signed-next above bottom level next i within is next_is)
+
+  bytes-more : flat_map signed_key_bytes (take (i + 1) (signed_by above bottom).signed) ≡ flat_map signed_key_bytes (take i (signed_by above bottom).signed) ++ signed_key_bytes (signed_key_by level next)
+  bytes-more =
+      let front = take i (signed_by above bottom).signed in
+      let one = signed_key_by level next in
+      ap (flat_map signed_key_bytes) signed-more ∙ flat_map-append signed_key_bytes front (one ∷ []) ∙ ap (λ b. flat_map signed_key_bytes front ++ b) (append-nil (signed_key_bytes one))
+
+  -- its bytes stand behind those before it
+  pub written-more : (head old part : List ℕ) (place end : ℕ) → take place old ≡ head ++ flat_map signed_key_bytes (take i (signed_by above bottom).signed)
+      → part ≡ signed_key_bytes (signed_key_by level next) → place ≤ length old → end ≡ place + length part
+      → take end (put_mid place (end - place) old part) ≡ head ++ flat_map signed_key_bytes (take (i + 1) (signed_by above bottom).signed)
+  written-more head old part place end before part_is inside ends =
+      take-put_mid place (end - place) old part end ends inside ∙ ap₂ (λ a b. a ++ b) before part_is
+      ∙ append_assoc head (flat_map signed_key_bytes (take i (signed_by above bottom).signed)) (signed_key_bytes (signed_key_by level next))
+      ∙ ap (λ b. head ++ b) (sym bytes-more)
+
+  -- and all so far spell themselves
+  pub spelled-more : Spells (signed_keys i) (take i (signed_by above bottom).signed) (flat_map signed_key_bytes (take i (signed_by above bottom).signed))
+      → Spells signed_key (signed_key_by level next) (signed_key_bytes (signed_key_by level next))
+      → Spells (signed_keys (i + 1)) (take (i + 1) (signed_by above bottom).signed) (flat_map signed_key_bytes (take (i + 1) (signed_by above bottom).signed))
+  spelled-more before one =
+      let front = take i (signed_by above bottom).signed in
+      let pushed = keys-more i front (signed_key_by level next) (flat_map signed_key_bytes front) (signed_key_bytes (signed_key_by level next)) before one in
+      subst₂ (Spells (signed_keys (i + 1))) (sym signed-more) (sym bytes-more) pushed
+
+-- The number of signed keys, these, and the bottom's signature behind them to the end, are a signature's bytes.
+pub whole-written : (s : Signature) (n place : ℕ) (x bottom : List ℕ) → take place x ≡ u32str n ++ flat_map signed_key_bytes s.signed → n ≡ length s.signed → bottom ≡ lms_signature_bytes s.bottom → place ≤ length x
+    → take place x ++ (bottom ++ post_of place (length x - place) x) ≡ signature_bytes s
+whole-written s n place x bottom front count bottom_is inside =
+    let ended : post_of place (length x - place) x ≡ [] = Post-is place (length x) x inside ∙ drop_all (length x) x (omega arith) in
+    ap₂ (λ a b. a ++ b) (front ∙ ap (λ n. u32str n ++ flat_map signed_key_bytes s.signed) count) (ap (λ rest. bottom ++ rest) ended ∙ append-nil bottom ∙ bottom_is)

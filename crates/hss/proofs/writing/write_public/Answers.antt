@@ -1,0 +1,14 @@
+use Rattle.std.proofs.Common.{◌≡◌, sym, subst, arith}
+use Rattle.std.proofs.lemmas.Grind.{common_steps}
+use borrow.Rule.Slice.PartMut.{put_mid}
+use Rattle.typecodes.specs.Layout.{Spells}
+use Rattle.hss.specs.Bytes.{public_bytes}
+use Rattle.hss.specs.Layouts.{public_key}
+use Rattle.hss.proofs.Bytes.{key-spelled}
+use Rattle.hss.proofs.writing.write_public.Goals as goal
+
+pub returns-clause-spells : goal.returns-clause-spells
+returns-clause-spells c =
+    let key = c.args.public.now in
+    let written : put_mid 4 56 c.write_number.new.into c.write_public.new.into ≡ public_bytes key = grind (arith, common_steps) in
+    subst (Spells public_key key) (sym written) (key-spelled key c.requires.some c.requires.most (subst (Spells _ key.top) c.write_public.ensures.bytes c.write_public.ensures.spells))

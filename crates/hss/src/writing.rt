@@ -1,0 +1,115 @@
+//! The bytes of keys and signatures.
+
+ghost use Rattle.std.specs.Prelude.{◌≡◌, ◌+◌, ◌<◌, ◌≤◌, ℕ, List, ◌++◌, length, map, sum_by, take};
+ghost use Rattle.std.specs.List.{flat_map};
+ghost use Rattle.typecodes.specs.Layout.{Spells};
+ghost use Rattle.typecodes.specs.Types.{lms_signature_len_of};
+ghost use Rattle.lmots.specs.Formulas.{u32str};
+ghost use Rattle.hss.specs.Bytes.{public_bytes, signature_bytes, signature_size, signed_key_bytes};
+ghost use Rattle.hss.specs.Layouts.{public_key, signature, signed_key, signed_keys};
+ghost use Rattle.hss.specs.Making.{AreDigests, FromSecrets, key_of, pairs_of, part_size, public_by, signed_by, signed_key_by, signing_of};
+ghost use Rattle.hss.specs.Textbook.{level_in, textbook};
+ghost use Rattle.hss.specs.Valid.{IsValid};
+
+use crate::key::HssPublic;
+use crate::signing::Level;
+use lms::LmsPublic;
+use typecodes::LmsPair;
+
+/// How many bytes the signatures of levels of these types have, from the top down: 2644 for two of
+/// H5/W8. The caller gives 1 to 8 levels.
+pub fn signature_len(pairs: &[LmsPair]) -> u32
+    requires some { 1 ≤ length pairs.now }
+    requires most { length pairs.now ≤ 8 }
+    ensures { result ≡ signature_size pairs.now }
+{
+    let mut len = 4 + 56 * (pairs.len() as u32 - 1);
+    for pair in pairs {
+        len += pair.signature_len();
+    }
+    len
+}
+
+/// Writes a public key, 60 bytes (RFC 8554 6.1).
+pub fn write_public(public: &HssPublic, into: &mut [u8])
+    requires some { 1 ≤ public.now.levels }
+    requires most { public.now.levels ≤ 8 }
+    requires room { length into.old ≡ 60 }
+    ensures bytes { into.new ≡ public_bytes public.now }
+    // They spell the key.
+    ensures spells { Spells public_key public.now into.new }
+{
+    write_number(public.levels, into);
+    lms::write_public(&public.top, &mut into[4..60]);
+}
+
+/// Writes the signature of a level above the bottom, and behind it the next level's public key, which
+/// it signs (RFC 8554 6.2): the level's part of a signature.
+pub fn write_signed_key(level: &Level<'_>, next: &LmsPublic, into: &mut [u8])
+    requires { length into.old ≡ lms_signature_len_of level.now.secret.pair + 56 }
+    ensures bytes { into.new ≡ signed_key_bytes (signed_key_by level.now next.now) }
+    // They spell the signature and the key.
+    ensures spells { Spells signed_key (signed_key_by level.now next.now) into.new }
+{
+    let len = into.len();
+    let end = len - 56;
+    level.write(&mut into[0..end]);
+    lms::write_public(next, &mut into[end..len]);
+}
+
+/// Writes the signature of levels, from the top down (RFC 8554 6.2): the number of those above the
+/// bottom, for each of them its signature and the next level's public key, and the bottom level's
+/// signature. The caller gives at most 7 levels above the bottom, and makes the room that
+/// `signature_len` tells.
+pub fn write_signature(above: &[Level<'_>], bottom: &Level<'_>, into: &mut [u8])
+    requires few { length above.now ≤ 7 }
+    requires room { length into.old ≡ signature_size (pairs_of above.now bottom.now) }
+    ensures bytes { into.new ≡ signature_bytes (signed_by above.now bottom.now) }
+    // They spell the signature.
+    ensures spells { Spells signature (signed_by above.now bottom.now) into.new }
+    // Where roots and paths are those of the levels' secrets, it is the textbook signature.
+    ensures textbook { FromSecrets above.now bottom.now → signed_by above.now bottom.now ≡ textbook (map signing_of above.now) (signing_of bottom.now) }
+    // And where each digest is that of what the level signs, it is valid.
+    ensures valid { (message : List ℕ) → FromSecrets above.now bottom.now → AreDigests above.now bottom.now message
+        → IsValid (public_by above.now bottom.now) message (signed_by above.now bottom.now) }
+{
+    write_number(above.len() as u8, into);
+    let place = write_above(above, bottom, into);
+    let end = into.len();
+    bottom.write(&mut into[place..end]);
+}
+
+// Writes the signed keys of a signature behind the first 4 bytes, and tells the place behind them.
+fn write_above(above: &[Level<'_>], bottom: &Level<'_>, into: &mut [u8]) -> usize
+    requires few { length above.now ≤ 7 }
+    requires room { length into.old ≡ 4 + sum_by part_size above.now + lms_signature_len_of bottom.now.secret.pair }
+    ensures place { result ≡ 4 + sum_by part_size above.now }
+    ensures bytes { take result into.new ≡ take 4 into.old ++ flat_map signed_key_bytes (signed_by above.now bottom.now).signed }
+    ensures spells { Spells (signed_keys (length above.now)) (signed_by above.now bottom.now).signed (flat_map signed_key_bytes (signed_by above.now bottom.now).signed) }
+{
+    let mut place = 4;
+    for (i, level) in above.iter().enumerate() {
+        let next = key_below(above, bottom, i);
+        let end = place + level.secret.pair.signature_len() as usize + 56;
+        write_signed_key(level, &next, &mut into[place..end]);
+        place = end;
+    }
+    place
+}
+
+// The public key of the level below level i.
+fn key_below(above: &[Level<'_>], bottom: &Level<'_>, i: usize) -> LmsPublic
+    requires { i < length above.now }
+    ensures { result ≡ key_of (level_in above.now bottom.now (i + 1)) }
+{
+    let below = above.get(i + 1).unwrap_or(bottom);
+    below.public()
+}
+
+// Writes a number of levels, 4 bytes.
+fn write_number(number: u8, into: &mut [u8])
+    requires { 4 ≤ length into.old }
+    ensures { take 4 into.new ≡ u32str number }
+{
+    into[0..4].copy_from_slice(&u32::from(number).to_be_bytes());
+}
