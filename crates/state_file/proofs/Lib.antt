@@ -4,3 +4,5 @@ pub mod Blocks
 pub mod Written
 pub mod Shown
 pub mod Contents
+pub mod Legal
+pub mod OneWay

@@ -5,7 +5,7 @@ use Rattle.std.specs.Cmp.Lexicographic.{bytes_decides, pointwise}
 use Rattle.std.proofs.lemmas.Bool.{and_parts}
 use Rattle.byteorder.specs.Endian.{big_number}
 use Rattle.typecodes.specs.Layout.{Layout, done, field, ◌>>=◌, Spells}
-use Rattle.typecodes.specs.Fields.{block}
+use Rattle.typecodes.specs.Fields.{xmss_type, block}
 use Rattle.typecodes.specs.Reading.{Shows}
 use Rattle.typecodes.specs.Types.{named}
 use Rattle.typecodes.proofs.OneWay.{shows-bind}
@@ -15,64 +15,86 @@ use Rattle.state_file.specs.declared.record.Record.{Record}
 use Rattle.state_file.specs.declared.record.Record.TheVariants.{Key as KeyRecord, Extend as ExtendRecord, Bound as BoundRecord, Retire, Moved}
 use Rattle.state_file.specs.declared.record.Version.{Version}
 use Rattle.state_file.specs.Contents.{begins_key, version_of}
-use Rattle.state_file.specs.Slots.{bound_fields, byte, exactly, extend_fields, fields_of, key_fields, known_version, magic, moved_fields, name_field, only_if, retire_fields, secret_of, slot_record, version_code, version_field, versions, zeros}
-use Rattle.state_file.specs.Writing.{kind_of}
+use Rattle.state_file.specs.Slots.{hss_secret, levels_field, lms_secret, pair_field, xmss_secret, bound_fields, byte, exactly, extend_fields, fields_of, key_fields, known_version, magic, moved_fields, name_field, only_if, retire_fields, secret_of, slot_record, version_code, version_field, versions, zeros}
+use Rattle.state_file.specs.Writing.{kind_of, scheme_of}
 
 -- ---- kinds
 
--- every record that the layout spells is of this kind
-record OfKind (layout : Layout Record) (kind : ℕ) : Type 0 where
-  pub shows : Shows layout kind_of kind
+-- every value that the layout spells is of this kind
+pub record OfKind {V : Type 0} (of : V → ℕ) (layout : Layout V) (kind : ℕ) : Type 0 where
+  pub shows : Shows layout of kind
 
-kind-field : (n kind : ℕ) (next : List ℕ → Layout Record) → ((bytes : List ℕ) → OfKind (next bytes) kind) → OfKind (field n next) kind
+kind-field : {V : Type 0} {of : V → ℕ} (n kind : ℕ) (next : List ℕ → Layout V) → ((bytes : List ℕ) → OfKind of (next bytes) kind) → OfKind of (field n next) kind
 kind-field n kind next all = record { shows = λ v bytes (front, rest, _, _, spelled). (all front).shows v rest spelled }
 
-kind-bind : {V : Type 0} (first : Layout V) (kind : ℕ) (next : V → Layout Record) → ((v : V) → OfKind (next v) kind) → OfKind (first >>= next) kind
-kind-bind first kind next all = record { shows = shows-bind first next kind_of kind (λ v. (all v).shows) }
+kind-bind : {V W : Type 0} {of : W → ℕ} (first : Layout V) (kind : ℕ) (next : V → Layout W) → ((v : V) → OfKind of (next v) kind) → OfKind of (first >>= next) kind
+kind-bind {of = of} first kind next all = record { shows = shows-bind first next of kind (λ v. (all v).shows) }
 
-kind-done : (kind : ℕ) (entry : Record) → kind_of entry ≡ kind → OfKind (done entry) kind
-kind-done kind entry is = record { shows = λ v bytes spelled. ap kind_of (sym spelled.0) ∙ is }
+kind-done : {V : Type 0} {of : V → ℕ} (kind : ℕ) (v : V) → of v ≡ kind → OfKind of (done v) kind
+kind-done {of = of} kind v is = record { shows = λ w bytes spelled. ap of (sym spelled.0) ∙ is }
 
-kind-key : OfKind key_fields 1
+kind-key : OfKind kind_of key_fields 1
 unfolding key_fields
 kind-key =
     kind-bind (exactly 8 magic) 1 _ (λ begins. kind-bind version_field 1 _ (λ version. kind-bind byte 1 _ (λ scheme.
     kind-bind (secret_of scheme) 1 _ (λ secret. kind-field 32 1 _ (λ root. kind-bind (zeros 2) 1 _ (λ rest. kind-done 1 _ refl))))))
 
-kind-extend : OfKind extend_fields 2
+kind-extend : OfKind kind_of extend_fields 2
 unfolding extend_fields
 kind-extend =
     kind-bind byte 2 _ (λ level. kind-field 4 2 _ (λ parent_leaf. kind-field 16 2 _ (λ identifier.
     kind-field 32 2 _ (λ seed. kind-field 32 2 _ (λ randomizer. kind-field 32 2 _ (λ digest. kind-field 32 2 _ (λ root.
     kind-bind (zeros 73) 2 _ (λ rest. kind-done 2 _ refl))))))))
 
-kind-bound : OfKind bound_fields 3
+kind-bound : OfKind kind_of bound_fields 3
 unfolding bound_fields
 kind-bound =
     kind-bind name_field 3 _ (λ name. kind-field 4 3 _ (λ leaf. kind-field 32 3 _ (λ randomizer.
     kind-field 32 3 _ (λ digest. kind-bind (zeros 89) 3 _ (λ rest. kind-done 3 _ refl)))))
 
-kind-retire : OfKind retire_fields 4
+kind-retire : OfKind kind_of retire_fields 4
 unfolding retire_fields
 kind-retire = kind-field 4 4 _ (λ upto. kind-bind (zeros 218) 4 _ (λ rest. kind-done 4 _ refl))
 
-kind-moved : OfKind moved_fields 5
+kind-moved : OfKind kind_of moved_fields 5
 unfolding moved_fields
 kind-moved = kind-bind (exactly 2 (0 ∷ 2 ∷ [])) 5 _ (λ version. kind-bind (zeros 220) 5 _ (λ rest. kind-done 5 _ refl))
 
 -- one of two layouts, by a number
-shows-if : (kind n : ℕ) (chosen other : Layout Record) → Shows chosen kind_of n → Shows other kind_of kind → Shows (if kind == n then chosen else other) kind_of kind
-shows-if kind n chosen other chosen_shows other_shows =
-    elim (kind == n) as (λ test. kind == n ≡ test → Shows (cond test chosen other) kind_of kind) [
-      | true ↦ λ same. subst (Shows chosen kind_of) (sym (eqb-true kind n same)) chosen_shows
+shows-if : {V : Type 0} (of : V → ℕ) (kind n : ℕ) (chosen other : Layout V) → Shows chosen of n → Shows other of kind → Shows (if kind == n then chosen else other) of kind
+shows-if of kind n chosen other chosen_shows other_shows =
+    elim (kind == n) as (λ test. kind == n ≡ test → Shows (cond test chosen other) of kind) [
+      | true ↦ λ same. subst (Shows chosen of) (sym (eqb-true kind n same)) chosen_shows
       | false ↦ λ _. other_shows
     ] refl
 
 -- the fields of a kind spell records of this kind
 pub fields-show : (kind : ℕ) → Shows (fields_of kind) kind_of kind
 fields-show kind =
-    shows-if kind 1 _ _ kind-key.shows (shows-if kind 2 _ _ kind-extend.shows (shows-if kind 3 _ _ kind-bound.shows (shows-if kind 4 _ _ kind-retire.shows (shows-if kind 5 _ _ kind-moved.shows
+    shows-if kind_of kind 1 _ _ kind-key.shows (shows-if kind_of kind 2 _ _ kind-extend.shows (shows-if kind_of kind 3 _ _ kind-bound.shows (shows-if kind_of kind 4 _ _ kind-retire.shows (shows-if kind_of kind 5 _ _ kind-moved.shows
     (λ v bytes spelled. absurd spelled)))))
+
+-- so do those of a scheme spell secrets of this scheme
+scheme-lms : OfKind scheme_of lms_secret 1
+unfolding lms_secret
+scheme-lms =
+    kind-bind (exactly 1 (1 ∷ [])) 1 _ (λ level. kind-bind pair_field 1 _ (λ pair. kind-bind (zeros 56) 1 _ (λ others.
+    kind-field 16 1 _ (λ identifier. kind-field 32 1 _ (λ seed. kind-bind (zeros 64) 1 _ (λ seeds. kind-done 1 _ refl))))))
+
+scheme-hss : OfKind scheme_of hss_secret 2
+unfolding hss_secret
+scheme-hss =
+    kind-bind levels_field 2 _ (λ levels. kind-field 16 2 _ (λ identifier. kind-field 32 2 _ (λ seed. kind-bind (zeros 64) 2 _ (λ seeds. kind-done 2 _ refl))))
+
+scheme-xmss : OfKind scheme_of xmss_secret 3
+unfolding xmss_secret
+scheme-xmss =
+    kind-bind (exactly 1 (1 ∷ [])) 3 _ (λ level. kind-bind xmss_type 3 _ (λ tree. kind-bind (zeros 60) 3 _ (λ others. kind-bind (zeros 16) 3 _ (λ identifier.
+    kind-field 32 3 _ (λ secret_seed. kind-field 32 3 _ (λ prf_key. kind-field 32 3 _ (λ public_seed. kind-done 3 _ refl)))))))
+
+pub schemes-show : (scheme : ℕ) → Shows (secret_of scheme) scheme_of scheme
+schemes-show scheme =
+    shows-if scheme_of scheme 1 _ _ scheme-lms.shows (shows-if scheme_of scheme 2 _ _ scheme-hss.shows (shows-if scheme_of scheme 3 _ _ scheme-xmss.shows (λ v bytes spelled. absurd spelled)))
 
 -- ---- single fields
 
@@ -86,12 +108,12 @@ byte-is n bytes (x ∷ [], rest, is, len, spelled) =
 byte-is n bytes (x ∷ y ∷ more, rest, is, len, spelled) = absurd (omega (arith, len))
 
 -- a field that meets its condition
-only_if-is : {V : Type 0} (test : Bool) (n : ℕ) (v w : V) (bytes : List ℕ) → Spells (only_if test n v) w bytes → (test ≡ true) × (bytes ≡ [])
+pub only_if-is : {V : Type 0} (test : Bool) (n : ℕ) (v w : V) (bytes : List ℕ) → Spells (only_if test n v) w bytes → (test ≡ true) × (bytes ≡ [])
 only_if-is true n v w bytes spelled = (refl, spelled.1)
 only_if-is false n v w bytes spelled = absurd spelled
 
 -- bytes that are known
-exactly-is : (n : ℕ) (expected bytes : List ℕ) (u : Unit {0}) → Spells (exactly n expected) u bytes → bytes ≡ expected
+pub exactly-is : (n : ℕ) (expected bytes : List ℕ) (u : Unit {0}) → Spells (exactly n expected) u bytes → bytes ≡ expected
 unfolding exactly
 exactly-is n expected bytes u (front, rest, is, len, spelled) =
     let (same, nothing) = only_if-is (pointwise (λ a b. a == b) front expected) n tt u rest spelled in
@@ -102,7 +124,7 @@ version_known : (found : Option Version) (version : Version) (bytes : List ℕ) 
 version_known (Some other) version bytes spelled = (ap Some spelled.0, spelled.1)
 version_known None version bytes spelled = absurd spelled
 
-version-is : (version : Version) (bytes : List ℕ) → Spells version_field version bytes → (length bytes ≡ 2) × (named version_code versions (big_number 2 bytes) ≡ Some version)
+pub version-is : (version : Version) (bytes : List ℕ) → Spells version_field version bytes → (length bytes ≡ 2) × (named version_code versions (big_number 2 bytes) ≡ Some version)
 unfolding version_field
 version-is version bytes (front, rest, is, len, spelled) =
     let (found, nothing) = version_known (named version_code versions (big_number 2 front)) version rest spelled in

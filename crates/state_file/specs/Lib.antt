@@ -3,3 +3,4 @@ pub mod Memory
 pub mod Slots
 pub mod Writing
 pub mod Contents
+pub mod Legal

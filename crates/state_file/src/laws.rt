@@ -1,14 +1,18 @@
-//! Laws of slots and of contents. The functions do nothing: what their contracts say is proved of every
-//! list of bytes.
+//! Laws of slots, of contents and of legal lists. The functions do nothing: what their contracts say is proved of every
+//! list of bytes or of records.
 
-ghost use Rattle.std.specs.Prelude.{◌≡◌, ℕ, List};
+ghost use Rattle.std.specs.Prelude.{◌≡◌, ◌<◌, ◌≤◌, ◌↔◌, ℕ, List, ◌++◌, length};
 ghost use Rattle.typecodes.specs.Layout.{Spells};
+ghost use Rattle.typecodes.specs.Reading.{OneSpelling};
 ghost use Rattle.state_file.specs.declared.record.Record.{Record};
 ghost use Rattle.state_file.specs.Contents.{Opening, Opens};
+ghost use Rattle.state_file.specs.Legal.{IsCurrent, IsLegal};
 ghost use Rattle.state_file.specs.Slots.{slot_record};
 
-/// What holds of the bytes 1 to 223 of slots: they spell at most one record.
+/// What holds of the bytes 1 to 223 of slots: they spell at most one record, and a record is spelled by one
+/// list of bytes.
 pub fn slot_laws()
+    ensures once { OneSpelling slot_record }
     ensures one_record { (entry other : Record) (fields : List ℕ) → Spells slot_record entry fields → Spells slot_record other fields → entry ≡ other }
 {}
 
@@ -17,4 +21,13 @@ pub fn slot_laws()
 pub fn content_laws()
     ensures some { (content : List ℕ) → (opening : Opening) × Opens content opening }
     ensures once { (content : List ℕ) (opening other : Opening) → Opens content opening → Opens content other → opening ≡ other }
+{}
+
+/// What holds of legal lists: which tree is current at a place depends on the records before it alone
+/// (`current`), a level has at most one current tree (`one_current`), and a beginning of a legal list, of a
+/// record or more, is legal (`beginning`).
+pub fn legal_laws()
+    ensures current { (records more : List Record) (k level tree : ℕ) → k ≤ length records → IsCurrent (records ++ more) k level tree ↔ IsCurrent records k level tree }
+    ensures one_current { (records : List Record) (k level tree other : ℕ) → IsCurrent records k level tree → IsCurrent records k level other → tree ≡ other }
+    ensures beginning { (records more : List Record) → 0 < length records → IsLegal (records ++ more) → IsLegal records }
 {}

@@ -16,7 +16,7 @@ mod store;
 #[cfg(test)]
 mod tests;
 
-pub use crate::laws::{content_laws, slot_laws};
+pub use crate::laws::{content_laws, legal_laws, slot_laws};
 pub use crate::levels::Levels;
 pub use crate::memory::{Cut, MemoryStore};
 pub use crate::record::{Bound, Extend, Key, Record, Secret, Version};

@@ -1,0 +1,442 @@
+-- Records are spelled in one way.
+use Rattle.std.proofs.Common.{◌≡◌, ℕ, zero, suc, ◌-◌, ◌*◌, Bool, true, false, List, [], ◌∷◌, ◌++◌, length, get_or, drop, refl, sym, ap, ap₂, ◌∙◌, arith, eqb-true, nat_le}
+use Rattle.std.specs.Prelude.{◌==◌, ◌&&◌}
+use Rattle.std.specs.List.{list_all}
+use Rattle.std.proofs.lemmas.Bool.{and_parts}
+use Rattle.byteorder.specs.Endian.{big_number}
+use Rattle.typecodes.specs.declared.fault.Cause.TheVariants.{UnknownType}
+use Rattle.typecodes.specs.declared.types.LmsPair.{LmsPair}
+use Rattle.typecodes.specs.declared.types.LmsType.TheVariants.{H5}
+use Rattle.typecodes.specs.declared.types.OtsType.TheVariants.{W1}
+use Rattle.typecodes.specs.declared.xmss.XmssType.{XmssType}
+use Rattle.typecodes.specs.declared.xmss.XmssType.TheVariants.{H10 as X10}
+use Rattle.typecodes.specs.Layout.{Layout, done, ◌>>=◌, Spells}
+use Rattle.typecodes.specs.Fields.{block, lms_type, number, ots_type, xmss_type}
+use Rattle.typecodes.specs.Reading.{OneSpelling, Shows}
+use Rattle.typecodes.proofs.Codes.{named-has}
+use Rattle.typecodes.proofs.OneWay.{one_way-bind, one_way-block, one_way-done, one_way-lms_type, one_way-number, one_way-ots_type, one_way-refuse, one_way-xmss_type, same_number, shows-bind, shows-done}
+use Rattle.typecodes.proofs.Spelling.{in_turn}
+use Rattle.typecodes.proofs.Ways.{Way, one_way-if, way-bind, way-done}
+use Rattle.state_file.specs.declared.record.Record.{Record}
+use Rattle.state_file.specs.declared.record.Record.TheVariants.{Key as KeyRecord, Extend as ExtendRecord, Bound as BoundRecord, Retire, Moved}
+use Rattle.state_file.specs.declared.record.Secret.{Secret}
+use Rattle.state_file.specs.declared.record.Secret.TheVariants.{Lms, Hss, Xmss}
+use Rattle.state_file.specs.declared.record.Version.{Version}
+use Rattle.state_file.specs.declared.record.Version.TheVariants.{One}
+use Rattle.state_file.specs.Slots.{are_visible, bound_fields, byte, byte_within, exactly, extend_fields, fields_of, hss_secret, key_fields, levels_field, lms_secret, magic, moved_fields, name_field, no_record, only_if, pair_field, pairs, retire_fields, secret_of, slot_record, version_code, version_field, versions, xmss_secret, zeros}
+use Rattle.state_file.specs.Writing.{kind_of, scheme_of}
+use Rattle.state_file.proofs.Shown.{byte-is, exactly-is, fields-show, only_if-is, schemes-show, version-is}
+
+-- ---- fields
+
+one_way-byte : OneSpelling byte
+one_way-byte n a b _ _ first second = byte-is n a first ∙ sym (byte-is n b second)
+
+one_way-exactly : (n : ℕ) (expected : List ℕ) → OneSpelling (exactly n expected)
+one_way-exactly n expected u a b _ _ first second = exactly-is n expected a u first ∙ sym (exactly-is n expected b u second)
+
+one_way-only_if : {V : Type 0} (test : Bool) (n : ℕ) (v : V) → OneSpelling (only_if test n v)
+one_way-only_if test n v = one_way-if test (done v) (no_record n) (one_way-done v) (one_way-refuse n UnknownType)
+
+shows-only_if : {V X : Type 0} (test : Bool) (n : ℕ) (v : V) (of : V → X) → Shows (only_if test n v) of (of v)
+shows-only_if true n v of w bytes spelled = ap of (sym spelled.0)
+shows-only_if false n v of w bytes spelled = absurd spelled
+
+one_way-byte_within : (least most : ℕ) → OneSpelling (byte_within least most)
+unfolding byte_within
+one_way-byte_within least most =
+    one_way-bind byte (λ n. only_if (nat_le least n && nat_le n most) 1 n) (λ n. n) one_way-byte
+    (λ n. one_way-only_if (nat_le least n && nat_le n most) 1 n) (λ n. shows-only_if (nat_le least n && nat_le n most) 1 n (λ m. m))
+
+-- zeros of one length are one list
+same_zeros : (a b : List ℕ) → length a ≡ length b → list_all (λ x. x == 0) a ≡ true → list_all (λ x. x == 0) b ≡ true → a ≡ b
+same_zeros [] [] len _ _ = refl
+same_zeros [] (y ∷ b) len _ _ = absurd (omega (arith, len))
+same_zeros (x ∷ a) [] len _ _ = absurd (omega (arith, len))
+same_zeros (x ∷ a) (y ∷ b) len first second =
+    let (x_is, rest_a) = and_parts _ _ first in
+    let (y_is, rest_b) = and_parts _ _ second in
+    ap₂ (λ z l. z ∷ l) (eqb-true x 0 x_is ∙ sym (eqb-true y 0 y_is)) (same_zeros a b (omega (arith, len)) rest_a rest_b)
+
+one_way-zeros : (n : ℕ) → OneSpelling (zeros n)
+unfolding zeros
+one_way-zeros n u a b _ _ (front, rest, a_is, len, first) (front', rest', b_is, len', second) =
+    let (all, nothing) = only_if-is (list_all (λ x. x == 0) front) n tt u rest first in
+    let (all', nothing') = only_if-is (list_all (λ x. x == 0) front') n tt u rest' second in
+    a_is ∙ ap₂ (λ x y. x ++ y) (same_zeros front front' (len ∙ sym len') all all') (nothing ∙ sym nothing') ∙ sym b_is
+
+one_way-version : OneSpelling version_field
+one_way-version version a b a_bytes b_bytes first second =
+    let (len, found) = version-is version a first in
+    let (len', found') = version-is version b second in
+    let code = named-has version_code versions (big_number 2 a) version found in
+    let code' = named-has version_code versions (big_number 2 b) version found' in
+    same_number 2 a b len len' a_bytes b_bytes (sym code ∙ code')
+
+-- ---- pairs
+
+one_way-pair : OneSpelling pair_field
+unfolding pair_field
+one_way-pair =
+    let way : Way pair_field (λ _. Unit {0}) =
+    way-bind lms_type _ (λ pair. pair.tree) _ one_way-lms_type (λ tree.
+    way-bind ots_type _ (λ pair. pair.ots) _ one_way-ots_type (λ ots.
+    way-done _ _ (refl, (refl, tt)))) in
+    way.one
+
+a_pair : LmsPair
+a_pair = record { tree = H5; ots = W1 }
+
+one_way-pairs : (n : ℕ) → OneSpelling (pairs n)
+unfolding pairs
+one_way-pairs zero = one_way-done []
+one_way-pairs (suc n) =
+    let head = λ (all : List LmsPair). get_or all 0 a_pair in
+    let tail = λ (all : List LmsPair). drop 1 all in
+    let behind = λ (first : LmsPair). pairs n >>= λ rest. done (first ∷ rest) in
+    one_way-bind pair_field behind head one_way-pair
+    (λ first. one_way-bind (pairs n) (λ rest. done (first ∷ rest)) tail (one_way-pairs n) (λ rest. one_way-done (first ∷ rest)) (λ rest. shows-done (first ∷ rest) tail))
+    (λ first. shows-bind (pairs n) (λ rest. done (first ∷ rest)) head first (λ rest. shows-done (first ∷ rest) head))
+
+pairs-length : (n : ℕ) (all : List LmsPair) (bytes : List ℕ) → Spells (pairs n) all bytes → length all ≡ n
+unfolding pairs
+pairs-length zero all bytes spelled = ap length (sym spelled.0)
+pairs-length (suc n) all bytes spelled =
+    let (first, a, b, _, _, behind) = in_turn pair_field (λ first. pairs n >>= λ rest. done (first ∷ rest)) all bytes spelled in
+    let (rest, c, d, _, others, end) = in_turn (pairs n) (λ rest. done (first ∷ rest)) all b behind in
+    ap length (sym end.0) ∙ ap suc (pairs-length n rest c others)
+
+behind_levels : ℕ → List LmsPair → Layout (List LmsPair)
+behind_levels count levels = zeros (64 - 8 * count) >>= λ rest. done levels
+
+behind_count : ℕ → Layout (List LmsPair)
+behind_count count = pairs count >>= behind_levels count
+
+one_way-levels : OneSpelling levels_field
+unfolding levels_field behind_levels behind_count
+one_way-levels =
+    one_way-bind (byte_within 1 8) behind_count length (one_way-byte_within 1 8)
+    (λ count. one_way-bind (pairs count) (behind_levels count) (λ all. all) (one_way-pairs count)
+    (λ levels. one_way-bind (zeros (64 - 8 * count)) (λ rest. done levels) (λ _. tt) (one_way-zeros (64 - 8 * count)) (λ rest. one_way-done levels) (λ rest. shows-done levels (λ _. tt)))
+    (λ levels. shows-bind (zeros (64 - 8 * count)) (λ rest. done levels) (λ all. all) levels (λ rest. shows-done levels (λ all. all))))
+    (λ count levels bytes spelled.
+    let (all, a, b, _, of_count, behind) = in_turn (pairs count) (behind_levels count) levels bytes spelled in
+    let same : levels ≡ all = shows-bind (zeros (64 - 8 * count)) (λ rest. done all) (λ l. l) all (λ rest. shows-done all (λ l. l)) levels b behind in
+    ap length same ∙ pairs-length count all a of_count)
+
+-- ---- names
+
+behind_visible : ℕ → List ℕ → Layout (List ℕ)
+behind_visible count name = zeros (64 - count) >>= λ rest. done name
+
+behind_name : ℕ → List ℕ → Layout (List ℕ)
+behind_name count bytes = only_if (are_visible bytes) count bytes >>= behind_visible count
+
+behind_length : ℕ → Layout (List ℕ)
+behind_length count = block count >>= behind_name count
+
+shows-visible : (count : ℕ) (name : List ℕ) → Shows (behind_visible count name) (λ v. v) name
+unfolding behind_visible
+shows-visible count name = shows-bind (zeros (64 - count)) (λ rest. done name) (λ v. v) name (λ rest. shows-done name (λ v. v))
+
+shows-name : (count : ℕ) (bytes : List ℕ) → Shows (behind_name count bytes) (λ v. v) bytes
+unfolding behind_name
+shows-name count bytes v all spelled =
+    let (name, a, b, _, first, behind) = in_turn (only_if (are_visible bytes) count bytes) (behind_visible count) v all spelled in
+    shows-visible count name v b behind ∙ shows-only_if (are_visible bytes) count bytes (λ w. w) name a first
+
+one_way-visible : (count : ℕ) (name : List ℕ) → OneSpelling (behind_visible count name)
+unfolding behind_visible
+one_way-visible count name =
+    one_way-bind (zeros (64 - count)) (λ rest. done name) (λ _. tt) (one_way-zeros (64 - count)) (λ rest. one_way-done name) (λ rest. shows-done name (λ _. tt))
+
+one_way-named : (count : ℕ) (bytes : List ℕ) → OneSpelling (behind_name count bytes)
+unfolding behind_name
+one_way-named count bytes =
+    one_way-bind (only_if (are_visible bytes) count bytes) (behind_visible count) (λ v. v) (one_way-only_if (are_visible bytes) count bytes)
+    (one_way-visible count) (shows-visible count)
+
+one_way-name : OneSpelling name_field
+unfolding name_field behind_length behind_name behind_visible
+one_way-name =
+    one_way-bind (byte_within 1 64) behind_length length (one_way-byte_within 1 64)
+    (λ count. one_way-bind (block count) (behind_name count) (λ v. v) (one_way-block count) (one_way-named count) (shows-name count))
+    (λ count name bytes spelled.
+    let (all, a, b, _, (front, _, _, len, (same, _)), behind) = in_turn (block count) (behind_name count) name bytes spelled in
+    ap length (shows-name count all name b behind ∙ sym same) ∙ len)
+
+-- ---- secrets
+
+pair_in : Secret → LmsPair
+pair_in (Lms pair identifier seed) = pair
+pair_in (Hss levels identifier seed) = a_pair
+pair_in (Xmss tree secret_seed prf_key public_seed) = a_pair
+
+levels_in : Secret → List LmsPair
+levels_in (Lms pair identifier seed) = []
+levels_in (Hss levels identifier seed) = levels
+levels_in (Xmss tree secret_seed prf_key public_seed) = []
+
+tree_in : Secret → XmssType
+tree_in (Lms pair identifier seed) = X10
+tree_in (Hss levels identifier seed) = X10
+tree_in (Xmss tree secret_seed prf_key public_seed) = tree
+
+-- the first, second and third block of bytes in a secret
+first_in : Secret → List ℕ
+first_in (Lms pair identifier seed) = identifier
+first_in (Hss levels identifier seed) = identifier
+first_in (Xmss tree secret_seed prf_key public_seed) = secret_seed
+
+second_in : Secret → List ℕ
+second_in (Lms pair identifier seed) = seed
+second_in (Hss levels identifier seed) = seed
+second_in (Xmss tree secret_seed prf_key public_seed) = prf_key
+
+third_in : Secret → List ℕ
+third_in (Lms pair identifier seed) = []
+third_in (Hss levels identifier seed) = []
+third_in (Xmss tree secret_seed prf_key public_seed) = public_seed
+
+one_way-lms : OneSpelling lms_secret
+unfolding lms_secret pair_in first_in second_in
+one_way-lms =
+    let way : Way lms_secret (λ _. Unit {0}) =
+    way-bind (exactly 1 (1 ∷ [])) _ (λ _. tt) _ (one_way-exactly 1 (1 ∷ [])) (λ level.
+    way-bind pair_field _ pair_in _ one_way-pair (λ pair.
+    way-bind (zeros 56) _ (λ _. tt) _ (one_way-zeros 56) (λ others.
+    way-bind (block 16) _ first_in _ (one_way-block 16) (λ identifier.
+    way-bind (block 32) _ second_in _ (one_way-block 32) (λ seed.
+    way-bind (zeros 64) _ (λ _. tt) _ (one_way-zeros 64) (λ seeds.
+    way-done _ _ (refl, (refl, (refl, (refl, (refl, (refl, tt)))))))))))) in
+    way.one
+
+one_way-hss : OneSpelling hss_secret
+unfolding hss_secret levels_in first_in second_in
+one_way-hss =
+    let way : Way hss_secret (λ _. Unit {0}) =
+    way-bind levels_field _ levels_in _ one_way-levels (λ levels.
+    way-bind (block 16) _ first_in _ (one_way-block 16) (λ identifier.
+    way-bind (block 32) _ second_in _ (one_way-block 32) (λ seed.
+    way-bind (zeros 64) _ (λ _. tt) _ (one_way-zeros 64) (λ seeds.
+    way-done _ _ (refl, (refl, (refl, (refl, tt)))))))) in
+    way.one
+
+one_way-xmss : OneSpelling xmss_secret
+unfolding xmss_secret tree_in first_in second_in third_in
+one_way-xmss =
+    let way : Way xmss_secret (λ _. Unit {0}) =
+    way-bind (exactly 1 (1 ∷ [])) _ (λ _. tt) _ (one_way-exactly 1 (1 ∷ [])) (λ level.
+    way-bind xmss_type _ tree_in _ one_way-xmss_type (λ tree.
+    way-bind (zeros 60) _ (λ _. tt) _ (one_way-zeros 60) (λ others.
+    way-bind (zeros 16) _ (λ _. tt) _ (one_way-zeros 16) (λ identifier.
+    way-bind (block 32) _ first_in _ (one_way-block 32) (λ secret_seed.
+    way-bind (block 32) _ second_in _ (one_way-block 32) (λ prf_key.
+    way-bind (block 32) _ third_in _ (one_way-block 32) (λ public_seed.
+    way-done _ _ (refl, (refl, (refl, (refl, (refl, (refl, (refl, tt)))))))))))))) in
+    way.one
+
+one_way-secret : (scheme : ℕ) → OneSpelling (secret_of scheme)
+one_way-secret scheme =
+    one_way-if (scheme == 1) _ _ one_way-lms (one_way-if (scheme == 2) _ _ one_way-hss (one_way-if (scheme == 3) _ _ one_way-xmss (one_way-refuse 1 UnknownType)))
+
+-- ---- records
+
+no_secret : Secret
+no_secret = Lms a_pair [] []
+
+version_in : Record → Version
+version_in (KeyRecord key) = key.version
+version_in (ExtendRecord extend) = One
+version_in (BoundRecord bound) = One
+version_in (Retire upto) = One
+version_in Moved = One
+
+secret_in : Record → Secret
+secret_in (KeyRecord key) = key.secret
+secret_in (ExtendRecord extend) = no_secret
+secret_in (BoundRecord bound) = no_secret
+secret_in (Retire upto) = no_secret
+secret_in Moved = no_secret
+
+root_in : Record → List ℕ
+root_in (KeyRecord key) = key.root
+root_in (ExtendRecord extend) = extend.root
+root_in (BoundRecord bound) = []
+root_in (Retire upto) = []
+root_in Moved = []
+
+level_in : Record → ℕ
+level_in (KeyRecord key) = 0
+level_in (ExtendRecord extend) = extend.level
+level_in (BoundRecord bound) = 0
+level_in (Retire upto) = 0
+level_in Moved = 0
+
+-- the parent leaf, the leaf, or the number below which leaves are retired
+leaf_in : Record → ℕ
+leaf_in (KeyRecord key) = 0
+leaf_in (ExtendRecord extend) = extend.parent_leaf
+leaf_in (BoundRecord bound) = bound.leaf
+leaf_in (Retire upto) = upto
+leaf_in Moved = 0
+
+identifier_in : Record → List ℕ
+identifier_in (KeyRecord key) = []
+identifier_in (ExtendRecord extend) = extend.identifier
+identifier_in (BoundRecord bound) = []
+identifier_in (Retire upto) = []
+identifier_in Moved = []
+
+seed_in : Record → List ℕ
+seed_in (KeyRecord key) = []
+seed_in (ExtendRecord extend) = extend.seed
+seed_in (BoundRecord bound) = []
+seed_in (Retire upto) = []
+seed_in Moved = []
+
+randomizer_in : Record → List ℕ
+randomizer_in (KeyRecord key) = []
+randomizer_in (ExtendRecord extend) = extend.randomizer
+randomizer_in (BoundRecord bound) = bound.randomizer
+randomizer_in (Retire upto) = []
+randomizer_in Moved = []
+
+digest_in : Record → List ℕ
+digest_in (KeyRecord key) = []
+digest_in (ExtendRecord extend) = extend.digest
+digest_in (BoundRecord bound) = bound.digest
+digest_in (Retire upto) = []
+digest_in Moved = []
+
+name_in : Record → List ℕ
+name_in (KeyRecord key) = []
+name_in (ExtendRecord extend) = []
+name_in (BoundRecord bound) = bound.name
+name_in (Retire upto) = []
+name_in Moved = []
+
+-- what follows each field of a Key
+behind_secret : Version → Secret → Layout Record
+behind_secret version secret = do
+  root ← block 32
+  rest ← zeros 2
+  done (KeyRecord (record { version = version; secret = secret; root = root }))
+
+behind_scheme : Version → ℕ → Layout Record
+behind_scheme version scheme = secret_of scheme >>= behind_secret version
+
+behind_version : Version → Layout Record
+behind_version version = byte >>= behind_scheme version
+
+abbrev IsOf : Version → Secret → Record → Type 0
+IsOf version secret entry = (secret_in entry ≡ secret) × (version_in entry ≡ version)
+
+way-secret : (version : Version) (secret : Secret) → Way (behind_secret version secret) (IsOf version secret)
+unfolding behind_secret secret_in version_in root_in
+way-secret version secret =
+    way-bind (block 32) _ root_in _ (one_way-block 32) (λ root.
+    way-bind (zeros 2) _ (λ _. tt) _ (one_way-zeros 2) (λ rest.
+    way-done _ _ (refl, (refl, (refl, refl)))))
+
+-- a Key's secret is of its scheme
+way-scheme : (version : Version) (scheme : ℕ) → Way (behind_scheme version scheme) (λ entry. (scheme_of (secret_in entry) ≡ scheme) × (version_in entry ≡ version))
+unfolding behind_scheme
+way-scheme version scheme = record {
+  one = one_way-bind (secret_of scheme) (behind_secret version) secret_in (one_way-secret scheme) (λ secret. (way-secret version secret).one)
+      (λ secret entry bytes spelled. ((way-secret version secret).has entry bytes spelled).0);
+  has = λ entry bytes spelled.
+      let (secret, a, b, _, of_scheme, behind) = in_turn (secret_of scheme) (behind_secret version) entry bytes spelled in
+      let (same, of_version) = (way-secret version secret).has entry b behind in
+      (ap scheme_of same ∙ schemes-show scheme secret a of_scheme, of_version);
+}
+
+one_way-key : OneSpelling key_fields
+unfolding key_fields behind_version behind_scheme behind_secret
+one_way-key =
+    let way : Way key_fields (λ _. Unit {0}) =
+    way-bind (exactly 8 magic) (λ _. version_field >>= behind_version) (λ _. tt) _ (one_way-exactly 8 magic) (λ begins.
+    way-bind version_field behind_version version_in (λ entry. (tt ≡ begins) × Unit {0}) one_way-version (λ version.
+    let inner : Way (behind_version version) (λ entry. version_in entry ≡ version) =
+    way-bind byte (behind_scheme version) (λ entry. scheme_of (secret_in entry)) _ one_way-byte (λ scheme. way-scheme version scheme) in
+    record { one = inner.one; has = λ entry bytes spelled. (inner.has entry bytes spelled, (refl, tt)) })) in
+    way.one
+
+behind_parent : ℕ → ℕ → Layout Record
+behind_parent level parent_leaf = do
+  identifier ← block 16
+  seed ← block 32
+  randomizer ← block 32
+  digest ← block 32
+  root ← block 32
+  rest ← zeros 73
+  done (ExtendRecord (record {
+    level = level;
+    parent_leaf = parent_leaf;
+    identifier = identifier;
+    seed = seed;
+    randomizer = randomizer;
+    digest = digest;
+    root = root;
+  }))
+
+one_way-extend : OneSpelling extend_fields
+unfolding extend_fields behind_parent level_in leaf_in identifier_in seed_in randomizer_in digest_in root_in
+one_way-extend =
+    let way : Way extend_fields (λ _. Unit {0}) =
+    way-bind byte _ level_in _ one_way-byte (λ level.
+    way-bind number (behind_parent level) leaf_in _ one_way-number (λ parent_leaf.
+    way-bind (block 16) _ identifier_in _ (one_way-block 16) (λ identifier.
+    way-bind (block 32) _ seed_in _ (one_way-block 32) (λ seed.
+    way-bind (block 32) _ randomizer_in _ (one_way-block 32) (λ randomizer.
+    way-bind (block 32) _ digest_in _ (one_way-block 32) (λ digest.
+    way-bind (block 32) _ root_in _ (one_way-block 32) (λ root.
+    way-bind (zeros 73) _ (λ _. tt) _ (one_way-zeros 73) (λ rest.
+    way-done _ _ (refl, (refl, (refl, (refl, (refl, (refl, (refl, (refl, tt)))))))))))))))) in
+    way.one
+
+behind_leaf : List ℕ → ℕ → Layout Record
+behind_leaf name leaf = do
+  randomizer ← block 32
+  digest ← block 32
+  rest ← zeros 89
+  done (BoundRecord (record { name = name; leaf = leaf; randomizer = randomizer; digest = digest }))
+
+one_way-bound : OneSpelling bound_fields
+unfolding bound_fields behind_leaf name_in leaf_in randomizer_in digest_in
+one_way-bound =
+    let way : Way bound_fields (λ _. Unit {0}) =
+    way-bind name_field _ name_in _ one_way-name (λ name.
+    way-bind number (behind_leaf name) leaf_in _ one_way-number (λ leaf.
+    way-bind (block 32) _ randomizer_in _ (one_way-block 32) (λ randomizer.
+    way-bind (block 32) _ digest_in _ (one_way-block 32) (λ digest.
+    way-bind (zeros 89) _ (λ _. tt) _ (one_way-zeros 89) (λ rest.
+    way-done _ _ (refl, (refl, (refl, (refl, (refl, tt)))))))))) in
+    way.one
+
+one_way-retire : OneSpelling retire_fields
+unfolding retire_fields leaf_in
+one_way-retire =
+    let way : Way retire_fields (λ _. Unit {0}) =
+    way-bind number (λ upto. zeros 218 >>= λ rest. done (Retire upto)) leaf_in _ one_way-number (λ upto.
+    way-bind (zeros 218) _ (λ _. tt) _ (one_way-zeros 218) (λ rest.
+    way-done _ _ (refl, (refl, tt)))) in
+    way.one
+
+one_way-moved : OneSpelling moved_fields
+unfolding moved_fields
+one_way-moved =
+    let way : Way moved_fields (λ _. Unit {0}) =
+    way-bind (exactly 2 (0 ∷ 2 ∷ [])) _ (λ _. tt) _ (one_way-exactly 2 (0 ∷ 2 ∷ [])) (λ version.
+    way-bind (zeros 220) _ (λ _. tt) _ (one_way-zeros 220) (λ rest.
+    way-done _ _ (refl, (refl, tt)))) in
+    way.one
+
+one_way-fields : (kind : ℕ) → OneSpelling (fields_of kind)
+one_way-fields kind =
+    one_way-if (kind == 1) _ _ one_way-key (one_way-if (kind == 2) _ _ one_way-extend (one_way-if (kind == 3) _ _ one_way-bound
+    (one_way-if (kind == 4) _ _ one_way-retire (one_way-if (kind == 5) _ _ one_way-moved (one_way-refuse 1 UnknownType)))))
+
+pub one_way-slot_record : OneSpelling slot_record
+unfolding slot_record
+one_way-slot_record = one_way-bind byte fields_of kind_of one_way-byte one_way-fields fields-show

@@ -1,0 +1,291 @@
+//! Slots against bytes that another program drew, and what slots may not hold.
+
+mod drawn;
+
+use crate::levels::Levels;
+use crate::record::{Bound, Extend, Key, Record, Secret, Version};
+use crate::slot::gate::{CLOSED, OPEN, is_open};
+use crate::slot::reading::read_record;
+use crate::slot::tag::{begins_key, tag, version};
+use crate::slot::writing::record_bytes;
+use std::process::Abort;
+use std::test::Fail;
+use typecodes::{BadName, LmsPair, LmsType, Name, OtsType, XmssType};
+
+// The bytes from one on, each one more.
+fn rising<const N: usize>(from: u8) -> [u8; N] {
+    let mut bytes = [from; N];
+    let mut next = from;
+    for byte in &mut bytes {
+        *byte = next;
+        next = next.wrapping_add(1);
+    }
+    bytes
+}
+
+const fn pair(tree: LmsType, ots: OtsType) -> LmsPair {
+    LmsPair { tree, ots }
+}
+
+fn lms_key() -> Record {
+    Record::Key(Key {
+        version: Version::One,
+        secret: Secret::Lms {
+            pair: pair(LmsType::H5, OtsType::W8),
+            identifier: rising(0x00),
+            seed: rising(0x10),
+        },
+        root: rising(0x30),
+    })
+}
+
+fn hss_key() -> Option<Record> {
+    let levels = Levels::new(&[
+        pair(LmsType::H10, OtsType::W4),
+        pair(LmsType::H25, OtsType::W1),
+        pair(LmsType::H15, OtsType::W2),
+    ])?;
+    Some(Record::Key(Key {
+        version: Version::One,
+        secret: Secret::Hss {
+            levels,
+            identifier: rising(0x80),
+            seed: rising(0x90),
+        },
+        root: rising(0xb0),
+    }))
+}
+
+fn xmss_key() -> Record {
+    Record::Key(Key {
+        version: Version::One,
+        secret: Secret::Xmss {
+            tree: XmssType::H16,
+            secret_seed: rising(0x20),
+            prf_key: rising(0x40),
+            public_seed: rising(0x60),
+        },
+        root: rising(0xf0),
+    })
+}
+
+fn extend() -> Record {
+    Record::Extend(Extend {
+        level: 1,
+        parent_leaf: 0x0102_0304,
+        identifier: rising(0x01),
+        seed: rising(0x11),
+        randomizer: rising(0x31),
+        digest: rising(0x51),
+        root: rising(0x71),
+    })
+}
+
+fn bound() -> Result<Record, BadName> {
+    Ok(Record::Bound(Bound {
+        name: Name::new(b"fw-1")?,
+        leaf: 0x0a0b,
+        randomizer: rising(0xa0),
+        digest: rising(0xc0),
+    }))
+}
+
+// The record has these bytes, which are read as the record; and no byte of them can be another.
+fn assert_drawn(rt: &impl Abort, entry: &Record, drawn: &[u8; 223]) {
+    assert_eq!(rt; record_bytes(entry), *drawn);
+    assert_eq!(rt; read_record(drawn), Some(entry.copied()));
+    for place in 0..223 {
+        let mut other = *drawn;
+        other[place] ^= 0x5a;
+        assert_ne!(rt; read_record(&other), Some(entry.copied()));
+        assert_ne!(rt; tag(&[0; 32], &other), tag(&[0; 32], drawn));
+    }
+}
+
+#[test]
+fn each_kind_as_drawn(rt: HostRuntime) -> Result<(), Fail> {
+    assert_drawn(&rt, &lms_key(), &drawn::LMS_KEY);
+    assert_drawn(&rt, &hss_key().ok_or("levels")?, &drawn::HSS_KEY);
+    assert_drawn(&rt, &xmss_key(), &drawn::XMSS_KEY);
+    assert_drawn(&rt, &extend(), &drawn::EXTEND);
+    assert_drawn(&rt, &bound()?, &drawn::BOUND);
+    assert_drawn(&rt, &Record::Retire { upto: 0x0200_0001 }, &drawn::RETIRE);
+    assert_drawn(&rt, &Record::Moved, &drawn::MOVED);
+    Ok(())
+}
+
+// Whether the bytes with one changed spell a record. Places are those of the whole slot.
+fn is_spelled_with(drawn: &[u8; 223], place: usize, byte: u8) -> bool {
+    let mut other = *drawn;
+    if let Some(at) = other.get_mut(place.wrapping_sub(1)) {
+        *at = byte;
+    }
+    read_record(&other).is_some()
+}
+
+#[test]
+fn what_a_slot_may_not_hold(rt: HostRuntime) {
+    // kinds, and kinds whose fields stand elsewhere
+    for kind in [0, 2, 3, 4, 5, 6, 0xa5, 255] {
+        assert!(rt; !is_spelled_with(&drawn::LMS_KEY, 1, kind));
+    }
+    // the magic, the version, the scheme and the levels of a Key
+    for (place, byte) in [
+        (2, b'h'),
+        (9, b'e'),
+        (10, 1),
+        (11, 0),
+        (11, 2),
+        (12, 0),
+        (12, 3),
+        (12, 4),
+        (13, 0),
+        (13, 2),
+    ] {
+        assert!(rt; !is_spelled_with(&drawn::LMS_KEY, place, byte));
+    }
+    // codes, pairs past the levels, SK_PRF, the public SEED, and what is behind the root
+    for (place, byte) in [
+        (17, 4),
+        (17, 10),
+        (21, 0),
+        (21, 5),
+        (25, 5),
+        (77, 4),
+        (126, 1),
+        (157, 1),
+        (158, 1),
+        (189, 1),
+        (222, 1),
+        (223, 1),
+    ] {
+        assert!(rt; !is_spelled_with(&drawn::LMS_KEY, place, byte));
+    }
+    // levels of HSS
+    for levels in [0, 1, 2, 4, 8, 9, 255] {
+        assert!(rt; !is_spelled_with(&drawn::HSS_KEY, 13, levels));
+    }
+    // an XMSS code, its one-time code, pairs past it, and an I
+    for (place, byte) in [
+        (13, 2),
+        (17, 0),
+        (17, 4),
+        (21, 1),
+        (25, 5),
+        (78, 1),
+        (93, 1),
+    ] {
+        assert!(rt; !is_spelled_with(&drawn::XMSS_KEY, place, byte));
+    }
+    // a name's length, its characters and what is behind it
+    for (place, byte) in [
+        (2, 0),
+        (2, 3),
+        (2, 5),
+        (2, 65),
+        (2, 255),
+        (3, 0x20),
+        (6, 0x7f),
+        (7, 1),
+        (66, 1),
+        (135, 1),
+    ] {
+        assert!(rt; !is_spelled_with(&drawn::BOUND, place, byte));
+    }
+    // a new version, and unused bytes
+    for (place, byte) in [(2, 1), (3, 0), (3, 1), (3, 3), (4, 1), (223, 1)] {
+        assert!(rt; !is_spelled_with(&drawn::MOVED, place, byte));
+    }
+    assert!(rt; !is_spelled_with(&drawn::EXTEND, 151, 1));
+    assert!(rt; !is_spelled_with(&drawn::RETIRE, 6, 1));
+}
+
+// Which records a signer may stand on is another matter: levels, leaves and C are what they are.
+#[test]
+fn what_a_slot_may_hold(rt: HostRuntime) {
+    for (place, byte) in [(2, 0), (2, 255), (3, 255)] {
+        assert!(rt; is_spelled_with(&drawn::EXTEND, place, byte));
+    }
+    for (place, byte) in [(3, 0x21), (6, 0x7e), (67, 255), (71, 0)] {
+        assert!(rt; is_spelled_with(&drawn::BOUND, place, byte));
+    }
+    assert!(rt; is_spelled_with(&drawn::RETIRE, 2, 0x80));
+    // HSS of one level has the fields of an LMS key
+    assert!(rt; is_spelled_with(&drawn::LMS_KEY, 12, 2));
+    assert!(rt; is_spelled_with(&drawn::RETIRE, 2, 0xff));
+}
+
+#[test]
+fn names_of_each_length(rt: HostRuntime) -> Result<(), Fail> {
+    let letters = [b'n'; 64];
+    for count in 1..=64 {
+        let entry = Record::Bound(Bound {
+            name: Name::new(&letters[..count])?,
+            leaf: 0,
+            randomizer: [0; 32],
+            digest: [0; 32],
+        });
+        let bytes = record_bytes(&entry);
+        assert_eq!(rt; usize::from(bytes[1]), count);
+        assert_eq!(rt; read_record(&bytes), Some(entry));
+    }
+    Ok(())
+}
+
+#[test]
+fn levels_of_each_count(rt: HostRuntime) -> Result<(), Fail> {
+    let pairs = [pair(LmsType::H20, OtsType::W2); 9];
+    assert_eq!(rt; Levels::new(&[]), None);
+    assert_eq!(rt; Levels::new(&pairs), None);
+    for count in 1..=8 {
+        let levels = Levels::new(&pairs[..count]).ok_or("levels")?;
+        assert_eq!(rt; levels.as_slice(), &pairs[..count]);
+        assert_eq!(rt; Levels::new(&pairs[..count]), Some(levels.copied()));
+        let entry = Record::Key(Key {
+            version: Version::One,
+            secret: Secret::Hss {
+                levels,
+                identifier: [1; 16],
+                seed: [2; 32],
+            },
+            root: [3; 32],
+        });
+        assert_eq!(rt; read_record(&record_bytes(&entry)), Some(entry));
+    }
+    Ok(())
+}
+
+#[test]
+fn tags_follow_each_other(rt: HostRuntime) {
+    let first = tag(&[0; 32], &drawn::LMS_KEY);
+    assert_eq!(rt; first, drawn::FIRST_TAG);
+    assert_eq!(rt; tag(&first, &drawn::BOUND), drawn::SECOND_TAG);
+}
+
+#[test]
+fn what_a_first_slot_is_told_by(rt: HostRuntime) {
+    for key in [drawn::LMS_KEY, drawn::HSS_KEY, drawn::XMSS_KEY] {
+        assert!(rt; begins_key(&key));
+        assert_eq!(rt; version(&key), Some(Version::One));
+    }
+    assert!(rt; !begins_key(&drawn::BOUND));
+    for place in 0..11 {
+        let mut other = drawn::LMS_KEY;
+        other[place] ^= 0x5a;
+        assert_eq!(rt; begins_key(&other), place >= 9);
+        assert_eq!(rt; version(&other).is_some(), place < 9);
+    }
+    assert_eq!(rt; Version::from_code(1), Some(Version::One));
+    assert_eq!(rt; Version::from_code(0), None);
+    assert_eq!(rt; Version::from_code(2), None);
+    assert_eq!(rt; Version::One.code(), 1);
+}
+
+#[test]
+fn one_value_opens_a_gate(rt: HostRuntime) {
+    for gate in 0..=255 {
+        assert_eq!(rt; is_open(gate), gate == 0xa5);
+    }
+    assert!(rt; is_open(OPEN));
+    assert!(rt; !is_open(CLOSED));
+}
