@@ -6,20 +6,21 @@ use Rattle.typecodes.specs.declared.fault.Cause.{Cause}
 use Rattle.typecodes.specs.declared.fault.Cause.TheVariants.{Truncated, UnknownType, LevelCount, LeafOutOfRange, Trailing}
 use Rattle.typecodes.specs.Refusals.{refusal_number}
 use Rattle.typecodes.specs.declared.refusal.Refusal.TheVariants.{Unreadable, TypeMismatch, LevelMismatch, RootMismatch}
+use Rattle.sign_core.specs.declared.public.KeyFault.TheVariants.{Length as KeyLength, Unreadable as UnreadableKey}
 use Rattle.clap.specs.Words.{IsAmong, fault_of}
 use Rattle.clap.specs.declared.error.kind.ErrorKind.{ErrorKind}
 use Rattle.clap.specs.declared.error.kind.ErrorKind.TheVariants as kind
 use Rattle.command.specs.Commands.{hbsign_app}
 use Rattle.command.specs.Judgement.{Answers}
 use Rattle.command.specs.declared.refusal.Refusal.{Refusal}
-use Rattle.command.specs.declared.refusal.Refusal.TheVariants.{KeyLength, Key, Signature, OutOfMemory, FileFailed}
+use Rattle.command.specs.declared.refusal.Refusal.TheVariants.{Key, Signature, OutOfMemory, FileFailed}
 use Rattle.command.specs.declared.answer.Done.{Done}
 use Rattle.command.specs.declared.answer.Done.TheVariants.{Verified}
 
 -- the number of a refusal
 abbrev pub number_of : Refusal → ℕ
-number_of (KeyLength length) = 6
-number_of (Key fault) = cause_number fault.cause
+number_of (Key (KeyLength length)) = 6
+number_of (Key (UnreadableKey fault)) = cause_number fault.cause
 number_of (Signature refusal) = refusal_number refusal
 number_of OutOfMemory = 46
 number_of FileFailed = 53
@@ -34,9 +35,9 @@ fault_name_of Trailing = codes "Trailing"
 
 -- the name of a refusal
 abbrev pub name_of : Refusal → List ℕ
-name_of (Key fault) = fault_name_of fault.cause
+name_of (Key (UnreadableKey fault)) = fault_name_of fault.cause
 name_of (Signature (Unreadable fault)) = fault_name_of fault.cause
-name_of (KeyLength length) = codes "KeyLength"
+name_of (Key (KeyLength length)) = codes "KeyLength"
 name_of (Signature (TypeMismatch level)) = codes "TypeMismatch"
 name_of (Signature LevelMismatch) = codes "LevelMismatch"
 name_of (Signature (RootMismatch level)) = codes "RootMismatch"
@@ -45,9 +46,9 @@ name_of FileFailed = codes "FileFailed"
 
 -- what follows the name: where, of what length or at which level
 abbrev pub detail_of : Refusal → List ℕ
-detail_of (Key fault) = codes " at " ++ decimal fault.place
+detail_of (Key (UnreadableKey fault)) = codes " at " ++ decimal fault.place
 detail_of (Signature (Unreadable fault)) = codes " at " ++ decimal fault.place
-detail_of (KeyLength length) = codes " of " ++ decimal length
+detail_of (Key (KeyLength length)) = codes " of " ++ decimal length
 detail_of (Signature (TypeMismatch level)) = codes " level " ++ decimal level
 detail_of (Signature LevelMismatch) = []
 detail_of (Signature (RootMismatch level)) = codes " level " ++ decimal level
@@ -72,7 +73,6 @@ status_of (Ok done) = 0
 status_of (Err OutOfMemory) = 3
 status_of (Err FileFailed) = 3
 status_of (Err (Key fault)) = 1
-status_of (Err (KeyLength length)) = 1
 status_of (Err (Signature refusal)) = 1
 
 -- The answer was told: its line was written, and the status is its own; or the output failed.

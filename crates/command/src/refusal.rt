@@ -3,16 +3,15 @@
 ghost use Rattle.std.specs.Prelude.{◌≡◌, Some};
 ghost use Rattle.command.specs.Lines.{fault_name_of, name_of, number_of, refusal_line};
 
+use sign_core::KeyFault;
 use std::{error, fmt};
-use typecodes::{Cause, ReadFault, Refusal as SignatureRefusal};
+use typecodes::{Cause, Refusal as SignatureRefusal};
 
 /// Why a command doesn't do what it was asked.
 #[derive(Clone, Copy, Debug, PartialEq, Eq)]
 pub enum Refusal {
-    /// 6: a public key of no known length; its length.
-    KeyLength(usize),
-    /// 1 to 5: the bytes of a public key spell none.
-    Key(ReadFault),
+    /// 1 to 3 and 6: the bytes of a public key spell none.
+    Key(KeyFault),
     /// 1 to 5 and 10 to 12: a signature isn't verified.
     Signature(SignatureRefusal),
     /// 46: there is no memory.
@@ -27,8 +26,8 @@ impl Refusal {
         ensures { result ≡ number_of self.now }
     {
         match self {
-            Refusal::KeyLength(_) => 6,
-            Refusal::Key(fault) => fault.cause.number(),
+            Refusal::Key(KeyFault::Length(_)) => 6,
+            Refusal::Key(KeyFault::Unreadable(fault)) => fault.cause.number(),
             Refusal::Signature(refusal) => refusal.number(),
             Refusal::OutOfMemory => 46,
             Refusal::FileFailed => 53,
@@ -40,10 +39,9 @@ impl Refusal {
         ensures { result.now ≡ name_of self.now }
     {
         match self {
-            Refusal::Key(fault) | Refusal::Signature(SignatureRefusal::Unreadable(fault)) => {
-                fault_name(fault.cause)
-            }
-            Refusal::KeyLength(_) => "KeyLength",
+            Refusal::Key(KeyFault::Unreadable(fault))
+            | Refusal::Signature(SignatureRefusal::Unreadable(fault)) => { fault_name(fault.cause) }
+            Refusal::Key(KeyFault::Length(_)) => "KeyLength",
             Refusal::Signature(SignatureRefusal::TypeMismatch(_)) => "TypeMismatch",
             Refusal::Signature(SignatureRefusal::LevelMismatch) => "LevelMismatch",
             Refusal::Signature(SignatureRefusal::RootMismatch(_)) => "RootMismatch",
@@ -75,11 +73,12 @@ impl fmt::Display for Refusal {
         let name = self.name();
         write!(f, "refused {number} {name}")?;
         match self {
-            Refusal::Key(fault) | Refusal::Signature(SignatureRefusal::Unreadable(fault)) => {
+            Refusal::Key(KeyFault::Unreadable(fault))
+            | Refusal::Signature(SignatureRefusal::Unreadable(fault)) => {
                 let place = fault.place;
                 write!(f, " at {place}")
             }
-            Refusal::KeyLength(length) => write!(f, " of {length}"),
+            Refusal::Key(KeyFault::Length(length)) => write!(f, " of {length}"),
             Refusal::Signature(
                 SignatureRefusal::TypeMismatch(level) | SignatureRefusal::RootMismatch(level),
             ) => write!(f, " level {level}"),

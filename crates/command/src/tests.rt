@@ -128,6 +128,9 @@ fn tells_each_refusal_of_keys_and_signatures(rt: HostRuntime) -> Result<(), Fail
         (&zero_key(5, 9), &zeros, "refused 2 UnknownType at 4"),
         (&zero_key(5, 9), &[], "refused 2 UnknownType at 4"),
         (&[0; 56], &zeros, "refused 2 UnknownType at 0"),
+        (&[0; 60], &zeros, "refused 3 LevelCount at 0"),
+        (&key_of_nine_levels(), &[], "refused 3 LevelCount at 0"),
+        (&[0; 68], &zeros, "refused 2 UnknownType at 0"),
         (&[0; 57], &zeros, "refused 6 KeyLength of 57"),
         (&[0; 57], &[], "refused 6 KeyLength of 57"),
         (&[], &zeros, "refused 6 KeyLength of 0"),
@@ -136,6 +139,15 @@ fn tells_each_refusal_of_keys_and_signatures(rt: HostRuntime) -> Result<(), Fail
         assert!(rt; told.is(line, 1), "{line}");
     }
     folder.remove(&rt)
+}
+
+// Nine levels, the top key's types, and zeros.
+fn key_of_nine_levels() -> [u8; 60] {
+    let mut key = [0; 60];
+    key[3] = 9;
+    key[7] = 5;
+    key[11] = 4;
+    key
 }
 
 // A signature of zeros for H5/W4, whose key has H5/W8: 4 + (4 + 32 + 67 * 32) + 4 + 5 * 32 bytes.

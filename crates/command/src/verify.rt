@@ -11,13 +11,10 @@ use crate::answer::{Answer, Done, tell};
 use crate::files;
 use crate::refusal::Refusal;
 use clap::{Arg, ArgMatches, Command};
-use lms::LmsPublic;
+use sign_core::{AnyPublic, verify_any};
 use std::alloc::{AllocError, Global};
 use std::fs::Files;
 use std::io::{Read, Write};
-
-// The bytes of an LMS public key (RFC 8554 5.3).
-const LMS_KEY_LEN: usize = 56;
 
 /// The files of the line, by their paths.
 #[derive(Clone, Copy, Debug)]
@@ -140,13 +137,9 @@ fn judge_files<F: Read>(alloc: Global, public: &mut F, message: &mut F, signatur
 /// Whether the bytes of a signature sign the message under the bytes of a public key. The key is
 /// judged first: its length, then its fields.
 pub fn judge(public: &[u8], message: &[u8], signature: &[u8]) -> Result<(), Refusal>
-    ensures judgement { Judgement public.now message.now signature.now result }
-    ensures length { IsErrOf result (Refusal.KeyLength (length public.now)) ↔ (length public.now ≢ 56) }
+    ensures { Judgement public.now message.now signature.now result }
 {
-    if public.len() != LMS_KEY_LEN {
-        return Err(Refusal::KeyLength(public.len()));
-    }
-    let key = LmsPublic::read(public).map_err(Refusal::Key)?;
+    let key = AnyPublic::read(public).map_err(Refusal::Key)?;
     let mut message = message;
-    lms::verify(&key, &mut message, signature).map_err(Refusal::Signature)
+    verify_any(&key, &mut message, signature).map_err(Refusal::Signature)
 }

@@ -6,3 +6,5 @@ pub mod OnceParts
 pub mod OnceLasting
 pub mod Steps
 pub mod Beginning
+pub mod KeySizes
+pub mod KeyReading

@@ -5,3 +5,4 @@ pub mod Once
 pub mod Source
 pub mod Calls
 pub mod Keeping
+pub mod AnyKey

@@ -12,6 +12,7 @@ mod fault;
 mod key;
 mod ledger;
 mod once;
+mod public;
 mod repeat;
 mod signer;
 mod source;
@@ -21,5 +22,6 @@ mod work;
 
 pub use crate::fault::SignFault;
 pub use crate::once::{lasting_law, once_law};
+pub use crate::public::{AnyPublic, KeyFault, verify_any};
 pub use crate::signer::Signer;
 pub use crate::source::{Source, SourceFault, TapeSource};
