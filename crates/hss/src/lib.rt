@@ -13,6 +13,8 @@ mod laws;
 mod levels;
 mod signature;
 mod signing;
+#[cfg(test)]
+mod tests;
 mod verification;
 mod writing;
 

@@ -1,0 +1,344 @@
+//! A signature of two levels of H5/W8 by Bouncy Castle is made here again, byte for byte, and refused
+//! with its bytes changed.
+
+ghost use Rattle.std.specs.Prelude.{◌≡◌};
+
+use crate::{
+    HssPublic, HssSigView, Level, signature_len, verify, write_public, write_signature,
+    write_signed_key,
+};
+use lmots::LmOts;
+use lms::{LmsPublic, LmsSecret, LmsTree};
+use merkle::{TreeHash, root_from_path};
+use sha2::{Digest, Sha256};
+use std::process::Abort;
+use std::test::Fail;
+use typecodes::{Cause, LmsPair, LmsType, OtsType, ReadFault, Refusal};
+
+const PAIR: LmsPair = LmsPair {
+    tree: LmsType::H5,
+    ots: OtsType::W8,
+};
+
+const MESSAGE: [u8; 1] = [0xd1];
+
+// The values that Bouncy Castle drew: of both trees, and C of both levels, each with its leaf 1.
+const TOP: LmsSecret = LmsSecret {
+    pair: PAIR,
+    identifier: [
+        0x93, 0xd4, 0xaa, 0x58, 0xb1, 0x43, 0x04, 0x76, 0xcb, 0x20, 0xb0, 0x90, 0xa6, 0xd2, 0x45,
+        0xb0,
+    ],
+    seed: [
+        0xdc, 0x2d, 0xa4, 0xe0, 0x40, 0xf0, 0x14, 0xf7, 0x59, 0x49, 0xef, 0x51, 0xc0, 0xa9, 0xfe,
+        0x0a, 0x0c, 0x11, 0xc8, 0x45, 0x42, 0xbc, 0xfc, 0x27, 0x81, 0x0d, 0x74, 0xca, 0x8f, 0xc5,
+        0x78, 0x75,
+    ],
+};
+
+const BOTTOM: LmsSecret = LmsSecret {
+    pair: PAIR,
+    identifier: [
+        0x4e, 0x05, 0xbf, 0x4c, 0x1a, 0x3f, 0xf4, 0x53, 0x03, 0x0d, 0x91, 0xe3, 0xc0, 0x91, 0x49,
+        0xe9,
+    ],
+    seed: [
+        0xea, 0x02, 0xdf, 0xdf, 0x47, 0x79, 0xc9, 0x09, 0xf4, 0x28, 0xcf, 0xa5, 0xb5, 0xe2, 0x85,
+        0x5d, 0x41, 0xc6, 0xbe, 0x07, 0xa7, 0xf6, 0x60, 0xf2, 0xcf, 0x4d, 0x14, 0xb4, 0x92, 0xf5,
+        0xdb, 0xa3,
+    ],
+};
+
+const TOP_RANDOMIZER: [u8; 32] = [
+    0x8f, 0x85, 0x16, 0x46, 0x2c, 0x58, 0xdc, 0x3c, 0xc7, 0x86, 0x71, 0x0a, 0x40, 0x04, 0xff, 0x04,
+    0x2a, 0x13, 0x53, 0x90, 0x14, 0x58, 0xf9, 0x58, 0x4c, 0xe3, 0x81, 0x94, 0x5d, 0x07, 0x32, 0xc7,
+];
+
+const BOTTOM_RANDOMIZER: [u8; 32] = [
+    0x51, 0xee, 0x28, 0xf3, 0x60, 0x6e, 0x23, 0x81, 0x93, 0x20, 0xd2, 0x07, 0xee, 0xc6, 0x32, 0xa4,
+    0x66, 0xa6, 0x42, 0x1a, 0x1f, 0x2f, 0xf3, 0x1b, 0x94, 0xba, 0xd9, 0x25, 0x77, 0x64, 0x78, 0x19,
+];
+
+// The root of a secret's tree, and the path of leaf 1.
+fn tree_of(secret: LmsSecret) -> ([u8; 32], [[u8; 32]; 5]) {
+    let mut tree = LmsTree::new(secret);
+    let mut path = [[0; 32]; 5];
+    merkle::path(&mut tree, 5, 1, &mut path);
+    let leaf = tree.leaf(1);
+    (root_from_path(&tree, 1, &leaf, &path), path)
+}
+
+// Leaf 1 of a secret's tree, which signs a message.
+fn level<'a>(
+    secret: &LmsSecret,
+    randomizer: [u8; 32],
+    root: [u8; 32],
+    path: &'a [[u8; 32]; 5],
+    message: &[u8],
+) -> Level<'a>
+    ensures { result.secret.pair ≡ PAIR }
+{
+    let key = LmOts {
+        identifier: secret.identifier,
+        leaf: 1,
+    };
+    let digest = key.message_digest(&randomizer, message);
+    let secret = LmsSecret {
+        pair: PAIR,
+        identifier: secret.identifier,
+        seed: secret.seed,
+    };
+    Level {
+        secret,
+        root,
+        leaf: 1,
+        randomizer,
+        digest,
+        path,
+    }
+}
+
+// The signature of the message by both levels, and its key.
+fn signed() -> (HssPublic, [u8; 2644])
+    ensures { result.0.levels ≡ 2 }
+{
+    let (top_root, top_path) = tree_of(TOP);
+    let (bottom_root, bottom_path) = tree_of(BOTTOM);
+    let bottom = level(
+        &BOTTOM,
+        BOTTOM_RANDOMIZER,
+        bottom_root,
+        &bottom_path,
+        &MESSAGE,
+    );
+    let mut key = [0; 56];
+    lms::write_public(&bottom.public(), &mut key);
+    let top = level(&TOP, TOP_RANDOMIZER, top_root, &top_path, &key);
+    let mut signature = [0; 2644];
+    write_signature(&[top], &bottom, &mut signature);
+    let public = HssPublic {
+        levels: 2,
+        top: top.public(),
+    };
+    (public, signature)
+}
+
+#[test]
+fn bouncy_castle_made(rt: HostRuntime) {
+    let (public, signature) = signed();
+    let mut bytes = [0; 60];
+    write_public(&public, &mut bytes);
+    assert_eq!(rt; HssPublic::read(&bytes), Ok(public));
+    assert_eq!(rt;
+        Sha256::digest(bytes.as_slice()),
+        [
+            0x71, 0x6e, 0x64, 0x84, 0x8a, 0x9c, 0x68, 0xcb, 0xc4, 0xf2, 0x8d, 0x01, 0x95, 0xd6,
+            0x20, 0x05, 0xbb, 0x02, 0x05, 0xea, 0x7a, 0xc3, 0xf8, 0x3a, 0xc9, 0xb5, 0x37, 0xd3,
+            0x4d, 0xf1, 0x6e, 0x21,
+        ]
+    );
+    assert_eq!(rt;
+        Sha256::digest(signature.as_slice()),
+        [
+            0xdd, 0xc1, 0x0c, 0x6f, 0x14, 0x40, 0x34, 0xcd, 0xd2, 0xb6, 0x39, 0x9d, 0xa4, 0x7b,
+            0x1a, 0xf1, 0x84, 0x5b, 0xea, 0xdd, 0x72, 0x2f, 0x1b, 0x85, 0x5e, 0x54, 0xa5, 0x6f,
+            0x6a, 0xa6, 0xb7, 0x1e,
+        ]
+    );
+    let mut message: &[u8] = &MESSAGE;
+    assert_eq!(rt; verify(&public, &mut message, &signature), Ok(()));
+    assert!(rt; message.is_empty());
+}
+
+const fn fault(place: u32, cause: Cause) -> Refusal {
+    Refusal::Unreadable(ReadFault { place, cause })
+}
+
+// What the bytes are refused with as a signature of the message, and how much of it is left.
+fn refusal(rt: &impl Abort, public: &HssPublic, signature: &[u8]) -> (Refusal, usize) {
+    let mut message: &[u8] = &MESSAGE;
+    let refusal = verify(public, &mut message, signature).expect_err(rt, "a changed signature");
+    (refusal, message.len())
+}
+
+// The top tree's signature stands from byte 4 to 1295, the bottom tree's key from 1296 to 1351, and
+// the bottom tree's signature from 1352 on.
+#[test]
+fn changes_are_refused(rt: HostRuntime) {
+    let (public, signature) = signed();
+    for (place, byte, expected, left) in [
+        (3, 0, fault(1296, Cause::Trailing), 1),
+        (3, 7, fault(2644, Cause::Truncated), 1),
+        (3, 8, fault(0, Cause::LevelCount), 1),
+        (0, 1, fault(0, Cause::LevelCount), 1),
+        (7, 32, fault(4, Cause::LeafOutOfRange), 1),
+        (1135, 6, fault(1456, Cause::UnknownType), 1),
+        (1299, 10, fault(1296, Cause::UnknownType), 1),
+        (1299, 6, Refusal::RootMismatch(0), 1),
+        (1304, signature[1304] ^ 1, Refusal::RootMismatch(0), 1),
+        (1351, signature[1351] ^ 1, Refusal::RootMismatch(0), 1),
+        (1355, 32, fault(1352, Cause::LeafOutOfRange), 1),
+        (1355, 2, Refusal::RootMismatch(1), 0),
+        (2643, signature[2643] ^ 1, Refusal::RootMismatch(1), 0),
+    ] {
+        let mut changed = signature;
+        assert!(rt; place < 2644);
+        changed[place] = byte;
+        assert_eq!(rt;
+            refusal(&rt, &public, &changed),
+            (expected, left),
+            "{byte} at {place}"
+        );
+    }
+}
+
+fn without_last(signature: &[u8; 2644]) -> &[u8] {
+    &signature[..2643]
+}
+
+#[test]
+fn cuts_are_refused(rt: HostRuntime) {
+    let (public, signature) = signed();
+    assert_eq!(rt;
+        refusal(&rt, &public, without_last(&signature)),
+        (fault(2612, Cause::Truncated), 1)
+    );
+    assert_eq!(rt; refusal(&rt, &public, &[]), (fault(0, Cause::Truncated), 1));
+    let mut other: &[u8] = b"another";
+    assert_eq!(rt;
+        verify(&public, &mut other, &signature),
+        Err(Refusal::RootMismatch(1))
+    );
+}
+
+#[test]
+fn levels_are_compared(rt: HostRuntime) {
+    let (public, signature) = signed();
+    let one = HssPublic {
+        levels: 1,
+        top: public.top,
+    };
+    assert_eq!(rt; refusal(&rt, &one, &signature), (Refusal::LevelMismatch, 1));
+    // The top tree's signature alone.
+    let mut single = [0; 1296];
+    single[4..1296].copy_from_slice(&signature[4..1296]);
+    assert_eq!(rt; refusal(&rt, &public, &single), (Refusal::LevelMismatch, 1));
+    // It signs the bottom tree's key.
+    let mut message = &signature[1296..1352];
+    assert_eq!(rt; verify(&one, &mut message, &single), Ok(()));
+    assert!(rt; message.is_empty());
+    let other = with_other_bottom(&signature);
+    assert_eq!(rt;
+        refusal(&rt, &public, &other),
+        (Refusal::TypeMismatch(1), 1)
+    );
+}
+
+// The signature with zeros of the types H5 and W4 at the bottom, whose key is of other types.
+fn with_other_bottom(signature: &[u8; 2644]) -> [u8; 3700] {
+    let mut bytes = [0; 3700];
+    bytes[..1352].copy_from_slice(&signature[..1352]);
+    bytes[1359] = 3;
+    bytes[3539] = 5;
+    bytes
+}
+
+// A key of so many levels, of zeros.
+fn zero_key(levels: u8) -> [u8; 60] {
+    let mut bytes = [0; 60];
+    bytes[3] = levels;
+    bytes[7] = 5;
+    bytes[11] = 4;
+    bytes
+}
+
+#[test]
+fn keys_are_read(rt: HostRuntime) {
+    for (levels, known) in [(0, false), (1, true), (8, true), (9, false)] {
+        let read = HssPublic::read(&zero_key(levels));
+        let expected = ReadFault {
+            place: 0,
+            cause: Cause::LevelCount,
+        };
+        assert_eq!(rt;
+            read.ok().map(|key| key.levels),
+            known.then_some(levels),
+            "{levels} levels"
+        );
+        assert_eq!(rt; read.err(), (!known).then_some(expected), "{levels} levels");
+    }
+    let mut bytes = zero_key(2);
+    let trailing = ReadFault {
+        place: 60,
+        cause: Cause::Trailing,
+    };
+    let mut longer = [0; 61];
+    longer[..60].copy_from_slice(&bytes);
+    assert_eq!(rt; HssPublic::read(&longer), Err(trailing));
+    bytes[7] = 10;
+    let unknown = ReadFault {
+        place: 4,
+        cause: Cause::UnknownType,
+    };
+    assert_eq!(rt; HssPublic::read(&bytes), Err(unknown));
+}
+
+#[test]
+fn parts_are_shown(rt: HostRuntime) -> Result<(), Fail> {
+    let (_, signature) = signed();
+    let view = HssSigView::read(&signature)?;
+    assert_eq!(rt; view.levels(), 2);
+    assert_eq!(rt; view.bytes(), signature.as_slice());
+    assert_eq!(rt; view.level(0).bytes(), &signature[4..1296]);
+    assert_eq!(rt; view.level(1).bytes(), &signature[1352..]);
+    assert_eq!(rt; view.key(1), LmsPublic::read(&signature[1296..1352])?);
+    let mut part = [0; 1348];
+    let (root, path) = tree_of(TOP);
+    let top = level(&TOP, TOP_RANDOMIZER, root, &path, &signature[1296..1352]);
+    write_signed_key(&top, &view.key(1), &mut part);
+    assert_eq!(rt; part.as_slice(), &signature[4..1352]);
+    Ok(())
+}
+
+#[test]
+fn signatures_have_lengths(rt: HostRuntime) {
+    let pair = |tree, ots| LmsPair { tree, ots };
+    assert_eq!(rt; signature_len(&[PAIR]), 1296);
+    assert_eq!(rt; signature_len(&[PAIR; 2]), 2644);
+    assert_eq!(rt; signature_len(&[pair(LmsType::H5, OtsType::W4); 2]), 4756);
+    assert_eq!(rt;
+        signature_len(&[PAIR, pair(LmsType::H5, OtsType::W4)]),
+        3700
+    );
+    assert_eq!(rt;
+        signature_len(&[pair(LmsType::H25, OtsType::W1); 8]),
+        74_988
+    );
+}
+
+// Eight levels of H5/W8, each with its place in the list as its leaf.
+#[test]
+fn eight_levels_are_read(rt: HostRuntime) -> Result<(), Fail> {
+    let mut bytes = [0; 10732];
+    bytes[3] = 7;
+    for i in 0..8u8 {
+        let start = 4 + 1348 * usize::from(i);
+        bytes[start + 3] = i;
+        bytes[start + 7] = 4;
+        bytes[start + 1131] = 5;
+        if i < 7 {
+            bytes[start + 1295] = 5;
+            bytes[start + 1299] = 4;
+            bytes[start + 1300] = i;
+        }
+    }
+    let view = HssSigView::read(&bytes)?;
+    assert_eq!(rt; view.levels(), 8);
+    for i in 0..view.levels() {
+        assert_eq!(rt; view.level(i).index(), u32::from(i));
+        if i > 0 {
+            assert_eq!(rt; view.key(i).identifier[0], i - 1);
+        }
+    }
+    Ok(())
+}
