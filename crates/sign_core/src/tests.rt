@@ -300,7 +300,10 @@ fn created_at_last<'a>(alloc: Global, tape: &'a [u8]) -> Result<TestSigner<'a>, 
 // Run with each growth refused in turn, too: a create and two names are answered at the second try.
 #[test]
 fn refused_memory_binds_no_name(rt: HostRuntime) -> Result<(), Fail> {
-    let tape = counting(rt.alloc(), 48 + 64)?;
+    let mut tape = [0; 48 + 64];
+    for (i, byte) in tape.iter_mut().enumerate() {
+        *byte = (i % 256) as u8;
+    }
     let mut signer = created_at_last(rt.alloc(), &tape)?;
     let mut first = Vec::new(rt.alloc());
     let mut second = Vec::new(rt.alloc());
