@@ -24,7 +24,7 @@ pub struct XmssSecret {
 }
 
 impl XmssSecret {
-    /// r, the randomizer of leaf `index`'s signature (RFC 8391 4.1.9).
+    /// r, the randomizer of leaf `index`'s signature, 32 bytes (RFC 8391 4.1.9).
     pub fn randomizer(&self, index: u32) -> [u8; 32]
         ensures { result ≡ randomizer_of self.now.prf_key index }
     {

@@ -24,7 +24,8 @@ pub fn write_public(public: &XmssPublic, into: &mut [u8])
 }
 
 /// Writes the signature of the digest M' by leaf `index`, with the leaf's randomizer and its
-/// authentication path (RFC 8391 4.1.9).
+/// authentication path (RFC 8391 4.1.9): 2500, 2692 or 2820 bytes by the type. The caller keeps the
+/// index below `2^h`, and gives h nodes and as many bytes as the signature has.
 pub fn write_signature(
     secret: &XmssSecret,
     index: u32,
