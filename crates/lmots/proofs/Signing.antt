@@ -1,12 +1,7 @@
 -- What a signature carries of a key's chains climbs to the ends of these chains.
-use Rattle.std.proofs.Common.{◌≡◌, ◌∙◌, refl, sym, ap, ap₂, subst, ℕ, zero, suc, ◌+◌, ◌-◌, ◌*◌, ◌<◌, ◌≤◌, ◌^◌, List, [], ◌∷◌, ◌++◌, map, length, get_or, take, arith, take_at, drop_at}
-use Rattle.std.specs.List.{concat, range_with_len}
-use Rattle.std.specs.Simd.{first_chunks}
-use Rattle.std.proofs.lemmas.List.FromFn.{get_or-map-range_with_len, length-map-range_with_len, map-range_with_len_more}
-use Rattle.std.proofs.lemmas.List.{append-nil}
-use Rattle.std.proofs.lemmas.List.Folds.{concat-append}
-use Rattle.std.proofs.lemmas.Slice.{take-put_mid}
-use borrow.Rule.Slice.PartMut.{put_mid}
+use Rattle.std.proofs.Common.{◌≡◌, ◌∙◌, sym, ap, subst, ℕ, zero, suc, ◌-◌, ◌<◌, ◌^◌, List, [], length, get_or, arith}
+use Rattle.std.specs.List.{concat}
+use Rattle.std.proofs.lemmas.List.FromFn.{get_or-map-range_with_len, length-map-range_with_len}
 use Rattle.sha2.proofs.Facts256.{length-sha256}
 use Rattle.typecodes.specs.Fields.{values_in}
 use Rattle.typecodes.specs.Types.{chains_of, width_of}
@@ -14,6 +9,7 @@ use Rattle.typecodes.specs.declared.types.OtsType.{OtsType}
 use Rattle.winternitz.specs.Walk.{walk, walk_on}
 use Rattle.winternitz.specs.Digits.{digit_count, digits_of}
 use Rattle.winternitz.specs.Ends.{AreEnds}
+use Rattle.winternitz.proofs.Joined.{chunks_of_joined}
 use Rattle.winternitz.proofs.Walks.{walk_joined}
 use Rattle.winternitz.proofs.Coefs.{digit_most}
 use Rattle.lmots.specs.Formulas.{ends_of_seed, private_value, step_of}
@@ -53,34 +49,6 @@ pub signed_sizes : (identifier : List ℕ) (q : ℕ) (ots : OtsType) (seed diges
 signed_sizes identifier q ots seed digest i within =
     ap length (get_or-map-range_with_len _ 0 (chains_of ots) i i [] within (omega arith))
     ∙ walked_size identifier q i 0 _ _ (length-sha256 _)
-
--- values of 32 bytes that are joined are cut out of the bytes again
-pub chunks_of_joined : (n : ℕ) (values : List (List ℕ)) → length values ≡ n → ((i : ℕ) → i < n → length (get_or values i []) ≡ 32)
-    → first_chunks 32 n (concat values) ≡ values
-chunks_of_joined zero [] count sizes = refl
-chunks_of_joined zero (first ∷ rest) count sizes = absurd (omega arith)
-chunks_of_joined (suc n) [] count sizes = absurd (omega arith)
-chunks_of_joined (suc n) (first ∷ rest) count sizes =
-    let size : length first ≡ 32 = sizes 0 (omega arith) in
-    let others = λ (i : ℕ) (within : i < n). sizes (suc i) (omega arith) in
-    ap₂ (λ x xs. x ∷ xs) (take_at first (concat rest) 32 size)
-    (ap (first_chunks 32 n) (drop_at first (concat rest) 32 size) ∙ chunks_of_joined n rest (omega arith) others)
-
--- one value more behind those that are joined
-pub joined_more : (value : ℕ → List ℕ) (n : ℕ) → concat (map value (range_with_len 0 (n + 1))) ≡ concat (map value (range_with_len 0 n)) ++ value n
-joined_more value n =
-    ap concat (map-range_with_len_more value 0 n n (omega arith))
-    ∙ concat-append (map value (range_with_len 0 n)) (value n ∷ [])
-    ∙ ap (λ last. concat (map value (range_with_len 0 n)) ++ last) (append-nil (value n))
-
--- the values up to n are written, and value n behind them: so are the values up to n + 1
-pub written_more : (value : ℕ → List ℕ) (n k : ℕ) (before part : List ℕ) → length part ≡ 32 → 32 * n ≤ length before
-    → take (32 * n) before ≡ concat (map value (range_with_len 0 n)) → part ≡ value n
-    → take (32 * (n + 1)) (put_mid (32 * n) k before part) ≡ concat (map value (range_with_len 0 (n + 1)))
-written_more value n k before part size within written is =
-    take-put_mid (32 * n) k before part (32 * (n + 1)) (omega arith) within
-    ∙ ap₂ (λ front back. front ++ back) written is
-    ∙ sym (joined_more value n)
 
 -- what bytes that hold the values of a signature climb to
 pub bytes_climb : (identifier : List ℕ) (q : ℕ) (ots : OtsType) (seed digest bytes : List ℕ) → bytes ≡ concat (signed_values identifier q ots seed digest)

@@ -1,17 +1,14 @@
 -- What a signature carries of a key's chains climbs to the ends of these chains, for any step and any
 -- private values.
-use Rattle.std.proofs.Common.{◌≡◌, ◌∙◌, refl, sym, ap, ap₂, subst, ℕ, zero, suc, ◌+◌, ◌-◌, ◌*◌, ◌<◌, ◌≤◌, ◌^◌, List, [], ◌∷◌, ◌++◌, map, length, get_or, take, arith, take_at, drop_at}
+use Rattle.std.proofs.Common.{◌≡◌, ◌∙◌, sym, ap, ap₂, subst, ℕ, zero, suc, ◌+◌, ◌-◌, ◌*◌, ◌<◌, ◌^◌, List, [], map, length, get_or, take, arith}
 use Rattle.std.specs.List.{concat, range_with_len}
-use Rattle.std.specs.Simd.{first_chunks}
-use Rattle.std.proofs.lemmas.List.FromFn.{fill_by_all, get_or-map-range_with_len, length-map-range_with_len, map-range_with_len_more}
-use Rattle.std.proofs.lemmas.List.{append-nil, take_all}
-use Rattle.std.proofs.lemmas.List.Folds.{concat-append}
-use Rattle.std.proofs.lemmas.Slice.{take-put_mid}
-use borrow.Rule.Slice.PartMut.{put_mid}
+use Rattle.std.proofs.lemmas.List.FromFn.{fill_by_all, get_or-map-range_with_len, length-map-range_with_len}
+use Rattle.std.proofs.lemmas.List.{take_all}
 use Rattle.typecodes.specs.Fields.{values_in}
 use Rattle.winternitz.specs.Walk.{Steps, walk, walk_on}
 use Rattle.winternitz.specs.Digits.{digit_count, digits_of}
 use Rattle.winternitz.specs.Ends.{AreEnds, end_of, ends_of}
+use Rattle.winternitz.proofs.Joined.{chunks_of_joined}
 use Rattle.winternitz.proofs.Walks.{walk_joined}
 use Rattle.winternitz.proofs.Coefs.{digit_most}
 
@@ -55,34 +52,6 @@ signed_sizes step start digits n steps starts i within =
     let value = λ (i : ℕ). walk step i 0 (get_or digits i 0) (start i) in
     ap length (get_or-map-range_with_len value 0 n i i [] within (omega arith))
     ∙ walked_size step i 0 (get_or digits i 0 - 0) (start i) steps (starts i)
-
--- values of 32 bytes that are joined are cut out of the bytes again
-pub chunks_of_joined : (n : ℕ) (values : List (List ℕ)) → length values ≡ n → ((i : ℕ) → i < n → length (get_or values i []) ≡ 32)
-    → first_chunks 32 n (concat values) ≡ values
-chunks_of_joined zero [] count sizes = refl
-chunks_of_joined zero (first ∷ rest) count sizes = absurd (omega arith)
-chunks_of_joined (suc n) [] count sizes = absurd (omega arith)
-chunks_of_joined (suc n) (first ∷ rest) count sizes =
-    let size : length first ≡ 32 = sizes 0 (omega arith) in
-    let others = λ (i : ℕ) (within : i < n). sizes (suc i) (omega arith) in
-    ap₂ (λ x xs. x ∷ xs) (take_at first (concat rest) 32 size)
-    (ap (first_chunks 32 n) (drop_at first (concat rest) 32 size) ∙ chunks_of_joined n rest (omega arith) others)
-
--- one value more behind those that are joined
-pub joined_more : (value : ℕ → List ℕ) (n : ℕ) → concat (map value (range_with_len 0 (n + 1))) ≡ concat (map value (range_with_len 0 n)) ++ value n
-joined_more value n =
-    ap concat (map-range_with_len_more value 0 n n (omega arith))
-    ∙ concat-append (map value (range_with_len 0 n)) (value n ∷ [])
-    ∙ ap (λ last. concat (map value (range_with_len 0 n)) ++ last) (append-nil (value n))
-
--- the values up to n are written, and value n behind them: so are the values up to n + 1
-pub written_more : (value : ℕ → List ℕ) (n k : ℕ) (before part : List ℕ) → length part ≡ 32 → 32 * n ≤ length before
-    → take (32 * n) before ≡ concat (map value (range_with_len 0 n)) → part ≡ value n
-    → take (32 * (n + 1)) (put_mid (32 * n) k before part) ≡ concat (map value (range_with_len 0 (n + 1)))
-written_more value n k before part size within written is =
-    take-put_mid (32 * n) k before part (32 * (n + 1)) (omega arith) within
-    ∙ ap₂ (λ front back. front ++ back) written is
-    ∙ sym (joined_more value n)
 
 -- once the values of all n chains are written, the bytes are those
 pub written_all : (step : Steps) (start : ℕ → List ℕ) (read digits bytes : List ℕ) (chain n : ℕ)

@@ -5,7 +5,8 @@ use Rattle.lmots.specs.Signed.{signed_values}
 use Rattle.typecodes.specs.Types.{chains_of}
 use Rattle.winternitz.specs.Digits.{digit_count, digits_of}
 use Rattle.lmots.proofs.Counts.{digits_are_chains}
-use Rattle.lmots.proofs.Signing.{bytes_climb, written_more}
+use Rattle.lmots.proofs.Signing.{bytes_climb}
+use Rattle.winternitz.proofs.Joined.{written_more}
 use Rattle.lmots.proofs.key.LmOts.sign_digest.Goals as goal
 
 pub loop-chain-preserved : goal.loop-chain-preserved
