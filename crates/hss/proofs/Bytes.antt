@@ -1,5 +1,5 @@
 -- The bytes of keys and signatures spell them.
-use Rattle.std.proofs.Common.{◌≡◌, ◌∙◌, refl, sym, ap, ap₂, ℕ, zero, suc, ◌+◌, ◌-◌, ◌*◌, ◌<◌, ◌≤◌, ◌^◌, cond, nat_le, List, [], ◌∷◌, ◌++◌, length, map, take, get_or, subst, subst₂, arith, add-one, append-nil, append_assoc, le-leb, length-append}
+use Rattle.std.proofs.Common.{◌≡◌, ◌∙◌, refl, sym, ap, ap₂, ℕ, zero, suc, ◌+◌, ◌-◌, ◌*◌, ◌<◌, ◌≤◌, cond, nat_le, List, [], ◌∷◌, ◌++◌, length, map, take, get_or, subst, subst₂, arith, add-one, append-nil, append_assoc, le-leb, length-append}
 use Rattle.std.specs.Prelude.{◌&&◌, sum_by}
 use Rattle.std.specs.List.{flat_map}
 use Rattle.std.proofs.lemmas.List.{drop_all, get_or_append_left, get_or_default, length-map, map-append, take_more}
@@ -7,8 +7,6 @@ use Rattle.std.proofs.lemmas.List.Concat.{flat_map-append}
 use Rattle.std.proofs.lemmas.List.Sums.{sum_by-cons, sum_by-take-le, sum_by_push}
 use Rattle.std.proofs.lemmas.Slice.{take-put_mid}
 use borrow.Rule.Slice.PartMut.{Post-is, post_of, put_mid}
-use Rattle.byteorder.specs.Endian.{big_number}
-use Rattle.byteorder.specs.Numbers.{big_number-reads_back}
 use Rattle.typecodes.specs.declared.fault.Cause.TheVariants.{LevelCount}
 use Rattle.typecodes.specs.declared.types.LmsPair.{LmsPair}
 use Rattle.typecodes.specs.Types.{lms_signature_len_of}
@@ -19,6 +17,7 @@ use Rattle.lmots.specs.Formulas.{u32str}
 use Rattle.lms.specs.declared.key.LmsPublic.{LmsPublic}
 use Rattle.lms.specs.Layouts.{Signature as LmsSignature, public_key as lms_public_key, signature as lms_signature}
 use Rattle.lms.specs.Textbook.{public_bytes as lms_public_bytes, signature_bytes as lms_signature_bytes}
+use Rattle.lms.proofs.SigningBytes.{last_field, number_spelled}
 use Rattle.hss.specs.declared.key.HssPublic.{HssPublic}
 use Rattle.hss.specs.declared.signing.Level.{Level}
 use Rattle.hss.specs.Bytes.{public_bytes, signature_bytes, signature_size, signed_key_bytes}
@@ -26,14 +25,6 @@ use Rattle.hss.specs.Layouts.{Signature, SignedKey, level_number, public_key, si
 use Rattle.hss.specs.Making.{key_of, pairs_of, part_size, signature_by, signed_by, signed_key_by}
 use Rattle.hss.specs.Textbook.{level_in, levels_in}
 use Rattle.hss.proofs.Making.{signed-at, signed-count}
-
--- the last field of a layout ends its bytes
-last_field : {V W : Type 0} (first : Layout V) (next : V → Layout W) (v : V) (w : W) (bytes : List ℕ) → Spells first v bytes → Spells (next v) w [] → Spells (first >>= next) w bytes
-last_field first next v w bytes spelled ended = subst (Spells (first >>= next) w) (append-nil bytes) (from_turn first next v w bytes [] spelled ended)
-
--- 4 bytes spell their number
-number_spelled : (x : ℕ) → x < 2 ^ 32 → Spells number x (u32str x)
-number_spelled x small = (u32str x, [], sym (append-nil (u32str x)), refl, (ap (big_number 4) (sym (append-nil (u32str x))) ∙ big_number-reads_back 4 x [] small, refl))
 
 -- a number of levels within its bounds is spelled by 4 bytes
 level_number-spelled : (low high n : ℕ) → low ≤ n → n ≤ high → high ≤ 8 → Spells (level_number low high) n (u32str n)

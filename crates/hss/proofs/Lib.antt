@@ -6,3 +6,4 @@ pub mod Verifying
 pub mod Verdicts
 pub mod Making
 pub mod Bytes
+pub mod Sized

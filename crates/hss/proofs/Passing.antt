@@ -27,10 +27,10 @@ height_most H15 = omega arith
 height_most H20 = omega arith
 height_most H25 = omega arith
 
--- a layout's end behind one that was read is the end of what follows
-end-ok : {V W : Type 0} (first : Layout V) (next : V → Layout W) (x : V × ℕ) (bytes : List ℕ) (place : ℕ) → read first bytes place ≡ Ok x
+-- what follows a layout that is read is read behind it
+pub read-behind : {V W : Type 0} (first : Layout V) (next : V → Layout W) (bytes : List ℕ) (place : ℕ) (x : V × ℕ) → read first bytes place ≡ Ok x
     → read (first >>= next) bytes place ≡ read (next x.0) bytes x.1
-end-ok first next x bytes place found = read-bind first next bytes place ∙ ap (λ r. and_then r (λ y. read (next y.0) bytes y.1)) found
+read-behind first next bytes place x found = read-bind first next bytes place ∙ ap (λ r. and_then r (λ y. read (next y.0) bytes y.1)) found
 
 -- values that are put in front of a list change no end
 end-behind : (first : SignedKey) (rest : Layout (List SignedKey)) (bytes : List ℕ) (place : ℕ)
@@ -46,7 +46,7 @@ more n bytes place next passed =
     elim (read signed_key bytes place) as (λ r. read signed_key bytes place ≡ r → end_of r ≡ Ok next → end_of (read (signed_keys (suc n)) bytes place) ≡ end_of (read (signed_keys n) bytes next)) [
       | Ok x ↦ λ found ends.
           let at : x.1 ≡ next = cc in
-          ap end_of (end-ok signed_key (λ first. signed_keys n >>= λ rest. done (first ∷ rest)) x bytes place found)
+          ap end_of (read-behind signed_key (λ first. signed_keys n >>= λ rest. done (first ∷ rest)) bytes place x found)
           ∙ end-behind x.0 (signed_keys n) bytes x.1 ∙ ap (λ at. end_of (read (signed_keys n) bytes at)) at
       | Err fault ↦ λ found ends. absurd (cc)
     ] refl passed
@@ -90,7 +90,7 @@ pub signed_key-faulty : (bytes : List ℕ) (place middle : ℕ) (s : LmsSignatur
 unfolding signed_key
 signed_key-faulty bytes place middle s fault s_read key_faulty =
     let behind : LmsSignature → Layout SignedKey = λ s. lms_public_key >>= λ key. done (record { signature = s; key = key }) in
-    ap end_of (end-ok lms_signature behind (s, middle) bytes place s_read
+    ap end_of (read-behind lms_signature behind bytes place (s, middle) s_read
     ∙ read-bind lms_public_key (λ key. done (record { signature = s; key = key })) bytes middle
     ∙ ap (λ r. and_then r (λ x. Ok (record { signature = s; key = x.0 }, x.1))) key_faulty)
 

@@ -1,5 +1,5 @@
 -- Where the levels of a signature stand in the bytes that spell it.
-use Rattle.std.proofs.Common.{◌≡◌, ◌∙◌, refl, sym, ap, ap₂, ℕ, zero, suc, ◌+◌, ◌-◌, ◌*◌, ◌<◌, ◌≤◌, inl, inr, Bool, true, false, cond, nat_le, List, [], ◌∷◌, length, map, take, drop, get_or, Option, Some, None, Result, Ok, Err, subst, arith, add-zero, length-append, length-drop, add-one, length-take-le}
+use Rattle.std.proofs.Common.{◌≡◌, ◌∙◌, refl, sym, ap, ap₂, ℕ, zero, suc, ◌+◌, ◌-◌, ◌*◌, ◌<◌, ◌≤◌, inl, inr, Bool, true, false, cond, nat_le, List, [], ◌∷◌, length, map, take, drop, get_or, Ok, Err, subst, arith, add-zero, length-append, length-drop, add-one, length-take-le}
 use Rattle.std.specs.Prelude.{◌&&◌, sum_by}
 use Rattle.std.proofs.lemmas.Bool.{cases_lt, lt-leb}
 use Rattle.std.proofs.lemmas.List.Sums.{sum_by-cons, sum_by_push}
@@ -9,75 +9,34 @@ use Rattle.std.proofs.Math.Nat.{sub-zero}
 use Rattle.byteorder.specs.Endian.{big_number}
 use Rattle.typecodes.specs.declared.fault.Cause.TheVariants.{LevelCount}
 use Rattle.typecodes.specs.declared.fault.ReadFault.{ReadFault}
-use Rattle.typecodes.specs.declared.types.LmsType.{LmsType}
-use Rattle.typecodes.specs.declared.types.OtsType.{OtsType}
-use Rattle.typecodes.specs.Types.{lms_code, lms_signature_len_of, lms_types, named, ots_code, ots_types}
+use Rattle.typecodes.specs.Types.{lms_code, lms_signature_len_of, lms_types, ots_code, ots_types}
 use Rattle.typecodes.specs.Layout.{Layout, done, refuse, ◌>>=◌, Spells}
-use Rattle.typecodes.specs.Fields.{block, known, lms_type, number, ots_type, typed}
+use Rattle.typecodes.specs.Fields.{block, lms_type, number, ots_type}
 use Rattle.typecodes.specs.Reading.{and_then, read}
 use Rattle.typecodes.proofs.Read.{read-bind, read-cut, read-fits, read-stands}
-use Rattle.typecodes.proofs.Spelling.{in_turn}
+use Rattle.typecodes.proofs.Sizes.{HasSize, size-bind, size-block, size-done, size-typed}
 use Rattle.typecodes.proofs.Steps.{ends-spelled}
 use Rattle.lms.specs.declared.key.LmsPublic.{LmsPublic}
 use Rattle.lms.specs.Layouts.{Signature as LmsSignature, public_key as lms_public_key, signature as lms_signature}
-use Rattle.lms.proofs.Parts.{laid_out, part_read}
+use Rattle.lms.proofs.Parts.{in_turn, laid_out, part_read}
 use Rattle.hss.specs.Bytes.{signature_size}
 use Rattle.hss.specs.Ends.{end_of}
 use Rattle.hss.specs.Spelled.{read_value, spelled_by}
+use Rattle.hss.proofs.Passing.{read-behind}
 use Rattle.hss.specs.Layouts.{Signature, SignedKey, level_number, signature, signed_key, signed_keys}
 use Rattle.hss.specs.Levels.{key_at, keys_of, level_count, signature_at, signatures_of, start_of}
 
 -- ---- how long the parts are
 
--- a block is as long as it says
-block-size : (n : ℕ) (v bytes : List ℕ) → Spells (block n) v bytes → length bytes ≡ n
-block-size n v bytes (front, rest, bytes_are, len, (_, ended)) = omega (arith, ap length bytes_are, length-append front rest, ap length ended)
-
--- a type that its code named takes no more bytes
-known-size : {T : Type 0} (found : Option T) (t : T) (bytes : List ℕ) → Spells (known found) t bytes → length bytes ≡ 0
-known-size (Some u) t bytes spelled = ap length spelled.1
-known-size None t bytes spelled = absurd spelled
-
--- a type takes 4 bytes
-typed-size : {T : Type 0} (code : T → ℕ) (types : List T) (t : T) (bytes : List ℕ) → Spells (typed code types) t bytes → length bytes ≡ 4
-typed-size code types t bytes spelled =
-    let (c, a, b, bytes_are, (front, rest, a_is, len, (_, ended)), known_spelled) = in_turn number (λ c. known (named code types c)) t bytes spelled in
-    omega (arith, ap length bytes_are, length-append a b, ap length a_is, length-append front rest, ap length ended, known-size (named code types c) t b known_spelled)
-
--- what stands behind each field of a public key
-behind_identifier : LmsType → OtsType → List ℕ → Layout LmsPublic
-behind_identifier tree ots identifier = block 32 >>= λ root. done (record { pair = record { tree = tree; ots = ots }; identifier = identifier; root = root })
-
-behind_ots : LmsType → OtsType → Layout LmsPublic
-behind_ots tree ots = block 16 >>= behind_identifier tree ots
-
-behind_tree : LmsType → Layout LmsPublic
-behind_tree tree = ots_type >>= behind_ots tree
-
--- I and the root take 48 bytes
-hashes-size : (tree : LmsType) (ots : OtsType) (key : LmsPublic) (bytes : List ℕ) → Spells (behind_ots tree ots) key bytes → length bytes ≡ 48
-unfolding behind_ots behind_identifier
-hashes-size tree ots key bytes spelled =
-    let (identifier, a, b, bytes_are, identifier_spelled, behind) = in_turn (block 16) (behind_identifier tree ots) key bytes spelled in
-    let (root, f, g, b_is, root_spelled, ended) = in_turn (block 32) (λ root. done (record { pair = record { tree = tree; ots = ots }; identifier = identifier; root = root })) key b behind in
-    omega (arith, ap length bytes_are, length-append a b, block-size 16 identifier a identifier_spelled, ap length b_is, length-append f g, block-size 32 root f root_spelled, ap length ended.1)
-
 -- a public key takes 56 bytes
-public-size : (key : LmsPublic) (bytes : List ℕ) → Spells lms_public_key key bytes → length bytes ≡ 56
-unfolding lms_public_key lms_type ots_type behind_tree behind_ots behind_identifier
-public-size key bytes spelled =
-    let (tree, a, rest, bytes_are, tree_spelled, behind) = in_turn lms_type behind_tree key bytes spelled in
-    let (ots, b, hashes, rest_is, ots_spelled, last) = in_turn ots_type (behind_ots tree) key rest behind in
-    omega (
-      arith,
-      ap length bytes_are,
-      length-append a rest,
-      typed-size lms_code lms_types tree a tree_spelled,
-      ap length rest_is,
-      length-append b hashes,
-      typed-size ots_code ots_types ots b ots_spelled,
-      hashes-size tree ots key hashes last,
-    )
+public-size : HasSize lms_public_key 56
+unfolding lms_public_key lms_type ots_type
+public-size =
+    size-bind lms_type _ 4 52 (size-typed lms_code lms_types) (λ tree.
+    size-bind ots_type _ 4 48 (size-typed ots_code ots_types) (λ ots.
+    let key : List ℕ → List ℕ → LmsPublic = λ identifier root. record { pair = record { tree = tree; ots = ots }; identifier = identifier; root = root } in
+    size-bind (block 16) (λ identifier. block 32 >>= λ root. done (key identifier root)) 16 32 (size-block 16) (λ identifier.
+    size-bind (block 32) (λ root. done (key identifier root)) 32 0 (size-block 32) (λ root. size-done (key identifier root)))))
 
 -- so does one that is read, wherever it stands
 public-end : (key : LmsPublic) (bytes : List ℕ) (place end : ℕ) → place ≤ length bytes → read lms_public_key bytes place ≡ Ok (key, end) → end ≡ place + 56
@@ -102,37 +61,21 @@ signature-end s bytes place end within found =
 
 -- ---- signed keys, one after the other
 
--- what two layouts read, one after the other, is read in turn
-turn : {V W : Type 0} (first : Layout V) (next : V → Layout W) (bytes : List ℕ) (place : ℕ) (x : W × ℕ) → read (first >>= next) bytes place ≡ Ok x
-    → (y : V × ℕ) × (read first bytes place ≡ Ok y) × (read (next y.0) bytes y.1 ≡ Ok x)
-turn {V = V} {W = W} first next bytes place x found =
-    let split : (r : Result (V × ℕ) ReadFault) → and_then r (λ y. read (next y.0) bytes y.1) ≡ Ok x → (y : V × ℕ) × (r ≡ Ok y) × (read (next y.0) bytes y.1 ≡ Ok x) =
-    λ r. elim r as (λ r. and_then r (λ y. read (next y.0) bytes y.1) ≡ Ok x → (y : V × ℕ) × (r ≡ Ok y) × (read (next y.0) bytes y.1 ≡ Ok x)) [
-      | Ok y ↦ λ e. (y, refl, e)
-      | Err fault ↦ λ e. absurd (cc)
-    ] in
-    split (read first bytes place) (sym (read-bind first next bytes place) ∙ found)
-
--- and back
-from-turn : {V W : Type 0} (first : Layout V) (next : V → Layout W) (bytes : List ℕ) (place : ℕ) (y : V × ℕ) → read first bytes place ≡ Ok y
-    → read (first >>= next) bytes place ≡ read (next y.0) bytes y.1
-from-turn first next bytes place y found = read-bind first next bytes place ∙ ap (λ r. and_then r (λ y. read (next y.0) bytes y.1)) found
-
 -- one more behind those that were read
 keys-more : (n : ℕ) (bytes : List ℕ) (place middle end : ℕ) (first : SignedKey) (rest : List SignedKey) → read signed_key bytes place ≡ Ok (first, middle)
     → read (signed_keys n) bytes middle ≡ Ok (rest, end) → read (signed_keys (suc n)) bytes place ≡ Ok (first ∷ rest, end)
 unfolding signed_keys
 keys-more n bytes place middle end first rest first_found rest_found =
-    from-turn signed_key (λ first. signed_keys n >>= λ rest. done (first ∷ rest)) bytes place (first, middle) first_found
-    ∙ from-turn (signed_keys n) (λ rest. done (first ∷ rest)) bytes middle (rest, end) rest_found
+    read-behind signed_key (λ first. signed_keys n >>= λ rest. done (first ∷ rest)) bytes place (first, middle) first_found
+    ∙ read-behind (signed_keys n) (λ rest. done (first ∷ rest)) bytes middle (rest, end) rest_found
 
 -- the first of them, and the others
 keys-split : (n : ℕ) (bytes : List ℕ) (place end : ℕ) (keys : List SignedKey) → read (signed_keys (suc n)) bytes place ≡ Ok (keys, end)
     → (first : SignedKey) × (middle : ℕ) × (rest : List SignedKey) × (keys ≡ first ∷ rest) × (read signed_key bytes place ≡ Ok (first, middle)) × (read (signed_keys n) bytes middle ≡ Ok (rest, end))
 unfolding signed_keys
 keys-split n bytes place end keys found =
-    let (x, x_found, behind) = turn signed_key (λ first. signed_keys n >>= λ rest. done (first ∷ rest)) bytes place (keys, end) found in
-    let (y, y_found, same) = turn (signed_keys n) (λ rest. done (x.0 ∷ rest)) bytes x.1 (keys, end) behind in
+    let (x, x_found, behind) = in_turn signed_key (λ first. signed_keys n >>= λ rest. done (first ∷ rest)) bytes place (keys, end) found in
+    let (y, y_found, same) = in_turn (signed_keys n) (λ rest. done (x.0 ∷ rest)) bytes x.1 (keys, end) behind in
     let pair : ◌≡◌ {A = List SignedKey × ℕ} (x.0 ∷ y.0, y.1) (keys, end) = cc in
     (x.0, x.1, y.0, sym (ap (λ p. p.0) pair), x_found, y_found ∙ ap (λ at. Ok (y.0, at)) (ap (λ p. p.1) pair))
 
@@ -161,8 +104,8 @@ signed_key-split : (bytes : List ℕ) (place end : ℕ) (signed : SignedKey) →
     × (read lms_public_key bytes (place + lms_signature_len_of signed.signature.pair) ≡ Ok (signed.key, end)) × (end ≡ place + taken signed.signature) × (end ≤ length bytes)
 unfolding signed_key
 signed_key-split bytes place end signed within found =
-    let (x, x_found, behind) = turn lms_signature (λ s. lms_public_key >>= λ key. done (record { signature = s; key = key })) bytes place (signed, end) found in
-    let (y, y_found, same) = turn lms_public_key (λ key. done (record { signature = x.0; key = key })) bytes x.1 (signed, end) behind in
+    let (x, x_found, behind) = in_turn lms_signature (λ s. lms_public_key >>= λ key. done (record { signature = s; key = key })) bytes place (signed, end) found in
+    let (y, y_found, same) = in_turn lms_public_key (λ key. done (record { signature = x.0; key = key })) bytes x.1 (signed, end) behind in
     let built : SignedKey = record { signature = x.0; key = y.0 } in
     let pair : ◌≡◌ {A = SignedKey × ℕ} (built, y.1) (signed, end) = cc in
     let signature_is : x.0 ≡ signed.signature = ap (λ p. p.0.signature) pair in
@@ -237,30 +180,33 @@ pub record IsRead (s : Signature) (bytes : List ℕ) : Type 0 where
   pub keys : read (signed_keys (length s.signed)) bytes 4 ≡ Ok (s.signed, end)
   pub bottom : read lms_signature bytes end ≡ Ok (s.bottom, length bytes)
 
-pub is_read : (s : Signature) (bytes : List ℕ) → read signature bytes 0 ≡ Ok (s, length bytes) → IsRead s bytes
-unfolding signature
-is_read s bytes found =
-    let behind_keys : List SignedKey → Layout Signature = λ signed. lms_signature >>= λ bottom. done (record { signed = signed; bottom = bottom }) in
-    let (n, n_found, behind) = turn (level_number 0 7) (λ above. signed_keys above >>= behind_keys) bytes 0 (s, length bytes) found in
-    let number = level_number-read 0 7 bytes 0 n n_found in
-    let (keys, keys_found, behind') = turn (signed_keys n.0) behind_keys bytes n.1 (s, length bytes) behind in
-    let (bottom, bottom_found, same) = turn lms_signature (λ bottom. done (record { signed = keys.0; bottom = bottom })) bytes keys.1 (s, length bytes) behind' in
-    let built : Signature = record { signed = keys.0; bottom = bottom.0 } in
-    let pair : ◌≡◌ {A = Signature × ℕ} (built, bottom.1) (s, length bytes) = cc in
-    let keys_are : keys.0 ≡ s.signed = ap (λ p. p.0.signed) pair in
-    let bottom_is : bottom.0 ≡ s.bottom = ap (λ p. p.0.bottom) pair in
-    let end_is : bottom.1 ≡ length bytes = ap (λ p. p.1) pair in
-    let at_four : n.1 ≡ 4 = number.2 in
-    let counted = keys-end n.0 bytes n.1 keys.1 keys.0 (omega (arith, number.2, number.3)) keys_found in
-    let count : n.0 ≡ length s.signed = sym counted.0 ∙ ap length keys_are in
+-- the parts that were read one after the other
+is_read-parts : (s : Signature) (bytes : List ℕ) (n four end last : ℕ) (keys : List SignedKey) (bottom : LmsSignature) → read (level_number 0 7) bytes 0 ≡ Ok (n, four)
+    → read (signed_keys n) bytes four ≡ Ok (keys, end) → read lms_signature bytes end ≡ Ok (bottom, last) → ◌≡◌ {A = Signature × ℕ} (record { signed = keys; bottom = bottom }, last) (s, length bytes) → IsRead s bytes
+is_read-parts s bytes n four end last keys bottom n_found keys_found bottom_found same =
+    let keys_are : keys ≡ s.signed = ap (λ p. p.0.signed) same in
+    let bottom_is : bottom ≡ s.bottom = ap (λ p. p.0.bottom) same in
+    let last_is : last ≡ length bytes = ap (λ p. p.1) same in
+    let number = level_number-read 0 7 bytes 0 (n, four) n_found in
+    let counted = keys-end n bytes four end keys (omega (arith, number.2, number.3)) keys_found in
+    let count : n ≡ length s.signed = sym counted.0 ∙ ap length keys_are in
     record {
       number = sym count ∙ number.0;
       few = omega (arith, count, number.1);
       long = omega (arith, number.3);
-      end = keys.1;
-      keys = ap₂ (λ k at. read (signed_keys k) bytes at) (sym count) (sym at_four) ∙ keys_found ∙ ap (λ ks. Ok (ks, keys.1)) keys_are;
-      bottom = bottom_found ∙ ap₂ (λ b at. Ok (b, at)) bottom_is end_is;
+      end = end;
+      keys = ap₂ (λ k at. read (signed_keys k) bytes at) (sym count) (sym number.2) ∙ keys_found ∙ ap (λ ks. Ok (ks, end)) keys_are;
+      bottom = bottom_found ∙ ap₂ (λ b at. Ok (b, at)) bottom_is last_is;
     }
+
+pub is_read : (s : Signature) (bytes : List ℕ) → read signature bytes 0 ≡ Ok (s, length bytes) → IsRead s bytes
+unfolding signature
+is_read s bytes found =
+    let behind_keys : List SignedKey → Layout Signature = λ signed. lms_signature >>= λ bottom. done (record { signed = signed; bottom = bottom }) in
+    let (n, n_found, behind) = in_turn (level_number 0 7) (λ above. signed_keys above >>= behind_keys) bytes 0 (s, length bytes) found in
+    let (keys, keys_found, behind') = in_turn (signed_keys n.0) behind_keys bytes n.1 (s, length bytes) behind in
+    let (bottom, bottom_found, same) = in_turn lms_signature (λ bottom. done (record { signed = keys.0; bottom = bottom })) bytes keys.1 (s, length bytes) behind' in
+    is_read-parts s bytes n.0 n.1 keys.1 bottom.1 keys.0 bottom.0 n_found keys_found bottom_found (cc)
 
 -- the levels above level i end where it begins
 starts : (s : Signature) (i : ℕ) → i ≤ length s.signed → 4 + sum_by taken (map (λ signed. signed.signature) (take i s.signed)) ≡ start_of s i
@@ -301,6 +247,20 @@ key_at-below top s i first rest is =
     sym (ap (λ xs. get_or (map of xs) 0 top) is) ∙ sym (ap (λ xs. get_or xs 0 top) (drop-map of i s.signed))
     ∙ get_or-drop i (map of s.signed) 0 top ∙ ap (λ k. get_or (map of s.signed) k top) (add-zero i) ∙ sym (ap (λ k. get_or (keys_of top s) k top) (add-one i))
 
+-- what was read of one level
+signed_read-parts : (s : Signature) (bytes : List ℕ) (i : ℕ) (top : LmsPublic) (middle next : ℕ) (first : SignedKey) (rest : List SignedKey) → i < length s.signed → middle ≡ start_of s i → middle ≤ length bytes
+    → drop i s.signed ≡ first ∷ rest → read signed_key bytes middle ≡ Ok (first, next)
+    → (read lms_signature bytes (start_of s i) ≡ Ok (signature_at s i, start_of s i + lms_signature_len_of (signature_at s i).pair))
+    × (read lms_public_key bytes (start_of s i + lms_signature_len_of (signature_at s i).pair) ≡ Ok (key_at top s (i + 1), start_of s (i + 1)))
+signed_read-parts s bytes i top middle next first rest within at inside keys_are first_found =
+    let (signature_found, key_found, next_is, _) = signed_key-split bytes middle next first inside first_found in
+    let signature_is = signature_at-above s i first rest within keys_are in
+    let key_is = key_at-below top s i first rest keys_are in
+    let next_at : next ≡ start_of s (i + 1) = next_is ∙ ap₂ (λ at s. at + taken s) at signature_is ∙ sym (start-more s i within) in (
+      ap (λ at. read lms_signature bytes at) (sym at) ∙ signature_found ∙ ap₂ (λ at s. Ok (s, at + lms_signature_len_of s.pair)) at signature_is,
+      ap₂ (λ at s. read lms_public_key bytes (at + lms_signature_len_of s.pair)) (sym at) (sym signature_is) ∙ key_found ∙ ap₂ (λ k at. Ok (k, at)) key_is next_at,
+    )
+
 -- a signature above the bottom stands where its level begins, and behind it the next level's key
 pub signed_read : (s : Signature) (bytes : List ℕ) (i : ℕ) (top : LmsPublic) → IsRead s bytes → i < length s.signed
     → (read lms_signature bytes (start_of s i) ≡ Ok (signature_at s i, start_of s i + lms_signature_len_of (signature_at s i).pair))
@@ -310,15 +270,8 @@ signed_read s bytes i top parts within =
     let left : n - i ≡ suc (n - (i + 1)) = omega arith in
     let (middle, front, back) = keys-prefix i n bytes 4 parts.end s.signed (omega arith) parts.keys in
     let ends = keys-end i bytes 4 middle (take i s.signed) parts.long front in
-    let at : middle ≡ start_of s i = ends.1 ∙ starts s i (omega arith) in
-    let (first, next, rest, keys_are, first_found, rest_found) = keys-split (n - (i + 1)) bytes middle parts.end (drop i s.signed) (ap (λ k. read (signed_keys k) bytes middle) (sym left) ∙ back) in
-    let (signature_found, key_found, next_is, _) = signed_key-split bytes middle next first ends.2 first_found in
-    let signature_is = signature_at-above s i first rest within keys_are in
-    let key_is = key_at-below top s i first rest keys_are in
-    let next_at : next ≡ start_of s (i + 1) = next_is ∙ ap₂ (λ at s. at + taken s) at signature_is ∙ sym (start-more s i within) in (
-      ap (λ at. read lms_signature bytes at) (sym at) ∙ signature_found ∙ ap₂ (λ at s. Ok (s, at + lms_signature_len_of s.pair)) at signature_is,
-      ap₂ (λ at s. read lms_public_key bytes (at + lms_signature_len_of s.pair)) (sym at) (sym signature_is) ∙ key_found ∙ ap₂ (λ k at. Ok (k, at)) key_is next_at,
-    )
+    let (first, next, rest, keys_are, first_found, _) = keys-split (n - (i + 1)) bytes middle parts.end (drop i s.signed) (ap (λ k. read (signed_keys k) bytes middle) (sym left) ∙ back) in
+    signed_read-parts s bytes i top middle next first rest within (ends.1 ∙ starts s i (omega arith)) ends.2 keys_are first_found
 
 -- the bottom one stands behind all signed keys
 pub bottom_read : (s : Signature) (bytes : List ℕ) → IsRead s bytes
@@ -360,10 +313,10 @@ whole_read bytes above four place end bottom number passed bottom_found =
           let at : x.1 ≡ place = cc in
           let s : Signature = record { signed = x.0; bottom = bottom } in
           let found : read signature bytes 0 ≡ Ok (s, end) =
-          from-turn (level_number 0 7) (λ above. signed_keys above >>= behind_keys) bytes 0 (above, four) number
-          ∙ from-turn (signed_keys above) behind_keys bytes four x keys_found
+          read-behind (level_number 0 7) (λ above. signed_keys above >>= behind_keys) bytes 0 (above, four) number
+          ∙ read-behind (signed_keys above) behind_keys bytes four x keys_found
           ∙ ap (λ at. read (behind_keys x.0) bytes at) at
-          ∙ from-turn lms_signature (λ bottom. done (record { signed = x.0; bottom = bottom })) bytes place (bottom, end) bottom_found in
+          ∙ read-behind lms_signature (λ bottom. done (record { signed = x.0; bottom = bottom })) bytes place (bottom, end) bottom_found in
           let is : spelled_by bytes ≡ s = ap read_value found in
           let inside = level_number-read 0 7 bytes 0 (above, four) number in
           let counted = keys-end above bytes four x.1 x.0 (omega (arith, inside.2, inside.3)) keys_found in
@@ -377,7 +330,7 @@ pub whole_faulty : (bytes : List ℕ) (above four : ℕ) (fault : ReadFault) →
 unfolding signature
 whole_faulty bytes above four fault number passed =
     let behind_keys : List SignedKey → Layout Signature = λ signed. lms_signature >>= λ bottom. done (record { signed = signed; bottom = bottom }) in
-    from-turn (level_number 0 7) (λ above. signed_keys above >>= behind_keys) bytes 0 (above, four) number
+    read-behind (level_number 0 7) (λ above. signed_keys above >>= behind_keys) bytes 0 (above, four) number
     ∙ read-bind (signed_keys above) behind_keys bytes four
     ∙ (elim (read (signed_keys above) bytes four) as (λ r. end_of r ≡ Err fault → and_then r (λ x. read (behind_keys x.0) bytes x.1) ≡ Err fault) [
       | Ok x ↦ λ ends. absurd (cc)

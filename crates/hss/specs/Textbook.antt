@@ -45,6 +45,12 @@ abbrev pub textbook : List Signing → Signing → Signature
 textbook above bottom =
     signed_with (λ level. lms_textbook level.secret level.leaf level.randomizer level.digest) (λ level. lms_public_of level.secret) above bottom
 
+-- the values have their sizes, and the leaf is one of the tree
+pub record IsSized (level : Signing) : Type 0 where
+  pub identifier : length level.secret.identifier ≡ 16
+  pub randomizer : length level.randomizer ≡ 32
+  pub inside : level.leaf < 2 ^ height_of level.secret.pair.tree
+
 -- each level's leaf is one of its tree, and its digest that of what it signs
 pub record Signs (above : List Signing) (bottom : Signing) (message : List ℕ) : Type 0 where
   pub leaves : (i : ℕ) → i < length above + 1 → let level = level_in above bottom i in level.leaf < 2 ^ height_of level.secret.pair.tree

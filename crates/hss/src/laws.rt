@@ -1,15 +1,16 @@
 //! Laws of spellings, of verdicts and of textbook signatures. The functions do nothing: what their contracts say is proved of
 //! every key and every signature.
 
-ghost use Rattle.std.specs.Prelude.{◌≡◌, List, [], ◌∷◌, ◌++◌, ℕ, ◌+◌, ◌≤◌, length, Result, Err, IsOk};
+ghost use Rattle.std.specs.Prelude.{◌≡◌, List, [], ◌∷◌, ◌++◌, ℕ, ◌+◌, ◌<◌, ◌≤◌, length, Result, Err, IsOk};
 ghost use Rattle.typecodes.specs.declared.refusal.Refusal.{Refusal};
 ghost use Rattle.typecodes.specs.Layout.{Spells};
 ghost use Rattle.typecodes.specs.Reading.{OneSpelling};
 ghost use Rattle.hss.specs.declared.key.HssPublic.{HssPublic};
 ghost use Rattle.lmots.specs.Formulas.{u32str};
 ghost use Rattle.lms.specs.Layouts.{signature as lms_signature};
+ghost use Rattle.hss.specs.Bytes.{public_bytes, signature_bytes};
 ghost use Rattle.hss.specs.Layouts.{Signature, SignedKey, public_key, signature, signed_key, signed_keys};
-ghost use Rattle.hss.specs.Textbook.{Signing, Signs, public_of, textbook};
+ghost use Rattle.hss.specs.Textbook.{IsSized, Signing, Signs, level_in, public_of, textbook};
 ghost use Rattle.hss.specs.Valid.{IsValid};
 ghost use Rattle.hss.specs.Verdict.{Verdict};
 
@@ -31,9 +32,15 @@ pub fn verdict_laws()
     ensures one_refusal { (key : HssPublic) (message bytes : List ℕ) (first second : Refusal) → Verdict {A = Unit {0}} key message bytes (Err first) → Verdict {A = Unit {0}} key message bytes (Err second) → first ≡ second }
 {}
 
-/// What holds of the textbook signatures of any levels: they are valid under the levels' key.
-pub fn textbook_law()
-    ensures { (above : List Signing) (bottom : Signing) (message : List ℕ) → Signs above bottom message → IsValid (public_of above bottom) message (textbook above bottom) }
+/// What holds of the textbook signatures of any levels.
+///
+/// - They are valid under the levels' key, where each level's digest is that of what it signs (`valid`).
+/// - The bytes of the key and of a signature of at most 8 levels spell them, where the levels' values
+///   have their sizes (`key`, `signature`).
+pub fn textbook_laws()
+    ensures valid { (above : List Signing) (bottom : Signing) (message : List ℕ) → Signs above bottom message → IsValid (public_of above bottom) message (textbook above bottom) }
+    ensures key { (above : List Signing) (bottom : Signing) → length above ≤ 7 → IsSized (level_in above bottom 0) → Spells public_key (public_of above bottom) (public_bytes (public_of above bottom)) }
+    ensures signature { (above : List Signing) (bottom : Signing) → length above ≤ 7 → ((i : ℕ) → i < length above + 1 → IsSized (level_in above bottom i)) → Spells signature (textbook above bottom) (signature_bytes (textbook above bottom)) }
 {}
 
 /// What holds of a signature whose parts are written one by one: signed keys that stand one behind the

@@ -5,7 +5,7 @@
 //! signatures are valid, and `specs/Textbook.antt`, the signature that the levels' secrets make. Its
 //! contract for the crates above: `verify` is Ok exactly on the spellings of valid signatures, and else
 //! tells the first refusal; `write_signature` writes the textbook signature, which is valid. The laws
-//! stand on `spelling_laws`, `verdict_laws`, `textbook_law` and `joining_laws`.
+//! stand on `spelling_laws`, `verdict_laws`, `textbook_laws` and `joining_laws`.
 #![tactic(auto)]
 
 mod key;
@@ -19,7 +19,7 @@ mod verification;
 mod writing;
 
 pub use crate::key::HssPublic;
-pub use crate::laws::{joining_laws, spelling_laws, textbook_law, verdict_laws};
+pub use crate::laws::{joining_laws, spelling_laws, textbook_laws, verdict_laws};
 pub use crate::signature::HssSigView;
 pub use crate::signing::Level;
 pub use crate::verification::verify;

@@ -18,7 +18,7 @@ use Rattle.lms.specs.Layouts.{Signature, signature, signature_with, type_end}
 use Rattle.lms.proofs.Behind.{behind_chains, behind_index, behind_ots, behind_randomizer, behind_tree}
 
 -- what two layouts read, one after the other, is read in turn
-in_turn : {V W : Type 0} (first : Layout V) (next : V → Layout W) (bytes : List ℕ) (place : ℕ) (x : W × ℕ) → read (first >>= next) bytes place ≡ Ok x
+pub in_turn : {V W : Type 0} (first : Layout V) (next : V → Layout W) (bytes : List ℕ) (place : ℕ) (x : W × ℕ) → read (first >>= next) bytes place ≡ Ok x
     → (y : V × ℕ) × (read first bytes place ≡ Ok y) × (read (next y.0) bytes y.1 ≡ Ok x)
 in_turn {V = V} {W = W} first next bytes place x found =
     let split : (r : Result (V × ℕ) ReadFault) → and_then r (λ y. read (next y.0) bytes y.1) ≡ Ok x → (y : V × ℕ) × (r ≡ Ok y) × (read (next y.0) bytes y.1 ≡ Ok x) =

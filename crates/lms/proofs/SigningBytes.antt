@@ -26,11 +26,11 @@ use Rattle.lms.proofs.Behind.{behind_chains, behind_index, behind_ots, behind_ra
 use Rattle.lms.specs.Textbook.{public_bytes, signature_bytes, signed}
 
 -- the last field of a layout ends its bytes
-last_field : {V W : Type 0} (first : Layout V) (next : V → Layout W) (v : V) (w : W) (bytes : List ℕ) → Spells first v bytes → Spells (next v) w [] → Spells (first >>= next) w bytes
+pub last_field : {V W : Type 0} (first : Layout V) (next : V → Layout W) (v : V) (w : W) (bytes : List ℕ) → Spells first v bytes → Spells (next v) w [] → Spells (first >>= next) w bytes
 last_field first next v w bytes spelled ended = subst (Spells (first >>= next) w) (append-nil bytes) (from_turn first next v w bytes [] spelled ended)
 
 -- 4 bytes spell their number
-number_spelled : (x : ℕ) → x < 2 ^ 32 → Spells number x (u32str x)
+pub number_spelled : (x : ℕ) → x < 2 ^ 32 → Spells number x (u32str x)
 number_spelled x small = (u32str x, [], sym (append-nil (u32str x)), refl, (ap (big_number 4) (sym (append-nil (u32str x))) ∙ big_number-reads_back 4 x [] small, refl))
 
 -- any bytes spell themselves
