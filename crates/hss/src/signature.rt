@@ -121,7 +121,7 @@ impl<'a> HssSigView<'a> {
     }
 }
 
-// Passes the next signed keys.
+// Passes the next signed keys, one behind the other.
 #[tactic(auto, using(crate::proofs::Passing::passing))]
 fn pass_signed_keys(cursor: &mut Cursor<'_>, count: u8) -> Result<(), ReadFault>
     requires { cursor.old.place + 9380 * count < 2 ^ 31 }
@@ -135,7 +135,7 @@ fn pass_signed_keys(cursor: &mut Cursor<'_>, count: u8) -> Result<(), ReadFault>
     Ok(())
 }
 
-// Passes the next signed key.
+// Passes the next signed key: a signature of at most 9324 bytes, and a key of 56.
 #[tactic(auto, using(crate::proofs::Passing::one, typecodes::proofs::Steps::reading), unfolding(crate::specs::Layouts::signed_key))]
 fn pass_signed_key(cursor: &mut Cursor<'_>) -> Result<(), ReadFault>
     requires { cursor.old.place + 9380 < 2 ^ 32 }
