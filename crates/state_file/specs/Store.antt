@@ -1,8 +1,22 @@
 -- What the calls of a store do.
 use Rattle.std.specs.Prelude.{◌≡◌, ◌⊎◌, ℕ, ◌+◌, ◌<◌, ◌≤◌, Bool, true, false, List, [], ◌∷◌, ◌++◌, length, slice_get, Option, Some, None, Result, Ok, Err}
 use Rattle.state_file.specs.declared.record.Record.{Record}
+use Rattle.state_file.specs.declared.record.Record.TheVariants.{Key as KeyRecord, Extend, Bound, Retire, Moved}
 use Rattle.state_file.specs.declared.store.StoreFault.{StoreFault}
 use Rattle.state_file.specs.declared.store.StoreFault.TheVariants.{Stopped, Damaged, DeviceFailed, OutOfMemory, Full}
+
+-- the record is a Key
+abbrev pub is_key : Record → Bool
+is_key (KeyRecord key) = true
+is_key (Extend extend) = false
+is_key (Bound bound) = false
+is_key (Retire upto) = false
+is_key Moved = false
+
+-- the first record, if there is one, is a Key
+abbrev pub begins_with_key : List Record → Bool
+begins_with_key [] = true
+begins_with_key (entry ∷ entries) = is_key entry
 
 -- What an append does, by its answer: to the list, to whether the store has stopped, and to the count of
 -- its device's failures.
@@ -40,3 +54,10 @@ Loads honest list old_stopped k new_stopped before after (Err DeviceFailed) =
 Loads honest list old_stopped k new_stopped before after (Err OutOfMemory) =
     (old_stopped ≡ false) × (new_stopped ≡ false) × (after ≡ before)
 Loads honest list old_stopped k new_stopped before after (Err Full) = ⊥
+
+-- What reading a tag does, by its answer.
+abbrev pub ReadsTag : {A : Type 0} (old_stopped new_stopped : Bool) (failures_before failures_after : ℕ) → Result A StoreFault → Type 0
+ReadsTag old_stopped new_stopped before after (Ok _) = (old_stopped ≡ false) × (new_stopped ≡ false) × (after ≡ before)
+ReadsTag old_stopped new_stopped before after (Err Stopped) = (old_stopped ≡ true) × (new_stopped ≡ true) × (after ≡ before)
+ReadsTag old_stopped new_stopped before after (Err DeviceFailed) = (old_stopped ≡ false) × (new_stopped ≡ true) × (after ≡ before + 1)
+ReadsTag old_stopped new_stopped before after (Err fault) = ⊥

@@ -6,19 +6,32 @@
 //! the old and the new one.
 #![tactic(auto)]
 
+mod disk;
+#[cfg(test)]
+mod disk_tests;
+mod file_store;
+mod gates;
 mod laws;
 mod levels;
 mod memory;
+mod memory_disk;
+mod opening;
 mod record;
+mod record_list;
 mod refused;
 mod slot;
 mod store;
 #[cfg(test)]
 mod tests;
 
+pub use crate::disk::{Disk, DiskFault};
+pub use crate::file_store::FileStore;
+pub use crate::gates::FormatFault;
 pub use crate::laws::{content_laws, legal_laws, slot_laws};
 pub use crate::levels::Levels;
 pub use crate::memory::{Cut, MemoryStore};
+pub use crate::memory_disk::{MemoryDisk, Pick};
+pub use crate::opening::OpenFault;
 pub use crate::record::{Bound, Extend, Key, Record, Secret, Version};
 pub use crate::refused::Refused;
 pub use crate::store::{Store, StoreFault};

@@ -1,7 +1,9 @@
 //! A store in memory.
 
-ghost use Rattle.std.specs.Prelude.{◌≡◌, ◌≢◌, ◌≤◌, ◌<◌, ◌+◌, true, false, [], ◌∷◌, ◌++◌, IfErr, OnOk, OnErr, if◌then◌else◌, slice_get, vec_len, vec_capacity};
+ghost use Rattle.std.specs.Prelude.{◌⊎◌, IsTrue, length, ◌≡◌, ◌≢◌, ◌≤◌, ◌<◌, ◌+◌, true, false, [], ◌∷◌, ◌++◌, IfErr, OnOk, OnErr, if◌then◌else◌, slice_get, vec_len, vec_capacity};
 ghost use Rattle.state_file.specs.Memory.{Cuts, cut_of_append};
+ghost use Rattle.state_file.specs.Moments.{LeavesOnly};
+ghost use Rattle.state_file.specs.Past.{HadBeen, had_been_all, had_been_only};
 ghost use Rattle.state_file.specs.Store.{Appends, Loads};
 
 use crate::record::Record;
@@ -97,9 +99,19 @@ impl Store for MemoryStore {
 
     ghost most = { λ store. store.limit };
 
+    ghost moment = { λ store. length store.records.items };
+
+    ghost left_since = { λ store. HadBeen store.records.items };
+
+    ghost leaves_list = { λ store t _ _ early. had_been_all store.records.items t early };
+
+    ghost leaves_nothing_else = { λ store left _ _ since. had_been_only store.records.items left since };
+
     /// Record k, or None behind the last. It fails only where the store has stopped.
     fn load(&mut self, k: u32) -> Result<Option<Record>, StoreFault>
         ensures answer { Loads true self.old.records.items self.old.stopped k self.new.stopped self.old.failures self.new.failures result }
+        ensures same { self.new.records.items ≡ self.old.records.items }
+        ensures any_moment { IsTrue true → self.old.stopped ≡ false → LeavesOnly (λ store. length store.records.items) (λ store. HadBeen store.records.items) self.old self.new (λ left. left ≡ self.old.records.items) }
         ensures stays { self.new ≡ self.old }
         ensures value { result ≡ (if self.old.stopped then Err StoreFault.Stopped else Ok (slice_get self.old.records.items k)) }
     {
@@ -115,6 +127,8 @@ impl Store for MemoryStore {
     /// left, and not for a cut that leaves the old records.
     fn append(&mut self, new: &Record) -> Result<(), StoreFault>
         ensures answer { Appends self.old.limit self.old.records.items self.old.stopped new.now self.new.records.items self.new.stopped self.old.failures self.new.failures result }
+        ensures any_moment { IsTrue true → self.old.stopped ≡ false → LeavesOnly (λ store. length store.records.items) (λ store. HadBeen store.records.items) self.old self.new (λ left. (left ≡ self.old.records.items) ⊎ (left ≡ self.old.records.items ++ new.now ∷ [])) }
+        ensures stays { self.old.stopped ≡ true → self.new ≡ self.old }
         ensures limit { self.new.limit ≡ self.old.limit }
         ensures cut { Cuts self.old.cut self.old.records.items new.now self.new.records.items self.new.cut result }
         ensures room { vec_len self.old.records < vec_capacity self.old.records → result ≢ Err StoreFault.OutOfMemory }

@@ -1,6 +1,7 @@
 //! What a store of records is.
 
-ghost use Rattle.std.specs.Prelude.{◌≡◌, ℕ, List, Bool};
+ghost use Rattle.std.specs.Prelude.{◌≡◌, ◌⊎◌, ◌≤◌, ◌∷◌, [], ◌++◌, ℕ, List, Bool, true, false, IsTrue};
+ghost use Rattle.state_file.specs.Moments.{LeavesOnly};
 
 use crate::record::Record;
 use thiserror::Error;
@@ -28,7 +29,7 @@ pub enum StoreFault {
 /// A list of records that grows at its end.
 pub trait Store {
     ghost use Rattle.state_file.specs.declared.record.Record.{Record as R};
-    ghost use Rattle.state_file.specs.Store.{Appends, Loads};
+    ghost use Rattle.state_file.specs.Store.{Appends, Loads, begins_with_key};
 
     // its records
     ghost list: { Self → List R };
@@ -45,15 +46,27 @@ pub trait Store {
     // how many records it takes
     ghost most: { Self → ℕ };
 
+    // this moment, as a number that doesn't fall
+    ghost moment: { Self → ℕ };
+
+    // The lists that a stop at some moment from that one on might have left, in a call or between two. Where
+    // what it leaves spells no list, that counts as every list.
+    ghost left_since: { Self → ℕ → List R → Type 0 };
+
     /// Record k, or None behind the last.
     fn load(&mut self, k: u32) -> Result<Option<Record>, StoreFault>
         ensures answer { Loads (honest self.old) (list self.old) (stopped self.old) k (stopped self.new) (failures self.old) (failures self.new) result }
         ensures same { list self.new ≡ list self.old }
+        ensures any_moment { IsTrue (honest self.old) → stopped self.old ≡ false → LeavesOnly moment left_since self.old self.new (λ left. left ≡ list self.old) }
+        ensures stays { stopped self.old ≡ true → self.new ≡ self.old }
         ensures honest { honest self.new ≡ honest self.old }
         ensures most { most self.new ≡ most self.old };
 
-    /// Adds a record at the end.
+    /// Adds a record at the end; the first one is a Key. A stop at any moment of it leaves the old records, or these and the new one.
     fn append(&mut self, new: &Record) -> Result<(), StoreFault>
+        requires { IsTrue (begins_with_key (list self.old ++ new.now ∷ [])) }
+        ensures any_moment { IsTrue (honest self.old) → stopped self.old ≡ false → LeavesOnly moment left_since self.old self.new (λ left. (left ≡ list self.old) ⊎ (left ≡ list self.old ++ new.now ∷ [])) }
+        ensures stays { stopped self.old ≡ true → self.new ≡ self.old }
         ensures answer { Appends (most self.old) (list self.old) (stopped self.old) new.now (list self.new) (stopped self.new) (failures self.old) (failures self.new) result }
         ensures honest { honest self.new ≡ honest self.old }
         ensures most { most self.new ≡ most self.old };
@@ -61,4 +74,10 @@ pub trait Store {
     /// How many records the store takes.
     fn limit(&self) -> u32
         ensures { result ≡ most self.now };
+
+    // Where no call has failed, a stop leaves its list ..
+    ghost leaves_list: { (store : Self) (t : ℕ) → IsTrue (honest store) → stopped store ≡ false → t ≤ moment store → left_since store t (list store) };
+
+    // .. and nothing else.
+    ghost leaves_nothing_else: { (store : Self) (left : List R) → IsTrue (honest store) → stopped store ≡ false → left_since store (moment store) left → left ≡ list store };
 }

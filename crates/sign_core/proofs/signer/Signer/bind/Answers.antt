@@ -4,8 +4,13 @@ use Rattle.sign_core.specs.Ledger.{binding_of, key_of, signature_of}
 use Rattle.sign_core.specs.Keeping.{Stores, closes}
 use Rattle.sign_core.specs.World.{Outcome, acked, new_bound}
 use Rattle.sign_core.specs.Calls.{answered, state_of}
-use Rattle.sign_core.proofs.Steps.{append_fails, draw_fails, key_appended, key_snoc, kept_along, signs_along, hindered_signs, undrawn_signs, appended_signs, kept_more}
+use Rattle.sign_core.proofs.Steps.{append_fails, draw_fails, key_appended, key_snoc, key_stays_first, kept_along, signs_along, hindered_signs, undrawn_signs, appended_signs, kept_more}
 use Rattle.sign_core.proofs.signer.Signer.bind.Goals as goal
+
+pub append-requires-clause-key_first : goal.append-requires-clause-key_first
+append-requires-clause-key_first g c =
+    let i = c.self.inside in
+    key_stays_first (g.S.Store.list i.store) (BoundRecord c.copied.result) i.ledger.key c.self.invariant.0
 
 pub returns-in_err-prepare-clause-step : goal.returns-in_err-prepare-clause-step
 returns-in_err-prepare-clause-step g c =

@@ -1,0 +1,189 @@
+-- Finding the records of a file, slot after slot.
+use Rattle.std.proofs.Common.{◌≡◌, ℕ, ◌+◌, ◌*◌, ◌<◌, Bool, true, false, List, [], ◌∷◌, ◌++◌, length, replicate, slice_index, Option, Some, None, Result, Err, refl, sym, ap, ◌∙◌, subst, arith, eqb-true, add-one, true≢false}
+use Rattle.std.specs.Prelude.{◌==◌, IfErr, slice_get}
+use Rattle.std.proofs.lemmas.Option.{slice_get-get_or, slice_get_within, get_or_from_slice_get}
+use Rattle.typecodes.specs.Layout.{Spells}
+use Rattle.state_file.specs.Contents.{Begins, IsClosed, IsDamagedAt, IsOpen, IsWhole, SpellsRecords, fields_at, most_records, previous_tag, tag_at, tag_of}
+use Rattle.state_file.specs.Disk.{State, MayLeave, settled}
+use Rattle.state_file.specs.FileLaws.{closed_gate, fields_length}
+use Rattle.state_file.specs.Files.{IsFileOf, IsKept}
+use Rattle.state_file.specs.Moments.{Elapses, LeavesOnly}
+use Rattle.state_file.specs.Opened.{HasSlot, IsFound, OnlyReads, StartsWithKey, Tells, TellsSlot}
+use Rattle.state_file.specs.Slots.{slot_record}
+use Rattle.state_file.specs.Store.{begins_with_key}
+use Rattle.state_file.specs.declared.opening.OpenFault.{OpenFault}
+use Rattle.state_file.specs.declared.opening.OpenFault.TheVariants.{NoKey, NotKeyFile, UnknownVersion, Damaged, DeviceFailed}
+use Rattle.state_file.specs.declared.record.Record.{Record}
+use Rattle.state_file.specs.declared.record.Record.TheVariants.{Key as KeyRecord}
+use Rattle.state_file.proofs.Contents.{begins-all, begins-more, begins-none, begins-whole}
+use Rattle.state_file.proofs.Kept.{read_record}
+use Rattle.state_file.proofs.Moments.{goes_on, joined, started, weaker}
+use Rattle.state_file.proofs.Ranges.{synced_leaves}
+
+-- ---- calls that only read
+
+module _ {D : Type 0} (state : D → State) (moment : D → ℕ) (left_since : D → ℕ → List ℕ → Type 0) where
+  -- no call
+  pub reads_none : (old : D) → ((c : List ℕ) → left_since old (moment old) c → MayLeave (state old) c) → OnlyReads state moment left_since old old
+  reads_none old only = record { stays = refl; leaves = started moment left_since old (MayLeave (state old)) only }
+
+  -- one call
+  pub reads_one : (old new : D) → ((c : List ℕ) → left_since old (moment old) c → MayLeave (state old) c) → state new ≡ state old
+      → Elapses (moment old) (moment new) (left_since old) (left_since new) (MayLeave (state new)) → OnlyReads state moment left_since old new
+  reads_one old new only stays time = record {
+    stays = stays;
+    leaves = goes_on moment left_since old old new (MayLeave (state old)) (MayLeave (state new)) (started moment left_since old (MayLeave (state old)) only) time
+        (λ c left. subst (λ (s : State). MayLeave s c) stays left);
+  }
+
+  -- a run, and one more
+  pub reads_on : (old mid new : D) → OnlyReads state moment left_since old mid → OnlyReads state moment left_since mid new → OnlyReads state moment left_since old new
+  reads_on old mid new first second = record {
+    stays = second.stays ∙ first.stays;
+    leaves = joined moment left_since old mid new (MayLeave (state old)) first.leaves
+        (weaker moment left_since mid new (MayLeave (state mid)) (MayLeave (state old)) (λ c left. subst (λ (s : State). MayLeave s c) first.stays left) second.leaves);
+  }
+
+  -- what is synced is left by a stop before the sync, too
+  pub reads_settled : (old mid new : D) → MayLeave (state old) (state old).content → state mid ≡ settled (state old).content → LeavesOnly moment left_since old mid (MayLeave (state old)) → OnlyReads state moment left_since mid new
+      → LeavesOnly moment left_since old new (MayLeave (state old))
+  reads_settled old mid new shows settled_now first second =
+      joined moment left_since old mid new (MayLeave (state old)) first
+      (weaker moment left_since mid new (MayLeave (state mid)) (MayLeave (state old))
+      (λ c left.
+      let same : c ≡ (state old).content = synced_leaves (state old).content c (subst (λ (s : State). MayLeave s c) settled_now left) in
+      subst (MayLeave (state old)) (sym same) shows)
+      second.leaves)
+
+-- ---- gates
+
+pub gate_open : (content : List ℕ) (k : ℕ) → 256 * k < length content → slice_index content (256 * k) == 165 ≡ true → IsOpen content k
+gate_open content k within is = slice_get-get_or content (256 * k) 0 within ∙ ap Some (eqb-true (slice_index content (256 * k)) 165 is)
+
+pub gate_shut : (content : List ℕ) (k : ℕ) → 256 * k < length content → slice_index content (256 * k) == 165 ≡ false → IsClosed content k
+gate_shut content k within other = closed_gate content k within (λ is_open. true≢false (let clash : true ≡ false = cc in clash))
+
+-- ---- slots
+
+-- a slot that is read is whole
+pub has_whole : (content : List ℕ) (k : ℕ) (entry : Record) (tag : List ℕ) → IsOpen content k → HasSlot content k entry tag → IsWhole content k
+has_whole content k entry tag opened slot = record { opened = opened; few = slot.few; ends = slot.ends; entry = entry; held = slot.held }
+
+-- one that tells a record by its bytes
+pub slot_found : (content previous fields tag : List ℕ) (k : ℕ) (entry : Record) → k < most_records → 256 * (k + 1) < length content → previous ≡ previous_tag content k → fields ≡ fields_at content k → tag ≡ tag_at content k
+    → Spells slot_record entry fields → tag ≡ tag_of previous fields → HasSlot content k entry tag
+slot_found content previous fields tag k entry few ends before fields_are tag_is spelled tagged = record {
+  few = few;
+  ends = ends;
+  held = record {
+    spelled = subst (Spells slot_record entry) fields_are spelled;
+    tagged = sym tag_is ∙ tagged ∙ ap (λ (l : List ℕ). tag_of l fields) before ∙ ap (λ (l : List ℕ). tag_of (previous_tag content k) l) fields_are;
+  };
+  tagged = tag_is;
+}
+
+-- one that tells none isn't whole
+pub slot_harmed : (content previous fields tag : List ℕ) (k : ℕ) → previous ≡ previous_tag content k → fields ≡ fields_at content k → tag ≡ tag_at content k
+    → ((entry : Record) → Spells slot_record entry fields → tag ≡ tag_of previous fields → ⊥) → IsWhole content k → ⊥
+slot_harmed content previous fields tag k before fields_are tag_is none whole =
+    none whole.entry (subst (Spells slot_record whole.entry) (sym fields_are) whole.held.spelled)
+    (tag_is ∙ whole.held.tagged ∙ sym (ap (λ (l : List ℕ). tag_of l fields) before ∙ ap (λ (l : List ℕ). tag_of (previous_tag content k) l) fields_are))
+
+-- ---- from slot to slot
+
+-- The content begins with these records, and this is the last one's tag.
+pub record BeginsFound (content : List ℕ) (count : ℕ) (records : List Record) (tag : List ℕ) : Type 0 where
+  pub begins : Begins content records
+  pub last : tag ≡ previous_tag content count
+
+pub found_none : (content : List ℕ) (count : ℕ) (records : List Record) (tag : List ℕ) → count ≡ 0 → records ≡ [] → tag ≡ replicate 32 0 → StartsWithKey content → BeginsFound content count records tag
+found_none content count records tag none_yet none zeros key = record {
+  begins = subst (Begins content) (sym none) (begins-none content key.may);
+  last = zeros ∙ sym (ap (λ n. previous_tag content n) none_yet);
+}
+
+pub found_more : (content : List ℕ) (count more : ℕ) (records after : List Record) (tag next last : List ℕ) (entry : Record) → BeginsFound content count records tag → count ≡ length records → more ≡ count + 1
+    → after ≡ records ++ entry ∷ [] → next ≡ last → IsOpen content count → HasSlot content count entry last → BeginsFound content more after next
+unfolding has_whole
+found_more content count more records after tag next last entry found counted one_more grown same opened slot = record {
+  begins = subst (Begins content) (sym grown) (begins-more content records found.begins
+      (let at = subst (λ n. IsOpen content n × HasSlot content n entry last) counted (opened, slot) in has_whole content (length records) entry last at.0 at.1));
+  last = same ∙ slot.tagged ∙ sym (ap (λ n. previous_tag content n) (one_more ∙ add-one count));
+}
+
+-- where the next gate is closed, these are all
+pub found_all : (content : List ℕ) (count : ℕ) (records : List Record) (tag : List ℕ) → BeginsFound content count records tag → count ≡ length records → StartsWithKey content → IsClosed content count → IsFound content records tag
+found_all content count records tag found counted key closed = record {
+  spelled = begins-all content records found.begins key.may key.key (subst (IsClosed content) counted closed);
+  last = found.last ∙ ap (λ n. previous_tag content n) counted;
+}
+
+-- where the next slot is open and isn't whole, it is damaged
+pub found_harm : (content : List ℕ) (count : ℕ) (records : List Record) (tag : List ℕ) (fault : OpenFault) → BeginsFound content count records tag → count ≡ length records → StartsWithKey content → IsOpen content count → TellsSlot content count fault
+    → Tells content fault
+found_harm content count records tag NoKey found counted key opened told = absurd told
+found_harm content count records tag NotKeyFile found counted key opened told = absurd told
+found_harm content count records tag UnknownVersion found counted key opened told = absurd told
+found_harm content count records tag (Damaged k) found counted key opened told = subst (λ n. IsDamagedAt content n) (sym told.0) (record {
+  may = key.may;
+  key = key.key;
+  version = key.version;
+  before = λ j below. begins-whole content records j found.begins (omega (arith, below, counted));
+  opened = opened;
+  damaged = told.1;
+})
+found_harm content count records tag DeviceFailed found counted key opened told = tt
+
+-- ---- the store
+
+the_first : (records : List Record) (key : Record) → slice_get records 0 ≡ Some key → (rest : List Record) × (records ≡ key ∷ rest)
+the_first [] key is = absurd cc
+the_first (entry ∷ rest) key is = (rest, let same : entry ≡ key = cc in ap (λ e. e ∷ rest) same)
+
+-- records that are spelled are a file's
+pub spelled_file : (records : List Record) (content : List ℕ) → SpellsRecords content records → IsFileOf records content
+spelled_file records content is =
+    let within : 256 * length records < length content = slice_get_within content (256 * length records) is.closed.0 is.closed.1 in
+    record {
+      few = is.few;
+      first = let (rest, same) = the_first records (KeyRecord is.first.0) is.first.1 in ap begins_with_key same;
+      opened = λ k below. get_or_from_slice_get content (256 * k) 165 0 (is.opened k below);
+      within = within;
+      closed = λ is_open. is.closed.2 (sym (get_or_from_slice_get content (256 * length records) is.closed.0 0 is.closed.1) ∙ is_open);
+      spelled = λ k entry there.
+          let below : k < length records = slice_get_within records k entry there in
+          read_record entry (fields_at content k) (fields_length content k (omega (arith, within, below))) (is.held k entry there).spelled;
+      tagged = λ k below. elim (slice_get records k) as (λ (found : Option Record). slice_get records k ≡ found → tag_at content k ≡ tag_of (previous_tag content k) (fields_at content k)) [
+        | Some entry ↦ λ there. (is.held k entry there).tagged
+        | None ↦ λ past. absurd (missing records k below past)
+      ] refl;
+    }
+  where
+    missing : (records : List Record) (k : ℕ) → k < length records → slice_get records k ≡ None → ⊥
+    missing [] k below past = omega (arith, below)
+    missing (entry ∷ rest) k below past = let clash = sym (slice_get-get_or (entry ∷ rest) k entry below) ∙ past in cc
+
+-- what is found is kept
+pub found_kept : (records : List Record) (tag content : List ℕ) (after : State) → after ≡ settled content → IsFound content records tag → IsKept records tag after
+found_kept records tag content after same found = subst (IsKept records tag) (sym same) (record {
+  synced = refl;
+  file = spelled_file records content found.spelled;
+  last = found.last;
+})
+
+-- and left by a stop
+pub found_left : (records : List Record) (tag content c : List ℕ) (after : State) → after ≡ settled content → IsFound content records tag → MayLeave after c → SpellsRecords c records
+found_left records tag content c after same found left =
+    let is : c ≡ content = synced_leaves content c (subst (λ (s : State). MayLeave s c) same left) in
+    subst (λ l. SpellsRecords l records) (sym is) found.spelled
+
+-- ---- a step of the loop, by the states of the disk
+
+pub fault_told : {A : Type 0} (P : OpenFault → Type 0) (result : Result A OpenFault) (fault : OpenFault) → result ≡ Err fault → P fault → IfErr result P
+fault_told P result fault is told = subst (λ (r : Result _ OpenFault). IfErr r P) (sym is) told
+
+pub open_gate : (first now : State) (k : ℕ) (opened : Bool) → now ≡ first → 256 * k < length now.content → opened ≡ (slice_index now.content (256 * k) == 165) → opened ≡ true → IsOpen first.content k
+open_gate first now k opened same within gate is = subst (λ (s : State). IsOpen s.content k) same (gate_open now.content k within (sym gate ∙ is))
+
+pub shut_gate : (first now : State) (k : ℕ) (opened : Bool) → now ≡ first → 256 * k < length now.content → opened ≡ (slice_index now.content (256 * k) == 165) → opened ≡ false → IsClosed first.content k
+shut_gate first now k opened same within gate is = subst (λ (s : State). IsClosed s.content k) same (gate_shut now.content k within (sym gate ∙ is))

@@ -1,0 +1,45 @@
+-- From the contents that a stop leaves of a disk to the lists that it leaves of a store over it.
+use Rattle.std.proofs.Common.{◌≡◌, ◌⊎◌, inl, inr, ⊎_elim, ℕ, Bool, true, false, List, Some, refl, slice_get}
+use Rattle.state_file.specs.Moments.{LeavesOnly}
+use Rattle.state_file.specs.Disk.{State, MayLeave}
+use Rattle.state_file.specs.Files.{StandsFor, LeftLists, IsKept}
+use Rattle.state_file.specs.FileLaws.{one_of_two, kept_leaves}
+use Rattle.state_file.specs.Store.{IsRecordAt}
+use Rattle.state_file.specs.declared.record.Record.{Record}
+use Rattle.state_file.proofs.Moments.{weaker}
+use Rattle.state_file.specs.Opened.{OnlyReads}
+
+module _ {S D : Type 0} (disk_of : S → D) (moment : D → ℕ) (left_since : D → ℕ → List ℕ → Type 0) where
+  abbrev pub store_moment : S → ℕ
+  store_moment store = moment (disk_of store)
+
+  abbrev pub store_left : S → ℕ → List Record → Type 0
+  store_left store = LeftLists (left_since (disk_of store))
+
+  pub lists_leave : (old new : S) (a b : List Record) → LeavesOnly moment left_since (disk_of old) (disk_of new) (λ c. StandsFor a c ⊎ StandsFor b c) → LeavesOnly store_moment store_left old new (λ list. (list ≡ a) ⊎ (list ≡ b))
+  lists_leave old new a b leaves = record {
+    later = leaves.later;
+    each = λ list left. one_of_two a b list left.0 (leaves.each left.0 left.1) left.2;
+    before = λ t list early left. ⊎_elim (λ was. inl (left.0, was, left.2)) (λ now. inr (one_of_two a b list left.0 now left.2)) (leaves.before t left.0 early left.1);
+  }
+
+  pub lists_stay : (old new : S) (a : List Record) → LeavesOnly moment left_since (disk_of old) (disk_of new) (StandsFor a) → LeavesOnly store_moment store_left old new (λ list. list ≡ a)
+  lists_stay old new a leaves = record {
+    later = leaves.later;
+    each = λ list left. ⊎_elim (λ e. e) (λ e. e) (one_of_two a a list left.0 (inl (leaves.each left.0 left.1)) left.2);
+    before = λ t list early left. ⊎_elim (λ was. inl (left.0, was, left.2)) (λ now. inr (⊎_elim (λ e. e) (λ e. e) (one_of_two a a list left.0 (inl now) left.2))) (leaves.before t left.0 early left.1);
+  }
+
+-- calls that only read
+pub reads_leave : {D : Type 0} (state : D → State) (moment : D → ℕ) (left_since : D → ℕ → List ℕ → Type 0) (old new : D) (records : List Record) (tag : List ℕ) → IsKept records tag (state old)
+    → OnlyReads state moment left_since old new → LeavesOnly moment left_since old new (StandsFor records)
+reads_leave state moment left_since old new records tag kept reads =
+    weaker moment left_since old new (MayLeave (state old)) (StandsFor records) (λ c left. kept_leaves records tag (state old) c kept left) reads.leaves
+
+pub record_at : (honest : Bool) (list : List Record) (k : ℕ) (entry : Record) → (honest ≡ true → slice_get list k ≡ Some entry) → IsRecordAt honest list k entry
+record_at true list k entry is = is refl
+record_at false list k entry is = tt
+
+pub not_honest : (honest : Bool) → (honest ≡ true → ⊥) → honest ≡ false
+not_honest true never = absurd (never refl)
+not_honest false never = refl

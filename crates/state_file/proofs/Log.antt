@@ -1,0 +1,68 @@
+-- One entry more in the log of a disk in memory.
+use Rattle.std.proofs.Common.{◌≡◌, ◌⊎◌, inl, inr, ⊎_elim, ℕ, ◌+◌, ◌-◌, ◌<◌, ◌≤◌, List, [], ◌∷◌, ◌++◌, length, take, drop, reverse, slice_range, get_or, refl, sym, ◌∙◌, ap, subst, arith, length-append}
+use Rattle.std.proofs.lemmas.List.{take_all, take-append-le, reverse-append}
+use Rattle.std.proofs.lemmas.Bool.{cases_lt}
+use Rattle.std.proofs.lemmas.List.{take_at, take_more}
+use Rattle.std.proofs.lemmas.List.Prefix.{at_from_reads}
+use Rattle.std.proofs.lemmas.Bool.Decides.{nat_tests}
+use Rattle.state_file.specs.Disk.{range_of, ChangesOnly, Opens}
+use Rattle.state_file.specs.Moments.{Elapses}
+use Rattle.state_file.specs.MemoryDisk.{base_of, ranges_of, state_of, LeftBy, LeftSince, Overlays}
+use Rattle.state_file.specs.declared.memory_disk.Entry.{Entry}
+use Rattle.state_file.specs.declared.memory_disk.Entry.TheVariants.{Wrote}
+
+module _ (first : List ℕ) (log : List Entry) (entry : Entry) where
+  size : length (log ++ entry ∷ []) ≡ length log + 1
+  size = length-append log (entry ∷ [])
+
+  was_or_is : (t : ℕ) (c : List ℕ) → LeftSince first (log ++ entry ∷ []) t c → LeftSince first log t c ⊎ LeftBy first (log ++ entry ∷ []) c
+  was_or_is t c since = elim (cases_lt (length log) since.0) [
+    | inr within ↦ inl (since.0, since.1, within, subst (λ (l : List Entry). LeftBy first l c) (take-append-le since.0 log (entry ∷ []) within) since.3)
+    | inl beyond ↦ inr (subst (λ (l : List Entry). LeftBy first l c) (take_all since.0 (log ++ entry ∷ []) (omega (arith, size))) since.3)
+  ]
+
+  stays : (t : ℕ) (c : List ℕ) → LeftSince first log t c → LeftSince first (log ++ entry ∷ []) t c
+  stays t c since = (since.0, since.1, omega (arith, size, since.2), subst (λ (l : List Entry). LeftBy first l c) (sym (take-append-le since.0 log (entry ∷ []) since.2)) since.3)
+
+  one_more : Elapses (length log) (length (log ++ entry ∷ [])) (LeftSince first log) (LeftSince first (log ++ entry ∷ [])) (LeftBy first (log ++ entry ∷ []))
+  one_more = record { later = omega (arith, size); nothing_else = λ t c early since. was_or_is t c since; keeps = λ t c early since. stays t c since }
+
+pub elapses_more : (first : List ℕ) (log new : List Entry) (entry : Entry) → new ≡ log ++ entry ∷ [] → Elapses (length log) (length new) (LeftSince first log) (LeftSince first new) (LeftBy first new)
+elapses_more first log new entry is =
+    subst (λ (l : List Entry). Elapses (length log) (length l) (LeftSince first log) (LeftSince first l) (LeftBy first l)) (sym is) (one_more first log entry)
+
+pub newest_first : (log : List Entry) (entry : Entry) → reverse (log ++ entry ∷ []) ≡ entry ∷ reverse log
+newest_first log entry = reverse-append log (entry ∷ [])
+
+-- one step along a log
+pub newest_taken : (log : List Entry) (i : ℕ) (entry : Entry) → i < length log → entry ≡ get_or log i entry → reverse (take (i + 1) log) ≡ entry ∷ reverse (take i log)
+newest_taken log i entry inside is =
+    ap reverse (take_more log i entry inside ∙ ap (λ (e : Entry). take i log ++ e ∷ []) (sym is)) ∙ newest_first (take i log) entry
+
+-- the whole range was written
+pub overlays_range : (at : ℕ) (bytes old new : List ℕ) → Overlays at bytes old new → ChangesOnly (range_of at bytes ∷ []) old new
+overlays_range at [] old new over = record {
+  kept = λ place inside outside. ⊎_elim (over.before place inside) (over.behind place inside) outside.0;
+  no_shorter = grind (arith, nat_tests);
+  no_longer = grind (arith, nat_tests);
+}
+overlays_range at (b ∷ bytes) old new over = record {
+  kept = λ place inside outside. ⊎_elim (over.before place inside) (over.behind place inside) outside.0;
+  no_shorter = grind (arith, nat_tests);
+  no_longer = grind (arith, nat_tests);
+}
+
+pub overlays_bytes : (at : ℕ) (bytes old new : List ℕ) → Overlays at bytes old new → slice_range new at (at + length bytes) ≡ bytes
+overlays_bytes at [] old new over = let none : at + 0 - at ≡ 0 = omega arith in ap (λ n. take n (drop at new)) none
+overlays_bytes at (b ∷ bytes) old new over =
+    let fits : at + length (b ∷ bytes) ≤ length new = grind (arith, nat_tests) in
+    let width : at + length (b ∷ bytes) - at ≡ length (b ∷ bytes) = omega arith in
+    ap (λ n. take n (drop at new)) width ∙ ap (λ (l : List ℕ). take (length (b ∷ bytes)) l) (at_from_reads 0 new (b ∷ bytes) at fits over.put) ∙ take_at (b ∷ bytes) (drop (at + length (b ∷ bytes)) new) (length (b ∷ bytes)) refl
+
+pub opens : (first : List ℕ) (log log_new : List Entry) (at : ℕ) (bytes old new : List ℕ) → Overlays at bytes old new → log_new ≡ log ++ Wrote at (at + length bytes) ∷ []
+    → Opens (range_of at bytes) (state_of old first log) (state_of new first log_new)
+opens first log log_new at bytes old new over is = record {
+  changes = overlays_range at bytes old new over;
+  more = ap ranges_of (ap reverse is ∙ newest_first log (Wrote at (at + length bytes)));
+  same_base = ap (base_of first) (ap reverse is ∙ newest_first log (Wrote at (at + length bytes)));
+}

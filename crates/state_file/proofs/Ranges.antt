@@ -1,0 +1,26 @@
+-- Ranges that are open, and contents that differ in them.
+use Rattle.std.proofs.Common.{◌≡◌, ℕ, ◌≤◌, List, [], ◌∷◌, length, refl, ◌∙◌, arith}
+use Rattle.std.proofs.lemmas.List.{same_lists, get_or_default}
+use Rattle.state_file.specs.Disk.{Range, greatest_end, ChangesOnly}
+
+pub no_shorter : (n : ℕ) (ranges : List Range) → n ≤ greatest_end n ranges
+no_shorter n [] = omega arith
+no_shorter n (range ∷ ranges) = let rest = no_shorter n ranges in omega (arith, rest)
+
+-- what changed nothing
+pub changes_nothing : (ranges : List Range) (old : List ℕ) → ChangesOnly ranges old old
+changes_nothing ranges old = record { kept = λ place inside outside. refl; no_shorter = omega arith; no_longer = no_shorter (length old) ranges }
+
+-- what was written since the base, and then one range more
+pub changes_more : (range : Range) (ranges : List Range) (base old new : List ℕ) → ChangesOnly ranges base old → ChangesOnly (range ∷ []) old new → ChangesOnly (range ∷ ranges) base new
+changes_more range ranges base old new first then_one = record {
+  kept = λ place inside outside. then_one.kept place (omega (arith, first.no_shorter)) (outside.0, tt) ∙ first.kept place inside outside.1;
+  no_shorter = omega (arith, first.no_shorter, then_one.no_shorter);
+  no_longer = omega (arith, first.no_longer, then_one.no_longer);
+}
+
+-- over a content that is synced, a change of some ranges is what a stop leaves there
+pub synced_leaves : (content c : List ℕ) → ChangesOnly [] content c → c ≡ content
+synced_leaves content c changes =
+    same_lists c content (omega (arith, changes.no_shorter, changes.no_longer)) (λ k d inside.
+    get_or_default c k d 0 inside ∙ changes.kept k (omega (arith, changes.no_shorter, changes.no_longer)) tt ∙ get_or_default content k 0 d (omega (arith, changes.no_shorter, changes.no_longer)))

@@ -1,0 +1,48 @@
+use Rattle.std.proofs.Common.{inl, ◌*◌, [], ◌∷◌, length, take, sym, ◌∙◌, ap, arith, length-append}
+use Rattle.state_file.proofs.Moments.{started, weaker}
+use Rattle.state_file.specs.FileLaws.{kept_leaves}
+use Rattle.state_file.proofs.Kept.{kept_rests, kept_size, kept_grows, added_leaves}
+use Rattle.state_file.proofs.file_store.FileStore.add.Goals as goal
+
+pub returns-then-self-ge-MOST-clause-any_moment : goal.returns-then-self-ge-MOST-clause-any_moment
+returns-then-self-ge-MOST-clause-any_moment g c honest running =
+    let self = c.args.self.now in
+    started g.D.Disk.moment g.D.Disk.left_since self.disk _
+    (λ left since. inl (kept_leaves self.records self.tag (g.D.Disk.state self.disk) left (self.kept honest running) (g.met.D.Disk.only_now self.disk left honest since)))
+
+pub invariant_of-self : goal.invariant_of-self
+invariant_of-self g c = record {
+  counted = omega (arith, ap length c.push.ensures, length-append c.args.self.now.records (c.args.new.now ∷ []), c.args.self.now.counted);
+  kept = λ honest running.
+      let self = c.args.self.now in
+      let state = g.D.Disk.state self.disk in
+      let after = g.D.Disk.state c.add_slot.new.disk in
+      let fields = c.record_bytes-fields.result in
+      let kept = self.kept (sym c.add_slot.ensures.honest ∙ honest) running in
+      let front = take (256 * length self.records) state.content in
+      let added = c.in-Ok.ensures.added front (sym c.add_slot.ensures.honest ∙ honest) (kept_rests self.records self.tag state kept) (kept_size self.records self.tag state self.count kept self.counted) in
+      kept_grows self.records c.push.new.self self.tag state after self.count c.args.new.now fields c.tag-next_tag.result c.joined.result c.push.ensures self.counted (omega arith) c.requires
+      c.joined.ensures.fields c.joined.ensures.tag c.joined.ensures.bytes c.record_bytes-fields.ensures c.tag-next_tag.ensures kept added;
+}
+
+pub returns-in-Ok-clause-any_moment : goal.returns-in-Ok-clause-any_moment
+returns-in-Ok-clause-any_moment g c honest running =
+    let self = c.args.self.now in
+    let state = g.D.Disk.state self.disk in
+    let kept = self.kept honest running in
+    let front = take (256 * length self.records) state.content in
+    weaker g.D.Disk.moment g.D.Disk.left_since self.disk c.add_slot.new.disk _ _
+    (added_leaves self.records self.tag state self.count c.args.new.now c.record_bytes-fields.result c.tag-next_tag.result c.joined.result self.counted (omega arith) c.requires
+    c.joined.ensures.fields c.joined.ensures.tag c.joined.ensures.bytes c.record_bytes-fields.ensures c.tag-next_tag.ensures kept)
+    (c.add_slot.ensures.any_moment front honest (kept_rests self.records self.tag state kept) (kept_size self.records self.tag state self.count kept self.counted))
+
+pub returns-in-Err-clause-any_moment : goal.returns-in-Err-clause-any_moment
+returns-in-Err-clause-any_moment g c honest running =
+    let self = c.args.self.now in
+    let state = g.D.Disk.state self.disk in
+    let kept = self.kept honest running in
+    let front = take (256 * length self.records) state.content in
+    weaker g.D.Disk.moment g.D.Disk.left_since self.disk c.add_slot.new.disk _ _
+    (added_leaves self.records self.tag state self.count c.args.new.now c.record_bytes-fields.result c.tag-next_tag.result c.joined.result self.counted (omega arith) c.requires
+    c.joined.ensures.fields c.joined.ensures.tag c.joined.ensures.bytes c.record_bytes-fields.ensures c.tag-next_tag.ensures kept)
+    (c.add_slot.ensures.any_moment front honest (kept_rests self.records self.tag state kept) (kept_size self.records self.tag state self.count kept self.counted))

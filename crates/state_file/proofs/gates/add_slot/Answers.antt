@@ -1,0 +1,41 @@
+use Rattle.std.proofs.Common.{◌≡◌, ◌⊎◌, inl, ◌*◌, ◌∷◌, ◌++◌, length, ◌∙◌, arith}
+use Rattle.state_file.specs.Gates.{IsClosedAfter, IsAtRest}
+use Rattle.state_file.proofs.Moments.{weaker, joined, ok_along}
+use Rattle.state_file.proofs.SlotWrites.{stage_leaves, stage_done, gate_leaves, gate_done}
+use Rattle.state_file.proofs.gates.add_slot.Goals as goal
+
+pub returns-in_err-write_synced-clause-any_moment : goal.returns-in_err-write_synced-clause-any_moment
+returns-in_err-write_synced-clause-any_moment g c front honest rest size =
+    let len : length front ≡ 256 * c.from-gate.result = omega arith in
+    weaker g.D.Disk.moment g.D.Disk.left_since c.args.disk.now c.write_synced.new.disk _ _
+    (λ left changes. inl (stage_leaves front c.args.body.now (256 * c.from-gate.result) len (g.D.Disk.state c.args.disk.now).content left c.with_gate.result rest.ends changes))
+    (c.write_synced.ensures.any_moment honest rest.synced)
+
+pub returns-clause-added : goal.returns-clause-added
+returns-clause-added g c front honest rest size =
+    let len : length front ≡ 256 * c.from-gate.result = omega arith in
+    let written = c.in_ok-write_synced.ensures.written honest in
+    let staged = stage_done front c.args.body.now (256 * c.from-gate.result) len (g.D.Disk.state c.args.disk.now).content (g.D.Disk.state c.write_synced.new.disk).content c.with_gate.result
+    rest.ends c.with_gate.ensures written.1 written.2 in
+    ok_along c.write_synced-2.result _ (IsAtRest (front ++ 165 ∷ c.args.body.now) (g.D.Disk.state c.write_synced-2.new.disk))
+    (λ done. record {
+      synced = done.0;
+      ends = gate_done front c.args.body.now (256 * c.from-gate.result) len (g.D.Disk.state c.write_synced.new.disk).content (g.D.Disk.state c.write_synced-2.new.disk).content staged done.1 done.2;
+    })
+    (c.write_synced-2.ensures.written (c.write_synced.ensures.honest ∙ honest))
+
+pub returns-clause-any_moment : goal.returns-clause-any_moment
+returns-clause-any_moment g c front honest rest size =
+    let len : length front ≡ 256 * c.from-gate.result = omega arith in
+    let first =
+    weaker g.D.Disk.moment g.D.Disk.left_since c.args.disk.now c.write_synced.new.disk _ (λ left. IsClosedAfter front left ⊎ IsClosedAfter (front ++ 165 ∷ c.args.body.now) left)
+    (λ left changes. inl (stage_leaves front c.args.body.now (256 * c.from-gate.result) len (g.D.Disk.state c.args.disk.now).content left c.with_gate.result rest.ends changes))
+    (c.write_synced.ensures.any_moment honest rest.synced) in
+    let written = c.in_ok-write_synced.ensures.written honest in
+    let staged = stage_done front c.args.body.now (256 * c.from-gate.result) len (g.D.Disk.state c.args.disk.now).content (g.D.Disk.state c.write_synced.new.disk).content c.with_gate.result
+    rest.ends c.with_gate.ensures written.1 written.2 in
+    let second =
+    weaker g.D.Disk.moment g.D.Disk.left_since c.write_synced.new.disk c.write_synced-2.new.disk _ (λ left. IsClosedAfter front left ⊎ IsClosedAfter (front ++ 165 ∷ c.args.body.now) left)
+    (λ left changes. gate_leaves front c.args.body.now (256 * c.from-gate.result) len (g.D.Disk.state c.write_synced.new.disk).content left staged changes)
+    (c.write_synced-2.ensures.any_moment (c.write_synced.ensures.honest ∙ honest) written.0) in
+    joined g.D.Disk.moment g.D.Disk.left_since c.args.disk.now c.write_synced.new.disk c.write_synced-2.new.disk _ first second

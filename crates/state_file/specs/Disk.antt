@@ -1,0 +1,66 @@
+-- What the calls of a disk do, and what a stop may leave between two syncs.
+use Rattle.std.specs.Prelude.{◌≡◌, ◌⊎◌, ℕ, ◌+◌, ◌<◌, ◌≤◌, max, List, [], ◌∷◌, length, slice_index, slice_range, Result, Ok, Err}
+
+-- the places from `from` on and below `to`
+pub record Range : Type 0 where
+  pub from : ℕ
+  pub to : ℕ
+
+-- where these bytes stand, if they begin at this place
+abbrev pub range_of : ℕ → List ℕ → Range
+range_of at bytes = record { from = at; to = at + length bytes }
+
+-- the place lies in none of them
+abbrev pub IsOutside : ℕ → List Range → Type 0
+IsOutside place [] = Unit {0}
+IsOutside place (range ∷ ranges) = ((place < range.from) ⊎ (range.to ≤ place)) × IsOutside place ranges
+
+-- the greatest of a length and of the ends of ranges
+abbrev pub greatest_end : ℕ → List Range → ℕ
+greatest_end len [] = len
+greatest_end len (range ∷ ranges) = max range.to (greatest_end len ranges)
+
+-- New differs from old at most in these ranges and past old's end.
+pub record ChangesOnly (ranges : List Range) (old new : List ℕ) : Type 0 where
+  pub kept : (place : ℕ) → place < length old → IsOutside place ranges → slice_index new place ≡ slice_index old place
+  pub no_shorter : length old ≤ length new
+  pub no_longer : length new ≤ greatest_end (length old) ranges
+
+-- a disk at one moment
+pub record State : Type 0 where
+  -- what a read gives
+  pub content : List ℕ
+  -- what a read gave right after the last sync that succeeded
+  pub base : List ℕ
+  -- the ranges written, or refused in a write, since then
+  pub ranges : List Range
+
+-- a disk with this content, all of it synced
+abbrev pub settled : List ℕ → State
+settled content = record { content = content; base = content; ranges = [] }
+
+-- what a stop at this moment may leave: any bytes in the ranges and past the base's end
+abbrev pub MayLeave : State → List ℕ → Type 0
+MayLeave state = ChangesOnly state.ranges state.base
+
+-- One range more is open, and what a read gives changed at most there.
+pub record Opens (range : Range) (old new : State) : Type 0 where
+  pub changes : ChangesOnly (range ∷ []) old.content new.content
+  pub more : new.ranges ≡ range ∷ old.ranges
+  pub same_base : new.base ≡ old.base
+
+-- What a write does. One that is refused may have written any part of its range, or nothing.
+abbrev pub Writes : {A E : Type 0} (at : ℕ) (bytes : List ℕ) (old new : State) → Result A E → Type 0
+Writes at bytes old new (Ok _) = Opens (range_of at bytes) old new × (slice_range new.content at (at + length bytes) ≡ bytes)
+Writes at bytes old new (Err _) = (new ≡ old) ⊎ Opens (range_of at bytes) old new
+
+-- What a sync does. One that is refused promises nothing: what a read gives after it is one of the contents
+-- that a stop may leave, as ever.
+abbrev pub Syncs : {A E : Type 0} (old new : State) → Result A E → Type 0
+Syncs old new (Ok _) = new ≡ settled old.content
+Syncs old new (Err _) = (new.base ≡ old.base) × (new.ranges ≡ old.ranges)
+
+-- The count of failures, which grows by one with each call that is refused.
+abbrev pub CountsFailure : {A E : Type 0} (before after : ℕ) → Result A E → Type 0
+CountsFailure before after (Ok _) = after ≡ before
+CountsFailure before after (Err _) = after ≡ before + 1

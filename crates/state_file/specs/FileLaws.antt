@@ -1,0 +1,97 @@
+-- What contents stand for.
+use Rattle.std.specs.Prelude.{◌≡◌, ◌≢◌, ◌⊎◌, ℕ, ◌+◌, ◌*◌, ◌<◌, ◌≤◌, true, List, [], ◌∷◌, length, drop, slice_index, slice_get, Some}
+use Rattle.std.proofs.Common.{inl, inr, ⊎_elim, refl, sym, ◌∙◌, ap, subst, arith, get_or, length-take-le, length-drop}
+use Rattle.std.proofs.lemmas.Bool.{cases_order}
+use Rattle.std.proofs.lemmas.List.{same_lists, get_or_default}
+use Rattle.std.proofs.lemmas.Option.{slice_get-get_or, slice_get_within}
+use Rattle.typecodes.proofs.Spelling.{one_value}
+use Rattle.typecodes.proofs.Steps.{ends-spelled}
+use Rattle.state_file.specs.Contents.{HasNoKey, IsClosed, SpellsRecords, fields_at}
+use Rattle.state_file.specs.Files.{StandsFor, IsFileOf, IsKept}
+use Rattle.state_file.specs.Disk.{State, MayLeave, settled}
+use Rattle.state_file.specs.Slots.{slot_record}
+use Rattle.state_file.specs.Store.{is_key}
+use Rattle.state_file.specs.declared.record.Key.{Key}
+use Rattle.state_file.specs.declared.record.Record.{Record}
+use Rattle.state_file.specs.declared.record.Record.TheVariants.{Key as KeyRecord, Extend, Bound, Retire, Moved}
+
+pub fields_length : (content : List ℕ) (k : ℕ) → 256 * (k + 1) ≤ length content → length (fields_at content k) ≡ 223
+fields_length content k fits = length-take-le 223 (drop (256 * k + 1) content) (omega (arith, length-drop (256 * k + 1) content))
+
+pub closed_gate : (content : List ℕ) (k : ℕ) → 256 * k < length content → slice_index content (256 * k) ≢ 165 → IsClosed content k
+closed_gate content k within shut = (slice_index content (256 * k), slice_get-get_or content (256 * k) 0 within, shut)
+
+the_key : (entry : Record) → is_key entry ≡ true → (key : Key) × (Some entry ≡ Some (KeyRecord key))
+the_key (KeyRecord key) is = (key, refl)
+the_key (Extend extend) is = absurd cc
+the_key (Bound bound) is = absurd cc
+the_key (Retire upto) is = absurd cc
+the_key Moved is = absurd cc
+
+-- a file stands for its records
+pub file_stands : (records : List Record) (content : List ℕ) → IsFileOf records content → StandsFor records content
+file_stands [] content file = inr (closed_gate content 0 file.within file.closed)
+file_stands (entry ∷ entries) content file = record {
+  few = file.few;
+  opened = λ k below. slice_get-get_or content (256 * k) 0 (omega (arith, file.within)) ∙ ap Some (file.opened k below);
+  closed = closed_gate content (length (entry ∷ entries)) file.within file.closed;
+  first = the_key entry file.first;
+  held = λ k one is.
+      let below : k < length (entry ∷ entries) = slice_get_within (entry ∷ entries) k one is in
+      record {
+        spelled = ends-spelled slot_record (fields_at content k) one 223 (file.spelled k one is) (fields_length content k (omega (arith, file.within)));
+        tagged = file.tagged k below;
+      };
+}
+
+pub kept_stands : (records : List Record) (tag : List ℕ) (state : State) → IsKept records tag state → StandsFor records state.content
+kept_stands records tag state kept = file_stands records state.content kept.file
+
+-- a content stands for one list
+open_or_shut : (content : List ℕ) (k : ℕ) → slice_get content (256 * k) ≡ Some 165 → IsClosed content k → ⊥
+open_or_shut content k is_open shut = let same : Some 165 ≡ Some shut.0 = sym is_open ∙ shut.1 in let value : shut.0 ≡ 165 = cc in shut.2 value
+
+spells_one : (a b : List Record) (content : List ℕ) → SpellsRecords content a → SpellsRecords content b → a ≡ b
+spells_one a b content first second =
+    let len : length a ≡ length b = elim (cases_order (length a) (length b)) [
+      | inl same ↦ same
+      | inr (inl below) ↦ absurd (open_or_shut content (length a) (second.opened (length a) below) first.closed)
+      | inr (inr above) ↦ absurd (open_or_shut content (length b) (first.opened (length b) above) second.closed)
+    ] in
+    same_lists a b len (λ k d below.
+    one_value slot_record (get_or a k d) (get_or b k d) (fields_at content k) (first.held k (get_or a k d) (slice_get-get_or a k d below)).spelled
+    (second.held k (get_or b k d) (slice_get-get_or b k d (omega arith))).spelled)
+
+no_key_spells : (content : List ℕ) (entry : Record) (entries : List Record) → HasNoKey content → SpellsRecords content (entry ∷ entries) → ⊥
+no_key_spells content entry entries none spells =
+    let long : 256 * length (entry ∷ entries) < length content = slice_get_within content (256 * length (entry ∷ entries)) spells.closed.0 spells.closed.1 in
+    ⊎_elim (λ (short : length content < 257). absurd (omega (arith, long))) (λ shut. open_or_shut content 0 (spells.opened 0 (omega arith)) shut) none
+
+pub stands_one : (a b : List Record) (content : List ℕ) → StandsFor a content → StandsFor b content → a ≡ b
+stands_one [] [] content first second = refl
+stands_one [] (b ∷ bs) content first second = absurd (no_key_spells content b bs first second)
+stands_one (a ∷ rest) [] content first second = absurd (no_key_spells content a rest second first)
+stands_one (a ∷ rest) (b ∷ bs) content first second = spells_one (a ∷ rest) (b ∷ bs) content first second
+
+-- of the contents that stand for one of two lists, these two lists are left
+pub one_of_two : (a b list : List Record) (content : List ℕ) → StandsFor a content ⊎ StandsFor b content → StandsFor list content ⊎ ((other : List Record) → StandsFor other content → ⊥) → (list ≡ a) ⊎ (list ≡ b)
+one_of_two a b list content (inl stands) (inl one) = inl (stands_one list a content one stands)
+one_of_two a b list content (inr stands) (inl one) = inr (stands_one list b content one stands)
+one_of_two a b list content (inl stands) (inr none) = absurd (none a stands)
+one_of_two a b list content (inr stands) (inr none) = absurd (none b stands)
+
+synced_left : (content c : List ℕ) → MayLeave (settled content) c → c ≡ content
+synced_left content c changes =
+    same_lists c content (omega (arith, changes.no_shorter, changes.no_longer)) (λ k d inside.
+    get_or_default c k d 0 inside ∙ changes.kept k (omega (arith, changes.no_shorter, changes.no_longer)) tt ∙ get_or_default content k 0 d (omega (arith, changes.no_shorter, changes.no_longer)))
+
+-- what a stop leaves of what is kept
+pub kept_leaves : (records : List Record) (tag : List ℕ) (state : State) (c : List ℕ) → IsKept records tag state → MayLeave state c → StandsFor records c
+kept_leaves records tag state c kept left =
+    let same : c ≡ state.content = synced_left state.content c (subst (λ (s : State). MayLeave s c) kept.synced left) in
+    file_stands records c (subst (IsFileOf records) (sym same) kept.file)
+
+pub kept_list : (records list : List Record) (tag : List ℕ) (state : State) (c : List ℕ) → IsKept records tag state → MayLeave state c → StandsFor list c ⊎ ((other : List Record) → StandsFor other c → ⊥) → list ≡ records
+kept_list records list tag state c kept left either =
+    let stands = kept_leaves records tag state c kept left in
+    ⊎_elim (λ one. stands_one list records c one stands) (λ none. absurd (none records stands)) either

@@ -1,0 +1,41 @@
+-- What preparing a place does.
+use Rattle.std.specs.Prelude.{◌≡◌, ◌≢◌, ◌⊎◌, ℕ, ◌+◌, ◌<◌, ◌≤◌, List, [], ◌∷◌, length, slice_index, Result, Ok, Err}
+use Rattle.state_file.specs.Disk.{State, settled, ChangesOnly, range_of}
+use Rattle.state_file.specs.Gates.{IsAtRest}
+use Rattle.state_file.specs.declared.gates.FormatFault.{FormatFault}
+use Rattle.state_file.specs.declared.gates.FormatFault.TheVariants.{NotKeyFile, DeviceFailed, KeyThere}
+
+-- What preparing leaves: at most the first byte has changed, and none of 257.
+abbrev pub Prepares : (content : List ℕ) (new : State) → Type 0
+Prepares content new =
+    IsAtRest [] new × (((length content < 257) × ChangesOnly (range_of 0 (0 ∷ []) ∷ []) content new.content) ⊎ ((length content ≡ 257) × (slice_index content 0 ≢ 165) × (new.content ≡ content)))
+
+-- when each refusal comes, by what a read gave, and what it leaves
+abbrev pub RefusesFormat : (content : List ℕ) (new : State) → FormatFault → Type 0
+RefusesFormat content new KeyThere = (257 ≤ length content) × (slice_index content 0 ≡ 165) × (new ≡ settled content)
+RefusesFormat content new NotKeyFile = (257 < length content) × (slice_index content 0 ≢ 165) × (new ≡ settled content)
+RefusesFormat content new DeviceFailed = Unit {0}
+
+abbrev pub Formats : {A : Type 0} (content : List ℕ) (new : State) → Result A FormatFault → Type 0
+Formats content new (Ok _) = Prepares content new
+Formats content new (Err fault) = RefusesFormat content new fault
+
+-- it was refused for what stands there
+abbrev pub IsOfContent : FormatFault → Type 0
+IsOfContent KeyThere = Unit {0}
+IsOfContent NotKeyFile = Unit {0}
+IsOfContent DeviceFailed = ⊥
+
+abbrev pub WritesNothing : {A : Type 0} → Result A FormatFault → Type 0
+WritesNothing (Ok _) = ⊥
+WritesNothing (Err fault) = IsOfContent fault
+
+-- 45 comes exactly where the device failed
+abbrev pub CountsRefusal : (before after : ℕ) → FormatFault → Type 0
+CountsRefusal before after KeyThere = after ≡ before
+CountsRefusal before after NotKeyFile = after ≡ before
+CountsRefusal before after DeviceFailed = after ≡ before + 1
+
+abbrev pub CountsDevice : {A : Type 0} (before after : ℕ) → Result A FormatFault → Type 0
+CountsDevice before after (Ok _) = after ≡ before
+CountsDevice before after (Err fault) = CountsRefusal before after fault

@@ -1,0 +1,60 @@
+-- What opening a place tells, and what its parts do.
+use Rattle.std.specs.Prelude.{◌≡◌, ℕ, ◌+◌, ◌*◌, ◌<◌, true, List, length, Some, Result, Ok, Err}
+use Rattle.state_file.specs.Contents.{Holds, IsWhole, MayHaveKey, Opens, SpellsRecords, begins_key, damaged, fields_at, most_records, no_key, no_key_file, previous_tag, tag_at, unknown_version, version_of}
+use Rattle.state_file.specs.Disk.{State, MayLeave}
+use Rattle.state_file.specs.Moments.{LeavesOnly}
+use Rattle.state_file.specs.declared.opening.OpenFault.{OpenFault}
+use Rattle.state_file.specs.declared.opening.OpenFault.TheVariants.{NoKey, NotKeyFile, UnknownVersion, Damaged, DeviceFailed}
+use Rattle.state_file.specs.declared.record.Record.{Record}
+use Rattle.state_file.specs.declared.record.Version.{Version}
+
+-- what each refusal tells of the content
+abbrev pub Tells : List ℕ → OpenFault → Type 0
+Tells content NoKey = Opens content no_key
+Tells content NotKeyFile = Opens content no_key_file
+Tells content UnknownVersion = Opens content unknown_version
+Tells content (Damaged k) = Opens content (damaged k)
+Tells content DeviceFailed = Unit {0}
+
+-- 45 comes exactly where the device failed
+abbrev pub CountsFault : (before after : ℕ) → OpenFault → Type 0
+CountsFault before after NoKey = after ≡ before
+CountsFault before after NotKeyFile = after ≡ before
+CountsFault before after UnknownVersion = after ≡ before
+CountsFault before after (Damaged k) = after ≡ before
+CountsFault before after DeviceFailed = after ≡ before + 1
+
+abbrev pub CountsOpening : {A : Type 0} (before after : ℕ) → Result A OpenFault → Type 0
+CountsOpening before after (Ok _) = after ≡ before
+CountsOpening before after (Err fault) = CountsFault before after fault
+
+-- calls that only read
+pub record OnlyReads {D : Type 0} (state : D → State) (moment : D → ℕ) (left_since : D → ℕ → List ℕ → Type 0) (old new : D) : Type 0 where
+  pub stays : state new ≡ state old
+  pub leaves : LeavesOnly moment left_since old new (MayLeave (state old))
+
+-- The first slot is that of a Key of a known version.
+pub record StartsWithKey (content : List ℕ) : Type 0 where
+  pub may : MayHaveKey content
+  pub key : begins_key (fields_at content 0) ≡ true
+  pub version : (version : Version) × (version_of (fields_at content 0) ≡ Some version)
+
+-- The slot holds the record, has the tag, and the next gate lies in the content.
+pub record HasSlot (content : List ℕ) (k : ℕ) (entry : Record) (tag : List ℕ) : Type 0 where
+  pub few : k < most_records
+  pub ends : 256 * (k + 1) < length content
+  pub held : Holds content k entry
+  pub tagged : tag ≡ tag_at content k
+
+-- what each refusal of a slot tells of it
+abbrev pub TellsSlot : List ℕ → ℕ → OpenFault → Type 0
+TellsSlot content slot NoKey = ⊥
+TellsSlot content slot NotKeyFile = ⊥
+TellsSlot content slot UnknownVersion = ⊥
+TellsSlot content slot (Damaged k) = (k ≡ slot) × (IsWhole content slot → ⊥)
+TellsSlot content slot DeviceFailed = Unit {0}
+
+-- what the records that were found are, and the last tag
+pub record IsFound (content : List ℕ) (records : List Record) (tag : List ℕ) : Type 0 where
+  pub spelled : SpellsRecords content records
+  pub last : tag ≡ previous_tag content (length records)

@@ -1,0 +1,220 @@
+ghost use Rattle.std.specs.Prelude.{◌≡◌, true};
+ghost use Rattle.state_file.specs.Store.{is_key};
+
+use crate::gates::{add_slot, format};
+use crate::*;
+use std::test::Fail;
+use typecodes::{LmsPair, LmsType, OtsType};
+
+fn read(disk: &mut MemoryDisk, into: &mut [u8]) -> Result<(), DiskFault> {
+    disk.read_at(0, into)
+}
+
+#[test]
+fn reads_what_was_written(rt: HostRuntime) -> Result<(), Fail> {
+    let mut disk = MemoryDisk::of(rt.alloc(), &[1, 2, 3])?;
+    assert_eq!(rt; disk.len()?, 3);
+    let mut two = [0; 2];
+    disk.read_at(1, &mut two)?;
+    assert_eq!(rt; two, [2, 3]);
+    disk.write_at(2, &[9, 8, 7])?;
+    let mut all = [0; 5];
+    read(&mut disk, &mut all)?;
+    assert_eq!(rt; all, [1, 2, 9, 8, 7]);
+    assert_eq!(rt; disk.read_at(4, &mut two), Err(DiskFault::PastEnd));
+    assert_eq!(rt; disk.read_at(u64::MAX, &mut two), Err(DiskFault::PastEnd));
+    assert_eq!(rt; disk.len()?, 5);
+    Ok(())
+}
+
+#[test]
+fn a_gap_is_filled_with_zeros(rt: HostRuntime) -> Result<(), Fail> {
+    let mut disk = MemoryDisk::of(rt.alloc(), &[1])?;
+    disk.write_at(3, &[5])?;
+    disk.write_at(9, &[])?;
+    assert_eq!(rt; disk.stop(Pick::New)?.as_slice(), [1, 0, 0, 5].as_slice());
+    assert_eq!(rt;
+        disk.stop(Pick::Fill(7))?.as_slice(),
+        [1, 7, 7, 7, 7, 7, 7, 7, 7].as_slice()
+    );
+    Ok(())
+}
+
+#[test]
+fn a_stop_leaves_what_was_not_synced_open(rt: HostRuntime) -> Result<(), Fail> {
+    let mut disk = MemoryDisk::of(rt.alloc(), &[1, 2, 3])?;
+    disk.write_at(1, &[8])?;
+    disk.write_at(2, &[9, 9, 9])?;
+    assert_eq!(rt; disk.stop(Pick::Old)?.as_slice(), [1, 2, 3].as_slice());
+    assert_eq!(rt;
+        disk.stop(Pick::New)?.as_slice(),
+        [1, 8, 9, 9, 9].as_slice()
+    );
+    assert_eq!(rt;
+        disk.stop(Pick::Fill(7))?.as_slice(),
+        [1, 7, 7, 7, 7].as_slice()
+    );
+    disk.sync()?;
+    disk.write_at(0, &[6])?;
+    assert_eq!(rt;
+        disk.stop(Pick::Old)?.as_slice(),
+        [1, 8, 9, 9, 9].as_slice()
+    );
+    assert_eq!(rt;
+        disk.stop(Pick::New)?.as_slice(),
+        [6, 8, 9, 9, 9].as_slice()
+    );
+    assert_eq!(rt;
+        disk.stop(Pick::Fill(7))?.as_slice(),
+        [7, 8, 9, 9, 9].as_slice()
+    );
+    Ok(())
+}
+
+#[test]
+fn the_nth_call_fails_once(rt: HostRuntime) -> Result<(), Fail> {
+    let mut disk = MemoryDisk::of(rt.alloc(), &[1, 2, 3])?;
+    disk.fail_at(2);
+    assert_eq!(rt; disk.len(), Ok(3));
+    assert_eq!(rt; disk.write_at(0, &[7, 8, 9, 6, 5]), Err(DiskFault::Failed));
+    // the first half was written, and the whole range is open
+    assert_eq!(rt; disk.stop(Pick::New)?.as_slice(), [7, 8, 3].as_slice());
+    assert_eq!(rt;
+        disk.stop(Pick::Fill(0))?.as_slice(),
+        [0, 0, 0, 0, 0].as_slice()
+    );
+    disk.sync()?;
+    assert_eq!(rt; disk.stop(Pick::Fill(0))?.as_slice(), [7, 8, 3].as_slice());
+    disk.fail_at(1);
+    assert_eq!(rt; disk.sync(), Err(DiskFault::Failed));
+    disk.fail_at(1);
+    assert_eq!(rt; disk.len(), Err(DiskFault::Failed));
+    disk.fail_at(1);
+    disk.fail_at(0);
+    assert_eq!(rt; disk.len(), Ok(3));
+    Ok(())
+}
+
+#[test]
+fn a_stop_refuses_all_that_follows(rt: HostRuntime) -> Result<(), Fail> {
+    let mut disk = MemoryDisk::of(rt.alloc(), &[1, 2, 3])?;
+    disk.stop_at(2);
+    disk.write_at(0, &[7])?;
+    assert_eq!(rt; disk.write_at(1, &[8, 9]), Err(DiskFault::Failed));
+    assert_eq!(rt; disk.sync(), Err(DiskFault::Failed));
+    assert_eq!(rt; disk.len(), Err(DiskFault::Failed));
+    assert_eq!(rt; read(&mut disk, &mut [0]), Err(DiskFault::Failed));
+    // the refused write's range doesn't count
+    assert_eq!(rt; disk.stop(Pick::Old)?.as_slice(), [1, 2, 3].as_slice());
+    assert_eq!(rt; disk.stop(Pick::New)?.as_slice(), [7, 2, 3].as_slice());
+    assert_eq!(rt; disk.stop(Pick::Fill(5))?.as_slice(), [5, 2, 3].as_slice());
+    Ok(())
+}
+
+// How many slots stand open, one after the other.
+fn open_slots(content: &[u8]) -> usize {
+    content
+        .iter()
+        .step_by(256)
+        .take_while(|gate| **gate == 0xA5)
+        .count()
+}
+
+const fn one_slot() -> [u8; 257] {
+    let mut content = [1; 257];
+    content[0] = 0xA5;
+    content[256] = 0;
+    content
+}
+
+#[test]
+fn a_stop_leaves_the_old_slots_or_the_new(rt: HostRuntime) -> Result<(), Fail> {
+    // before which call the stop comes, and how many slots each pick leaves
+    let table = [
+        (1, [1, 1, 1, 1]),
+        (2, [1, 1, 1, 1]),
+        (3, [1, 1, 1, 1]),
+        (4, [1, 2, 2, 1]),
+        (5, [2, 2, 2, 2]),
+    ];
+    for (call, counts) in table {
+        let mut disk = MemoryDisk::of(rt.alloc(), &one_slot())?;
+        disk.stop_at(call);
+        assert_eq!(rt; add_slot(&mut disk, 1, &[2; 255]).is_ok(), call == 5);
+        let [old, new, open, zeros] = counts;
+        assert_eq!(rt; open_slots(&disk.stop(Pick::Old)?), old);
+        assert_eq!(rt; open_slots(&disk.stop(Pick::New)?), new);
+        assert_eq!(rt; open_slots(&disk.stop(Pick::Fill(0xA5))?), open);
+        assert_eq!(rt; open_slots(&disk.stop(Pick::Fill(0))?), zeros);
+    }
+    Ok(())
+}
+
+#[test]
+fn a_place_without_a_key_is_prepared(rt: HostRuntime) -> Result<(), Fail> {
+    for first in [0x37, 0xA5] {
+        let mut disk = MemoryDisk::of(rt.alloc(), &[first])?;
+        format(&mut disk)?;
+        assert_eq!(rt; disk.stop(Pick::Fill(9))?.as_slice(), [0].as_slice());
+    }
+    let mut empty = MemoryDisk::of(rt.alloc(), &[])?;
+    format(&mut empty)?;
+    assert_eq!(rt; empty.stop(Pick::Old)?.as_slice(), [0].as_slice());
+    let mut key = MemoryDisk::of(rt.alloc(), &one_slot())?;
+    assert_eq!(rt; format(&mut key), Err(FormatFault::KeyThere));
+    let mut closed = MemoryDisk::of(rt.alloc(), &[0; 257])?;
+    format(&mut closed)?;
+    let mut longer = MemoryDisk::of(rt.alloc(), &[0; 258])?;
+    assert_eq!(rt; format(&mut longer), Err(FormatFault::NotKeyFile));
+    Ok(())
+}
+
+fn key() -> Record
+    ensures { is_key result ≡ true }
+{
+    Record::Key(Key {
+        version: Version::One,
+        secret: Secret::Lms {
+            pair: LmsPair {
+                tree: LmsType::H5,
+                ots: OtsType::W8,
+            },
+            identifier: [1; 16],
+            seed: [2; 32],
+        },
+        root: [3; 32],
+    })
+}
+
+#[test]
+fn a_store_over_a_disk_keeps_its_records(rt: HostRuntime) -> Result<(), Fail> {
+    let disk = MemoryDisk::of(rt.alloc(), &[])?;
+    let Ok(mut store) = FileStore::format(disk) else {
+        return Ok(assert!(rt; false));
+    };
+    assert_eq!(rt; store.load(0)?, None);
+    store.append(&key())?;
+    store.append(&Record::Retire { upto: 5 })?;
+    assert_eq!(rt; store.count(), 2);
+    assert_eq!(rt; store.load(0)?, Some(key()));
+    assert_eq!(rt; store.load(1)?, Some(Record::Retire { upto: 5 }));
+    assert_eq!(rt; store.load(2)?, None);
+    assert_eq!(rt; store.limit(), 2147483648);
+    let mut disk = store.into_disk();
+    assert_eq!(rt; disk.len()?, 513);
+    Ok(())
+}
+
+#[test]
+fn an_append_that_fails_stops_the_store(rt: HostRuntime) -> Result<(), Fail> {
+    let mut disk = MemoryDisk::of(rt.alloc(), &[])?;
+    // format's three calls, and then the append's first
+    disk.fail_at(5);
+    let Ok(mut store) = FileStore::format(disk) else {
+        return Ok(assert!(rt; false));
+    };
+    assert_eq!(rt; store.append(&key()), Err(StoreFault::DeviceFailed));
+    assert_eq!(rt; store.append(&key()), Err(StoreFault::Stopped));
+    assert_eq!(rt; store.load(0), Err(StoreFault::Stopped));
+    Ok(())
+}
