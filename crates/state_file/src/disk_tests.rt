@@ -1,10 +1,7 @@
-ghost use Rattle.std.specs.Prelude.{◌≡◌, true};
-ghost use Rattle.state_file.specs.Store.{is_key};
-
 use crate::gates::{add_slot, format};
+use crate::samples::key;
 use crate::*;
 use std::test::Fail;
-use typecodes::{LmsPair, LmsType, OtsType};
 
 fn read(disk: &mut MemoryDisk, into: &mut [u8]) -> Result<(), DiskFault> {
     disk.read_at(0, into)
@@ -167,23 +164,6 @@ fn a_place_without_a_key_is_prepared(rt: HostRuntime) -> Result<(), Fail> {
     let mut longer = MemoryDisk::of(rt.alloc(), &[0; 258])?;
     assert_eq!(rt; format(&mut longer), Err(FormatFault::NotKeyFile));
     Ok(())
-}
-
-fn key() -> Record
-    ensures { is_key result ≡ true }
-{
-    Record::Key(Key {
-        version: Version::One,
-        secret: Secret::Lms {
-            pair: LmsPair {
-                tree: LmsType::H5,
-                ots: OtsType::W8,
-            },
-            identifier: [1; 16],
-            seed: [2; 32],
-        },
-        root: [3; 32],
-    })
 }
 
 #[test]

@@ -16,9 +16,13 @@ mod levels;
 mod memory;
 mod memory_disk;
 mod opening;
+#[cfg(test)]
+mod opening_tests;
 mod record;
 mod record_list;
 mod refused;
+#[cfg(test)]
+mod samples;
 mod slot;
 mod store;
 #[cfg(test)]

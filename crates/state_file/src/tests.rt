@@ -1,35 +1,11 @@
 use super::*;
+use crate::samples::{bound, key};
 use std::test::Fail;
-use typecodes::{BadName, LmsPair, LmsType, Name, OtsType};
-
-const fn key() -> Record {
-    Record::Key(Key {
-        version: Version::One,
-        secret: Secret::Lms {
-            pair: LmsPair {
-                tree: LmsType::H5,
-                ots: OtsType::W8,
-            },
-            identifier: [1; 16],
-            seed: [2; 32],
-        },
-        root: [3; 32],
-    })
-}
-
-fn bound(name: &[u8], leaf: u32) -> Result<Record, BadName> {
-    Ok(Record::Bound(Bound {
-        name: Name::new(name)?,
-        leaf,
-        randomizer: [4; 32],
-        digest: [5; 32],
-    }))
-}
 
 #[test]
 fn takes_as_many_as_its_limit(rt: HostRuntime) -> Result<(), Fail> {
     let mut store = MemoryStore::with_limit(rt.alloc(), 2);
-    let second = bound(b"release-1", 7)?;
+    let second = bound()?;
     assert_eq!(rt; store.limit(), 2);
     assert_eq!(rt; store.load(0)?, None);
     store.append(&key())?;
@@ -45,7 +21,7 @@ fn takes_as_many_as_its_limit(rt: HostRuntime) -> Result<(), Fail> {
 #[test]
 fn cut_that_leaves_the_old_records(rt: HostRuntime) -> Result<(), Fail> {
     let mut store = MemoryStore::with_limit(rt.alloc(), 2);
-    let second = bound(b"release-1", 7)?;
+    let second = bound()?;
     store.append(&key())?;
     store.cut_at(1, Cut::Old);
     assert_eq!(rt; store.append(&second), Err(StoreFault::DeviceFailed));
@@ -62,7 +38,7 @@ fn cut_that_leaves_the_old_records(rt: HostRuntime) -> Result<(), Fail> {
 #[test]
 fn cut_that_leaves_the_new_record(rt: HostRuntime) -> Result<(), Fail> {
     let mut store = MemoryStore::with_limit(rt.alloc(), 3);
-    let second = bound(b"release-1", 7)?;
+    let second = bound()?;
     store.cut_at(2, Cut::New);
     store.append(&key())?;
     assert_eq!(rt; store.append(&second), Err(StoreFault::DeviceFailed));
