@@ -1,7 +1,7 @@
 -- What opening a place tells, and what its parts do.
 use Rattle.std.specs.Prelude.{◌≡◌, ℕ, ◌+◌, ◌*◌, ◌<◌, true, List, length, Some, Result, Ok, Err}
 use Rattle.state_file.specs.Contents.{Holds, IsWhole, MayHaveKey, Opens, SpellsRecords, begins_key, damaged, fields_at, most_records, no_key, no_key_file, previous_tag, tag_at, unknown_version, version_of}
-use Rattle.state_file.specs.Disk.{State, MayLeave}
+use Rattle.state_file.specs.Disk.{State, MayLeave, settled}
 use Rattle.state_file.specs.Moments.{LeavesOnly}
 use Rattle.state_file.specs.declared.opening.OpenFault.{OpenFault}
 use Rattle.state_file.specs.declared.opening.OpenFault.TheVariants.{NoKey, NotKeyFile, UnknownVersion, Damaged, DeviceFailed}
@@ -15,6 +15,14 @@ Tells content NotKeyFile = Opens content no_key_file
 Tells content UnknownVersion = Opens content unknown_version
 Tells content (Damaged k) = Opens content (damaged k)
 Tells content DeviceFailed = Unit {0}
+
+-- A refusal for what stands there leaves it as it was, and all of it is synced.
+abbrev pub KeepsContent : List ℕ → State → OpenFault → Type 0
+KeepsContent content new NoKey = new ≡ settled content
+KeepsContent content new NotKeyFile = new ≡ settled content
+KeepsContent content new UnknownVersion = new ≡ settled content
+KeepsContent content new (Damaged k) = new ≡ settled content
+KeepsContent content new DeviceFailed = Unit {0}
 
 -- 45 comes exactly where the device failed
 abbrev pub CountsFault : (before after : ℕ) → OpenFault → Type 0

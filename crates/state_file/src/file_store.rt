@@ -3,12 +3,12 @@
 ghost use Rattle.std.specs.Prelude.{◌≡◌, ◌⊎◌, ◌≤◌, ◌<◌, ◌+◌, ◌^◌, ◌∷◌, ℕ, List, [], ◌++◌, true, false, IsTrue, IfOk, IfErr, OnOk, OnErr, MatchResult, length, replicate};
 ghost use Rattle.typecodes.specs.Layout.{Spells};
 ghost use Rattle.state_file.specs.Moments.{Elapses, LeavesOnly};
-ghost use Rattle.state_file.specs.Disk.{State, MayLeave, CountsFailure};
+ghost use Rattle.state_file.specs.Disk.{State, settled, MayLeave, CountsFailure};
 ghost use Rattle.state_file.specs.Contents.{HasNoKey, SpellsRecords, fields_at, tag_at, tag_of};
 ghost use Rattle.state_file.specs.Files.{StandsFor, LeftLists, IsKept, IsKept-prop};
 ghost use Rattle.state_file.specs.FileLaws.{kept_stands, kept_list};
 ghost use Rattle.state_file.specs.Format.{CountsRefusal, IsOfContent, Prepares, RefusesFormat};
-ghost use Rattle.state_file.specs.Opened.{CountsFault, Tells};
+ghost use Rattle.state_file.specs.Opened.{CountsFault, KeepsContent, Tells};
 ghost use Rattle.std.proofs.Common.{inl};
 ghost use Rattle.state_file.specs.Slots.{slot_record};
 ghost use Rattle.state_file.specs.Store.{Appends, ReadsTag, begins_with_key};
@@ -78,7 +78,8 @@ impl<D: Disk + Drop> FileStore<D> {
     }
 
     /// Opens the records of a key. It syncs before it reads, so that what it shows stays. The faults come in
-    /// the order of their numbers, and each hands the disk back.
+    /// the order of their numbers, and each hands the disk back, with its content as it was where the device
+    /// didn't fail.
     pub fn open(disk: D) -> Result<Self, Refused<D, OpenFault>>
         ensures records { IsTrue (D.honest disk) → IfOk result (λ store. SpellsRecords (D.state disk).content store.records) }
         ensures running { IfOk result (λ store. store.stopped ≡ false) }
@@ -86,7 +87,8 @@ impl<D: Disk + Drop> FileStore<D> {
         ensures shown { IsTrue (D.honest disk) → IfOk result (λ store. (c : List ℕ) → MayLeave (D.state store.disk) c → SpellsRecords c store.records) }
         ensures any_moment { IsTrue (D.honest disk) → IfOk result (λ store. LeavesOnly D.moment D.left_since disk store.disk (MayLeave (D.state disk))) }
         ensures any_moment_err { IsTrue (D.honest disk) → IfErr result (λ refused. LeavesOnly D.moment D.left_since disk refused.given (MayLeave (D.state disk))) }
-        ensures content { IsTrue (D.honest disk) → IfOk result (λ store. (D.state store.disk).content ≡ (D.state disk).content) }
+        ensures synced { IsTrue (D.honest disk) → IfOk result (λ store. D.state store.disk ≡ settled (D.state disk).content) }
+        ensures kept { IsTrue (D.honest disk) → IfErr result (λ refused. KeepsContent (D.state disk).content (D.state refused.given) refused.fault) }
         ensures failures { IfOk result (λ store. D.failures store.disk ≡ D.failures disk) }
         ensures failures_err { IfErr result (λ refused. CountsFault (D.failures disk) (D.failures refused.given) refused.fault) }
         ensures honest { IfOk result (λ store. D.honest store.disk ≡ D.honest disk) }

@@ -7,7 +7,7 @@ ghost use Rattle.state_file.specs.Slots.{slot_record};
 ghost use Rattle.state_file.specs.declared.record.Record.{Record as Entry};
 ghost use Rattle.state_file.specs.Disk.{settled, MayLeave, CountsFailure};
 ghost use Rattle.state_file.specs.Moments.{LeavesOnly};
-ghost use Rattle.state_file.specs.Opened.{CountsOpening, HasSlot, IsFound, OnlyReads, StartsWithKey, Tells, TellsSlot};
+ghost use Rattle.state_file.specs.Opened.{CountsOpening, HasSlot, IsFound, KeepsContent, OnlyReads, StartsWithKey, Tells, TellsSlot};
 
 use crate::disk::{Disk, DiskFault};
 use crate::gates::{SLOT, settle};
@@ -238,6 +238,7 @@ pub(crate) fn find_records<D: Disk>(disk: &mut D) -> Result<Found, OpenFault>
     ensures found { IsTrue (D.honest disk.old) → IfOk result (λ found. IsFound (D.state disk.old).content found.records found.tag) }
     ensures fault { IsTrue (D.honest disk.old) → IfErr result (Tells (D.state disk.old).content) }
     ensures synced { IsTrue (D.honest disk.old) → OnOk result (D.state disk.new ≡ settled (D.state disk.old).content) }
+    ensures kept { IsTrue (D.honest disk.old) → IfErr result (KeepsContent (D.state disk.old).content (D.state disk.new)) }
     ensures any_moment { IsTrue (D.honest disk.old) → LeavesOnly D.moment D.left_since disk.old disk.new (MayLeave (D.state disk.old)) }
     ensures failures { CountsOpening (D.failures disk.old) (D.failures disk.new) result }
     ensures honest { D.honest disk.new ≡ D.honest disk.old }
