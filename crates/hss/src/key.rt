@@ -1,6 +1,6 @@
 //! Public keys.
 
-ghost use Rattle.std.specs.Prelude.{◌≡◌};
+ghost use Rattle.std.specs.Prelude.{◌≡◌, ◌≤◌, IfOk};
 ghost use Rattle.typecodes.specs.Reading.{Reads};
 
 use crate::levels::number_at;
@@ -19,10 +19,13 @@ pub struct HssPublic {
 impl HssPublic {
     ghost use Rattle.hss.specs.Layouts.{public_key};
 
-    /// The key that the bytes spell, 60 bytes and no more. Otherwise their first fault (1, 2, 3 or 5).
+    /// The key that the bytes spell, 60 bytes and no more; it has 1 to 8 levels. Otherwise their first fault
+    /// (1, 2, 3 or 5).
     #[tactic(auto, using(typecodes::proofs::Steps::steps, typecodes::proofs::Steps::reading), unfolding(crate::specs::Layouts::public_key))]
     pub fn read(bytes: &[u8]) -> Result<Self, ReadFault>
-        ensures { Reads public_key (λ key. key) bytes.now result }
+        ensures read { Reads public_key (λ key. key) bytes.now result }
+        ensures least { IfOk result (λ key. 1 ≤ key.levels) }
+        ensures most { IfOk result (λ key. key.levels ≤ 8) }
     {
         let mut cursor = Cursor::new(bytes);
         let levels = number_at(&mut cursor, 1, 8)?;

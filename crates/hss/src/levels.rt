@@ -11,6 +11,7 @@ use typecodes::{Cause, Cursor, ReadFault};
 pub(crate) fn number_at(cursor: &mut Cursor<'_>, low: u8, high: u8) -> Result<u8, ReadFault>
     requires { cursor.old.place + 4 < 2 ^ 32 }
     ensures read { Gives (λ n. (n, cursor.new.place)) result (read (level_number low high) cursor.old.bytes.now cursor.old.place) }
+    ensures least { IfOk result (λ n. low ≤ n) }
     ensures most { IfOk result (λ n. n ≤ high) }
     ensures len { OnOk result (cursor.new.place ≡ cursor.old.place + 4) }
     ensures bytes { cursor.new.bytes ≡ cursor.old.bytes }

@@ -4,7 +4,8 @@
 //! Its model is `specs/Layouts.antt`, how keys and signatures are spelled, `specs/Valid.antt`, which
 //! signatures are valid, and `specs/Textbook.antt`, the signature that the levels' secrets make. Its
 //! contract for the crates above: `verify` is Ok exactly on the spellings of valid signatures, and else
-//! tells the first refusal; `write_signature` writes the textbook signature, which is valid. The laws
+//! tells the first refusal; `write_signature` writes the textbook signature where roots and paths are those of
+//! the secrets, and it is valid where each digest is that of what its level signs. The laws
 //! stand on `spelling_laws`, `verdict_laws`, `textbook_laws` and `joining_laws`.
 #![tactic(auto)]
 

@@ -19,7 +19,7 @@ use lms::{LmsPublic, LmsSigView};
 use typecodes::{Cursor, ReadFault};
 
 /// A signature of one to eight levels (RFC 8554 6.2), as a view of the bytes that spell it. It keeps
-/// these alone, and reads a level anew where it is asked for it.
+/// these and their number of levels alone, and reads a level anew where it is asked for it.
 #[derive(Clone, Copy, Debug)]
 pub struct HssSigView<'a> {
     levels: u8,
