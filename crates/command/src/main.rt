@@ -1,4 +1,4 @@
-//! `hbsign`: hash-based signatures on files (RFC 8554).
+//! `hbsign`: hash-based signatures on files (RFC 8554, RFC 8391).
 //!
 //! `program::run` is the whole program, over the files of a runtime, a reader and two writers. It
 //! reads the line (`line`), does what is asked (a module for each command, as `verify`) and tells

@@ -10,7 +10,7 @@ use typecodes::{Cause, Refusal as SignatureRefusal};
 /// Why a command doesn't do what it was asked.
 #[derive(Clone, Copy, Debug, PartialEq, Eq)]
 pub enum Refusal {
-    /// 1 to 3 and 6: the bytes of a public key spell none.
+    /// 2, 3 and 6: the bytes of a public key spell none.
     Key(KeyFault),
     /// 1 to 5 and 10 to 12: a signature isn't verified.
     Signature(SignatureRefusal),
