@@ -41,6 +41,7 @@ impl AnyPublic {
         ensures ok { IfOk result (λ key. SpellsKey key bytes.now) }
         ensures err { IfErr result (KeyHasFault bytes.now) }
         ensures spelled { (key : Key) → SpellsKey key bytes.now → result ≡ Ok key }
+        ensures writable { IfOk result HasSpelling }
     {
         Self::read_by_length(bytes)
     }
@@ -49,6 +50,7 @@ impl AnyPublic {
     fn read_by_length(bytes: &[u8]) -> Result<Self, KeyFault>
         ensures ok { IfOk result (λ key. SpellsKey key bytes.now) }
         ensures err { IfErr result (KeyHasFault bytes.now) }
+        ensures writable { IfOk result HasSpelling }
     {
         match bytes.len() {
             56 => LmsPublic::read(bytes)

@@ -1,10 +1,11 @@
 use super::*;
+use hss::HssPublic;
 use lms::verify;
 use state_file::{Cut, Key, MemoryStore, Record, Secret, Store, Version};
 use std::alloc::{AllocError, Global};
 use std::process::Abort;
 use std::test::*;
-use typecodes::{LmsPair, LmsType, Name, OtsType, Spec};
+use typecodes::{LmsPair, LmsType, Name, OtsType, Refusal, Spec};
 
 type TestSigner<'a> = Signer<MemoryStore, TapeSource<'a>>;
 
@@ -76,6 +77,32 @@ fn one_signature_for_a_name(rt: HostRuntime) -> Result<(), Fail> {
     let mut store = signer.into_store();
     assert!(rt; store.load(1)?.is_some());
     assert!(rt; store.load(2)?.is_none());
+    Ok(())
+}
+
+// An LMS signature behind the number 0 of levels above is one of HSS with one level.
+#[test]
+fn a_signature_verifies_by_its_scheme(rt: HostRuntime) -> Result<(), Fail> {
+    let message = [1];
+    let tape = counting(rt.alloc(), 200)?;
+    let mut signer = signer(rt.alloc(), 100, &tape)?;
+    let signature = signed(&rt, rt.alloc(), &mut signer, b"fw-1", &message)?;
+    let top = signer.public_key();
+    let mut text = message.as_slice();
+    verify_any(&AnyPublic::Lms(top), &mut text, &signature)?;
+    let mut one_level = Vec::new(rt.alloc());
+    one_level.resize(4, 0)?;
+    one_level.extend_from_slice(&signature)?;
+    let mut text = message.as_slice();
+    let key = AnyPublic::Hss(HssPublic { levels: 1, top });
+    verify_any(&key, &mut text, &one_level)?;
+    let key = AnyPublic::Hss(HssPublic { levels: 2, top });
+    let mut text = message.as_slice();
+    assert_eq!(rt;
+        verify_any(&key, &mut text, &one_level),
+        Err(Refusal::LevelMismatch)
+    );
+    assert_eq!(rt; text.len(), 1);
     Ok(())
 }
 
