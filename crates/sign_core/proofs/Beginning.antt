@@ -4,7 +4,6 @@ use Rattle.std.proofs.lemmas.Bool.Decides.{nat_tests}
 use Rattle.std.specs.Prelude.{nat_le, if◌then◌else◌}
 use Rattle.typecodes.specs.declared.types.LmsPair.{LmsPair}
 use Rattle.state_file.specs.declared.record.Record.{Record}
-use Rattle.state_file.specs.Store.{begins_with_key}
 use Rattle.lms.specs.declared.key.LmsPublic.{LmsPublic}
 use Rattle.sign_core.specs.declared.key.LmsKey.{LmsKey}
 use Rattle.sign_core.specs.declared.fault.SignFault.{SignFault}
@@ -52,11 +51,6 @@ found_creates pair stopped honest running list before after told LedgerFull h = 
 empty_step : (pair : LmsPair) (list : List Record) (chance : Creation) → chance.failed_load ≡ None → length list ≡ 0 → created (state_of list false) pair chance ≡ made (state_of list false) pair chance chance.drawn
 empty_step pair [] chance loaded none = ap (λ o. created_after o (state_of [] false) pair chance) loaded
 empty_step pair (first ∷ rest) chance loaded none = absurd (omega arith)
-
--- behind no record, a key is the first
-pub key_is_first : (list : List Record) (key : LmsKey) → length list ≡ 0 → begins_with_key (list ++ key_record key ∷ []) ≡ true
-key_is_first [] key none = refl
-key_is_first (first ∷ rest) key none = absurd (omega arith)
 
 -- a create where the source fails
 pub undrawn_creates : (pair : LmsPair) (stopped honest : Bool) (list : List Record) (told left : Option (List ℕ)) → stopped ≡ false → length list ≡ 0 → DrawsKey None told left → Creates pair stopped honest (state_of list false) (state_of list false) told left (Err RandomFailed)

@@ -7,7 +7,7 @@ use Rattle.state_file.specs.declared.record.Bound.{Bound}
 use Rattle.sign_core.specs.declared.key.LmsKey.{LmsKey}
 use Rattle.state_file.specs.declared.record.Record.{Record}
 use Rattle.state_file.specs.declared.record.Record.TheVariants.{Key as KeyRecord, Extend as ExtendRecord, Bound as BoundRecord, Retire, Moved}
-use Rattle.state_file.specs.Store.{begins_with_key}
+use Rattle.state_file.specs.Store.{is_key}
 use Rattle.sign_core.specs.declared.fault.SignFault.{SignFault}
 use Rattle.sign_core.specs.declared.fault.SignFault.TheVariants.{Changed, Exhausted, RandomFailed, StoreFailed, Stopped, Damaged, OutOfMemory, LedgerFull, Unreadable, KeyThere}
 use Rattle.sign_core.specs.Ledger.{above_of, binding_of, bounds_of, is_sound, key_of, key_record, next_leaf, same_bytes, signature_of}
@@ -252,13 +252,9 @@ key_snoc (Retire upto ∷ rest) entry key is = absurd (cc)
 key_snoc (Moved ∷ rest) entry key is = absurd (cc)
 
 -- any record may stand behind a key
-pub key_stays_first : (list : List Record) (entry : Record) (key : LmsKey) → key_of list ≡ Some key → begins_with_key (list ++ entry ∷ []) ≡ true
-key_stays_first [] entry key is = absurd (cc)
-key_stays_first (KeyRecord first ∷ rest) entry key is = refl
-key_stays_first (ExtendRecord first ∷ rest) entry key is = absurd (cc)
-key_stays_first (BoundRecord first ∷ rest) entry key is = absurd (cc)
-key_stays_first (Retire upto ∷ rest) entry key is = absurd (cc)
-key_stays_first (Moved ∷ rest) entry key is = absurd (cc)
+pub key_stays_first : (list : List Record) (entry : Record) (key : LmsKey) → key_of list ≡ Some key → length list ≡ 0 → is_key entry ≡ true
+key_stays_first [] entry key is none = absurd (cc)
+key_stays_first (first ∷ rest) entry key is none = absurd (omega arith)
 
 -- also where an append fails
 pub key_appended : {A : Type 0} (was : Bool) (list : List Record) (entry : Record) (key : LmsKey) (value : A) (fate : Fate) → key_of list ≡ Some key → key_of (appended (state_of list was) entry value fate).state.records ≡ Some key

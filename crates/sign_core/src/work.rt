@@ -1,10 +1,10 @@
 //! What a signer does with one key and one binding.
 
-ghost use Rattle.std.specs.Prelude.{◌≡◌, Some, [], ◌∷◌, ◌++◌, ◌<◌, ◌^◌, length, false, IfErr, IfOk, IsTrue, OnOk};
+ghost use Rattle.std.specs.Prelude.{◌≡◌, Some, [], ◌<◌, ◌^◌, length, true, false, IfErr, IfOk, OnOk};
 ghost use Rattle.typecodes.specs.Types.{height_of};
 ghost use Rattle.lmots.specs.Formulas.{message_digest_of};
 ghost use Rattle.lms.specs.Textbook.{path_in, signature_size};
-ghost use Rattle.state_file.specs.Store.{begins_with_key};
+ghost use Rattle.state_file.specs.Store.{is_key};
 ghost use Rattle.sign_core.specs.Keeping.{DrawsBytes, Stores};
 ghost use Rattle.sign_core.specs.Ledger.{is_sound, secret_of, signature_of};
 ghost use Rattle.sign_core.specs.Once.{AreDrawn};
@@ -115,7 +115,7 @@ pub(crate) fn take_all<'a>(message: &mut &'a [u8]) -> &'a [u8]
 pub(crate) fn append<S: Store>(store: &mut S, entry: &Record) -> Result<(), SignFault>
     requires running { S.stopped store.old ≡ false }
     requires room { length (S.list store.old) < S.most store.old }
-    requires key_first { IsTrue (begins_with_key (S.list store.old ++ entry.now ∷ [])) }
+    requires key_first { length (S.list store.old) ≡ 0 → is_key entry.now ≡ true }
     ensures stored { Stores (S.list store.old) entry.now (S.list store.new) (S.stopped store.new) (S.failures store.old) (S.failures store.new) result }
     ensures honest { S.honest store.new ≡ S.honest store.old }
     ensures most { S.most store.new ≡ S.most store.old }

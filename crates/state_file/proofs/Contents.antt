@@ -11,6 +11,8 @@ use Rattle.state_file.specs.declared.record.Record.{Record}
 use Rattle.state_file.specs.declared.record.Record.TheVariants.{Key as KeyRecord}
 use Rattle.state_file.specs.declared.record.Version.{Version}
 use Rattle.state_file.specs.Contents.{Begins, HasNoKey, Holds, IsClosed, IsDamagedAt, IsOpen, IsWhole, MayHaveKey, Opening, Opens, SpellsRecords, begins_key, damaged, fields_at, most_records, no_key, no_key_file, previous_tag, spelled, tag_at, tag_of, unknown_version, version_of}
+use Rattle.state_file.specs.Files.{StandsFor}
+use Rattle.state_file.specs.Legal.{CanSign}
 use Rattle.state_file.specs.Slots.{slot_record}
 use Rattle.state_file.proofs.Shown.{key-begins, key-first}
 
@@ -281,3 +283,15 @@ one_opening content (damaged j) no_key a b = absurd (no_key_may content b a.may)
 one_opening content (damaged j) no_key_file a b = absurd (true≢false (sym a.key ∙ b.other))
 one_opening content (damaged j) unknown_version a b = absurd (known_or_not _ a.version.0 a.version.1 b.other)
 one_opening content (damaged j) (damaged k) a b = ap damaged (one_damaged content j k a b)
+
+-- a content that stands for a list spells it, or has no key
+pub standing : (records : List Record) (content : List ℕ) (opening : Opening) → StandsFor records content → Opens content opening → (opening ≡ no_key) ⊎ (opening ≡ spelled records)
+standing [] content opening none opens = inl (one_opening content opening no_key opens none)
+standing (entry ∷ entries) content opening spells opens = inr (one_opening content opening (spelled (entry ∷ entries)) opens spells)
+
+no_key_or_spelled : (records : List Record) → no_key ≡ spelled records → ⊥
+no_key_or_spelled records same = cc
+
+-- without a key a content can't sign
+pub no_key_cannot : (content : List ℕ) → HasNoKey content → CanSign content → ⊥
+no_key_cannot content none can = no_key_or_spelled can.records (one_opening content no_key (spelled can.records) none can.spelled)

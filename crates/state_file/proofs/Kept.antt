@@ -10,7 +10,7 @@ use Rattle.typecodes.specs.Reading.{read}
 use Rattle.state_file.specs.Contents.{HasNoKey, fields_at, tag_at, previous_tag, tag_of, most_records}
 use Rattle.state_file.specs.Files.{StandsFor, IsFileOf, IsKept}
 use Rattle.state_file.specs.FileLaws.{fields_length, closed_gate, file_stands}
-use Rattle.state_file.specs.Store.{begins_with_key}
+use Rattle.state_file.specs.Store.{begins_with_key, is_key}
 use Rattle.state_file.specs.Disk.{State}
 use Rattle.state_file.specs.Gates.{IsClosedAfter, IsAtRest, LacksKey}
 use Rattle.state_file.specs.Slots.{slot_record}
@@ -198,6 +198,11 @@ module _ (records : List Record) (content c : List ℕ) (entry : Record) (fields
 
   pub file_last : previous_tag c (length (records ++ entry ∷ [])) ≡ tag
   file_last = ap (λ m. previous_tag c m) (count ∙ add-one (length records)) ∙ last_tag
+
+-- a list that begins with a Key goes on so
+pub follows_key : (records : List Record) (entry : Record) → begins_with_key records ≡ true → (length records ≡ 0 → is_key entry ≡ true) → begins_with_key (records ++ entry ∷ []) ≡ true
+follows_key [] entry begins first = first refl
+follows_key (one ∷ rest) entry begins first = begins
 
 -- a record's bytes are read as it
 pub read_record : (entry : Record) (fields : List ℕ) → length fields ≡ 223 → Spells slot_record entry fields → read slot_record fields 0 ≡ Ok (entry, 223)

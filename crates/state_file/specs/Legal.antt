@@ -4,6 +4,7 @@ use Rattle.std.specs.Prelude.{◌≡◌, ◌≢◌, ℕ, zero, suc, ◌+◌, ◌
 use Rattle.typecodes.specs.declared.types.LmsPair.{LmsPair}
 use Rattle.typecodes.specs.Types.{height_of}
 use Rattle.typecodes.specs.XmssTypes.{xmss_height_of}
+use Rattle.state_file.specs.Contents.{SpellsRecords}
 use Rattle.state_file.specs.declared.record.Bound.{Bound}
 use Rattle.state_file.specs.declared.record.Extend.{Extend}
 use Rattle.state_file.specs.declared.record.Key.{Key}
@@ -115,3 +116,12 @@ pub record IsLegal (records : List Record) : Type 0 where
   -- a record behind a Retire of its tree names no leaf that was retired
   pub retired : (j k : ℕ) (upto : ℕ) (b : Record) (tree leaf : ℕ) → j < k → slice_get records j ≡ Some (Retire upto) → slice_get records k ≡ Some b
       → IsCurrent records j (bottom_of key.secret) tree → Names key.secret records k b tree leaf → upto ≤ leaf
+
+-- ---- signing
+
+-- A content can sign: it spells a legal list that doesn't end with a Moved.
+pub record CanSign (content : List ℕ) : Type 0 where
+  pub records : List Record
+  pub spelled : SpellsRecords content records
+  pub legal : IsLegal records
+  pub stays : slice_get records (length records - 1) ≢ Some Moved

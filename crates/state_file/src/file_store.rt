@@ -1,6 +1,6 @@
 //! A store over a disk.
 
-ghost use Rattle.std.specs.Prelude.{◌≡◌, ◌⊎◌, ◌≤◌, ◌<◌, ◌+◌, ◌^◌, ◌∷◌, ℕ, List, [], ◌++◌, true, false, IsTrue, IfOk, IfErr, OnOk, OnErr, MatchResult, length, replicate};
+ghost use Rattle.std.specs.Prelude.{◌≡◌, ◌≢◌, ◌⊎◌, ◌≤◌, ◌<◌, ◌+◌, ◌^◌, ◌∷◌, ℕ, List, [], ◌++◌, true, false, IsTrue, IfOk, IfErr, OnOk, OnErr, MatchResult, length, replicate};
 ghost use Rattle.typecodes.specs.Layout.{Spells};
 ghost use Rattle.state_file.specs.Moments.{Elapses, LeavesOnly};
 ghost use Rattle.state_file.specs.Disk.{State, settled, MayLeave, CountsFailure};
@@ -8,10 +8,10 @@ ghost use Rattle.state_file.specs.Contents.{HasNoKey, SpellsRecords, fields_at, 
 ghost use Rattle.state_file.specs.Files.{StandsFor, LeftLists, IsKept, IsKept-prop};
 ghost use Rattle.state_file.specs.FileLaws.{kept_stands, kept_list};
 ghost use Rattle.state_file.specs.Format.{CountsRefusal, IsOfContent, Prepares, RefusesFormat};
-ghost use Rattle.state_file.specs.Opened.{CountsFault, KeepsContent, Tells};
+ghost use Rattle.state_file.specs.Opened.{CountsFault, KeepsContent, OnlyReads, Tells};
 ghost use Rattle.std.proofs.Common.{inl};
 ghost use Rattle.state_file.specs.Slots.{slot_record};
-ghost use Rattle.state_file.specs.Store.{Appends, ReadsTag, begins_with_key};
+ghost use Rattle.state_file.specs.Store.{Appends, Loads, ReadsTag, is_key};
 
 use crate::disk::Disk;
 use crate::gates::{FormatFault, add_slot, format};
@@ -51,13 +51,16 @@ impl<D: Disk + Drop> FileStore<D> {
     }
 
     /// Prepares a place that has no key: it then holds no slot, and a closed gate. Of fewer than 257 bytes the
-    /// first alone changes, and of 257 none. A refusal hands the disk back; 50 and 41 write nothing.
+    /// first alone changes, to zero; where there are 257 or more, nothing is written, whatever the answer. A
+    /// refusal hands the disk back.
     pub fn format(disk: D) -> Result<Self, Refused<D, FormatFault>>
         ensures records { IfOk result (λ store. (store.records ≡ []) × (store.stopped ≡ false)) }
         ensures answer { IsTrue (D.honest disk) → IfOk result (λ store. Prepares (D.state disk).content (D.state store.disk)) }
         ensures fault { IsTrue (D.honest disk) → IfErr result (λ refused. RefusesFormat (D.state disk).content (D.state refused.given) refused.fault) }
         ensures any_moment { IsTrue (D.honest disk) → IfOk result (λ store. LeavesOnly D.moment D.left_since disk store.disk (λ c. MayLeave (D.state disk) c ⊎ HasNoKey c)) }
         ensures any_moment_err { IsTrue (D.honest disk) → IfErr result (λ refused. LeavesOnly D.moment D.left_since disk refused.given (λ c. MayLeave (D.state disk) c ⊎ HasNoKey c)) }
+        ensures long { IsTrue (D.honest disk) → 257 ≤ length (D.state disk).content → IfOk result (λ store. LeavesOnly D.moment D.left_since disk store.disk (MayLeave (D.state disk))) }
+        ensures long_err { IsTrue (D.honest disk) → 257 ≤ length (D.state disk).content → IfErr result (λ refused. LeavesOnly D.moment D.left_since disk refused.given (MayLeave (D.state disk))) }
         ensures nothing_written { IsTrue (D.honest disk) → IfErr result (λ refused. IsOfContent refused.fault → LeavesOnly D.moment D.left_since disk refused.given (MayLeave (D.state disk))) }
         ensures failures { IfOk result (λ store. D.failures store.disk ≡ D.failures disk) }
         ensures failures_err { IfErr result (λ refused. CountsRefusal (D.failures disk) (D.failures refused.given) refused.fault) }
@@ -113,7 +116,9 @@ impl<D: Disk + Drop> FileStore<D> {
     // Adds a record. A stop at any moment of it leaves a content that spells the old records, or these and the
     // new one.
     fn add(&mut self, new: &Record) -> Result<(), StoreFault>
-        requires { begins_with_key (self.old.records ++ new.now ∷ []) ≡ true }
+        requires { length self.old.records ≡ 0 → is_key new.now ≡ true }
+        ensures memory { result ≢ Err StoreFault.OutOfMemory }
+        ensures full { result ≡ Err StoreFault.Full → self.new ≡ self.old }
         ensures answer { Appends (2 ^ 31) self.old.records self.old.stopped new.now self.new.records self.new.stopped (D.failures self.old.disk) (D.failures self.new.disk) result }
         ensures any_moment { IsTrue (D.honest self.old.disk) → self.old.stopped ≡ false → LeavesOnly D.moment D.left_since self.old.disk self.new.disk (λ c. StandsFor self.old.records c ⊎ StandsFor (self.old.records ++ new.now ∷ []) c) }
         ensures honest { D.honest self.new.disk ≡ D.honest self.old.disk }
@@ -149,6 +154,7 @@ impl<D: Disk + Drop> FileStore<D> {
         ensures answer { ReadsTag self.old.stopped self.new.stopped (D.failures self.old.disk) (D.failures self.new.disk) result }
         ensures tag { IsTrue (D.honest self.old.disk) → IfOk result (λ tag. tag ≡ tag_at (D.state self.old.disk).content k) }
         ensures same { self.new.records ≡ self.old.records }
+        ensures reads { IsTrue (D.honest self.old.disk) → self.old.stopped ≡ false → OnlyReads D.state D.moment D.left_since self.old.disk self.new.disk }
         ensures any_moment { IsTrue (D.honest self.old.disk) → self.old.stopped ≡ false → LeavesOnly D.moment D.left_since self.old.disk self.new.disk (StandsFor self.old.records) }
         ensures honest { D.honest self.new.disk ≡ D.honest self.old.disk }
         ensures stays { self.old.stopped ≡ true → self.new ≡ self.old }
@@ -185,7 +191,16 @@ impl<D: Disk + Drop> Store for FileStore<D> {
 
     ghost leaves_nothing_else = { λ store list honest running since. kept_list store.records list store.tag (D.state store.disk) since.0 (store.kept honest running) (D.only_now store.disk since.0 honest since.1) since.2 };
 
-    fn load(&mut self, k: u32) -> Result<Option<Record>, StoreFault> {
+    /// Record k, or None behind the last. It takes no memory and writes nothing.
+    fn load(&mut self, k: u32) -> Result<Option<Record>, StoreFault>
+        ensures answer { Loads (D.honest self.old.disk) self.old.records self.old.stopped k self.new.stopped (D.failures self.old.disk) (D.failures self.new.disk) result }
+        ensures memory { result ≢ Err StoreFault.OutOfMemory }
+        ensures same { self.new.records ≡ self.old.records }
+        ensures reads { IsTrue (D.honest self.old.disk) → self.old.stopped ≡ false → OnlyReads D.state D.moment D.left_since self.old.disk self.new.disk }
+        ensures any_moment { IsTrue (D.honest self.old.disk) → self.old.stopped ≡ false → LeavesOnly (λ store. D.moment store.disk) (λ store. LeftLists (D.left_since store.disk)) self.old self.new (λ left. left ≡ self.old.records) }
+        ensures stays { self.old.stopped ≡ true → self.new ≡ self.old }
+        ensures honest { D.honest self.new.disk ≡ D.honest self.old.disk }
+    {
         if self.stopped {
             return Err(StoreFault::Stopped);
         }
@@ -204,7 +219,16 @@ impl<D: Disk + Drop> Store for FileStore<D> {
         }
     }
 
-    fn append(&mut self, new: &Record) -> Result<(), StoreFault> {
+    /// Adds a record at the end. It takes no memory. Where the store is full nothing changes.
+    fn append(&mut self, new: &Record) -> Result<(), StoreFault>
+        requires { length self.old.records ≡ 0 → is_key new.now ≡ true }
+        ensures any_moment { IsTrue (D.honest self.old.disk) → self.old.stopped ≡ false → LeavesOnly (λ store. D.moment store.disk) (λ store. LeftLists (D.left_since store.disk)) self.old self.new (λ left. (left ≡ self.old.records) ⊎ (left ≡ self.old.records ++ new.now ∷ [])) }
+        ensures stays { self.old.stopped ≡ true → self.new ≡ self.old }
+        ensures answer { Appends (2 ^ 31) self.old.records self.old.stopped new.now self.new.records self.new.stopped (D.failures self.old.disk) (D.failures self.new.disk) result }
+        ensures memory { result ≢ Err StoreFault.OutOfMemory }
+        ensures full { result ≡ Err StoreFault.Full → self.new ≡ self.old }
+        ensures honest { D.honest self.new.disk ≡ D.honest self.old.disk }
+    {
         self.add(new)
     }
 

@@ -86,6 +86,7 @@ impl From<DiskFault> for FormatFault {
 pub(crate) fn format<D: Disk>(disk: &mut D) -> Result<(), FormatFault>
     ensures answer { IsTrue (D.honest disk.old) → Formats (D.state disk.old).content (D.state disk.new) result }
     ensures any_moment { IsTrue (D.honest disk.old) → LeavesOnly D.moment D.left_since disk.old disk.new (λ c. MayLeave (D.state disk.old) c ⊎ LacksKey c) }
+    ensures long { IsTrue (D.honest disk.old) → 257 ≤ length (D.state disk.old).content → LeavesOnly D.moment D.left_since disk.old disk.new (MayLeave (D.state disk.old)) }
     ensures nothing_written { IsTrue (D.honest disk.old) → WritesNothing result → LeavesOnly D.moment D.left_since disk.old disk.new (MayLeave (D.state disk.old)) }
     ensures failures { CountsDevice (D.failures disk.old) (D.failures disk.new) result }
     ensures honest { D.honest disk.new ≡ D.honest disk.old }

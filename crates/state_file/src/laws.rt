@@ -1,12 +1,13 @@
 //! Laws of slots, of contents and of legal lists. The functions do nothing: what their contracts say is proved of every
 //! list of bytes or of records.
 
-ghost use Rattle.std.specs.Prelude.{◌≡◌, ◌<◌, ◌≤◌, ◌↔◌, ℕ, List, ◌++◌, length};
+ghost use Rattle.std.specs.Prelude.{◌≡◌, ◌⊎◌, ◌<◌, ◌≤◌, ◌↔◌, ℕ, List, ◌++◌, length};
 ghost use Rattle.typecodes.specs.Layout.{Spells};
 ghost use Rattle.typecodes.specs.Reading.{OneSpelling};
 ghost use Rattle.state_file.specs.declared.record.Record.{Record};
-ghost use Rattle.state_file.specs.Contents.{Opening, Opens};
-ghost use Rattle.state_file.specs.Legal.{IsCurrent, IsLegal};
+ghost use Rattle.state_file.specs.Contents.{HasNoKey, Opening, Opens, no_key, spelled};
+ghost use Rattle.state_file.specs.Legal.{CanSign, IsCurrent, IsLegal};
+ghost use Rattle.state_file.specs.Files.{StandsFor};
 ghost use Rattle.state_file.specs.Slots.{slot_record};
 
 /// What holds of the bytes 1 to 223 of slots: they spell at most one record, and a record is spelled by one
@@ -17,17 +18,20 @@ pub fn slot_laws()
 {}
 
 /// What holds of the contents of a disk: each spells the records of a key, or tells why there are none, and tells
-/// but one of these.
+/// but one of these. One that stands for a list, as each does that a stop in an append leaves, spells it or has no
+/// key (`standing`): opening it tells none of 41 to 43.
 pub fn content_laws()
     ensures some { (content : List ℕ) → (opening : Opening) × Opens content opening }
     ensures once { (content : List ℕ) (opening other : Opening) → Opens content opening → Opens content other → opening ≡ other }
+    ensures standing { (records : List Record) (content : List ℕ) (opening : Opening) → StandsFor records content → Opens content opening → (opening ≡ no_key) ⊎ (opening ≡ spelled records) }
 {}
 
 /// What holds of legal lists: which tree is current at a place depends on the records before it alone
-/// (`current`), a level has at most one current tree (`one_current`), and a beginning of a legal list, of a
-/// record or more, is legal (`beginning`).
+/// (`current`), a level has at most one current tree (`one_current`), a beginning of a legal list, of a
+/// record or more, is legal (`beginning`), and a content without a key can't sign (`no_key`).
 pub fn legal_laws()
     ensures current { (records more : List Record) (k level tree : ℕ) → k ≤ length records → IsCurrent (records ++ more) k level tree ↔ IsCurrent records k level tree }
     ensures one_current { (records : List Record) (k level tree other : ℕ) → IsCurrent records k level tree → IsCurrent records k level other → tree ≡ other }
+    ensures no_key { (content : List ℕ) → HasNoKey content → CanSign content → ⊥ }
     ensures beginning { (records more : List Record) → 0 < length records → IsLegal (records ++ more) → IsLegal records }
 {}

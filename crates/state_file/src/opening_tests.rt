@@ -1,10 +1,10 @@
 //! Stores over a disk that fails or stops, and what their files then open with.
 
-ghost use Rattle.std.specs.Prelude.{◌≡◌, [], true, length, IfOk};
-ghost use Rattle.state_file.specs.Store.{begins_with_key};
+ghost use Rattle.std.specs.Prelude.{◌≡◌, [], length, IfOk};
 
 use crate::samples::{bound, extend, key};
 use crate::*;
+use sha2::{Digest, Sha256};
 use std::alloc::Global;
 use std::process::Abort;
 use std::test::Fail;
@@ -92,6 +92,48 @@ fn a_file_has_its_slots_and_one_byte(rt: HostRuntime) -> Result<(), Fail> {
     let five = store.into_disk().stop(Pick::Old)?;
     assert_eq!(rt; five.len(), 1281);
     assert_eq!(rt; opened_from(&rt, rt.alloc(), &five)?, Ok(5));
+    Ok(())
+}
+
+// The tag of a slot behind one of that tag.
+fn tagged(previous: &[u8; 32], fields: Option<&[u8]>) -> Result<[u8; 32], Fail> {
+    let mut hasher = Sha256::new();
+    hasher.update(previous);
+    hasher.update(fields.ok_or("fields")?);
+    Ok(hasher.finalize())
+}
+
+#[test]
+fn tags_are_told(rt: HostRuntime) -> Result<(), Fail> {
+    let file = file_of_three(rt.alloc())?;
+    let first = tagged(&[0; 32], file.get(1..224))?;
+    let second = tagged(&first, file.get(257..480))?;
+    let third = tagged(&second, file.get(513..736))?;
+    // two calls for the length, two for the Key, ten for three slots and the gate behind them, and three tags
+    let mut disk = MemoryDisk::of(rt.alloc(), &file)?;
+    disk.fail_at(18);
+    let mut store = FileStore::open(disk).map_err(|refused| refused.fault)?;
+    assert_eq!(rt; store.count(), 3);
+    assert_eq!(rt; store.tag_at(2), Ok(third));
+    assert_eq!(rt; store.tag_at(0), Ok(first));
+    assert_eq!(rt; store.tag_at(1), Ok(second));
+    assert_eq!(rt; store.tag_at(1), Err(StoreFault::DeviceFailed));
+    assert_eq!(rt; store.tag_at(1), Err(StoreFault::Stopped));
+    assert_eq!(rt; store.into_disk().stop(Pick::Fill(7))?, file);
+    Ok(())
+}
+
+#[test]
+fn records_are_added_to_what_was_opened(rt: HostRuntime) -> Result<(), Fail> {
+    let file = file_of_three(rt.alloc())?;
+    let disk = MemoryDisk::of(rt.alloc(), &file)?;
+    let mut store = FileStore::open(disk).map_err(|refused| refused.fault)?;
+    assert_eq!(rt; store.count(), 3);
+    store.append(&Record::Retire { upto: 12 })?;
+    let mut store = FileStore::open(store.into_disk()).map_err(|refused| refused.fault)?;
+    assert_eq!(rt; store.count(), 4);
+    store.append(&Record::Moved)?;
+    assert_eq!(rt; opened(&rt, store.into_disk())?, Ok(5));
     Ok(())
 }
 
@@ -218,8 +260,7 @@ fn a_file_that_is_cut_short(rt: HostRuntime) -> Result<(), Fail> {
 
 // A store of two records over a disk that does what was planned. Preparing it takes four calls, and each append four.
 fn store_of_two(disk: MemoryDisk) -> Result<FileStore<MemoryDisk>, Fail>
-    ensures first { IfOk result (λ store. begins_with_key store.records ≡ true) }
-    ensures two { IfOk result (λ store. length store.records ≡ 2) }
+    ensures { IfOk result (λ store. length store.records ≡ 2) }
 {
     let mut store = FileStore::format(disk).map_err(|refused| refused.fault)?;
     store.append(&key())?;

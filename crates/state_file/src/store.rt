@@ -1,6 +1,6 @@
 //! What a store of records is.
 
-ghost use Rattle.std.specs.Prelude.{◌≡◌, ◌⊎◌, ◌≤◌, ◌∷◌, [], ◌++◌, ℕ, List, Bool, true, false, IsTrue};
+ghost use Rattle.std.specs.Prelude.{◌≡◌, ◌⊎◌, ◌≤◌, ◌∷◌, [], ◌++◌, ℕ, List, Bool, true, false, IsTrue, length};
 ghost use Rattle.state_file.specs.Moments.{LeavesOnly};
 
 use crate::record::Record;
@@ -29,7 +29,7 @@ pub enum StoreFault {
 /// A list of records that grows at its end.
 pub trait Store {
     ghost use Rattle.state_file.specs.declared.record.Record.{Record as R};
-    ghost use Rattle.state_file.specs.Store.{Appends, Loads, begins_with_key};
+    ghost use Rattle.state_file.specs.Store.{Appends, Loads, is_key};
 
     // its records
     ghost list: { Self → List R };
@@ -62,9 +62,9 @@ pub trait Store {
         ensures honest { honest self.new ≡ honest self.old }
         ensures most { most self.new ≡ most self.old };
 
-    /// Adds a record at the end; the first one is a Key. A stop at any moment of it leaves the old records, or these and the new one.
+    /// Adds a record at the end; the caller gives a Key where there is none yet. A stop at any moment of it leaves the old records, or these and the new one.
     fn append(&mut self, new: &Record) -> Result<(), StoreFault>
-        requires { IsTrue (begins_with_key (list self.old ++ new.now ∷ [])) }
+        requires { length (list self.old) ≡ 0 → is_key new.now ≡ true }
         ensures any_moment { IsTrue (honest self.old) → stopped self.old ≡ false → LeavesOnly moment left_since self.old self.new (λ left. (left ≡ list self.old) ⊎ (left ≡ list self.old ++ new.now ∷ [])) }
         ensures stays { stopped self.old ≡ true → self.new ≡ self.old }
         ensures answer { Appends (most self.old) (list self.old) (stopped self.old) new.now (list self.new) (stopped self.new) (failures self.old) (failures self.new) result }

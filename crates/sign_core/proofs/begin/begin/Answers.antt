@@ -1,18 +1,16 @@
 use Rattle.std.proofs.Common.{◌≡◌, true, false, is_ok, [], ◌∷◌, ◌++◌, Ok, Err, List, ap, sym, ◌∙◌, subst, refl, rules, inl, inr}
 use Rattle.state_file.specs.declared.record.Record.{Record}
-use Rattle.state_file.specs.Store.{begins_with_key}
+use Rattle.state_file.specs.Store.{is_key}
 use Rattle.sign_core.specs.Ledger.{key_record, public_key_of}
 use Rattle.sign_core.specs.Keeping.{Stores}
 use Rattle.sign_core.specs.World.{acked, new_key}
 use Rattle.sign_core.specs.Calls.{published, state_of}
 use Rattle.sign_core.proofs.Steps.{append_fails, draw_fails}
-use Rattle.sign_core.proofs.Beginning.{appended_creates, creates_along, found_creates, gives_both, key_is_first, undrawn_creates}
+use Rattle.sign_core.proofs.Beginning.{appended_creates, creates_along, found_creates, gives_both, undrawn_creates}
 use Rattle.sign_core.proofs.begin.begin.Goals as goal
 
 pub append-requires-clause-key_first : goal.append-requires-clause-key_first
-append-requires-clause-key_first g c =
-    (λ i. begins_with_key (c.find_none.ensures.same i ++ c.record.ensures i ∷ []))
-    ∙ key_is_first (g.S.Store.list c.args.store.now) c.key_from_seed-key.result c.in_ok-find_none.ensures.finds.1
+append-requires-clause-key_first g c _ = λ i. is_key (c.record.ensures i)
 
 pub returns-in_err-find_none-clause-step : goal.returns-in_err-find_none-clause-step
 returns-in_err-find_none-clause-step g c =

@@ -1,5 +1,5 @@
-use Rattle.state_file.proofs.Contents.{one_opening, some_opening}
+use Rattle.state_file.proofs.Contents.{one_opening, some_opening, standing}
 use Rattle.state_file.proofs.laws.content_laws.Goals as goal
 
 pub returns : goal.returns
-returns c = record { some = some_opening; once = one_opening }
+returns c = record { some = some_opening; once = one_opening; standing = standing }

@@ -1,7 +1,7 @@
 use Rattle.std.proofs.Common.{inl, ◌*◌, [], ◌∷◌, length, take, sym, ◌∙◌, ap, arith, length-append}
 use Rattle.state_file.proofs.Moments.{started, weaker}
 use Rattle.state_file.specs.FileLaws.{kept_leaves}
-use Rattle.state_file.proofs.Kept.{kept_rests, kept_size, kept_grows, added_leaves}
+use Rattle.state_file.proofs.Kept.{follows_key, kept_rests, kept_size, kept_grows, added_leaves}
 use Rattle.state_file.proofs.file_store.FileStore.add.Goals as goal
 
 pub returns-then-self-ge-MOST-clause-any_moment : goal.returns-then-self-ge-MOST-clause-any_moment
@@ -21,7 +21,7 @@ invariant_of-self g c = record {
       let kept = self.kept (sym c.add_slot.ensures.honest ∙ honest) running in
       let front = take (256 * length self.records) state.content in
       let added = c.in-Ok.ensures.added front (sym c.add_slot.ensures.honest ∙ honest) (kept_rests self.records self.tag state kept) (kept_size self.records self.tag state self.count kept self.counted) in
-      kept_grows self.records c.push.new.self self.tag state after self.count c.args.new.now fields c.tag-next_tag.result c.joined.result c.push.ensures self.counted (omega arith) c.requires
+      kept_grows self.records c.push.new.self self.tag state after self.count c.args.new.now fields c.tag-next_tag.result c.joined.result c.push.ensures self.counted (omega arith) (follows_key c.args.self.now.records c.args.new.now kept.file.first c.requires)
       c.joined.ensures.fields c.joined.ensures.tag c.joined.ensures.bytes c.record_bytes-fields.ensures c.tag-next_tag.ensures kept added;
 }
 
@@ -32,7 +32,7 @@ returns-in-Ok-clause-any_moment g c honest running =
     let kept = self.kept honest running in
     let front = take (256 * length self.records) state.content in
     weaker g.D.Disk.moment g.D.Disk.left_since self.disk c.add_slot.new.disk _ _
-    (added_leaves self.records self.tag state self.count c.args.new.now c.record_bytes-fields.result c.tag-next_tag.result c.joined.result self.counted (omega arith) c.requires
+    (added_leaves self.records self.tag state self.count c.args.new.now c.record_bytes-fields.result c.tag-next_tag.result c.joined.result self.counted (omega arith) (follows_key c.args.self.now.records c.args.new.now kept.file.first c.requires)
     c.joined.ensures.fields c.joined.ensures.tag c.joined.ensures.bytes c.record_bytes-fields.ensures c.tag-next_tag.ensures kept)
     (c.add_slot.ensures.any_moment front honest (kept_rests self.records self.tag state kept) (kept_size self.records self.tag state self.count kept self.counted))
 
@@ -43,6 +43,6 @@ returns-in-Err-clause-any_moment g c honest running =
     let kept = self.kept honest running in
     let front = take (256 * length self.records) state.content in
     weaker g.D.Disk.moment g.D.Disk.left_since self.disk c.add_slot.new.disk _ _
-    (added_leaves self.records self.tag state self.count c.args.new.now c.record_bytes-fields.result c.tag-next_tag.result c.joined.result self.counted (omega arith) c.requires
+    (added_leaves self.records self.tag state self.count c.args.new.now c.record_bytes-fields.result c.tag-next_tag.result c.joined.result self.counted (omega arith) (follows_key c.args.self.now.records c.args.new.now kept.file.first c.requires)
     c.joined.ensures.fields c.joined.ensures.tag c.joined.ensures.bytes c.record_bytes-fields.ensures c.tag-next_tag.ensures kept)
     (c.add_slot.ensures.any_moment front honest (kept_rests self.records self.tag state kept) (kept_size self.records self.tag state self.count kept self.counted))

@@ -1,4 +1,4 @@
-use Rattle.std.proofs.Common.{◌≡◌, ℕ, List, Some, sym, ◌∙◌, ap, subst, arith, rules}
+use Rattle.std.proofs.Common.{◌≡◌, ℕ, List, Some, refl, sym, ◌∙◌, ap, subst, arith, rules}
 use Rattle.typecodes.specs.Layout.{Spells}
 use Rattle.typecodes.proofs.Spelling.{one_value}
 use Rattle.state_file.specs.FileLaws.{kept_leaves}
@@ -15,6 +15,13 @@ returns-then-k-self-clause-any_moment g c honest running =
     let self = c.args.self.now in
     lists_stay (λ (store : FileStore g.row.D.Denot g.D.Disk). store.disk) g.D.Disk.moment g.D.Disk.left_since self _ self.records
     (started g.D.Disk.moment g.D.Disk.left_since self.disk _ (λ left since. kept_leaves self.records self.tag (g.D.Disk.state self.disk) left (self.kept honest running) (g.met.D.Disk.only_now self.disk left honest since)))
+
+pub returns-then-k-self-clause-reads : goal.returns-then-k-self-clause-reads
+returns-then-k-self-clause-reads g c honest running =
+    let self = c.args.self.now in record {
+      stays = refl;
+      leaves = started g.D.Disk.moment g.D.Disk.left_since self.disk _ (λ left since. g.met.D.Disk.only_now self.disk left honest since);
+    }
 
 pub returns-in-Some-clause-any_moment : goal.returns-in-Some-clause-any_moment
 returns-in-Some-clause-any_moment g c honest running =
