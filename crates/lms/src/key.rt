@@ -1,6 +1,6 @@
 //! Public keys.
 
-ghost use Rattle.std.specs.Prelude.{◌≡◌, ◌+◌, ◌<◌, ◌^◌, OnOk};
+ghost use Rattle.std.specs.Prelude.{◌≡◌, ◌+◌, ◌<◌, ◌^◌, OnErr, OnOk};
 ghost use Rattle.typecodes.specs.Reading.{Gives, Reads, read};
 
 use typecodes::{Cursor, LmsPair, ReadFault};
@@ -20,18 +20,21 @@ impl LmsPublic {
     ghost use Rattle.lms.specs.Layouts.{public_key};
 
     /// The key at a cursor, 56 bytes: the tree's type, the one-time type, I and the root. The caller
-    /// keeps its end below `2^32`. Where a fault leaves the cursor isn't said.
+    /// keeps its end below `2^32`. A fault leaves the cursor where it is.
     #[tactic(auto, using(typecodes::proofs::Steps::reading), unfolding(crate::specs::Layouts::public_key))]
     pub fn from_cursor(cursor: &mut Cursor<'_>) -> Result<Self, ReadFault>
         requires { cursor.old.place + 56 < 2 ^ 32 }
         ensures read { Gives (λ key. (key, cursor.new.place)) result (read public_key cursor.old.bytes.now cursor.old.place) }
         ensures len { OnOk result (cursor.new.place ≡ cursor.old.place + 56) }
         ensures bytes { cursor.new.bytes ≡ cursor.old.bytes }
+        ensures err { OnErr result (cursor.new.place ≡ cursor.old.place) }
     {
-        let tree = cursor.lms_type()?;
-        let ots = cursor.ots_type()?;
-        let identifier = *cursor.array()?;
-        let root = *cursor.array()?;
+        let mut behind = *cursor;
+        let tree = behind.lms_type()?;
+        let ots = behind.ots_type()?;
+        let identifier = *behind.array()?;
+        let root = *behind.array()?;
+        *cursor = behind;
         Ok(LmsPublic {
             pair: LmsPair { tree, ots },
             identifier,

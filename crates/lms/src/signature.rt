@@ -1,6 +1,6 @@
 //! Signatures, as views of their bytes.
 
-ghost use Rattle.std.specs.Prelude.{◌≡◌, ◌+◌, ◌-◌, ◌*◌, ◌<◌, ◌^◌, [], length, take, drop, slice_index_or, IfOk, Ok};
+ghost use Rattle.std.specs.Prelude.{◌≡◌, ◌+◌, ◌-◌, ◌*◌, ◌<◌, ◌^◌, [], length, take, drop, slice_index_or, IfOk, OnErr, Ok};
 ghost use Rattle.byteorder.specs.Endian.{big_number};
 ghost use Rattle.typecodes.specs.Layout.{Spells};
 ghost use Rattle.typecodes.specs.Fields.{values_in};
@@ -36,7 +36,7 @@ impl<'a> LmsSigView<'a> {
     /// The signature at a cursor: q, the one-time type, C, a value for each chain, the tree's type and
     /// the path. An index that is no leaf of the tree is told when the tree's type is read, at the
     /// index. The caller keeps the place so low that the longest signature, 9324 bytes, ends below
-    /// `2^32`. Where a fault leaves the cursor isn't said.
+    /// `2^32`. A fault leaves the cursor where it is.
     #[tactic(auto, using(crate::proofs::Fields::fields), unfolding(crate::specs::Layouts::signature))]
     pub fn from_cursor(cursor: &mut Cursor<'a>) -> Result<Self, ReadFault>
         requires { cursor.old.place + 9324 < 2 ^ 32 }
@@ -44,20 +44,23 @@ impl<'a> LmsSigView<'a> {
         ensures len { IfOk result (λ view. cursor.new.place ≡ cursor.old.place + (4 + signature_len_of view.pair.ots + (4 + 32 * height_of view.pair.tree))) }
         ensures bytes { cursor.new.bytes ≡ cursor.old.bytes }
         ensures part { IfOk result (λ view. view.bytes.now ≡ take (cursor.new.place - cursor.old.place) (drop cursor.old.place cursor.old.bytes.now)) }
+        ensures err { OnErr result (cursor.new.place ≡ cursor.old.place) }
     {
         let (all, start) = (cursor.bytes, cursor.place);
-        let index = cursor.number()?;
-        let ots = cursor.ots_type()?;
-        let randomizer = cursor.array()?;
-        let chains = cursor.values(u32::from(ots.chains()))?;
-        let tree = cursor.lms_type()?;
+        let mut behind = *cursor;
+        let index = behind.number()?;
+        let ots = behind.ots_type()?;
+        let randomizer = behind.array()?;
+        let chains = behind.values(u32::from(ots.chains()))?;
+        let tree = behind.lms_type()?;
         if index >= 1 << tree.height() {
             return Err(ReadFault {
                 place: start,
                 cause: Cause::LeafOutOfRange,
             });
         }
-        let path = cursor.values(u32::from(tree.height()))?;
+        let path = behind.values(u32::from(tree.height()))?;
+        *cursor = behind;
         Ok(LmsSigView {
             pair: LmsPair { tree, ots },
             index,
