@@ -3,12 +3,12 @@ use Rattle.std.proofs.Common.{◌≡◌, ℕ, ◌+◌, ◌*◌, ◌<◌, Bool, t
 use Rattle.std.specs.Prelude.{◌==◌, IfErr, slice_get}
 use Rattle.std.proofs.lemmas.Option.{slice_get-get_or, slice_get_within, get_or_from_slice_get}
 use Rattle.typecodes.specs.Layout.{Spells}
-use Rattle.state_file.specs.Contents.{Begins, IsClosed, IsDamagedAt, IsOpen, IsWhole, SpellsRecords, fields_at, most_records, previous_tag, tag_at, tag_of}
+use Rattle.state_file.specs.Contents.{Begins, Holds, IsClosed, IsDamagedAt, IsOpen, IsWhole, SpellsRecords, fields_at, most_records, previous_tag, tag_at, tag_of}
 use Rattle.state_file.specs.Disk.{State, MayLeave, settled}
 use Rattle.state_file.specs.FileLaws.{closed_gate, fields_length}
 use Rattle.state_file.specs.Files.{IsFileOf, IsKept}
 use Rattle.state_file.specs.Moments.{Elapses, LeavesOnly}
-use Rattle.state_file.specs.Opened.{HasSlot, IsFound, OnlyReads, StartsWithKey, Tells, TellsSlot}
+use Rattle.state_file.specs.Opened.{HasEntry, HasSlot, IsFound, OnlyReads, StartsWithKey, Tells, TellsSlot}
 use Rattle.state_file.specs.Slots.{slot_record}
 use Rattle.state_file.specs.Store.{begins_with_key}
 use Rattle.state_file.specs.declared.opening.OpenFault.{OpenFault}
@@ -81,6 +81,13 @@ slot_found content previous fields tag k entry few ends before fields_are tag_is
   };
   tagged = tag_is;
 }
+
+-- what the record that was read is
+pub holds_entry : (content : List ℕ) (k : ℕ) (found : Option Record) (entry : Record) → HasEntry content k found → found ≡ Some entry → Holds content k entry
+holds_entry content k found entry has is = subst (HasEntry content k) is has
+
+pub holds_none : (content : List ℕ) (k : ℕ) (found : Option Record) → HasEntry content k found → found ≡ None → (entry : Record) → Holds content k entry → ⊥
+holds_none content k found has is = subst (HasEntry content k) is has
 
 -- one that tells none isn't whole
 pub slot_harmed : (content previous fields tag : List ℕ) (k : ℕ) → previous ≡ previous_tag content k → fields ≡ fields_at content k → tag ≡ tag_at content k

@@ -7,7 +7,7 @@ use Rattle.typecodes.proofs.Read.{spelled-read}
 use Rattle.typecodes.proofs.Steps.{ends-spelled}
 use Rattle.typecodes.specs.Layout.{Spells}
 use Rattle.typecodes.specs.Reading.{read}
-use Rattle.state_file.specs.Contents.{HasNoKey, fields_at, tag_at, previous_tag, tag_of, most_records}
+use Rattle.state_file.specs.Contents.{HasNoKey, Holds, fields_at, tag_at, previous_tag, tag_of, most_records}
 use Rattle.state_file.specs.Files.{StandsFor, IsFileOf, IsKept}
 use Rattle.state_file.specs.FileLaws.{fields_length, closed_gate, file_stands}
 use Rattle.state_file.specs.Store.{begins_with_key, is_key}
@@ -248,10 +248,16 @@ pub kept_grows : (records after : List Record) (last : List ℕ) (state new : St
 kept_grows records after last state new count entry fields tag body is counted room key fields_len tag_len joined spelled tagged kept rest =
     subst (λ (l : List Record). IsKept l tag new) (sym is) (grown_kept records last state count entry fields tag body counted room key fields_len tag_len joined spelled tagged kept new rest)
 
--- slot k of what is kept spells record k
-pub kept_spells : (records : List Record) (tag : List ℕ) (state : State) (k : ℕ) → IsKept records tag state → k < length records → (entry : Record) × (slice_get records k ≡ Some entry) × Spells slot_record entry (fields_at state.content k)
-kept_spells [] tag state k kept below = absurd (omega arith)
-kept_spells (first ∷ rest) tag state k kept below =
+-- slot k of what is kept holds record k
+pub kept_holds : (records : List Record) (tag : List ℕ) (state : State) (k : ℕ) → IsKept records tag state → k < length records → (entry : Record) × (slice_get records k ≡ Some entry) × Holds state.content k entry
+kept_holds [] tag state k kept below = absurd (omega arith)
+kept_holds (first ∷ rest) tag state k kept below =
     let entry = get_or (first ∷ rest) k first in
-    let is = slice_get-get_or (first ∷ rest) k first below in
-    (entry, is, ends-spelled slot_record (fields_at state.content k) entry 223 (kept.file.spelled k entry is) (fields_length state.content k (omega (arith, kept.file.within))))
+    let is = slice_get-get_or (first ∷ rest) k first below in (
+      entry,
+      is,
+      record {
+        spelled = ends-spelled slot_record (fields_at state.content k) entry 223 (kept.file.spelled k entry is) (fields_length state.content k (omega (arith, kept.file.within)));
+        tagged = kept.file.tagged k below;
+      },
+    )

@@ -1,5 +1,5 @@
 -- What opening a place tells, and what its parts do.
-use Rattle.std.specs.Prelude.{◌≡◌, ℕ, ◌+◌, ◌*◌, ◌<◌, true, List, length, Some, Result, Ok, Err}
+use Rattle.std.specs.Prelude.{◌≡◌, ℕ, ◌+◌, ◌*◌, ◌<◌, true, List, length, Option, Some, None, Result, Ok, Err}
 use Rattle.state_file.specs.Contents.{Holds, IsWhole, MayHaveKey, Opens, SpellsRecords, begins_key, damaged, fields_at, most_records, no_key, no_key_file, previous_tag, tag_at, unknown_version, version_of}
 use Rattle.state_file.specs.Disk.{State, MayLeave, settled}
 use Rattle.state_file.specs.Moments.{LeavesOnly}
@@ -53,6 +53,11 @@ pub record HasSlot (content : List ℕ) (k : ℕ) (entry : Record) (tag : List �
   pub ends : 256 * (k + 1) < length content
   pub held : Holds content k entry
   pub tagged : tag ≡ tag_at content k
+
+-- the record that the slot holds, if it holds one
+abbrev pub HasEntry : List ℕ → ℕ → Option Record → Type 0
+HasEntry content k None = (entry : Record) → Holds content k entry → ⊥
+HasEntry content k (Some entry) = Holds content k entry
 
 -- what each refusal of a slot tells of it
 abbrev pub TellsSlot : List ℕ → ℕ → OpenFault → Type 0

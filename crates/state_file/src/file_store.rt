@@ -15,11 +15,11 @@ ghost use Rattle.state_file.specs.Store.{Appends, Loads, ReadsTag, is_key};
 
 use crate::disk::Disk;
 use crate::gates::{FormatFault, add_slot, format};
-use crate::opening::{MOST, OpenFault, find_records, read_fields, read_tag};
+use crate::opening::{MOST, OpenFault, find_records, read_entry, read_tag};
 use crate::record::Record;
 use crate::record_list::RecordList;
 use crate::refused::Refused;
-use crate::slot::{read_record, record_bytes, tag};
+use crate::slot::{record_bytes, tag};
 use crate::store::{Store, StoreFault};
 
 /// Records on a disk, each in a slot of 256 bytes.
@@ -207,8 +207,8 @@ impl<D: Disk + Drop> Store for FileStore<D> {
         if k >= self.count {
             return Ok(None);
         }
-        match read_fields(&mut self.disk, k) {
-            Ok(fields) => match read_record(&fields) {
+        match read_entry(&mut self.disk, k) {
+            Ok(found) => match found {
                 Some(record) => Ok(Some(record)),
                 None => Err(StoreFault::Damaged(k)),
             },

@@ -7,7 +7,7 @@ ghost use Rattle.state_file.specs.Slots.{slot_record};
 ghost use Rattle.state_file.specs.declared.record.Record.{Record as Entry};
 ghost use Rattle.state_file.specs.Disk.{settled, MayLeave, CountsFailure};
 ghost use Rattle.state_file.specs.Moments.{LeavesOnly};
-ghost use Rattle.state_file.specs.Opened.{CountsOpening, HasSlot, IsFound, KeepsContent, OnlyReads, StartsWithKey, Tells, TellsSlot};
+ghost use Rattle.state_file.specs.Opened.{CountsOpening, HasEntry, HasSlot, IsFound, KeepsContent, OnlyReads, StartsWithKey, Tells, TellsSlot};
 
 use crate::disk::{Disk, DiskFault};
 use crate::gates::{SLOT, settle};
@@ -85,8 +85,8 @@ fn read_gate<D: Disk>(disk: &mut D, k: u32) -> Result<bool, DiskFault>
     Ok(is_open(gate[0]))
 }
 
-/// The bytes 1 to 223 of slot k.
-pub(crate) fn read_fields<D: Disk>(disk: &mut D, k: u32) -> Result<[u8; 223], DiskFault>
+// The bytes 1 to 223 of slot k.
+fn read_fields<D: Disk>(disk: &mut D, k: u32) -> Result<[u8; 223], DiskFault>
     ensures fields { IsTrue (D.honest disk.old) → IfOk result (λ fields. fields ≡ fields_at (D.state disk.old).content k) }
     ensures reads { IsTrue (D.honest disk.old) → OnlyReads D.state D.moment D.left_since disk.old disk.new }
     ensures failures { CountsFailure (D.failures disk.old) (D.failures disk.new) result }
@@ -120,6 +120,31 @@ fn read_body<D: Disk>(disk: &mut D, k: u32) -> Result<Body, DiskFault>
     let fields = read_fields(disk, k)?;
     let tag = read_tag(disk, k)?;
     Ok(Body { fields, tag })
+}
+
+// The tag of the slot before slot k; 32 zeros before slot 0.
+fn read_previous_tag<D: Disk>(disk: &mut D, k: u32) -> Result<[u8; 32], DiskFault>
+    ensures tag { IsTrue (D.honest disk.old) → IfOk result (λ tag. tag ≡ previous_tag (D.state disk.old).content k) }
+    ensures reads { IsTrue (D.honest disk.old) → OnlyReads D.state D.moment D.left_since disk.old disk.new }
+    ensures failures { CountsFailure (D.failures disk.old) (D.failures disk.new) result }
+    ensures honest { D.honest disk.new ≡ D.honest disk.old }
+{
+    match k.checked_sub(1) {
+        None => Ok([0; 32]),
+        Some(before) => read_tag(disk, before),
+    }
+}
+
+/// The record of slot k, if it spells one and its tag is right.
+pub(crate) fn read_entry<D: Disk>(disk: &mut D, k: u32) -> Result<Option<Record>, DiskFault>
+    ensures entry { IsTrue (D.honest disk.old) → IfOk result (HasEntry (D.state disk.old).content k) }
+    ensures reads { IsTrue (D.honest disk.old) → OnlyReads D.state D.moment D.left_since disk.old disk.new }
+    ensures failures { CountsFailure (D.failures disk.old) (D.failures disk.new) result }
+    ensures honest { D.honest disk.new ≡ D.honest disk.old }
+{
+    let previous = read_previous_tag(disk, k)?;
+    let body = read_body(disk, k)?;
+    Ok(entry_of(&previous, &body))
 }
 
 // The record and the tag of slot k behind one of that tag, if the slot is whole.

@@ -431,12 +431,12 @@ fn run_to_the_nth_call(rt: &impl Abort, alloc: Global, n: u32, stops: bool) -> R
     Ok(whole)
 }
 
-// The script makes 45 calls of its disk: 4 of format, 20 of five appends, 20 of open and one of load.
+// The script makes 47 calls of its disk: 4 of format, 20 of five appends, 20 of open and 3 of load.
 #[test]
 fn each_call_fails_or_the_disk_stops_before_it(rt: HostRuntime) -> Result<(), Fail> {
-    for n in 1..=46 {
+    for n in 1..=48 {
         for stops in [false, true] {
-            assert_eq!(rt; run_to_the_nth_call(&rt, rt.alloc(), n, stops)?, n == 46);
+            assert_eq!(rt; run_to_the_nth_call(&rt, rt.alloc(), n, stops)?, n == 48);
         }
     }
     Ok(())

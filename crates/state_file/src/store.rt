@@ -12,7 +12,7 @@ pub enum StoreFault {
     /// 26: a call failed, and the place wasn't opened again since.
     #[error("a call failed, and the place was not opened again since")]
     Stopped,
-    /// 43: slot k spells no record.
+    /// 43: slot k spells no record, or its tag is wrong.
     #[error("slot {0} spells no record")]
     Damaged(u32),
     /// 45: the device failed.
