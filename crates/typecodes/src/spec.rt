@@ -27,7 +27,8 @@ pub enum Spec {
 
 /// 51: the text is no spec.
 #[derive(Clone, Copy, Debug, PartialEq, Eq, Error)]
-#[error("a spec is lms: and a pair, hss: and 1 to 8 pairs from the top level down joined by commas, or xmss: and a height 10, 16 or 20; a pair is H5/W8, or another of a height 5, 10, 15, 20 or 25 and a width 1, 2, 4 or 8")]
+#[error("a spec is lms: and a pair, hss: and 1 to 8 pairs from the top level down joined by commas, or xmss: \
+     and a height 10, 16 or 20; a pair is H5/W8, or another of a height 5, 10, 15, 20 or 25 and a width 1, 2, 4 or 8")]
 pub struct BadSpec;
 
 impl Spec {

@@ -159,7 +159,8 @@ fn tells_what_a_spec_is(rt: HostRuntime) -> Result<(), Fail> {
     let message = format!(in rt.alloc(); "{BadSpec}")?;
     assert_eq!(rt;
         message.as_str(),
-        "a spec is lms: and a pair, hss: and 1 to 8 pairs from the top level down joined by commas, or xmss: and a height 10, 16 or 20; a pair is H5/W8, or another of a height 5, 10, 15, 20 or 25 and a width 1, 2, 4 or 8"
+        "a spec is lms: and a pair, hss: and 1 to 8 pairs from the top level down joined by commas, or xmss: and a \
+         height 10, 16 or 20; a pair is H5/W8, or another of a height 5, 10, 15, 20 or 25 and a width 1, 2, 4 or 8"
     );
     Ok(())
 }
