@@ -102,30 +102,27 @@ fn cursor_at(bytes: &[u8], place: u32) -> Cursor<'_>
 const FIELDS: [u8; 14] = [1, 2, 3, 4, 50, 60, 0, 0, 0, 4, 0, 0, 0, 5];
 
 #[test]
-fn a_number_and_a_block_in_turn(rt: HostRuntime) -> Result<(), Fail> {
+fn a_number_and_a_block_in_turn(rt: HostRuntime) {
     let mut cursor = Cursor::new(&FIELDS);
-    assert_eq!(rt; cursor.number()?, 0x0102_0304);
-    assert_eq!(rt; cursor.block(2)?, [50, 60].as_slice());
+    assert_eq!(rt; cursor.number(), Ok(0x0102_0304));
+    assert_eq!(rt; cursor.block(2), Ok([50, 60].as_slice()));
     assert_eq!(rt; cursor.end(), Err(fault(6, Cause::Trailing)));
-    Ok(())
 }
 
 #[test]
-fn types_up_to_the_end(rt: HostRuntime) -> Result<(), Fail> {
+fn types_up_to_the_end(rt: HostRuntime) {
     let mut cursor = cursor_at(&FIELDS, 6);
-    assert_eq!(rt; cursor.ots_type()?, OtsType::W8);
-    assert_eq!(rt; cursor.lms_type()?, LmsType::H5);
+    assert_eq!(rt; cursor.ots_type(), Ok(OtsType::W8));
+    assert_eq!(rt; cursor.lms_type(), Ok(LmsType::H5));
     assert_eq!(rt; cursor.place, 14);
-    cursor.end()?;
-    Ok(())
+    assert_eq!(rt; cursor.end(), Ok(()));
 }
 
 #[test]
-fn an_array_that_fits_and_one_that_does_not(rt: HostRuntime) -> Result<(), Fail> {
-    assert_eq!(rt; *Cursor::new(&FIELDS).array::<3>()?, [1, 2, 3]);
+fn an_array_that_fits_and_one_that_does_not(rt: HostRuntime) {
+    assert_eq!(rt; Cursor::new(&FIELDS).array(), Ok(&[1, 2, 3]));
     let cut = Cursor::new(&FIELDS).array::<15>();
     assert_eq!(rt; cut.err(), Some(fault(0, Cause::Truncated)));
-    Ok(())
 }
 
 #[test]
@@ -162,18 +159,17 @@ fn a_block_and_values_that_are_cut(rt: HostRuntime) -> Result<(), Fail> {
     assert_eq!(rt; cursor.values(3).err(), Some(fault(67, Cause::Truncated)));
     assert_eq!(rt; cursor.place, 3);
     assert_eq!(rt; cursor.values(2)?.len(), 2);
+    assert_eq!(rt; cursor.place, 67);
     Ok(())
 }
 
 #[test]
-fn numbers_that_are_cut(rt: HostRuntime) -> Result<(), Fail> {
-    let mut cursor = cursor_at(&NINES, 3);
-    cursor.values(2)?;
+fn numbers_that_are_cut(rt: HostRuntime) {
+    let mut cursor = cursor_at(&NINES, 67);
     let cut = Some(fault(67, Cause::Truncated));
     assert_eq!(rt; cursor.number().err(), cut);
     assert_eq!(rt; cursor.ots_type().err(), cut);
     assert_eq!(rt; cursor.lms_type().err(), cut);
-    Ok(())
 }
 
 #[test]
@@ -236,12 +232,10 @@ fn codes_that_name_no_type_of_xmss(rt: HostRuntime) {
 const XMSS_FIELDS: [u8; 9] = [0, 0, 0, 2, 0, 0, 0, 4, 0];
 
 #[test]
-fn a_type_of_xmss(rt: HostRuntime) -> Result<(), Fail> {
+fn a_type_of_xmss(rt: HostRuntime) {
     let mut cursor = Cursor::new(&XMSS_FIELDS);
-    assert_eq!(rt; cursor.xmss_type()?, XmssType::H16);
-    let unknown = Some(fault(4, Cause::UnknownType));
-    assert_eq!(rt; cursor.xmss_type().err(), unknown);
-    Ok(())
+    assert_eq!(rt; cursor.xmss_type(), Ok(XmssType::H16));
+    assert_eq!(rt; cursor.xmss_type(), Err(fault(4, Cause::UnknownType)));
 }
 
 #[test]

@@ -31,6 +31,15 @@ fn levels_of_each_count(rt: HostRuntime) -> Result<(), Fail> {
         let levels = Levels::new(&pairs[..count]).ok_or("levels")?;
         assert_eq!(rt; levels.as_slice(), &pairs[..count]);
         assert_eq!(rt; usize::from(levels.count().get()), count);
+    }
+    Ok(())
+}
+
+#[test]
+fn levels_are_copied_whole(rt: HostRuntime) -> Result<(), Fail> {
+    for pairs in [[TOP].as_slice(), &[TOP, BELOW], &[BELOW; 8]] {
+        let levels = Levels::new(pairs).ok_or("levels")?;
+        assert_eq!(rt; levels.copied().as_slice(), pairs);
         assert_eq!(rt; levels.copied(), levels);
     }
     Ok(())
