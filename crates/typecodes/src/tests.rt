@@ -1,5 +1,3 @@
-ghost use Rattle.std.specs.Prelude.{◌≡◌, ◌≤◌, length};
-
 use super::*;
 use std::test::Fail;
 
@@ -89,15 +87,6 @@ fn codes_of_tree_types(rt: HostRuntime) {
     }
 }
 
-// A cursor at this place of these bytes.
-fn cursor_at(bytes: &[u8], place: u32) -> Cursor<'_>
-    requires { place ≤ length bytes.now }
-    ensures bytes { result.bytes ≡ bytes.entry }
-    ensures place { result.place ≡ place }
-{
-    Cursor { bytes, place }
-}
-
 // 0x01020304, two bytes, W8 and H5.
 const FIELDS: [u8; 14] = [1, 2, 3, 4, 50, 60, 0, 0, 0, 4, 0, 0, 0, 5];
 
@@ -111,7 +100,10 @@ fn a_number_and_a_block_in_turn(rt: HostRuntime) {
 
 #[test]
 fn types_up_to_the_end(rt: HostRuntime) {
-    let mut cursor = cursor_at(&FIELDS, 6);
+    let mut cursor = Cursor {
+        bytes: &FIELDS,
+        place: 6,
+    };
     assert_eq!(rt; cursor.ots_type(), Ok(OtsType::W8));
     assert_eq!(rt; cursor.lms_type(), Ok(LmsType::H5));
     assert_eq!(rt; cursor.place, 14);
@@ -130,7 +122,10 @@ fn values_in_turn(rt: HostRuntime) -> Result<(), Fail> {
     let mut bytes = [0; 70];
     bytes[3] = 7;
     bytes[66] = 8;
-    let mut cursor = cursor_at(&bytes, 3);
+    let mut cursor = Cursor {
+        bytes: &bytes,
+        place: 3,
+    };
     let values = cursor.values(2)?;
     assert_eq!(rt; values.len(), 2);
     assert_eq!(rt; values[0][0], 7);
@@ -145,7 +140,10 @@ const NINES: [u8; 70] = [9; 70];
 
 #[test]
 fn a_code_that_names_no_type(rt: HostRuntime) {
-    let mut cursor = cursor_at(&NINES, 3);
+    let mut cursor = Cursor {
+        bytes: &NINES,
+        place: 3,
+    };
     let unknown = Some(fault(3, Cause::UnknownType));
     assert_eq!(rt; cursor.ots_type().err(), unknown);
     assert_eq!(rt; cursor.lms_type().err(), unknown);
@@ -154,7 +152,10 @@ fn a_code_that_names_no_type(rt: HostRuntime) {
 
 #[test]
 fn a_block_and_values_that_are_cut(rt: HostRuntime) -> Result<(), Fail> {
-    let mut cursor = cursor_at(&NINES, 3);
+    let mut cursor = Cursor {
+        bytes: &NINES,
+        place: 3,
+    };
     assert_eq!(rt; cursor.block(68).err(), Some(fault(3, Cause::Truncated)));
     assert_eq!(rt; cursor.values(3).err(), Some(fault(67, Cause::Truncated)));
     assert_eq!(rt; cursor.place, 3);
@@ -165,7 +166,10 @@ fn a_block_and_values_that_are_cut(rt: HostRuntime) -> Result<(), Fail> {
 
 #[test]
 fn numbers_that_are_cut(rt: HostRuntime) {
-    let mut cursor = cursor_at(&NINES, 67);
+    let mut cursor = Cursor {
+        bytes: &NINES,
+        place: 67,
+    };
     let cut = Some(fault(67, Cause::Truncated));
     assert_eq!(rt; cursor.number().err(), cut);
     assert_eq!(rt; cursor.ots_type().err(), cut);
@@ -240,6 +244,9 @@ fn a_type_of_xmss(rt: HostRuntime) {
 
 #[test]
 fn a_type_of_xmss_that_is_cut(rt: HostRuntime) {
-    let mut cursor = cursor_at(&XMSS_FIELDS, 8);
+    let mut cursor = Cursor {
+        bytes: &XMSS_FIELDS,
+        place: 8,
+    };
     assert_eq!(rt; cursor.xmss_type().err(), Some(fault(8, Cause::Truncated)));
 }
