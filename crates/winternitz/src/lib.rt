@@ -4,15 +4,17 @@
 //! digits of a digest with those of its checksum. Its contract for the crates above: `climb` is the
 //! walk along a chain, and `digits` gives the standard's list and no other. That list has the whole
 //! checksum, and so no other digest has digits that are all at least as great: to come from one
-//! digest's values to another's, some chain would have to be climbed down. `specs/Ends.antt` says
-//! what the ends of all the chains are.
+//! digest's values to another's, some chain would have to be climbed down. `chain_law`: a type of the
+//! tables has a chain for each digit. `specs/Ends.antt` says what the ends of all the chains are.
 #![tactic(auto)]
 
 mod chain;
 mod digest;
+mod laws;
 
 pub use crate::chain::{Step, climb};
 pub use crate::digest::{Digits, digits};
+pub use crate::laws::chain_law;
 
 #[cfg(test)]
 mod tests;

@@ -3,7 +3,7 @@
 ghost use Rattle.std.specs.Prelude.{ℕ, ◌+◌, ◌%◌, List, slice_index, slice_set};
 ghost use Rattle.typecodes.specs.Types.{IsWidth};
 
-use crate::{Step, climb, digits};
+use crate::{Step, chain_law, climb, digits};
 use std::process::Abort;
 
 // The checksum's digits, as the end of the list, and the first digit.
@@ -59,6 +59,11 @@ fn every_digit_of_ones_is_the_greatest(rt: HostRuntime) {
     assert!(rt; digits(2, &digest).starts_with(&[3; 128]));
     assert!(rt; digits(4, &digest).starts_with(&[15; 64]));
     assert!(rt; digits(8, &digest).starts_with(&[255; 32]));
+}
+
+#[test]
+fn laws() {
+    chain_law();
 }
 
 // A step that counts itself in the first byte, and leaves its number and its chain in the next ones.
