@@ -1,21 +1,21 @@
 -- What the steps of verification tell of a signature's levels.
 use Rattle.std.proofs.Common.{◌≡◌, ◌∙◌, sym, ap, ℕ, ◌+◌, ◌<◌, inl, inr, List, [], ◌∷◌, length, map, get_or, Result, Ok, Err, subst, arith, add-one}
-use Rattle.std.specs.Prelude.{◌≢◌, MatchResult}
-use Rattle.std.proofs.lemmas.Bool.{cases_lt}
+use Rattle.std.proofs.lemmas.Bool.{cases_lt, eq-eqb}
 use Rattle.std.proofs.lemmas.List.{get_or-map, get_or_append_left, get_or_at, length-map}
 use Rattle.typecodes.specs.declared.refusal.Refusal.{Refusal}
 use Rattle.typecodes.specs.declared.refusal.Refusal.TheVariants.{Unreadable, TypeMismatch, LevelMismatch, RootMismatch}
 use Rattle.lms.specs.declared.key.LmsPublic.{LmsPublic}
 use Rattle.lms.specs.Layouts.{Signature as LmsSignature}
 use Rattle.lms.specs.Textbook.{public_bytes}
-use Rattle.lms.specs.Valid.{LeadsTo, IsValid as IsLmsValid}
+use Rattle.lms.specs.Valid.{IsValid as IsLmsValid}
+use Rattle.lms.specs.Verdict.{LeavesMessage as LmsLeavesMessage, LevelVerdict}
 use Rattle.typecodes.specs.Layout.{Spells}
 use Rattle.hss.specs.declared.key.HssPublic.{HssPublic}
 use Rattle.hss.specs.Layouts.{Signature, SignedKey, signature}
 use Rattle.hss.specs.Levels.{key_at, keys_of, level_count, message_at, signature_at}
-use Rattle.hss.specs.Steps.{AboveVerdict, AreValidAbove, LevelVerdict}
+use Rattle.hss.specs.Steps.{AboveVerdict, AreValidAbove}
 use Rattle.hss.specs.Valid.{IsValid, IsValidAt}
-use Rattle.hss.specs.Verdict.{Reaches, Verdict}
+use Rattle.hss.specs.Verdict.{LeavesMessage, Reaches, Verdict}
 
 -- above the bottom a level signs the bytes of the next level's key
 pub message_at-above : (top : LmsPublic) (message : List ℕ) (s : Signature) (i : ℕ) → i < length s.signed → public_bytes (key_at top s (i + 1)) ≡ message_at message s i
@@ -27,17 +27,19 @@ message_at-above top message s i within =
     ap public_bytes (ap (λ k. get_or (keys_of top s) k top) (add-one i) ∙ get_or-map key_of s.signed i other top within)
     ∙ sym (get_or-map bytes_of s.signed i other message within) ∙ sym (get_or_append_left (map bytes_of s.signed) (message ∷ []) message i inside)
 
--- a signature of the key's types that leads to its root is valid
-pub level_valid : (key : LmsPublic) (signed message : List ℕ) (read s : LmsSignature) → read ≡ s → signed ≡ message → read.pair ≡ key.pair → LeadsTo key.identifier signed read key.root
-    → IsLmsValid key message s
-level_valid key signed message read s s_is message_is types leads =
-    subst (λ m. IsLmsValid key m s) message_is (subst (IsLmsValid key signed) s_is (record { types = types; leads = leads }))
+-- an answer of a level is also that of the same signature and message
+pub level-same : {A : Type 0} (key : LmsPublic) (signed message : List ℕ) (read s : LmsSignature) (i j : ℕ) (result : Result A Refusal) → read ≡ s → signed ≡ message → i ≡ j
+    → LevelVerdict key signed read i result → LevelVerdict key message s j result
+level-same key signed message read s i j result s_is message_is i_is verdict =
+    subst (λ i. LevelVerdict key message s i result) i_is (subst (λ m. LevelVerdict key m s i result) message_is (subst (λ s. LevelVerdict key signed s i result) s_is verdict))
 
--- one that doesn't isn't
-pub level_invalid : (key : LmsPublic) (signed message : List ℕ) (read s : LmsSignature) → read ≡ s → signed ≡ message → (LeadsTo key.identifier signed read key.root → ⊥)
-    → IsLmsValid key message s → ⊥
-level_invalid key signed message read s s_is message_is never valid =
-    never (subst (IsLmsValid key signed) (sym s_is) (subst (λ m. IsLmsValid key m s) (sym message_is) valid)).leads
+-- a level's refusal is one whatever it would have given
+pub level-refused : (A B : Type 0) (key : LmsPublic) (message : List ℕ) (s : LmsSignature) (i : ℕ) (refusal : Refusal) → LevelVerdict {A = A} key message s i (Err refusal)
+    → LevelVerdict {A = B} key message s i (Err refusal)
+level-refused A B key message s i (Unreadable fault) refused = refused
+level-refused A B key message s i (TypeMismatch level) refused = refused
+level-refused A B key message s i LevelMismatch refused = refused
+level-refused A B key message s i (RootMismatch level) refused = refused
 
 -- one more valid level above
 pub above-more : (top : LmsPublic) (s : Signature) (i : ℕ) (key : LmsPublic) → key ≡ key_at top s i → AreValidAbove top s i
@@ -52,7 +54,7 @@ above-more top s i key key_is above valid message j below =
 
 -- a level that is refused is the first that isn't valid
 pub above-refused : (top : LmsPublic) (s : Signature) (i : ℕ) (key : LmsPublic) (refusal : Refusal) → i < length s.signed → key ≡ key_at top s i → AreValidAbove top s i
-    → ((message : List ℕ) → LevelVerdict {A = LmsPublic} key i (message_at message s i) (signature_at s i) (Err refusal)) → AboveVerdict top s (Err refusal)
+    → ((message : List ℕ) → LevelVerdict {A = LmsPublic} key (message_at message s i) (signature_at s i) i (Err refusal)) → AboveVerdict top s (Err refusal)
 above-refused top s i key (Unreadable fault) within key_is above refused = absurd (refused [])
 above-refused top s i key LevelMismatch within key_is above refused = absurd (refused [])
 above-refused top s i key (TypeMismatch level) within key_is above refused =
@@ -101,28 +103,32 @@ above-verdict A key message bytes s (TypeMismatch i) spelled count (within, abov
 above-verdict A key message bytes s (RootMismatch i) spelled count (within, above, types, never) =
     (s, record { spelled = spelled; count = count; inside = omega (arith, count); above = above message }, types, never message)
 
--- other types at the bottom
-pub bottom-types : (A : Type 0) (key : HssPublic) (message bytes : List ℕ) (s : Signature) (k : LmsPublic) (read : LmsSignature) (i : ℕ) → Spells signature s bytes → level_count s ≡ key.levels
-    → AboveVerdict key.top s (Ok k) → i ≡ length s.signed → read ≡ signature_at s i → (read.pair ≢ k.pair) → Verdict {A = A} key message bytes (Err (TypeMismatch i))
-bottom-types A key message bytes s k read i spelled count (key_is, above) at_bottom read_is differs =
-    let n = length s.signed in
-    let types_are : read.pair ≡ (signature_at s n).pair = ap (λ s. s.pair) read_is ∙ ap (λ i. (signature_at s i).pair) at_bottom in
-    subst (λ i. Verdict {A = A} key message bytes (Err (TypeMismatch i))) (sym at_bottom)
-    (s, bottom-reached key message bytes s spelled count above, λ same. differs (types_are ∙ same ∙ sym (ap (λ k. k.pair) key_is)))
+-- the bottom's answer is that of all
+pub bottom-verdict : {A : Type 0} (key : HssPublic) (message bytes : List ℕ) (s : Signature) (result : Result A Refusal) → Spells signature s bytes → level_count s ≡ key.levels
+    → AreValidAbove key.top s (length s.signed)
+    → LevelVerdict (key_at key.top s (length s.signed)) (message_at message s (length s.signed)) (signature_at s (length s.signed)) (length s.signed) result → Verdict key message bytes result
+bottom-verdict key message bytes s (Ok x) spelled count above valid = (s, spelled, bottom-valid key message s count above valid)
+bottom-verdict key message bytes s (Err (Unreadable fault)) spelled count above never = elim never [ ]
+bottom-verdict {A = A} key message bytes s (Err (TypeMismatch level)) spelled count above (is, differs) =
+    subst (λ i. Verdict {A = A} key message bytes (Err (TypeMismatch i))) (sym is) (s, bottom-reached key message bytes s spelled count above, differs)
+bottom-verdict key message bytes s (Err LevelMismatch) spelled count above never = elim never [ ]
+bottom-verdict {A = A} key message bytes s (Err (RootMismatch level)) spelled count above (is, types, invalid) =
+    subst (λ i. Verdict {A = A} key message bytes (Err (RootMismatch i))) (sym is) (s, bottom-reached key message bytes s spelled count above, types, invalid)
 
--- the bottom's root is the last to be compared
-pub bottom-verdict : (A : Type 0) (key : HssPublic) (message bytes : List ℕ) (s : Signature) (k : LmsPublic) (read : LmsSignature) (i : ℕ) (result : Result A Refusal) → Spells signature s bytes → level_count s ≡ key.levels
-    → AboveVerdict key.top s (Ok k) → i ≡ length s.signed → read ≡ signature_at s i → read.pair ≡ k.pair
-    → MatchResult result (λ _. LeadsTo k.identifier message read k.root) (λ e. (e ≡ RootMismatch i) × (LeadsTo k.identifier message read k.root → ⊥)) → Verdict key message bytes result
-bottom-verdict A key message bytes s k read i (Ok x) spelled count (key_is, above) at_bottom read_is types leads =
+-- the same of what was read at the bottom
+pub bottom-read : {A : Type 0} (key : HssPublic) (message bytes : List ℕ) (s : Signature) (k : LmsPublic) (read : LmsSignature) (i : ℕ) (result : Result A Refusal) → Spells signature s bytes
+    → level_count s ≡ key.levels → AboveVerdict key.top s (Ok k) → i ≡ length s.signed → read ≡ signature_at s i → LevelVerdict k message read i result → Verdict key message bytes result
+bottom-read key message bytes s k read i result spelled count (key_is, above) at_bottom read_is verdict =
     let n = length s.signed in
-    let is = read_is ∙ ap (signature_at s) at_bottom in
-    let valid = level_valid k message (message_at message s n) read (signature_at s n) is (message_at-bottom message s) types leads in
-    (s, spelled, bottom-valid key message s count above (subst (λ k. IsLmsValid k (message_at message s n) (signature_at s n)) key_is valid))
-bottom-verdict A key message bytes s k read i (Err refusal) spelled count (key_is, above) at_bottom read_is types (refusal_is, never) =
-    let n = length s.signed in
-    let is = read_is ∙ ap (signature_at s) at_bottom in
-    let invalid = level_invalid k message (message_at message s n) read (signature_at s n) is (message_at-bottom message s) never in
-    let types_are : (signature_at s n).pair ≡ (key_at key.top s n).pair = ap (λ s. s.pair) (sym is) ∙ types ∙ ap (λ k. k.pair) key_is in
-    subst (λ r. Verdict {A = A} key message bytes (Err r)) (sym (refusal_is ∙ ap RootMismatch at_bottom))
-    (s, bottom-reached key message bytes s spelled count above, types_are, λ valid. invalid (subst (λ k. IsLmsValid k (message_at message s n) (signature_at s n)) (sym key_is) valid))
+    let same = level-same k message (message_at message s n) read (signature_at s n) i n result (read_is ∙ ap (signature_at s) at_bottom) (message_at-bottom message s) at_bottom verdict in
+    bottom-verdict key message bytes s result spelled count above (subst (λ k. LevelVerdict k (message_at message s n) (signature_at s n) n result) key_is same)
+
+-- the bottom leaves of the message what verification leaves
+pub bottom-leaves : {A : Type 0} (key : HssPublic) (k : LmsPublic) (read : LmsSignature) (old new : List ℕ) (i : ℕ) (result : Result A Refusal) → i + 1 ≡ key.levels
+    → LevelVerdict k old read i result → LmsLeavesMessage old new result → LeavesMessage key old new result
+bottom-leaves key k read old new i (Ok x) last verdict leaves = leaves
+bottom-leaves key k read old new i (Err (Unreadable fault)) last verdict leaves = leaves
+bottom-leaves key k read old new i (Err (TypeMismatch level)) last verdict leaves = leaves
+bottom-leaves key k read old new i (Err LevelMismatch) last never leaves = elim never [ ]
+bottom-leaves key k read old new i (Err (RootMismatch level)) last (is, _, _) leaves =
+    rw (eq-eqb (level + 1) key.levels (ap (λ i. i + 1) is ∙ last)) leaves

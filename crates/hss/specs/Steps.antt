@@ -3,19 +3,9 @@ use Rattle.std.specs.Prelude.{◌≡◌, ◌≢◌, ℕ, ◌<◌, List, length, 
 use Rattle.typecodes.specs.declared.refusal.Refusal.{Refusal}
 use Rattle.typecodes.specs.declared.refusal.Refusal.TheVariants.{Unreadable, TypeMismatch, LevelMismatch, RootMismatch}
 use Rattle.lms.specs.declared.key.LmsPublic.{LmsPublic}
-use Rattle.lms.specs.Layouts.{Signature as LmsSignature}
-use Rattle.lms.specs.Valid.{IsValid as IsLmsValid}
 use Rattle.hss.specs.Layouts.{Signature}
 use Rattle.hss.specs.Levels.{key_at, signature_at}
 use Rattle.hss.specs.Valid.{IsValidAt}
-
--- at one level: its signature is valid; or its types aren't the key's; or they are, and it isn't valid
-abbrev pub LevelVerdict : {A : Type 0} → LmsPublic → ℕ → List ℕ → LmsSignature → Result A Refusal → Type 0
-LevelVerdict key i message s (Ok _) = IsLmsValid key message s
-LevelVerdict key i message s (Err (Unreadable fault)) = ⊥
-LevelVerdict key i message s (Err LevelMismatch) = ⊥
-LevelVerdict key i message s (Err (TypeMismatch level)) = (level ≡ i) × (s.pair ≢ key.pair)
-LevelVerdict key i message s (Err (RootMismatch level)) = (level ≡ i) × (s.pair ≡ key.pair) × (IsLmsValid key message s → ⊥)
 
 -- all levels above level i are valid, whatever the message
 abbrev pub AreValidAbove : LmsPublic → Signature → ℕ → Type 0

@@ -8,8 +8,8 @@ ghost use Rattle.lms.specs.Textbook.{signature_bytes as lms_signature_bytes};
 
 use lms::{LmsPublic, LmsSecret};
 
-/// What one level of a signature is made with.
-#[derive(Clone, Copy, Debug)]
+/// What one level of a signature is made with. As the secret it has no `Debug`.
+#[derive(Clone, Copy)]
 pub struct Level<'a> {
     /// The secret of the level's tree.
     pub secret: LmsSecret,

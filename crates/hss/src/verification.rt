@@ -1,18 +1,16 @@
 //! Verification.
 
-ghost use Rattle.std.specs.Prelude.{◌≡◌, ◌≢◌, ◌+◌, ◌<◌, ℕ, List, IfOk, MatchResult};
-ghost use Rattle.typecodes.specs.declared.refusal.Refusal.TheVariants.{TypeMismatch, RootMismatch};
+ghost use Rattle.std.specs.Prelude.{◌≡◌, ◌+◌, ◌<◌, ℕ, List, IfOk};
 ghost use Rattle.lms.specs.declared.key.LmsPublic.{LmsPublic};
-ghost use Rattle.lms.specs.Valid.{LeadsTo};
-ghost use Rattle.lms.specs.View.{signature_of as lms_signature_of};
+ghost use Rattle.lms.specs.Verdict.{LevelVerdict};
 ghost use Rattle.hss.specs.Levels.{key_at, level_count, message_at, signature_at};
-ghost use Rattle.hss.specs.Steps.{AboveVerdict, LevelVerdict};
+ghost use Rattle.hss.specs.Steps.{AboveVerdict};
 ghost use Rattle.hss.specs.Verdict.{LeavesMessage, Verdict};
 ghost use Rattle.hss.specs.View.{signature_of};
 
 use crate::key::HssPublic;
 use crate::signature::HssSigView;
-use lms::{LmsPublic, LmsSigView, write_public};
+use lms::{LmsPublic, write_public};
 use typecodes::Refusal;
 
 /// Verifies that the bytes of a signature sign the message under the key (RFC 8554 6.3).
@@ -31,11 +29,7 @@ pub fn verify(public: &HssPublic, message: &mut &[u8], signature: &[u8]) -> Resu
     }
     let bottom = view.levels() - 1;
     let key = bottom_key(&public.top, &view)?;
-    let last = view.level(bottom);
-    match_types(&key, bottom, &last)?;
-    let text = *message;
-    *message = &text[text.len()..];
-    match_root(&key, bottom, &last, text)
+    view.level(bottom).verify(&key, message, bottom)
 }
 
 // The key of the bottom level, where the signatures of all levels above it are valid.
@@ -52,36 +46,14 @@ fn bottom_key(top: &LmsPublic, view: &HssSigView<'_>) -> Result<LmsPublic, Refus
 // The key that level i, above the bottom, signs, where its signature is valid.
 fn next_key(key: &LmsPublic, view: &HssSigView<'_>, i: u8) -> Result<LmsPublic, Refusal>
     requires { i + 1 < level_count (signature_of view.now) }
-    ensures verdict { (message : List ℕ) → LevelVerdict key.now i (message_at message (signature_of view.now) i) (signature_at (signature_of view.now) i) result }
+    ensures verdict { (message : List ℕ) →
+        LevelVerdict key.now (message_at message (signature_of view.now) i) (signature_at (signature_of view.now) i) i result }
     ensures next { (top : LmsPublic) → IfOk result (λ next. next ≡ key_at top (signature_of view.now) (i + 1)) }
 {
     let next = view.key(i + 1);
     let mut bytes = [0; 56];
     write_public(&next, &mut bytes);
-    let level = view.level(i);
-    match_types(key, i, &level)?;
-    match_root(key, i, &level, &bytes)?;
+    let mut signed: &[u8] = &bytes;
+    view.level(i).verify(key, &mut signed, i)?;
     Ok(next)
-}
-
-// Refuses a signature whose types aren't its key's.
-fn match_types(key: &LmsPublic, i: u8, view: &LmsSigView<'_>) -> Result<(), Refusal>
-    ensures { MatchResult result (λ _. (lms_signature_of view.now).pair ≡ key.now.pair) (λ e. (e ≡ TypeMismatch i) × ((lms_signature_of view.now).pair ≢ key.now.pair)) }
-{
-    if view.types() == key.pair {
-        Ok(())
-    } else {
-        Err(Refusal::TypeMismatch(i))
-    }
-}
-
-// Refuses a signature that doesn't lead to its key's root.
-fn match_root(key: &LmsPublic, i: u8, view: &LmsSigView<'_>, message: &[u8]) -> Result<(), Refusal>
-    ensures { MatchResult result (λ _. LeadsTo key.now.identifier message.now (lms_signature_of view.now) key.now.root) (λ e. (e ≡ RootMismatch i) × (LeadsTo key.now.identifier message.now (lms_signature_of view.now) key.now.root → ⊥)) }
-{
-    if view.leads_to(key, message) {
-        Ok(())
-    } else {
-        Err(Refusal::RootMismatch(i))
-    }
 }

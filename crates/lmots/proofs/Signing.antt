@@ -8,24 +8,23 @@ use Rattle.typecodes.specs.Types.{chains_of, width_of}
 use Rattle.typecodes.specs.declared.types.OtsType.{OtsType}
 use Rattle.winternitz.specs.Walk.{walk, walk_on}
 use Rattle.winternitz.specs.Digits.{digit_count, digits_of}
-use Rattle.winternitz.specs.Ends.{AreEnds}
 use Rattle.winternitz.proofs.Joined.{chunks_of_joined}
 use Rattle.winternitz.proofs.Walks.{walk_joined}
 use Rattle.winternitz.proofs.Coefs.{digit_most}
-use Rattle.lmots.specs.Formulas.{ends_of_seed, private_value, step_of}
-use Rattle.lmots.specs.Signed.{signed_values}
+use Rattle.lmots.specs.Formulas.{chain_value, ends_of_seed, private_value, step_of}
+use Rattle.lmots.specs.Signed.{ClimbTo, signed_values}
 use Rattle.lmots.proofs.Counts.{digits_are_chains}
 
 -- the values of a signature climb to the ends of the key's chains
 pub signed_climbs : (identifier : List ℕ) (q : ℕ) (ots : OtsType) (seed digest : List ℕ)
-    → AreEnds (step_of identifier q) (width_of ots) (digits_of (width_of ots) digest) (signed_values identifier q ots seed digest) (ends_of_seed identifier q ots seed)
+    → ClimbTo identifier q ots digest (signed_values identifier q ots seed digest) (ends_of_seed identifier q ots seed)
 signed_climbs identifier q ots seed digest =
     let w = width_of ots in
     let digits = digits_of w digest in
     let step = step_of identifier q in
     let start = private_value identifier q seed in
-    let signed = λ (i : ℕ). walk step i 0 (get_or digits i 0) (start i) in
-    let end = λ (i : ℕ). walk step i 0 (2 ^ w - 1) (start i) in
+    let signed = λ (i : ℕ). chain_value identifier q seed i (get_or digits i 0) in
+    let end = λ (i : ℕ). chain_value identifier q seed i (2 ^ w - 1) in
     let count : length digits ≡ digit_count w = length-map-range_with_len _ 0 (digit_count w) in
     let chains : digit_count w ≡ chains_of ots = digits_are_chains ots in
     record {
@@ -52,11 +51,10 @@ signed_sizes identifier q ots seed digest i within =
 
 -- what bytes that hold the values of a signature climb to
 pub bytes_climb : (identifier : List ℕ) (q : ℕ) (ots : OtsType) (seed digest bytes : List ℕ) → bytes ≡ concat (signed_values identifier q ots seed digest)
-    → AreEnds (step_of identifier q) (width_of ots) (digits_of (width_of ots) digest) (values_in (chains_of ots) bytes) (ends_of_seed identifier q ots seed)
+    → ClimbTo identifier q ots digest (values_in (chains_of ots) bytes) (ends_of_seed identifier q ots seed)
 bytes_climb identifier q ots seed digest bytes are =
     let values = signed_values identifier q ots seed digest in
     let held : values_in (chains_of ots) bytes ≡ values =
     ap (values_in (chains_of ots)) are
     ∙ chunks_of_joined (chains_of ots) values (length-map-range_with_len _ 0 (chains_of ots)) (signed_sizes identifier q ots seed digest) in
-    subst (λ held. AreEnds (step_of identifier q) (width_of ots) (digits_of (width_of ots) digest) held (ends_of_seed identifier q ots seed))
-    (sym held) (signed_climbs identifier q ots seed digest)
+    subst (λ held. ClimbTo identifier q ots digest held (ends_of_seed identifier q ots seed)) (sym held) (signed_climbs identifier q ots seed digest)

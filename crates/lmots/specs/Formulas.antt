@@ -37,11 +37,15 @@ step_of identifier q i j value = sha256 (identifier ++ u32str q ++ u16str i ++ u
 abbrev pub public_hash : List ℕ → ℕ → List (List ℕ) → List ℕ
 public_hash identifier q ends = sha256 (identifier ++ u32str q ++ u16str public_separator ++ concat ends)
 
+-- the value of chain i after its first n steps, from its private value (4.3)
+abbrev pub chain_value : List ℕ → ℕ → List ℕ → ℕ → ℕ → List ℕ
+chain_value identifier q seed i n = walk (step_of identifier q) i 0 n (private_value identifier q seed i)
+
 -- the ends of all chains of a key whose private values are made of a seed: each value walked from the
 -- first step to the last (4.3)
 abbrev pub ends_of_seed : List ℕ → ℕ → OtsType → List ℕ → List (List ℕ)
 ends_of_seed identifier q ots seed =
-    map (λ i. walk (step_of identifier q) i 0 (2 ^ width_of ots - 1) (private_value identifier q seed i)) (range_with_len 0 (chains_of ots))
+    map (λ i. chain_value identifier q seed i (2 ^ width_of ots - 1)) (range_with_len 0 (chains_of ots))
 
 -- Q = H(I || u32str(q) || u16str(D_MESG) || C || message): the digest that is signed (4.5)
 abbrev pub message_digest_of : List ℕ → ℕ → List ℕ → List ℕ → List ℕ

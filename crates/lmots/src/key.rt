@@ -4,11 +4,11 @@ ghost use Rattle.std.specs.Prelude.{◌≡◌, ℕ, ◌-◌, ◌*◌, ◌^◌, L
 ghost use Rattle.std.specs.List.{concat};
 ghost use Rattle.sha2.specs.Hashers.{Holds256};
 ghost use Rattle.lmots.specs.Formulas.{ends_of_seed, message_digest_of, private_value, public_hash, step_of, u16str, u32str};
-ghost use Rattle.lmots.specs.Signed.{signed_values};
+ghost use Rattle.lmots.specs.Signed.{ClimbTo, signed_values};
 ghost use Rattle.typecodes.specs.Fields.{values_in};
 ghost use Rattle.typecodes.specs.Types.{chains_of, width_of};
 ghost use Rattle.winternitz.specs.Digits.{digits_of};
-ghost use Rattle.winternitz.specs.Ends.{AreEnds, ends_of};
+ghost use Rattle.winternitz.specs.Ends.{ends_of};
 
 use sha2::{Digest, Sha256};
 use typecodes::OtsType;
@@ -60,10 +60,10 @@ impl LmOts {
             (ends_of (step_of self.now.identifier self.now.leaf) (width_of ots) (digits_of (width_of ots) digest.now) values.now) }
         // The same of any list of ends, and that there is one.
         ensures only { (ends : List (List ℕ)) →
-            AreEnds (step_of self.now.identifier self.now.leaf) (width_of ots) (digits_of (width_of ots) digest.now) values.now ends →
+            ClimbTo self.now.identifier self.now.leaf ots digest.now values.now ends →
             result ≡ public_hash self.now.identifier self.now.leaf ends }
         ensures some { (ends : List (List ℕ)) ×
-            AreEnds (step_of self.now.identifier self.now.leaf) (width_of ots) (digits_of (width_of ots) digest.now) values.now ends ×
+            ClimbTo self.now.identifier self.now.leaf ots digest.now values.now ends ×
             (result ≡ public_hash self.now.identifier self.now.leaf ends) }
     {
         let greatest = greatest_digit(ots);
@@ -105,7 +105,7 @@ impl LmOts {
         requires { length into.old ≡ 32 * chains_of ots }
         ensures value { into.new ≡ concat (signed_values self.now.identifier self.now.leaf ots seed.now digest.now) }
         // They climb to the ends of the key's chains.
-        ensures climbs { AreEnds (step_of self.now.identifier self.now.leaf) (width_of ots) (digits_of (width_of ots) digest.now)
+        ensures climbs { ClimbTo self.now.identifier self.now.leaf ots digest.now
             (values_in (chains_of ots) into.new) (ends_of_seed self.now.identifier self.now.leaf ots seed.now) }
     {
         let digits = digits(ots.width(), digest);

@@ -1,25 +1,23 @@
--- The root to which a signature leads, from the steps by which it is computed.
+-- The node to which a signature leads, from the steps by which it is computed.
 use Rattle.std.proofs.Common.{◌≡◌, ℕ, List, length, sym, ap, ◌∙◌}
-use Rattle.typecodes.specs.Types.{height_of, width_of}
-use Rattle.winternitz.specs.Digits.{digits_of}
-use Rattle.winternitz.specs.Ends.{AreEnds}
+use Rattle.typecodes.specs.Types.{height_of}
 use Rattle.merkle.specs.Ascent.{IsAscent, at}
-use Rattle.lmots.specs.Formulas.{message_digest_of, public_hash, step_of}
+use Rattle.lmots.specs.Formulas.{message_digest_of, public_hash}
+use Rattle.lmots.specs.Signed.{ClimbTo}
 use Rattle.lms.specs.Layouts.{Signature}
 use Rattle.lms.specs.Formulas.{join_of, leaf_hash}
 use Rattle.lms.specs.Valid.{LeadsTo}
 
--- the digest, the leaf and the height by which a root was computed
+-- the digest, the leaf and the height by which a node was computed
 pub record Steps (identifier message : List ℕ) (s : Signature) (digest key leaf : List ℕ) (h : ℕ) : Type 0 where
   pub digested : digest ≡ message_digest_of identifier s.index s.randomizer message
   pub leaf_of : leaf ≡ leaf_hash identifier h s.index key
   pub height : h ≡ height_of s.pair.tree
-  pub long : length s.path ≡ height_of s.pair.tree
 
--- the ends of the chains and the nodes above the leaf show that the signature leads to the root
+-- the ends of the chains and the nodes above the leaf show that the signature leads to the node
 pub leads : (identifier message : List ℕ) (s : Signature) (digest key leaf root : List ℕ) (h : ℕ)
     → Steps identifier message s digest key leaf h
-    → ((ends : List (List ℕ)) × AreEnds (step_of identifier s.index) (width_of s.pair.ots) (digits_of (width_of s.pair.ots) digest) s.chains ends × (key ≡ public_hash identifier s.index ends))
+    → ((ends : List (List ℕ)) × ClimbTo identifier s.index s.pair.ots digest s.chains ends × (key ≡ public_hash identifier s.index ends))
     → ((nodes : List (List ℕ)) × IsAscent (join_of identifier h) s.index leaf s.path nodes × (root ≡ at nodes (length s.path)))
     → LeadsTo identifier message s root
 leads identifier message s digest key leaf root h steps (ends, climbed, key_of) (nodes, ascent, last) =
@@ -29,17 +27,17 @@ leads identifier message s digest key leaf root h steps (ends, climbed, key_of) 
       climbed = rw (steps.digested) at climbed;
       nodes = nodes;
       ascent = rw (leaf_of, steps.height) at ascent;
-      last = ap (at nodes) (sym steps.long) ∙ sym last;
+      last = sym last;
     }
 
--- and any root to which it leads is this one
+-- and any node to which it leads is this one
 pub leads_only : (identifier message : List ℕ) (s : Signature) (digest key leaf root : List ℕ) (h : ℕ)
     → Steps identifier message s digest key leaf h
-    → ((ends : List (List ℕ)) → AreEnds (step_of identifier s.index) (width_of s.pair.ots) (digits_of (width_of s.pair.ots) digest) s.chains ends → key ≡ public_hash identifier s.index ends)
+    → ((ends : List (List ℕ)) → ClimbTo identifier s.index s.pair.ots digest s.chains ends → key ≡ public_hash identifier s.index ends)
     → ((nodes : List (List ℕ)) → IsAscent (join_of identifier h) s.index leaf s.path nodes → root ≡ at nodes (length s.path))
     → (other : List ℕ) → LeadsTo identifier message s other → other ≡ root
 leads_only identifier message s digest key leaf root h steps key_only root_only other led =
     let key_of = key_only led.ends (rw (← steps.digested) at led.climbed) in
     let leaf_of = steps.leaf_of ∙ ap (leaf_hash identifier h s.index) key_of in
     let ascent = rw (← steps.height, ← leaf_of) at led.ascent in
-    sym led.last ∙ ap (at led.nodes) (sym steps.long) ∙ sym (root_only led.nodes ascent)
+    sym led.last ∙ sym (root_only led.nodes ascent)

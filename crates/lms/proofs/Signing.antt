@@ -1,7 +1,7 @@
 -- The textbook signature is valid.
-use Rattle.std.proofs.Common.{◌≡◌, ◌∙◌, refl, ℕ, ◌<◌, ◌^◌, List, length, arith}
+use Rattle.std.proofs.Common.{◌≡◌, ◌∙◌, refl, ap, ℕ, ◌<◌, ◌^◌, List, length, arith}
 use Rattle.std.proofs.lemmas.List.FromFn.{length-map-range_with_len}
-use Rattle.typecodes.specs.Types.{height_of}
+use Rattle.typecodes.specs.Types.{chains_of, height_of}
 use Rattle.merkle.specs.Ascent.{at}
 use Rattle.merkle.specs.Tree.{root_of}
 use Rattle.merkle.proofs.Climb.{climbed_is_ascent, climbed_nodes, climbed_nodes_at}
@@ -26,16 +26,21 @@ path_ends secret q inside =
 -- The textbook signature of a message is valid under the secret's public key.
 pub textbook_valid : (secret : LmsSecret) (q : ℕ) (randomizer message : List ℕ) → q < 2 ^ height_of secret.pair.tree
     → IsValid (public_of secret) message (textbook secret q randomizer (message_digest_of secret.identifier q randomizer message))
-textbook_valid secret q randomizer message inside = record {
-  types = refl;
-  leads = record {
-    ends = ends_of_seed secret.identifier q secret.pair.ots secret.seed;
-    climbed = signed_climbs secret.identifier q secret.pair.ots secret.seed (message_digest_of secret.identifier q randomizer message);
-    nodes = climbed_nodes (joins_of secret) q (leaves_of secret q) (path_in secret q);
-    ascent = climbed_is_ascent (joins_of secret) q (leaves_of secret q) (path_in secret q);
-    last = path_ends secret q inside;
-  };
-}
+textbook_valid secret q randomizer message inside =
+    let long : length (path_in secret q) ≡ height_of secret.pair.tree = length-map-range_with_len _ 0 (height_of secret.pair.tree) in
+    record {
+      types = refl;
+      chains = length-map-range_with_len _ 0 (chains_of secret.pair.ots);
+      leaf = inside;
+      height = long;
+      leads = record {
+        ends = ends_of_seed secret.identifier q secret.pair.ots secret.seed;
+        climbed = signed_climbs secret.identifier q secret.pair.ots secret.seed (message_digest_of secret.identifier q randomizer message);
+        nodes = climbed_nodes (joins_of secret) q (leaves_of secret q) (path_in secret q);
+        ascent = climbed_is_ascent (joins_of secret) q (leaves_of secret q) (path_in secret q);
+        last = ap (at (climbed_nodes (joins_of secret) q (leaves_of secret q) (path_in secret q))) long ∙ path_ends secret q inside;
+      };
+    }
 
 -- The same of a signature that was made with a digest and a path, where these are the textbook's.
 pub signed_valid : (secret : LmsSecret) (q : ℕ) (randomizer message digest : List ℕ) (path : List (List ℕ)) → q < 2 ^ height_of secret.pair.tree

@@ -8,7 +8,16 @@ use Rattle.typecodes.specs.declared.refusal.Refusal.{Refusal}
 use Rattle.typecodes.specs.declared.refusal.Refusal.TheVariants.{Unreadable, TypeMismatch, LevelMismatch, RootMismatch}
 use Rattle.lms.specs.Layouts.{Signature, signature}
 use Rattle.lms.specs.Valid.{IsValid}
-use Rattle.lms.specs.Verdict.{Verdict}
+use Rattle.lms.specs.Verdict.{LevelVerdict, Verdict}
+
+-- the answer of the signature that bytes spell is that of the bytes
+pub whole_verdict : {A : Type 0} (key : LmsPublic) (message bytes : List ℕ) (s : Signature) (result : Result A Refusal) → Spells signature s bytes → LevelVerdict key message s 0 result
+    → Verdict key message bytes result
+whole_verdict key message bytes s (Ok x) spelled valid = (s, spelled, valid)
+whole_verdict key message bytes s (Err (Unreadable fault)) spelled never = elim never [ ]
+whole_verdict key message bytes s (Err (TypeMismatch level)) spelled (top, differs) = (top, (s, spelled, differs))
+whole_verdict key message bytes s (Err LevelMismatch) spelled never = elim never [ ]
+whole_verdict key message bytes s (Err (RootMismatch level)) spelled (top, types, invalid) = (top, (s, spelled, types, invalid))
 
 -- signatures that one list of bytes spells have the same types
 same_types : (key : LmsPublic) (bytes : List ℕ) (s other : Signature) → Spells signature s bytes → Spells signature other bytes → s.pair ≡ key.pair → other.pair ≡ key.pair

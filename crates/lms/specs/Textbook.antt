@@ -1,13 +1,12 @@
 -- The key and the signatures that a secret makes (RFC 8554 4.3, 4.5, 5.2 to 5.4.1 and Appendix A), and
 -- their bytes.
-use Rattle.std.specs.Prelude.{ℕ, List, ◌++◌, map, slice_index}
-use Rattle.std.specs.List.{concat, range_with_len}
+use Rattle.std.specs.Prelude.{ℕ, List, ◌++◌}
+use Rattle.std.specs.List.{concat}
 use Rattle.typecodes.specs.declared.types.LmsPair.{LmsPair}
-use Rattle.typecodes.specs.Types.{chains_of, height_of, lms_code, lms_signature_len_of, ots_code, width_of}
-use Rattle.winternitz.specs.Walk.{walk}
-use Rattle.winternitz.specs.Digits.{digits_of}
+use Rattle.typecodes.specs.Types.{height_of, lms_code, lms_signature_len_of, ots_code}
 use Rattle.merkle.specs.Tree.{Joins, Leaves, path_of, root_of}
-use Rattle.lmots.specs.Formulas.{ends_of_seed, private_value, public_hash, step_of, u32str}
+use Rattle.lmots.specs.Formulas.{ends_of_seed, public_hash, u32str}
+use Rattle.lmots.specs.Signed.{signed_values}
 use Rattle.lms.specs.declared.key.LmsPublic.{LmsPublic}
 use Rattle.lms.specs.declared.secret.LmsSecret.{LmsSecret}
 use Rattle.lms.specs.Layouts.{Signature}
@@ -34,18 +33,13 @@ public_of secret = record {
 abbrev pub path_in : LmsSecret → ℕ → List (List ℕ)
 path_in secret q = path_of (leaves_of secret) (joins_of secret) (height_of secret.pair.tree) q
 
--- chain i of leaf q, from its private value to the chain's digit of the digest Q
-abbrev pub signed_chain : LmsSecret → ℕ → List ℕ → ℕ → List ℕ
-signed_chain secret q digest i = walk (step_of secret.identifier q) i 0
-    (slice_index (digits_of (width_of secret.pair.ots) digest) i) (private_value secret.identifier q secret.seed i)
-
 -- the signature of the digest Q by leaf q, with the randomizer C and a path
 abbrev pub signed : LmsSecret → ℕ → List ℕ → List ℕ → List (List ℕ) → Signature
 signed secret q randomizer digest path = record {
   pair = secret.pair;
   index = q;
   randomizer = randomizer;
-  chains = map (signed_chain secret q digest) (range_with_len 0 (chains_of secret.pair.ots));
+  chains = signed_values secret.identifier q secret.pair.ots secret.seed digest;
   path = path;
 }
 

@@ -18,6 +18,16 @@ Verdict key message bytes (Err LevelMismatch) = ⊥
 Verdict key message bytes (Err (RootMismatch level)) =
     (level ≡ 0) × ((s : Signature) × Spells signature s bytes × (s.pair ≡ key.pair) × (IsValid key message s → ⊥))
 
+-- What verification answers of a signature that was read, as that of level i of an HSS signature: it is
+-- valid; or its types aren't the key's; or they are, and it isn't valid.
+abbrev pub LevelVerdict : {A : Type 0} → LmsPublic → List ℕ → Signature → ℕ → Result A Refusal → Type 0
+LevelVerdict key message s i (Ok _) = IsValid key message s
+LevelVerdict key message s i (Err (Unreadable fault)) = ⊥
+LevelVerdict key message s i (Err (TypeMismatch level)) = (level ≡ i) × (s.pair ≢ key.pair)
+LevelVerdict key message s i (Err LevelMismatch) = ⊥
+LevelVerdict key message s i (Err (RootMismatch level)) =
+    (level ≡ i) × (s.pair ≡ key.pair) × (IsValid key message s → ⊥)
+
 -- What is left of the message: nothing where it was read to its end; all of it where a refusal came first.
 abbrev pub LeavesMessage : {A : Type 0} → List ℕ → List ℕ → Result A Refusal → Type 0
 LeavesMessage old new (Ok _) = new ≡ []

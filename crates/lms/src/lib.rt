@@ -2,9 +2,9 @@
 //!
 //! Its model is `specs/Layouts.antt`, how keys and signatures are spelled, and `specs/Valid.antt`,
 //! which signatures are valid. Its contract for the crates above: `verify` is Ok exactly on the
-//! spellings of valid signatures, and else tells the first refusal. That keys and signatures are
-//! spelled in one way, and that an answer of `verify` is the only one, stands on `spelling_laws` and
-//! `verdict_laws`.
+//! spellings of valid signatures, and else tells the first refusal; `LmsSigView::verify` does the same
+//! for a signature that was read, as that of a level of HSS. That keys and signatures are spelled in one
+//! way, and that an answer of `verify` is the only one, stands on `spelling_laws` and `verdict_laws`.
 #![tactic(auto)]
 
 mod key;

@@ -9,8 +9,8 @@ use lmots::LmOts;
 use merkle::{NodeHash, TreeHash};
 use typecodes::{Count, LmsPair};
 
-/// What an LMS key is made from (RFC 8554 5.2 and Appendix A).
-#[derive(Clone, Copy, Debug)]
+/// What an LMS key is made from (RFC 8554 5.2 and Appendix A). It has no `Debug`, since its seed is secret.
+#[derive(Clone, Copy)]
 pub struct LmsSecret {
     pub pair: LmsPair,
     /// I, 16 bytes.
@@ -32,8 +32,9 @@ impl LmsSecret {
     }
 }
 
-/// The tree of a secret (RFC 8554 5.3), each leaf made of the ends of its one-time key's chains.
-#[derive(Debug, Drop)]
+/// The tree of a secret (RFC 8554 5.3), each leaf made of the ends of its one-time key's chains. As the
+/// secret it has no `Debug`.
+#[derive(Drop)]
 pub struct LmsTree {
     pub secret: LmsSecret,
     // How many leaves were made, for contracts alone.

@@ -112,6 +112,34 @@ fn the_last_leaf_is_read(rt: HostRuntime) {
     assert_eq!(rt; refusal(&rt, &signature), Refusal::RootMismatch(0));
 }
 
+// A signature that was read is refused as that of its level: the types come first, and leave the message.
+#[test]
+fn levels_are_told(rt: HostRuntime) -> Result<(), Fail> {
+    let zeros = zero_signature();
+    let view = LmsSigView::read(&zeros)?;
+    let mut key = LmsPublic {
+        pair: PAIR,
+        identifier: [0; 16],
+        root: [0; 32],
+    };
+    let mut message: &[u8] = b"message";
+    for (tree, ots) in [(LmsType::H10, OtsType::W8), (LmsType::H5, OtsType::W4)] {
+        key.pair = LmsPair { tree, ots };
+        assert_eq!(rt;
+            view.verify(&key, &mut message, 2),
+            Err(Refusal::TypeMismatch(2))
+        );
+        assert_eq!(rt; message.len(), 7);
+    }
+    key.pair = PAIR;
+    assert_eq!(rt;
+        view.verify(&key, &mut message, 2),
+        Err(Refusal::RootMismatch(2))
+    );
+    assert!(rt; message.is_empty());
+    Ok(())
+}
+
 // Zeros with the codes of a pair, the tree's at its place, are a signature, and with one byte less they
 // are none.
 fn assert_len(

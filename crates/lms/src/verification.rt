@@ -3,7 +3,7 @@
 ghost use Rattle.std.specs.Prelude.{◌≡◌, ◌↔◌, List, ℕ, IsTrue};
 ghost use Rattle.lms.specs.View.{signature_of};
 ghost use Rattle.lms.specs.Valid.{LeadsTo};
-ghost use Rattle.lms.specs.Verdict.{LeavesMessage, Verdict};
+ghost use Rattle.lms.specs.Verdict.{LeavesMessage, LevelVerdict, Verdict};
 
 use crate::key::LmsPublic;
 use crate::nodes::Nodes;
@@ -22,29 +22,41 @@ pub fn verify(public: &LmsPublic, message: &mut &[u8], signature: &[u8]) -> Resu
     ensures message { LeavesMessage message.old.now message.new.now result }
 {
     let view = LmsSigView::read(signature).map_err(Refusal::Unreadable)?;
-    if view.types() != public.pair {
-        return Err(Refusal::TypeMismatch(0));
-    }
-    let text = *message;
-    *message = &text[text.len()..];
-    if view.leads_to(public, text) {
-        Ok(())
-    } else {
-        Err(Refusal::RootMismatch(0))
-    }
+    view.verify(public, message, 0)
 }
 
 impl LmsSigView<'_> {
-    /// Whether the signature of a message leads to the key's root (RFC 8554 5.4.2, step 4). Its types
-    /// aren't compared with the key's.
-    pub fn leads_to(&self, public: &LmsPublic, message: &[u8]) -> bool
-        ensures { IsTrue result ↔ LeadsTo public.now.identifier message.now (signature_of self.now) public.now.root }
+    /// Verifies that the signature signs the message under the key (RFC 8554 5.4.2), as that of a level of
+    /// an HSS signature, 0 for the top tree's.
+    ///
+    /// The first refusal comes of: other types than the key's (10, with the level), another root than the
+    /// key's (12, with the level). The message is read to its end where the types are the key's, and else
+    /// left as it is.
+    pub fn verify(&self, public: &LmsPublic, message: &mut &[u8], level: u8) -> Result<(), Refusal>
+        ensures verdict { LevelVerdict public.now message.old.now (signature_of self.now) level result }
+        ensures message { LeavesMessage message.old.now message.new.now result }
     {
-        candidate(&public.identifier, message, self) == public.root
+        if self.pair != public.pair {
+            return Err(Refusal::TypeMismatch(level));
+        }
+        let text = *message;
+        *message = &text[text.len()..];
+        if leads_to_root(public, text, self) {
+            Ok(())
+        } else {
+            Err(Refusal::RootMismatch(level))
+        }
     }
 }
 
-// The root to which a signature leads, and no other (RFC 8554 5.4.2, algorithm 6a).
+// Whether the signature of a message leads to the key's root (RFC 8554 5.4.2, step 4).
+fn leads_to_root(public: &LmsPublic, message: &[u8], view: &LmsSigView<'_>) -> bool
+    ensures { IsTrue result ↔ LeadsTo public.now.identifier message.now (signature_of view.now) public.now.root }
+{
+    candidate(&public.identifier, message, view) == public.root
+}
+
+// The node to which a signature leads, and no other (RFC 8554 5.4.2, algorithm 6a).
 fn candidate(identifier: &[u8; 16], message: &[u8], view: &LmsSigView<'_>) -> [u8; 32]
     ensures leads { LeadsTo identifier.now message.now (signature_of view.now) result }
     ensures only { (other : List ℕ) → LeadsTo identifier.now message.now (signature_of view.now) other → other ≡ result }

@@ -1,12 +1,11 @@
 use Rattle.std.proofs.Common.{◌≡◌, ◌-◌, sym, ◌∙◌, subst, Err, arith, rules}
-use Rattle.typecodes.specs.declared.refusal.Refusal.TheVariants.{TypeMismatch}
 use Rattle.typecodes.specs.Layout.{Spells}
 use Rattle.lms.proofs.Comparing.{read_spells}
 use Rattle.hss.specs.Layouts.{signature}
 use Rattle.hss.specs.Levels.{level_count}
 use Rattle.hss.specs.Verdict.{Verdict}
 use Rattle.hss.specs.View.{signature_of}
-use Rattle.hss.proofs.Verifying.{above-verdict, bottom-types, bottom-verdict}
+use Rattle.hss.proofs.Verifying.{above-verdict, bottom-leaves, bottom-read}
 use Rattle.hss.proofs.verification.verify.Goals.{After-levels-bottom}
 use Rattle.hss.proofs.verification.verify.Goals as goal
 
@@ -26,22 +25,14 @@ returns-in_err-key-clause-verdict c =
     subst (Verdict key c.args.message.now.now c.args.signature.now) (sym is)
     (above-verdict (Unit {0}) key c.args.message.now.now c.args.signature.now (signature_of c.in_ok-view.view) c.in_err-key.field-0.0 (spelled after) (count after) c.in_err-key.ensures)
 
--- the bottom's types are others
-pub returns-in_err-match_types-clause-verdict : goal.returns-in_err-match_types-clause-verdict
-returns-in_err-match_types-clause-verdict c =
-    let after = (goal.at.returns-in_err-match_types-clause-verdict c).After-levels-bottom in
-    let key = c.args.public.now in
-    let bottom = c.levels-bottom.result - 1 in
-    let is : c.from_residual-in_err-match_types.result ≡ Err (TypeMismatch bottom) = search rules in
-    subst (Verdict key c.args.message.now.now c.args.signature.now) (sym is)
-    (bottom-types (Unit {0}) key c.args.message.now.now c.args.signature.now (signature_of c.in_ok-view.view) c.in_ok-key.key _ bottom (spelled after) (count after)
-    c.in_ok-key.ensures (omega (arith, c.levels-bottom.ensures.value)) c.level-last.ensures.value c.in_err-match_types.ensures.1)
-
--- they are the key's
+-- the bottom's answer is that of all
 pub returns-clause-verdict : goal.returns-clause-verdict
 returns-clause-verdict c =
     let after = (goal.at.returns-clause-verdict c).After-levels-bottom in
-    let key = c.args.public.now in
-    let bottom = c.levels-bottom.result - 1 in
-    bottom-verdict (Unit {0}) key c.args.message.now.now c.args.signature.now (signature_of c.in_ok-view.view) c.in_ok-key.key _ bottom c.match_root.result (spelled after) (count after)
-    c.in_ok-key.ensures (omega (arith, c.levels-bottom.ensures.value)) c.level-last.ensures.value c.in_ok-match_types.ensures c.match_root.ensures
+    bottom-read c.args.public.now c.args.message.now.now c.args.signature.now (signature_of c.in_ok-view.view) c.in_ok-key.key _ (c.levels-bottom.result - 1) c.verify.result (spelled after) (count after)
+    c.in_ok-key.ensures (omega (arith, c.levels-bottom.ensures.value)) c.level.ensures.value c.verify.ensures.verdict
+
+pub returns-clause-message : goal.returns-clause-message
+returns-clause-message c =
+    let after = (goal.at.returns-clause-message c).After-levels-bottom in
+    bottom-leaves c.args.public.now _ _ _ _ (c.levels-bottom.result - 1) c.verify.result (omega (arith, c.levels-bottom.ensures.value, count after)) c.verify.ensures.verdict c.verify.ensures.message

@@ -7,7 +7,6 @@ steps c = record {
   digested = c.message_digest-digest.ensures;
   leaf_of = c.leaf-leaf.ensures;
   height = c.height.ensures.value;
-  long = c.args.view.now.path_length;
 }
 
 pub returns-clause-leads : goal.returns-clause-leads

@@ -1,5 +1,5 @@
 use Rattle.std.proofs.Common.{◌≡◌, rules}
-use Rattle.lms.proofs.signature.LmsSigView.leads_to.Goals as goal
+use Rattle.lms.proofs.verification.leads_to_root.Goals as goal
 
 -- the root that the signature leads to is the only one
 pub returns : goal.returns
