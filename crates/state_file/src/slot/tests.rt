@@ -93,11 +93,11 @@ fn bound() -> Result<Record, BadName> {
 // The record has these bytes, which are read as the record; and no byte of them can be another.
 fn assert_drawn(rt: &impl Abort, entry: &Record, drawn: &[u8; 223]) {
     assert_eq!(rt; record_bytes(entry), *drawn);
-    assert_eq!(rt; read_record(drawn), Some(entry.copied()));
+    assert!(rt; read_record(drawn) == Some(entry.copied()));
     for place in 0..223 {
         let mut other = *drawn;
         other[place] ^= 0x5a;
-        assert_ne!(rt; read_record(&other), Some(entry.copied()));
+        assert!(rt; read_record(&other) != Some(entry.copied()));
         assert_ne!(rt; tag(&[0; 32], &other), tag(&[0; 32], drawn));
     }
 }
@@ -227,7 +227,7 @@ fn names_of_each_length(rt: HostRuntime) -> Result<(), Fail> {
         });
         let bytes = record_bytes(&entry);
         assert_eq!(rt; usize::from(bytes[1]), count);
-        assert_eq!(rt; read_record(&bytes), Some(entry));
+        assert!(rt; read_record(&bytes) == Some(entry));
     }
     Ok(())
 }
@@ -250,7 +250,7 @@ fn levels_of_each_count(rt: HostRuntime) -> Result<(), Fail> {
             },
             root: [3; 32],
         });
-        assert_eq!(rt; read_record(&record_bytes(&entry)), Some(entry));
+        assert!(rt; read_record(&record_bytes(&entry)) == Some(entry));
     }
     Ok(())
 }
