@@ -35,5 +35,5 @@ slot_added k body bytes content mid new body_len is first put synced second =
 
 -- a place that was prepared is as long as it was, and has a byte
 pub prepared_len : (content : List ℕ) (new : State) → Prepares content new → length new.content ≡ max (length content) 1
-prepared_len content new (rest, inl (short, put, changes)) = omega (arith, rest.ends.within, changes.no_shorter, changes.no_longer)
+prepared_len content new (rest, inl (short, put, changes)) = omega (arith, rest.ends.closed.0, changes.no_shorter, changes.no_longer)
 prepared_len content new (rest, inr (long, closed, same)) = omega (arith, ap length same)

@@ -150,13 +150,12 @@ the_first (entry ∷ rest) key is = (rest, let same : entry ≡ key = cc in ap (
 -- records that are spelled are a file's
 pub spelled_file : (records : List Record) (content : List ℕ) → SpellsRecords content records → IsFileOf records content
 spelled_file records content is =
-    let within : 256 * length records < length content = slice_get_within content (256 * length records) is.closed.0 is.closed.1 in
+    let within : 256 * length records < length content = is.closed.0 in
     record {
       few = is.few;
       first = let (rest, same) = the_first records (KeyRecord is.first.0) is.first.1 in ap begins_with_key same;
       opened = λ k below. get_or_from_slice_get content (256 * k) 165 0 (is.opened k below);
-      within = within;
-      closed = λ is_open. is.closed.2 (sym (get_or_from_slice_get content (256 * length records) is.closed.0 0 is.closed.1) ∙ is_open);
+      closed = is.closed;
       spelled = λ k entry there.
           let below : k < length records = slice_get_within records k entry there in
           read_record entry (fields_at content k) (fields_length content k (omega (arith, within, below))) (is.held k entry there).spelled;

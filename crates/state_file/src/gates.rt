@@ -1,14 +1,15 @@
 //! Slots on a disk, and how they are added so that a stop never leaves half a slot.
 
 ghost use Rattle.std.specs.Prelude.{◌≡◌, ◌≢◌, ◌⊎◌, ◌+◌, ◌*◌, ◌<◌, ◌≤◌, ◌∷◌, [], ◌++◌, ℕ, List, IsTrue, length, slice_range, slice_index, IfErr, IfOk, OnOk, OnErr};
+ghost use Rattle.state_file.specs.Contents.{HasNoKey, open_value};
 ghost use Rattle.state_file.specs.Format.{Formats, WritesNothing, CountsDevice};
 ghost use Rattle.state_file.specs.Disk.{settled, range_of, ChangesOnly, MayLeave, CountsFailure};
 ghost use Rattle.state_file.specs.Moments.{LeavesOnly};
-ghost use Rattle.state_file.specs.Gates.{AddsSlot, IsClosedAfter, IsSynced, IsAtRest, LacksKey};
+ghost use Rattle.state_file.specs.Gates.{AddsSlot, IsClosedAfter, IsSynced, IsAtRest};
 ghost use Rattle.state_file.specs.Opened.{OnlyReads};
 
 use crate::disk::{Disk, DiskFault};
-use crate::slot::OPEN;
+use crate::slot::{OPEN, is_open};
 use thiserror::Error;
 
 /// The bytes of a slot.
@@ -47,12 +48,12 @@ pub(crate) fn write_synced<D: Disk>(disk: &mut D, at: u64, bytes: &[u8]) -> Resu
 /// gate is opened.
 pub(crate) fn add_slot<D: Disk>(disk: &mut D, slot: u32, body: &[u8; 255]) -> Result<(), DiskFault>
     ensures added { (front : List ℕ) → IsTrue (D.honest disk.old) → IsAtRest front (D.state disk.old) →
-        length front ≡ 256 * slot → OnOk result (IsAtRest (front ++ 165 ∷ body.now) (D.state disk.new)) }
+        length front ≡ 256 * slot → OnOk result (IsAtRest (front ++ open_value ∷ body.now) (D.state disk.new)) }
     ensures adds { IsTrue (D.honest disk.old) → OnOk result (AddsSlot slot (D.state disk.old).content (D.state disk.new)) }
     ensures any_moment { (front : List ℕ) → IsTrue (D.honest disk.old) → IsAtRest front (D.state disk.old) →
         length front ≡ 256 * slot →
         LeavesOnly D.moment D.left_since disk.old disk.new
-        (λ c. IsClosedAfter front c ⊎ IsClosedAfter (front ++ 165 ∷ body.now) c) }
+        (λ c. IsClosedAfter front c ⊎ IsClosedAfter (front ++ open_value ∷ body.now) c) }
     ensures failures { CountsFailure (D.failures disk.old) (D.failures disk.new) result }
     ensures past_ends { D.past_ends disk.new ≡ D.past_ends disk.old }
     ensures honest { D.honest disk.new ≡ D.honest disk.old }
@@ -115,7 +116,7 @@ impl From<DiskFault> for FormatFault {
 pub(crate) fn format<D: Disk>(disk: &mut D) -> Result<(), FormatFault>
     ensures answer { IsTrue (D.honest disk.old) → Formats (D.state disk.old).content (D.state disk.new) result }
     ensures any_moment { IsTrue (D.honest disk.old) →
-        LeavesOnly D.moment D.left_since disk.old disk.new (λ c. MayLeave (D.state disk.old) c ⊎ LacksKey c) }
+        LeavesOnly D.moment D.left_since disk.old disk.new (λ c. MayLeave (D.state disk.old) c ⊎ HasNoKey c) }
     ensures long { IsTrue (D.honest disk.old) → 257 ≤ length (D.state disk.old).content →
         LeavesOnly D.moment D.left_since disk.old disk.new (MayLeave (D.state disk.old)) }
     ensures nothing_written { IsTrue (D.honest disk.old) → WritesNothing result →
@@ -131,7 +132,7 @@ pub(crate) fn format<D: Disk>(disk: &mut D) -> Result<(), FormatFault>
     }
     let mut gate = [0];
     read_within(disk, 0, &mut gate)?;
-    if gate[0] == OPEN {
+    if is_open(gate[0]) {
         Err(FormatFault::KeyThere)
     } else if len > SLOT + 1 {
         Err(FormatFault::NotKeyFile)

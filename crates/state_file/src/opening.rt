@@ -2,7 +2,7 @@
 
 ghost use Rattle.std.specs.Prelude.{◌≡◌, ◌+◌, ◌*◌, ◌-◌, ◌^◌, ◌<◌, ◌≤◌, ◌==◌, ◌∷◌, [], ◌++◌, IsTrue, IfOk, IfErr, OnOk, MatchOption, length, replicate, slice_index};
 ghost use Rattle.typecodes.specs.Layout.{Spells};
-ghost use Rattle.state_file.specs.Contents.{fields_at, previous_tag, tag_at, tag_of};
+ghost use Rattle.state_file.specs.Contents.{fields_at, open_value, previous_tag, tag_at, tag_of};
 ghost use Rattle.state_file.specs.Slots.{slot_record};
 ghost use Rattle.state_file.specs.declared.record.Record.{Record as Entry};
 ghost use Rattle.state_file.specs.Disk.{settled, MayLeave, CountsFailure};
@@ -76,7 +76,7 @@ struct Body {
 fn read_gate<D: Disk>(disk: &mut D, k: u32) -> Result<bool, DiskFault>
     requires { IsTrue (D.honest disk.old) → 256 * k < length (D.state disk.old).content }
     ensures gate { IsTrue (D.honest disk.old) →
-        IfOk result (λ opened. opened ≡ (slice_index (D.state disk.old).content (256 * k) == 165)) }
+        IfOk result (λ opened. opened ≡ (slice_index (D.state disk.old).content (256 * k) == open_value)) }
     ensures reads { IsTrue (D.honest disk.old) → OnlyReads D.state D.moment D.left_since disk.old disk.new }
     ensures failures { CountsFailure (D.failures disk.old) (D.failures disk.new) result }
     ensures past_ends { IsTrue (D.honest disk.old) → D.past_ends disk.new ≡ D.past_ends disk.old }
