@@ -8,3 +8,4 @@ pub mod Ways
 pub mod Sizes
 pub mod Steps
 pub mod Values
+pub mod SpecTexts

@@ -7,4 +7,5 @@ pub mod Layout
 pub mod Fields
 pub mod Reading
 pub mod Names
-pub mod Specs
+pub mod Levels
+pub mod Spec

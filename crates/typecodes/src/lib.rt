@@ -4,8 +4,9 @@
 //! Its model is `specs/Layout.antt`: a layout is a list of fields, each of which may depend on those
 //! before it, and from it follow both which bytes spell a value and which fault other bytes have.
 //! What holds of every layout is proved once, on `layout_laws`, `following_laws` and `field_laws`.
-//! Its contract for the crates above: a code names exactly one type, and a cursor hands out exactly
-//! the field that the layout names, or its fault.
+//! Its contract for the crates above: a code names exactly one type, a cursor hands out exactly the
+//! field that the layout names, or its fault, levels are 1 to 8, and a text is that of one spec or of
+//! none.
 #![tactic(auto)]
 
 mod coefficient;
@@ -13,6 +14,7 @@ mod count;
 mod cursor;
 mod fault;
 mod laws;
+mod levels;
 mod name;
 mod refusal;
 mod spec;
@@ -26,6 +28,7 @@ pub use crate::count::Count;
 pub use crate::cursor::Cursor;
 pub use crate::fault::{Cause, ReadFault};
 pub use crate::laws::{field_laws, following_laws, layout_laws};
+pub use crate::levels::{LevelCount, Levels};
 pub use crate::name::{BadName, Name};
 pub use crate::refusal::Refusal;
 pub use crate::spec::{BadSpec, Spec};

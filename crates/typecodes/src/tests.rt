@@ -1,3 +1,5 @@
+ghost use Rattle.std.specs.Prelude.{◌≡◌, ◌≤◌, length};
+
 use super::*;
 use std::test::Fail;
 
@@ -57,7 +59,7 @@ fn signature_lengths(rt: HostRuntime) {
 }
 
 #[test]
-fn named_types(rt: HostRuntime) {
+fn codes_of_one_time_types(rt: HostRuntime) {
     for (code, ots) in [
         (1, OtsType::W1),
         (2, OtsType::W2),
@@ -69,6 +71,10 @@ fn named_types(rt: HostRuntime) {
     for code in [0, 5, 9, 0x0400_0000] {
         assert_eq!(rt; OtsType::from_code(code), None, "code {code}");
     }
+}
+
+#[test]
+fn codes_of_tree_types(rt: HostRuntime) {
     for (code, lms) in [
         (5, LmsType::H5),
         (6, LmsType::H10),
@@ -83,22 +89,42 @@ fn named_types(rt: HostRuntime) {
     }
 }
 
+// A cursor at this place of these bytes.
+fn cursor_at(bytes: &[u8], place: u32) -> Cursor<'_>
+    requires { place ≤ length bytes.now }
+    ensures bytes { result.bytes ≡ bytes.entry }
+    ensures place { result.place ≡ place }
+{
+    Cursor { bytes, place }
+}
+
+// 0x01020304, two bytes, W8 and H5.
+const FIELDS: [u8; 14] = [1, 2, 3, 4, 50, 60, 0, 0, 0, 4, 0, 0, 0, 5];
+
 #[test]
-fn fields_in_turn(rt: HostRuntime) -> Result<(), Fail> {
-    let bytes = [1, 2, 3, 4, 50, 60, 0, 0, 0, 4, 0, 0, 0, 5];
-    let mut cursor = Cursor::new(&bytes);
+fn a_number_and_a_block_in_turn(rt: HostRuntime) -> Result<(), Fail> {
+    let mut cursor = Cursor::new(&FIELDS);
     assert_eq!(rt; cursor.number()?, 0x0102_0304);
     assert_eq!(rt; cursor.block(2)?, [50, 60].as_slice());
     assert_eq!(rt; cursor.end(), Err(fault(6, Cause::Trailing)));
+    Ok(())
+}
+
+#[test]
+fn types_up_to_the_end(rt: HostRuntime) -> Result<(), Fail> {
+    let mut cursor = cursor_at(&FIELDS, 6);
     assert_eq!(rt; cursor.ots_type()?, OtsType::W8);
     assert_eq!(rt; cursor.lms_type()?, LmsType::H5);
     assert_eq!(rt; cursor.place, 14);
-    assert_eq!(rt; *Cursor::new(&bytes).array::<3>()?, [1, 2, 3]);
-    assert_eq!(rt;
-        Cursor::new(&bytes).array::<15>().err(),
-        Some(fault(0, Cause::Truncated))
-    );
     cursor.end()?;
+    Ok(())
+}
+
+#[test]
+fn an_array_that_fits_and_one_that_does_not(rt: HostRuntime) -> Result<(), Fail> {
+    assert_eq!(rt; *Cursor::new(&FIELDS).array::<3>()?, [1, 2, 3]);
+    let cut = Cursor::new(&FIELDS).array::<15>();
+    assert_eq!(rt; cut.err(), Some(fault(0, Cause::Truncated)));
     Ok(())
 }
 
@@ -107,8 +133,7 @@ fn values_in_turn(rt: HostRuntime) -> Result<(), Fail> {
     let mut bytes = [0; 70];
     bytes[3] = 7;
     bytes[66] = 8;
-    let mut cursor = Cursor::new(&bytes);
-    cursor.block(3)?;
+    let mut cursor = cursor_at(&bytes, 3);
     let values = cursor.values(2)?;
     assert_eq!(rt; values.len(), 2);
     assert_eq!(rt; values[0][0], 7);
@@ -119,29 +144,48 @@ fn values_in_turn(rt: HostRuntime) -> Result<(), Fail> {
 
 // A fault is told at the start of the field that has it, each value being a field, and the cursor
 // stays where it was.
+const NINES: [u8; 70] = [9; 70];
+
 #[test]
-fn faults(rt: HostRuntime) -> Result<(), Fail> {
-    let bytes = [9; 70];
-    let mut cursor = Cursor::new(&bytes);
-    cursor.block(3)?;
-    assert_eq!(rt; cursor.ots_type().err(), Some(fault(3, Cause::UnknownType)));
-    assert_eq!(rt; cursor.lms_type().err(), Some(fault(3, Cause::UnknownType)));
+fn a_code_that_names_no_type(rt: HostRuntime) {
+    let mut cursor = cursor_at(&NINES, 3);
+    let unknown = Some(fault(3, Cause::UnknownType));
+    assert_eq!(rt; cursor.ots_type().err(), unknown);
+    assert_eq!(rt; cursor.lms_type().err(), unknown);
+    assert_eq!(rt; cursor.place, 3);
+}
+
+#[test]
+fn a_block_and_values_that_are_cut(rt: HostRuntime) -> Result<(), Fail> {
+    let mut cursor = cursor_at(&NINES, 3);
     assert_eq!(rt; cursor.block(68).err(), Some(fault(3, Cause::Truncated)));
     assert_eq!(rt; cursor.values(3).err(), Some(fault(67, Cause::Truncated)));
     assert_eq!(rt; cursor.place, 3);
+    assert_eq!(rt; cursor.values(2)?.len(), 2);
+    Ok(())
+}
+
+#[test]
+fn numbers_that_are_cut(rt: HostRuntime) -> Result<(), Fail> {
+    let mut cursor = cursor_at(&NINES, 3);
     cursor.values(2)?;
-    assert_eq!(rt; cursor.number().err(), Some(fault(67, Cause::Truncated)));
-    assert_eq!(rt; cursor.ots_type().err(), Some(fault(67, Cause::Truncated)));
-    assert_eq!(rt; cursor.lms_type().err(), Some(fault(67, Cause::Truncated)));
+    let cut = Some(fault(67, Cause::Truncated));
+    assert_eq!(rt; cursor.number().err(), cut);
+    assert_eq!(rt; cursor.ots_type().err(), cut);
+    assert_eq!(rt; cursor.lms_type().err(), cut);
+    Ok(())
+}
+
+#[test]
+fn values_are_cut_at_the_first_that_does_not_fit(rt: HostRuntime) {
     for (len, place) in [(0, 0), (31, 0), (32, 32), (40, 32), (63, 32)] {
-        let cut = Cursor::new(&bytes[..len]).values(2);
+        let cut = Cursor::new(&NINES[..len]).values(2);
         assert_eq!(rt;
             cut.err(),
             Some(fault(place, Cause::Truncated)),
             "{len} bytes"
         );
     }
-    Ok(())
 }
 
 #[test]
@@ -169,7 +213,7 @@ fn refusals_have_numbers(rt: HostRuntime) {
 
 // The codes of the standard's XDR formats, and the lengths of signatures by its 4.1.8.
 #[test]
-fn xmss_types(rt: HostRuntime) -> Result<(), Fail> {
+fn xmss_types(rt: HostRuntime) {
     for (xmss, code, height, len) in [
         (XmssType::H10, 1, 10, 2500),
         (XmssType::H16, 2, 16, 2692),
@@ -180,16 +224,28 @@ fn xmss_types(rt: HostRuntime) -> Result<(), Fail> {
         assert_eq!(rt; xmss.height(), height);
         assert_eq!(rt; xmss.signature_len(), len);
     }
+}
+
+#[test]
+fn codes_that_name_no_type_of_xmss(rt: HostRuntime) {
     assert_eq!(rt; XmssType::from_code(0), None);
     assert_eq!(rt; XmssType::from_code(4), None);
-    let bytes = [0, 0, 0, 2, 0, 0, 0, 4, 0];
-    let mut cursor = Cursor::new(&bytes);
+}
+
+// H16, a code that names no type, and one byte.
+const XMSS_FIELDS: [u8; 9] = [0, 0, 0, 2, 0, 0, 0, 4, 0];
+
+#[test]
+fn a_type_of_xmss(rt: HostRuntime) -> Result<(), Fail> {
+    let mut cursor = Cursor::new(&XMSS_FIELDS);
     assert_eq!(rt; cursor.xmss_type()?, XmssType::H16);
-    assert_eq!(rt;
-        cursor.xmss_type().err(),
-        Some(fault(4, Cause::UnknownType))
-    );
-    cursor.block(4)?;
-    assert_eq!(rt; cursor.xmss_type().err(), Some(fault(8, Cause::Truncated)));
+    let unknown = Some(fault(4, Cause::UnknownType));
+    assert_eq!(rt; cursor.xmss_type().err(), unknown);
     Ok(())
+}
+
+#[test]
+fn a_type_of_xmss_that_is_cut(rt: HostRuntime) {
+    let mut cursor = cursor_at(&XMSS_FIELDS, 8);
+    assert_eq!(rt; cursor.xmss_type().err(), Some(fault(8, Cause::Truncated)));
 }

@@ -1,12 +1,16 @@
 -- The texts that name the types of a key that is to be made.
-use Rattle.std.specs.Prelude.{ℕ, List, ◌++◌, codes}
+use Rattle.std.specs.Prelude.{ℕ, List, map, ◌++◌, codes}
+use Rattle.std.specs.List.{join_with_byte}
 use Rattle.typecodes.specs.declared.types.OtsType.{OtsType}
 use Rattle.typecodes.specs.declared.types.OtsType.TheVariants.{W1, W2, W4, W8}
 use Rattle.typecodes.specs.declared.types.LmsType.{LmsType}
 use Rattle.typecodes.specs.declared.types.LmsType.TheVariants.{H5, H10, H15, H20, H25}
 use Rattle.typecodes.specs.declared.types.LmsPair.{LmsPair}
+use Rattle.typecodes.specs.declared.xmss.XmssType.{XmssType}
+use Rattle.typecodes.specs.declared.xmss.XmssType.TheVariants as xmss
 use Rattle.typecodes.specs.declared.spec.Spec.{Spec}
-use Rattle.typecodes.specs.declared.spec.Spec.TheVariants.{Lms}
+use Rattle.typecodes.specs.declared.spec.Spec.TheVariants.{Lms, Hss, Xmss}
+use Rattle.typecodes.specs.Levels.{AreLevels}
 
 -- a tree's type, by its height
 abbrev pub tree_text : LmsType → List ℕ
@@ -27,5 +31,26 @@ ots_text W8 = codes "W8"
 abbrev pub pair_text : LmsPair → List ℕ
 pair_text pair = tree_text pair.tree ++ codes "/" ++ ots_text pair.ots
 
+abbrev pub comma : ℕ
+comma = 0x2c
+
+-- the pairs of the levels, from the top down
+abbrev pub levels_text : List LmsPair → List ℕ
+levels_text levels = join_with_byte comma (map pair_text levels)
+
+-- a type of XMSS, by the height of its tree
+abbrev pub xmss_text : XmssType → List ℕ
+xmss_text xmss.H10 = codes "10"
+xmss_text xmss.H16 = codes "16"
+xmss_text xmss.H20 = codes "20"
+
 abbrev pub spec_text : Spec → List ℕ
 spec_text (Lms pair) = codes "lms:" ++ pair_text pair
+spec_text (Hss levels) = codes "hss:" ++ levels_text levels
+spec_text (Xmss tree) = codes "xmss:" ++ xmss_text tree
+
+-- a spec of HSS has 1 to 8 levels
+abbrev pub IsSpec : Spec → Type 0
+IsSpec (Lms pair) = Unit {0}
+IsSpec (Hss levels) = AreLevels levels
+IsSpec (Xmss tree) = Unit {0}
