@@ -5,8 +5,7 @@ ghost use Rattle.typecodes.specs.Types.{named};
 ghost use Rattle.state_file.specs.Slots.{version_code, versions};
 ghost use Rattle.state_file.specs.declared.record.Version.{Version as V};
 
-use crate::levels::Levels;
-use typecodes::{LmsPair, Name, XmssType};
+use typecodes::{Levels, LmsPair, Name, XmssType};
 
 /// One record. A list of them stands for a key and all that it has signed.
 #[derive(PartialEq, Eq, Drop)]
