@@ -1,5 +1,5 @@
 -- The two writes that add a slot stay within it and the gate after it.
-use Rattle.std.proofs.Common.{◌≡◌, ◌⊎◌, inl, inr, ⊎_elim, ℕ, ◌+◌, ◌-◌, ◌*◌, ◌<◌, ◌≤◌, List, [], ◌∷◌, ◌++◌, length, take, drop, get_or, slice_index, slice_range, refl, sym, ◌∙◌, ap, arith, length-append, length-take, length-drop, get_or-drop}
+use Rattle.std.proofs.Common.{◌≡◌, inl, inr, ⊎_elim, ℕ, ◌+◌, ◌-◌, ◌*◌, ◌<◌, ◌≤◌, List, [], ◌∷◌, ◌++◌, length, take, drop, slice_index, slice_range, sym, ◌∙◌, ap, arith, length-append, length-take, length-drop, get_or-drop}
 use Rattle.std.proofs.lemmas.List.{get_or_at, get_or-take}
 use Rattle.std.specs.Prelude.{max}
 use Rattle.state_file.specs.Disk.{State, ChangesOnly, range_of}

@@ -7,9 +7,9 @@ use Rattle.typecodes.proofs.Read.{spelled-read}
 use Rattle.typecodes.proofs.Steps.{ends-spelled}
 use Rattle.typecodes.specs.Layout.{Spells}
 use Rattle.typecodes.specs.Reading.{read}
-use Rattle.state_file.specs.Contents.{HasNoKey, Holds, fields_at, tag_at, previous_tag, tag_of, most_records}
+use Rattle.state_file.specs.Contents.{Holds, fields_at, tag_at, previous_tag, tag_of, most_records}
 use Rattle.state_file.specs.Files.{StandsFor, IsFileOf, IsKept}
-use Rattle.state_file.specs.FileLaws.{fields_length, closed_gate, file_stands}
+use Rattle.state_file.specs.FileLaws.{fields_length, file_stands}
 use Rattle.state_file.specs.Store.{begins_with_key, is_key}
 use Rattle.state_file.specs.Disk.{State}
 use Rattle.state_file.specs.Gates.{IsClosedAfter, IsAtRest}
