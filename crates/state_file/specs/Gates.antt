@@ -21,8 +21,8 @@ pub record IsAtRest (front : List ℕ) (state : State) : Type 0 where
 abbrev pub slot_and_gate : ℕ → Range
 slot_and_gate k = record { from = 256 * k; to = 256 * k + 257 }
 
--- What adding slot k leaves: all of it is synced, every byte but those of the slot and of the gate after it is as it was,
--- that gate is closed, and the content is as long as it was or as it has to be.
+-- What adding slot k leaves: all of it is synced, every byte but those of the slot and of the gate after it is as it
+-- was, that gate is closed, and the content is as long as it was or as it has to be.
 pub record AddsSlot (k : ℕ) (content : List ℕ) (new : State) : Type 0 where
   pub synced : IsSynced new
   pub changes : ChangesOnly (slot_and_gate k ∷ []) content new.content

@@ -57,7 +57,8 @@ pub trait Disk {
     /// Reads as many bytes as `into` has, from the place `at` on. A read past the end is refused, and no other is
     /// refused as one. After an Err nothing is said of `into`.
     fn read_at(&mut self, at: u64, into: &mut [u8]) -> Result<(), DiskFault>
-        ensures within { IsTrue (honest self.old) → OnOk result (at + length into.old ≤ length (state self.old).content) }
+        ensures within { IsTrue (honest self.old) →
+            OnOk result (at + length into.old ≤ length (state self.old).content) }
         ensures bytes { IsTrue (honest self.old) →
             OnOk result (into.new ≡ slice_range (state self.old).content at (at + length into.old)) }
         ensures past_end { IsTrue (honest self.old) → result ≡ Err DiskFault.PastEnd →

@@ -59,7 +59,8 @@ impl<D: Disk + Drop> FileStore<D> {
     /// refusal hands the disk back.
     pub fn format(disk: D) -> Result<Self, Refused<D, FormatFault>>
         ensures records { IfOk result (λ store. (records_of store ≡ []) × (has_stopped store ≡ false)) }
-        ensures answer { IsTrue (D.honest disk) → Formats (D.state disk).content (D.state (disk_after result)) (told_by result) }
+        ensures answer { IsTrue (D.honest disk) →
+            Formats (D.state disk).content (D.state (disk_after result)) (told_by result) }
         ensures len { IsTrue (D.honest disk) →
             OnOk result (length (D.state (disk_after result)).content ≡ max (length (D.state disk).content) 1) }
         ensures any_moment { IsTrue (D.honest disk) →
@@ -89,7 +90,8 @@ impl<D: Disk + Drop> FileStore<D> {
     /// the order of their numbers, and each hands the disk back, with its content as it was where the device
     /// didn't fail.
     pub fn open(disk: D) -> Result<Self, Refused<D, OpenFault>>
-        ensures records { IsTrue (D.honest disk) → IfOk result (λ store. SpellsRecords (D.state disk).content (records_of store)) }
+        ensures records { IsTrue (D.honest disk) →
+            IfOk result (λ store. SpellsRecords (D.state disk).content (records_of store)) }
         ensures running { IfOk result (λ store. has_stopped store ≡ false) }
         ensures fault { IsTrue (D.honest disk) → IfErr result (λ refused. Tells (D.state disk).content refused.fault) }
         ensures shown { IsTrue (D.honest disk) →
@@ -97,7 +99,8 @@ impl<D: Disk + Drop> FileStore<D> {
             (λ store. (c : List ℕ) → MayLeave (D.state (disk_of store)) c → SpellsRecords c (records_of store)) }
         ensures any_moment { IsTrue (D.honest disk) →
             LeavesOnly D.moment D.left_since disk (disk_after result) (MayLeave (D.state disk)) }
-        ensures settled { IsTrue (D.honest disk) → Settles (D.state disk).content (D.state (disk_after result)) (told_by result) }
+        ensures settled { IsTrue (D.honest disk) →
+            Settles (D.state disk).content (D.state (disk_after result)) (told_by result) }
         ensures failures { CountsOpening (D.failures disk) (D.failures (disk_after result)) (told_by result) }
         ensures past_ends { IsTrue (D.honest disk) → D.past_ends (disk_after result) ≡ D.past_ends disk }
         ensures honest { D.honest (disk_after result) ≡ D.honest disk }
@@ -131,8 +134,10 @@ impl<D: Disk + Drop> FileStore<D> {
             (λ c. StandsFor (records_of self.old) c ⊎ StandsFor (records_of self.old ++ new.now ∷ []) c) }
         ensures adds { IsTrue (D.honest (disk_of self.old)) →
             OnOk result
-            (AddsSlot (length (records_of self.old)) (D.state (disk_of self.old)).content (D.state (disk_of self.new))) }
-        ensures past_ends { IsTrue (D.honest (disk_of self.old)) → D.past_ends (disk_of self.new) ≡ D.past_ends (disk_of self.old) }
+            (AddsSlot (length (records_of self.old)) (D.state (disk_of self.old)).content
+            (D.state (disk_of self.new))) }
+        ensures past_ends { IsTrue (D.honest (disk_of self.old)) →
+            D.past_ends (disk_of self.new) ≡ D.past_ends (disk_of self.old) }
         ensures honest { D.honest (disk_of self.new) ≡ D.honest (disk_of self.old) }
         ensures stays { has_stopped self.old ≡ true → self.new ≡ self.old }
     {
@@ -174,7 +179,8 @@ impl<D: Disk + Drop> FileStore<D> {
             OnlyReads D.state D.moment D.left_since (disk_of self.old) (disk_of self.new) }
         ensures any_moment { IsTrue (D.honest (disk_of self.old)) → has_stopped self.old ≡ false →
             LeavesOnly D.moment D.left_since (disk_of self.old) (disk_of self.new) (StandsFor (records_of self.old)) }
-        ensures past_ends { IsTrue (D.honest (disk_of self.old)) → D.past_ends (disk_of self.new) ≡ D.past_ends (disk_of self.old) }
+        ensures past_ends { IsTrue (D.honest (disk_of self.old)) →
+            D.past_ends (disk_of self.new) ≡ D.past_ends (disk_of self.old) }
         ensures honest { D.honest (disk_of self.new) ≡ D.honest (disk_of self.old) }
         ensures stays { has_stopped self.old ≡ true → self.new ≡ self.old }
     {
@@ -216,7 +222,8 @@ impl<D: Disk + Drop> Store for FileStore<D> {
 
     /// Record k, or None behind the last. It takes no memory and writes nothing.
     fn load(&mut self, k: u32) -> Result<Option<Record>, StoreFault>
-        ensures answer { Loads (D.honest (disk_of self.old)) (records_of self.old) (has_stopped self.old) k (has_stopped self.new)
+        ensures answer { Loads (D.honest (disk_of self.old)) (records_of self.old) (has_stopped self.old) k
+            (has_stopped self.new)
             (D.failures (disk_of self.old)) (D.failures (disk_of self.new)) result }
         ensures memory { result ≢ Err StoreFault.OutOfMemory }
         ensures same { records_of self.new ≡ records_of self.old }
@@ -226,7 +233,8 @@ impl<D: Disk + Drop> Store for FileStore<D> {
             LeavesOnly (λ store. D.moment (disk_of store)) (λ store. LeftLists (D.left_since (disk_of store)))
             self.old self.new (λ left. left ≡ records_of self.old) }
         ensures stays { has_stopped self.old ≡ true → self.new ≡ self.old }
-        ensures past_ends { IsTrue (D.honest (disk_of self.old)) → D.past_ends (disk_of self.new) ≡ D.past_ends (disk_of self.old) }
+        ensures past_ends { IsTrue (D.honest (disk_of self.old)) →
+            D.past_ends (disk_of self.new) ≡ D.past_ends (disk_of self.old) }
         ensures honest { D.honest (disk_of self.new) ≡ D.honest (disk_of self.old) }
     {
         if self.stopped {
@@ -262,8 +270,10 @@ impl<D: Disk + Drop> Store for FileStore<D> {
         ensures full { result ≡ Err StoreFault.Full → self.new ≡ self.old }
         ensures adds { IsTrue (D.honest (disk_of self.old)) →
             OnOk result
-            (AddsSlot (length (records_of self.old)) (D.state (disk_of self.old)).content (D.state (disk_of self.new))) }
-        ensures past_ends { IsTrue (D.honest (disk_of self.old)) → D.past_ends (disk_of self.new) ≡ D.past_ends (disk_of self.old) }
+            (AddsSlot (length (records_of self.old)) (D.state (disk_of self.old)).content
+            (D.state (disk_of self.new))) }
+        ensures past_ends { IsTrue (D.honest (disk_of self.old)) →
+            D.past_ends (disk_of self.new) ≡ D.past_ends (disk_of self.old) }
         ensures honest { D.honest (disk_of self.new) ≡ D.honest (disk_of self.old) }
     {
         self.add(new)

@@ -32,7 +32,9 @@ pub(crate) fn read_within<D: Disk>(disk: &mut D, at: u64, into: &mut [u8]) -> Re
 pub(crate) fn write_synced<D: Disk>(disk: &mut D, at: u64, bytes: &[u8]) -> Result<(), DiskFault>
     ensures written { IsTrue (D.honest disk.old) →
         OnOk result
-        (IsSynced (D.state disk.new) × ChangesOnly (range_of at bytes.now ∷ []) (D.state disk.old).content (D.state disk.new).content × (slice_range (D.state disk.new).content at (at + length bytes.now) ≡ bytes.now)) }
+        (IsSynced (D.state disk.new) ×
+        ChangesOnly (range_of at bytes.now ∷ []) (D.state disk.old).content (D.state disk.new).content ×
+        (slice_range (D.state disk.new).content at (at + length bytes.now) ≡ bytes.now)) }
     ensures any_moment { IsTrue (D.honest disk.old) → IsSynced (D.state disk.old) →
         LeavesOnly D.moment D.left_since disk.old disk.new
         (ChangesOnly (range_of at bytes.now ∷ []) (D.state disk.old).content) }
@@ -49,7 +51,8 @@ pub(crate) fn write_synced<D: Disk>(disk: &mut D, at: u64, bytes: &[u8]) -> Resu
 pub(crate) fn add_slot<D: Disk>(disk: &mut D, slot: u32, body: &[u8; 255]) -> Result<(), DiskFault>
     ensures added { (front : List ℕ) → IsTrue (D.honest disk.old) → IsAtRest front (D.state disk.old) →
         length front ≡ 256 * slot → OnOk result (IsAtRest (front ++ open_value ∷ body.now) (D.state disk.new)) }
-    ensures adds { IsTrue (D.honest disk.old) → OnOk result (AddsSlot slot (D.state disk.old).content (D.state disk.new)) }
+    ensures adds { IsTrue (D.honest disk.old) →
+        OnOk result (AddsSlot slot (D.state disk.old).content (D.state disk.new)) }
     ensures any_moment { (front : List ℕ) → IsTrue (D.honest disk.old) → IsAtRest front (D.state disk.old) →
         length front ≡ 256 * slot →
         LeavesOnly D.moment D.left_since disk.old disk.new
@@ -78,7 +81,8 @@ pub(crate) fn settle<D: Disk>(disk: &mut D) -> Result<u64, DiskFault>
     ensures settled { IsTrue (D.honest disk.old) →
         IfOk result
         (λ len. (D.state disk.new ≡ settled (D.state disk.old).content) × (len ≡ length (D.state disk.old).content)) }
-    ensures any_moment { IsTrue (D.honest disk.old) → LeavesOnly D.moment D.left_since disk.old disk.new (MayLeave (D.state disk.old)) }
+    ensures any_moment { IsTrue (D.honest disk.old) →
+        LeavesOnly D.moment D.left_since disk.old disk.new (MayLeave (D.state disk.old)) }
     ensures failures { CountsFailure (D.failures disk.old) (D.failures disk.new) result }
     ensures past_ends { D.past_ends disk.new ≡ D.past_ends disk.old }
     ensures honest { D.honest disk.new ≡ D.honest disk.old }

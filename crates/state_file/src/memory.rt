@@ -117,14 +117,16 @@ impl Store for MemoryStore {
 
     /// Record k, or None behind the last. It fails only where the store has stopped.
     fn load(&mut self, k: u32) -> Result<Option<Record>, StoreFault>
-        ensures answer { Loads true (records_of self.old) (has_stopped self.old) k (has_stopped self.new) (failures_of self.old)
+        ensures answer { Loads true (records_of self.old) (has_stopped self.old) k (has_stopped self.new)
+            (failures_of self.old)
             (failures_of self.new) result }
         ensures same { records_of self.new ≡ records_of self.old }
         ensures any_moment { IsTrue true → has_stopped self.old ≡ false →
             LeavesOnly (λ store. length (records_of store)) (λ store. HadBeen (records_of store)) self.old self.new
             (λ left. left ≡ records_of self.old) }
         ensures stays { self.new ≡ self.old }
-        ensures value { result ≡ (if has_stopped self.old then Err StoreFault.Stopped else Ok (slice_get (records_of self.old) k)) }
+        ensures value { result ≡
+            (if has_stopped self.old then Err StoreFault.Stopped else Ok (slice_get (records_of self.old) k)) }
     {
         if self.stopped {
             Err(StoreFault::Stopped)
@@ -137,14 +139,16 @@ impl Store for MemoryStore {
     /// that is due comes with the next append. Memory is asked for only where the records have no room
     /// left, and not for a cut that leaves the old records.
     fn append(&mut self, new: &Record) -> Result<(), StoreFault>
-        ensures answer { Appends (limit_of self.old) (records_of self.old) (has_stopped self.old) new.now (records_of self.new)
+        ensures answer { Appends (limit_of self.old) (records_of self.old) (has_stopped self.old) new.now
+            (records_of self.new)
             (has_stopped self.new) (failures_of self.old) (failures_of self.new) result }
         ensures any_moment { IsTrue true → has_stopped self.old ≡ false →
             LeavesOnly (λ store. length (records_of store)) (λ store. HadBeen (records_of store)) self.old self.new
             (λ left. (left ≡ records_of self.old) ⊎ (left ≡ records_of self.old ++ new.now ∷ [])) }
         ensures stays { has_stopped self.old ≡ true → self.new ≡ self.old }
         ensures limit { limit_of self.new ≡ limit_of self.old }
-        ensures cut { Cuts (cut_of self.old) (records_of self.old) new.now (records_of self.new) (cut_of self.new) result }
+        ensures cut { Cuts (cut_of self.old) (records_of self.old) new.now (records_of self.new) (cut_of self.new)
+            result }
         ensures room { HasRoom self.old → result ≢ Err StoreFault.OutOfMemory }
     {
         if self.stopped {

@@ -185,10 +185,13 @@ impl Disk for MemoryDisk {
 
     fn read_at(&mut self, at: u64, into: &mut [u8]) -> Result<(), DiskFault>
         ensures value { result ≡ answer_of (next_fate self.old)
-            (if nat_le (at + length into.old) (length (state_in self.old).content) then Ok tt else Err DiskFault.PastEnd) }
+            (if nat_le (at + length into.old) (length (state_in self.old).content) then Ok tt else Err
+            DiskFault.PastEnd) }
         ensures within { IsTrue true → OnOk result (at + length into.old ≤ length (state_in self.old).content) }
-        ensures bytes { IsTrue true → OnOk result (into.new ≡ slice_range (state_in self.old).content at (at + length into.old)) }
-        ensures past_end { IsTrue true → result ≡ Err DiskFault.PastEnd → length (state_in self.old).content < at + length into.old }
+        ensures bytes { IsTrue true →
+            OnOk result (into.new ≡ slice_range (state_in self.old).content at (at + length into.old)) }
+        ensures past_end { IsTrue true → result ≡ Err DiskFault.PastEnd →
+            length (state_in self.old).content < at + length into.old }
         ensures past_ends { CountsPastEnd (past_ends_in self.old) (past_ends_in self.new) result }
         ensures stays { IsTrue true → state_in self.new ≡ state_in self.old }
         ensures time { IsTrue true →
@@ -382,11 +385,14 @@ fn overwrite(content: &mut Vec<u8>, at: usize, bytes: &[u8]) -> Result<(), Alloc
     ensures put { OnOk result
         ((i : ℕ) → i < length bytes.now → slice_index content.new.items (at + i) ≡ slice_index bytes.now i) }
     ensures before { OnOk result
-        ((i : ℕ) → i < length content.old.items → i < at → slice_index content.new.items i ≡ slice_index content.old.items i) }
+        ((i : ℕ) → i < length content.old.items → i < at →
+        slice_index content.new.items i ≡ slice_index content.old.items i) }
     ensures behind { OnOk result
-        ((i : ℕ) → i < length content.old.items → at + length bytes.now ≤ i → slice_index content.new.items i ≡ slice_index content.old.items i) }
+        ((i : ℕ) → i < length content.old.items → at + length bytes.now ≤ i →
+        slice_index content.new.items i ≡ slice_index content.old.items i) }
     ensures gap { OnOk result
-        ((i : ℕ) → length content.old.items ≤ i → i < at → i < length content.new.items → slice_index content.new.items i ≡ 0) }
+        ((i : ℕ) → length content.old.items ≤ i → i < at → i < length content.new.items →
+        slice_index content.new.items i ≡ 0) }
     ensures content_err { OnErr result (content.new.items ≡ content.old.items) }
 {
     let end = at.checked_add(bytes.len()).ok_or(AllocError)?;

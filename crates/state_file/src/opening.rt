@@ -90,7 +90,8 @@ fn read_gate<D: Disk>(disk: &mut D, k: u32) -> Result<bool, DiskFault>
 // The bytes 1 to 223 of slot k.
 fn read_fields<D: Disk>(disk: &mut D, k: u32) -> Result<[u8; 223], DiskFault>
     requires { IsTrue (D.honest disk.old) → 256 * k + 224 ≤ length (D.state disk.old).content }
-    ensures fields { IsTrue (D.honest disk.old) → IfOk result (λ fields. fields ≡ fields_at (D.state disk.old).content k) }
+    ensures fields { IsTrue (D.honest disk.old) →
+        IfOk result (λ fields. fields ≡ fields_at (D.state disk.old).content k) }
     ensures reads { IsTrue (D.honest disk.old) → OnlyReads D.state D.moment D.left_since disk.old disk.new }
     ensures failures { CountsFailure (D.failures disk.old) (D.failures disk.new) result }
     ensures past_ends { IsTrue (D.honest disk.old) → D.past_ends disk.new ≡ D.past_ends disk.old }
@@ -118,7 +119,8 @@ pub(crate) fn read_tag<D: Disk>(disk: &mut D, k: u32) -> Result<[u8; 32], DiskFa
 // The fields of slot k and its tag.
 fn read_body<D: Disk>(disk: &mut D, k: u32) -> Result<Body, DiskFault>
     requires { IsTrue (D.honest disk.old) → 256 * k + 256 ≤ length (D.state disk.old).content }
-    ensures fields { IsTrue (D.honest disk.old) → IfOk result (λ body. body.fields ≡ fields_at (D.state disk.old).content k) }
+    ensures fields { IsTrue (D.honest disk.old) →
+        IfOk result (λ body. body.fields ≡ fields_at (D.state disk.old).content k) }
     ensures tag { IsTrue (D.honest disk.old) → IfOk result (λ body. body.tag ≡ tag_at (D.state disk.old).content k) }
     ensures reads { IsTrue (D.honest disk.old) → OnlyReads D.state D.moment D.left_since disk.old disk.new }
     ensures failures { CountsFailure (D.failures disk.old) (D.failures disk.new) result }
@@ -169,7 +171,8 @@ fn read_slot<D: Disk>(
     requires len { IsTrue (D.honest disk.old) → len ≡ length (D.state disk.old).content }
     requires previous { IsTrue (D.honest disk.old) → previous.now ≡ previous_tag (D.state disk.old).content k }
     ensures few { OnOk result (k < 2 ^ 31) }
-    ensures slot { IsTrue (D.honest disk.old) → IfOk result (λ slot. HasSlot (D.state disk.old).content k slot.entry slot.tag) }
+    ensures slot { IsTrue (D.honest disk.old) →
+        IfOk result (λ slot. HasSlot (D.state disk.old).content k slot.entry slot.tag) }
     ensures fault { IsTrue (D.honest disk.old) → IfErr result (TellsSlot (D.state disk.old).content k) }
     ensures reads { IsTrue (D.honest disk.old) → OnlyReads D.state D.moment D.left_since disk.old disk.new }
     ensures failures { CountsOpening (D.failures disk.old) (D.failures disk.new) result }
@@ -192,7 +195,8 @@ fn read_slot<D: Disk>(
 // The record of a slot behind one of that tag, if it spells one and its tag is that of it.
 fn entry_of(previous: &[u8; 32], body: &Body) -> Option<Record>
     ensures { MatchOption result
-        ((entry : Entry) → Spells slot_record entry body.now.fields → body.now.tag ≡ tag_of previous.now body.now.fields → ⊥)
+        ((entry : Entry) → Spells slot_record entry body.now.fields →
+        body.now.tag ≡ tag_of previous.now body.now.fields → ⊥)
         (λ entry. Spells slot_record entry body.now.fields × (body.now.tag ≡ tag_of previous.now body.now.fields)) }
 {
     if body.tag == tag(previous, &body.fields) {
@@ -259,7 +263,8 @@ fn read_slots<D: Disk>(disk: &mut D, len: u64) -> Result<Found, OpenFault>
     requires key { IsTrue (D.honest disk.old) → StartsWithKey (D.state disk.old).content }
     ensures counted { IfOk result (λ found. found.count ≡ length found.records) }
     ensures few { IfOk result (λ found. found.count ≤ 2 ^ 31) }
-    ensures found { IsTrue (D.honest disk.old) → IfOk result (λ found. IsFound (D.state disk.old).content found.records found.tag) }
+    ensures found { IsTrue (D.honest disk.old) →
+        IfOk result (λ found. IsFound (D.state disk.old).content found.records found.tag) }
     ensures fault { IsTrue (D.honest disk.old) → IfErr result (Tells (D.state disk.old).content) }
     ensures reads { IsTrue (D.honest disk.old) → OnlyReads D.state D.moment D.left_since disk.old disk.new }
     ensures failures { CountsOpening (D.failures disk.old) (D.failures disk.new) result }
@@ -279,11 +284,14 @@ fn read_slots<D: Disk>(disk: &mut D, len: u64) -> Result<Found, OpenFault>
 pub(crate) fn find_records<D: Disk>(disk: &mut D) -> Result<Found, OpenFault>
     ensures counted { IfOk result (λ found. found.count ≡ length found.records) }
     ensures few { IfOk result (λ found. found.count ≤ 2 ^ 31) }
-    ensures found { IsTrue (D.honest disk.old) → IfOk result (λ found. IsFound (D.state disk.old).content found.records found.tag) }
+    ensures found { IsTrue (D.honest disk.old) →
+        IfOk result (λ found. IsFound (D.state disk.old).content found.records found.tag) }
     ensures fault { IsTrue (D.honest disk.old) → IfErr result (Tells (D.state disk.old).content) }
     ensures synced { IsTrue (D.honest disk.old) → OnOk result (D.state disk.new ≡ settled (D.state disk.old).content) }
-    ensures kept { IsTrue (D.honest disk.old) → IfErr result (KeepsContent (D.state disk.old).content (D.state disk.new)) }
-    ensures any_moment { IsTrue (D.honest disk.old) → LeavesOnly D.moment D.left_since disk.old disk.new (MayLeave (D.state disk.old)) }
+    ensures kept { IsTrue (D.honest disk.old) →
+        IfErr result (KeepsContent (D.state disk.old).content (D.state disk.new)) }
+    ensures any_moment { IsTrue (D.honest disk.old) →
+        LeavesOnly D.moment D.left_since disk.old disk.new (MayLeave (D.state disk.old)) }
     ensures failures { CountsOpening (D.failures disk.old) (D.failures disk.new) result }
     ensures past_ends { IsTrue (D.honest disk.old) → D.past_ends disk.new ≡ D.past_ends disk.old }
     ensures honest { D.honest disk.new ≡ D.honest disk.old }

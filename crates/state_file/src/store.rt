@@ -55,7 +55,8 @@ pub trait Store {
 
     /// Record k, or None behind the last.
     fn load(&mut self, k: u32) -> Result<Option<Record>, StoreFault>
-        ensures answer { Loads (honest self.old) (list self.old) (stopped self.old) k (stopped self.new) (failures self.old)
+        ensures answer { Loads (honest self.old) (list self.old) (stopped self.old) k (stopped self.new)
+            (failures self.old)
             (failures self.new) result }
         ensures same { list self.new ≡ list self.old }
         ensures any_moment { IsTrue (honest self.old) → stopped self.old ≡ false →
@@ -71,7 +72,8 @@ pub trait Store {
             LeavesOnly moment left_since self.old self.new
             (λ left. (left ≡ list self.old) ⊎ (left ≡ list self.old ++ new.now ∷ [])) }
         ensures stays { stopped self.old ≡ true → self.new ≡ self.old }
-        ensures answer { Appends (most self.old) (list self.old) (stopped self.old) new.now (list self.new) (stopped self.new)
+        ensures answer { Appends (most self.old) (list self.old) (stopped self.old) new.now (list self.new)
+            (stopped self.new)
             (failures self.old) (failures self.new) result }
         ensures honest { honest self.new ≡ honest self.old }
         ensures most { most self.new ≡ most self.old };
