@@ -4,13 +4,13 @@ use Rattle.std.specs.Prelude.{◌==◌, slice_get}
 use Rattle.std.specs.Cmp.Lexicographic.{bytes_decides, pointwise}
 use Rattle.std.proofs.lemmas.Bool.{cases_Bool, cases_eq, cases_lt, cases_order}
 use Rattle.std.proofs.lemmas.List.{same_lists}
-use Rattle.std.proofs.lemmas.Option.{slice_get_cases, slice_get_within, slice_get-get_or}
+use Rattle.std.proofs.lemmas.Option.{slice_get_cases, slice_get_within, slice_get-get_or, get_or_from_slice_get}
 use Rattle.typecodes.proofs.Readers.{either}
 use Rattle.typecodes.proofs.Spelling.{no_value, one_value}
 use Rattle.state_file.specs.declared.record.Record.{Record}
 use Rattle.state_file.specs.declared.record.Record.TheVariants.{Key as KeyRecord}
 use Rattle.state_file.specs.declared.record.Version.{Version}
-use Rattle.state_file.specs.Contents.{Begins, HasNoKey, Holds, IsClosed, IsDamagedAt, IsOpen, IsWhole, MayHaveKey, Opening, Opens, SpellsRecords, begins_key, damaged, fields_at, most_records, no_key, no_key_file, previous_tag, spelled, tag_at, tag_of, unknown_version, version_of}
+use Rattle.state_file.specs.Contents.{Begins, HasNoKey, Holds, IsClosed, IsDamagedAt, IsOpen, IsWhole, MayHaveKey, Opening, Opens, SpellsRecords, begins_key, damaged, fields_at, most_records, no_key, no_key_file, open_value, previous_tag, spelled, tag_at, tag_of, unknown_version, version_of}
 use Rattle.state_file.specs.Files.{StandsFor}
 use Rattle.state_file.specs.Legal.{CanSign}
 use Rattle.state_file.specs.Slots.{slot_record}
@@ -20,24 +20,24 @@ use Rattle.state_file.proofs.Shown.{key-begins, key-first}
 
 -- a gate is open or closed, not both
 pub not_both : (content : List ℕ) (k : ℕ) → IsOpen content k → IsClosed content k → ⊥
-not_both content k opened (value, is, other) = let same : value ≡ 0xA5 = cc in other same
+not_both content k opened shut = shut.1 (get_or_from_slice_get content (256 * k) open_value 0 opened)
 
 -- and one of them where the content reaches so far
 pub open_or_closed : (content : List ℕ) (k : ℕ) → 256 * k < length content → IsOpen content k ⊎ IsClosed content k
 open_or_closed content k reaches =
     elim (slice_get_cases content (256 * k)).1 [
-      | inl (value, _, is, _) ↦ elim (cases_eq value 0xA5) [
+      | inl (value, _, is, _) ↦ elim (cases_eq value open_value) [
         | inl same ↦ inl (is ∙ ap Some same)
-        | inr other ↦ inr (value, is, other)
+        | inr other ↦ inr (reaches, λ is_open. other (sym (get_or_from_slice_get content (256 * k) value 0 is) ∙ is_open))
       ]
       | inr (past, _) ↦ absurd (omega (arith, past))
     ]
 
 pub open-reaches : (content : List ℕ) (k : ℕ) → IsOpen content k → 256 * k < length content
-open-reaches content k opened = slice_get_within content (256 * k) 0xA5 opened
+open-reaches content k opened = slice_get_within content (256 * k) open_value opened
 
 pub closed-reaches : (content : List ℕ) (k : ℕ) → IsClosed content k → 256 * k < length content
-closed-reaches content k (value, is, _) = slice_get_within content (256 * k) value is
+closed-reaches content k shut = shut.0
 
 -- a slot holds one record
 one_held : (content : List ℕ) (k : ℕ) (entry other : Record) → Holds content k entry → Holds content k other → entry ≡ other

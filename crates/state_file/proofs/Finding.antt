@@ -12,7 +12,7 @@ use Rattle.state_file.specs.Opened.{HasEntry, HasSlot, IsFound, OnlyReads, Start
 use Rattle.state_file.specs.Slots.{slot_record}
 use Rattle.state_file.specs.Store.{begins_with_key}
 use Rattle.state_file.specs.declared.opening.OpenFault.{OpenFault}
-use Rattle.state_file.specs.declared.opening.OpenFault.TheVariants.{NoKey, NotKeyFile, UnknownVersion, Damaged, DeviceFailed}
+use Rattle.state_file.specs.declared.opening.OpenFault.TheVariants.{NoKey, NotKeyFile, Version as VersionFault, Damaged, DeviceFailed}
 use Rattle.state_file.specs.declared.record.Record.{Record}
 use Rattle.state_file.specs.declared.record.Record.TheVariants.{Key as KeyRecord}
 use Rattle.state_file.proofs.Contents.{begins-all, begins-more, begins-none, begins-whole}
@@ -130,7 +130,7 @@ pub found_harm : (content : List ℕ) (count : ℕ) (records : List Record) (tag
     → Tells content fault
 found_harm content count records tag NoKey found counted key opened told = absurd told
 found_harm content count records tag NotKeyFile found counted key opened told = absurd told
-found_harm content count records tag UnknownVersion found counted key opened told = absurd told
+found_harm content count records tag VersionFault found counted key opened told = absurd told
 found_harm content count records tag (Damaged k) found counted key opened told = subst (λ n. IsDamagedAt content n) (sym told.0) (record {
   may = key.may;
   key = key.key;
@@ -150,13 +150,12 @@ the_first (entry ∷ rest) key is = (rest, let same : entry ≡ key = cc in ap (
 -- records that are spelled are a file's
 pub spelled_file : (records : List Record) (content : List ℕ) → SpellsRecords content records → IsFileOf records content
 spelled_file records content is =
-    let within : 256 * length records < length content = slice_get_within content (256 * length records) is.closed.0 is.closed.1 in
+    let within : 256 * length records < length content = is.closed.0 in
     record {
       few = is.few;
       first = let (rest, same) = the_first records (KeyRecord is.first.0) is.first.1 in ap begins_with_key same;
       opened = λ k below. get_or_from_slice_get content (256 * k) 165 0 (is.opened k below);
-      within = within;
-      closed = λ is_open. is.closed.2 (sym (get_or_from_slice_get content (256 * length records) is.closed.0 0 is.closed.1) ∙ is_open);
+      closed = is.closed;
       spelled = λ k entry there.
           let below : k < length records = slice_get_within records k entry there in
           read_record entry (fields_at content k) (fields_length content k (omega (arith, within, below))) (is.held k entry there).spelled;
@@ -188,6 +187,10 @@ found_left records tag content c after same found left =
 
 pub fault_told : {A : Type 0} (P : OpenFault → Type 0) (result : Result A OpenFault) (fault : OpenFault) → result ≡ Err fault → P fault → IfErr result P
 fault_told P result fault is told = subst (λ (r : Result _ OpenFault). IfErr r P) (sym is) told
+
+-- the next gate lies in the content
+pub gate_within : (first now : State) (count : ℕ) (records : List Record) (tag : List ℕ) → now ≡ first → count ≡ length records → BeginsFound first.content count records tag → 256 * count < length now.content
+gate_within first now count records tag same counted found = subst (λ (s : State). 256 * count < length s.content) (sym same) (omega (arith, found.begins.ends, counted))
 
 pub open_gate : (first now : State) (k : ℕ) (opened : Bool) → now ≡ first → 256 * k < length now.content → opened ≡ (slice_index now.content (256 * k) == 165) → opened ≡ true → IsOpen first.content k
 open_gate first now k opened same within gate is = subst (λ (s : State). IsOpen s.content k) same (gate_open now.content k within (sym gate ∙ is))

@@ -7,12 +7,12 @@ use Rattle.typecodes.proofs.Read.{spelled-read}
 use Rattle.typecodes.proofs.Steps.{ends-spelled}
 use Rattle.typecodes.specs.Layout.{Spells}
 use Rattle.typecodes.specs.Reading.{read}
-use Rattle.state_file.specs.Contents.{HasNoKey, Holds, fields_at, tag_at, previous_tag, tag_of, most_records}
+use Rattle.state_file.specs.Contents.{Holds, fields_at, tag_at, previous_tag, tag_of, most_records}
 use Rattle.state_file.specs.Files.{StandsFor, IsFileOf, IsKept}
-use Rattle.state_file.specs.FileLaws.{fields_length, closed_gate, file_stands}
+use Rattle.state_file.specs.FileLaws.{fields_length, file_stands}
 use Rattle.state_file.specs.Store.{begins_with_key, is_key}
 use Rattle.state_file.specs.Disk.{State}
-use Rattle.state_file.specs.Gates.{IsClosedAfter, IsAtRest, LacksKey}
+use Rattle.state_file.specs.Gates.{IsClosedAfter, IsAtRest}
 use Rattle.state_file.specs.Slots.{slot_record}
 use Rattle.state_file.specs.declared.record.Record.{Record}
 
@@ -28,35 +28,27 @@ same_previous : (m : ℕ) (c content : List ℕ) (k : ℕ) → take m c ≡ take
 same_previous m c content zero same fits = refl
 same_previous m c content (suc k) same fits = same_part m (256 * k + 224) 32 c content same (omega arith)
 
-pub no_key : (content : List ℕ) → LacksKey content → HasNoKey content
-no_key content lacks = elim (cases_lt (length content) 257) [
-  | inl short ↦ inl short
-  | inr long ↦ ⊎_elim (λ (short : length content < 257). inl short) (λ shut. inr (closed_gate content 0 (omega arith) shut)) lacks
-]
-
 -- a file is closed after its slots
 pub file_ends : (records : List Record) (content : List ℕ) → IsFileOf records content → IsClosedAfter (take (256 * length records) content) content
 file_ends records content file =
     let n = 256 * length records in
-    let len : length (take n content) ≡ n = length-take-le n content (omega (arith, file.within)) in
+    let len : length (take n content) ≡ n = length-take-le n content (omega (arith, file.closed.0)) in
     record {
       begins = ap (λ m. take m content) len;
-      within = omega (arith, len, file.within);
-      closed = λ is_open. file.closed (ap (λ m. slice_index content m) (sym len) ∙ is_open);
+      closed = (omega (arith, len, file.closed.0), λ is_open. file.closed.1 (ap (λ m. slice_index content m) (sym len) ∙ is_open));
     }
 
 -- what is closed after the same slots is a file of the same records
 pub file_stays : (records : List Record) (content c : List ℕ) → IsFileOf records content → IsClosedAfter (take (256 * length records) content) c → IsFileOf records c
 file_stays records content c file ends =
     let n = 256 * length records in
-    let len : length (take n content) ≡ n = length-take-le n content (omega (arith, file.within)) in
+    let len : length (take n content) ≡ n = length-take-le n content (omega (arith, file.closed.0)) in
     let same : take n c ≡ take n content = ap (λ m. take m c) (sym len) ∙ ends.begins in
     record {
       few = file.few;
       first = file.first;
       opened = λ k below. same_byte n (256 * k) c content same (omega arith) ∙ file.opened k below;
-      within = omega (arith, len, ends.within);
-      closed = λ is_open. ends.closed (ap (λ m. slice_index c m) len ∙ is_open);
+      closed = (omega (arith, len, ends.closed.0), λ is_open. ends.closed.1 (ap (λ m. slice_index c m) len ∙ is_open));
       spelled = λ k entry is.
           let below : k < length records = slice_get_within records k entry is in
           ap (λ (l : List ℕ). read slot_record l 0) (same_part n (256 * k + 1) 223 c content same (omega arith)) ∙ file.spelled k entry is;
@@ -83,7 +75,7 @@ module _ (records : List Record) (content c : List ℕ) (entry : Record) (fields
 
   front_len : length front ≡ n
   unfolding front n
-  front_len = length-take-le (256 * length records) content (omega (arith, file.within))
+  front_len = length-take-le (256 * length records) content (omega (arith, file.closed.0))
 
   whole_len : length whole ≡ n + 256
   unfolding whole
@@ -133,11 +125,11 @@ module _ (records : List Record) (content c : List ℕ) (entry : Record) (fields
 
   new_within : n + 256 < length c
   unfolding whole front
-  new_within = omega (arith, ends.within, whole_len)
+  new_within = omega (arith, ends.closed.0, whole_len)
 
   new_closed : slice_index c (n + 256) ≡ 165 → ⊥
   unfolding whole front
-  new_closed = λ is_open. ends.closed (ap (λ m. slice_index c m) whole_len ∙ is_open)
+  new_closed = λ is_open. ends.closed.1 (ap (λ m. slice_index c m) whole_len ∙ is_open)
 
   count : length (records ++ entry ∷ []) ≡ length records + 1
   count = length_push records entry
@@ -179,8 +171,7 @@ module _ (records : List Record) (content c : List ℕ) (entry : Record) (fields
       | inl old ↦ same_byte n (256 * k) c content same_front (omega (arith, n-is)) ∙ file.opened k old
       | inr new ↦ ap (λ (m : ℕ). slice_index c (256 * m)) new ∙ ap (λ (m : ℕ). slice_index c m) (sym n-is) ∙ new_gate
     ];
-    within = omega (arith, new_within, count, n-is);
-    closed = λ is_open. let same : 256 * length (records ++ entry ∷ []) ≡ n + 256 = omega (arith, count, n-is) in new_closed (ap (λ m. slice_index c m) (sym same) ∙ is_open);
+    closed = (omega (arith, new_within, count, n-is), λ is_open. let same : 256 * length (records ++ entry ∷ []) ≡ n + 256 = omega (arith, count, n-is) in new_closed (ap (λ m. slice_index c m) (sym same) ∙ is_open));
     spelled = λ k one is. elim (old_or_new k (slice_get_within (records ++ entry ∷ []) k one is)) [
       | inl old ↦ ap (λ (l : List ℕ). read slot_record l 0) (old_fields k old) ∙ file.spelled k one (old_entry k one old is)
       | inr new ↦
@@ -214,7 +205,7 @@ pub kept_rests : (records : List Record) (tag : List ℕ) (state : State) → Is
 kept_rests records tag state kept = record { synced = kept.synced; ends = file_ends records state.content kept.file }
 
 pub kept_size : (records : List Record) (tag : List ℕ) (state : State) (count : ℕ) → IsKept records tag state → count ≡ length records → length (take (256 * length records) state.content) ≡ 256 * count
-kept_size records tag state count kept counted = length-take-le (256 * length records) state.content (omega (arith, kept.file.within)) ∙ ap (λ m. 256 * m) (sym counted)
+kept_size records tag state count kept counted = length-take-le (256 * length records) state.content (omega (arith, kept.file.closed.0)) ∙ ap (λ m. 256 * m) (sym counted)
 
 -- a slot is added to what is kept
 module _ (records : List Record) (last : List ℕ) (state : State) (count : ℕ) (entry : Record) (fields tag body : List ℕ) (counted : count ≡ length records) (room : count < most_records)
@@ -257,7 +248,7 @@ kept_holds (first ∷ rest) tag state k kept below =
       entry,
       is,
       record {
-        spelled = ends-spelled slot_record (fields_at state.content k) entry 223 (kept.file.spelled k entry is) (fields_length state.content k (omega (arith, kept.file.within)));
+        spelled = ends-spelled slot_record (fields_at state.content k) entry 223 (kept.file.spelled k entry is) (fields_length state.content k (omega (arith, kept.file.closed.0)));
         tagged = kept.file.tagged k below;
       },
     )

@@ -1,3 +1,4 @@
+pub mod Adding
 pub mod Blocks
 pub mod Contents
 pub mod Finding
@@ -8,6 +9,7 @@ pub mod Log
 pub mod Moments
 pub mod OneWay
 pub mod Pairs
+pub mod PastEnd
 pub mod Ranges
 pub mod Shown
 pub mod SlotWrites

@@ -20,8 +20,8 @@ split front content holds =
     record {
       gate = slice_index content n;
       rest = drop (n + 1) content;
-      whole = sym (take-append-drop n content) ∙ ap (λ (l : List ℕ). l ++ drop n content) holds.begins ∙ ap (λ (l : List ℕ). front ++ l) (drop_more content n 0 holds.within);
-      closed = holds.closed;
+      whole = sym (take-append-drop n content) ∙ ap (λ (l : List ℕ). l ++ drop n content) holds.begins ∙ ap (λ (l : List ℕ). front ++ l) (drop_more content n 0 holds.closed.0);
+      closed = holds.closed.1;
     }
 
 join : (front content : List ℕ) → Splits front content → IsClosedAfter front content
@@ -31,8 +31,7 @@ join front content parts =
     let gate : slice_index content n ≡ parts.gate = ap (λ (l : List ℕ). slice_index l n) parts.whole ∙ get_or_at front parts.gate parts.rest 0 n refl in
     record {
       begins = ap (λ (l : List ℕ). take n l) parts.whole ∙ take_at front (parts.gate ∷ parts.rest) n refl;
-      within = omega (arith, long);
-      closed = λ is_open. parts.closed (sym gate ∙ is_open);
+      closed = (omega (arith, long), λ is_open. parts.closed (sym gate ∙ is_open));
     }
 
 -- a whole slot behind the last, and a closed gate behind it; the slot's own gate is closed

@@ -1,6 +1,6 @@
 -- What a content of a disk, a list of bytes, is as a state file: slots of 256 bytes, slot k from byte
 -- 256 * k on, each a gate, a record and a tag.
-use Rattle.std.specs.Prelude.{◌≡◌, ◌≢◌, ◌⊎◌, ℕ, zero, suc, ◌+◌, ◌*◌, ◌^◌, ◌<◌, ◌≤◌, Bool, true, false, ◌==◌, List, ◌∷◌, ◌++◌, length, take, drop, replicate, slice_get, Option, Some, None}
+use Rattle.std.specs.Prelude.{◌≡◌, ◌≢◌, ◌⊎◌, ℕ, zero, suc, ◌+◌, ◌*◌, ◌^◌, ◌<◌, ◌≤◌, Bool, true, false, ◌==◌, List, ◌∷◌, ◌++◌, length, take, drop, replicate, slice_get, slice_index, Option, Some, None}
 use Rattle.std.specs.Cmp.Lexicographic.{pointwise}
 use Rattle.byteorder.specs.Endian.{big_number}
 use Rattle.sha2.specs.Sha256.{sha256}
@@ -18,12 +18,20 @@ use Rattle.state_file.specs.Slots.{magic, slot_record, version_code, versions}
 abbrev pub gate : List ℕ → ℕ → Option ℕ
 gate content k = slice_get content (256 * k)
 
--- a gate is open at one value, and closed at every other
+-- the value of an open gate
+abbrev pub open_value : ℕ
+open_value = 0xA5
+
+-- a gate is open at this value, and closed at every other
 abbrev pub IsOpen : List ℕ → ℕ → Type 0
-IsOpen content k = gate content k ≡ Some 0xA5
+IsOpen content k = gate content k ≡ Some open_value
+
+-- this place lies in the content, and a gate there is closed
+abbrev pub IsClosedAt : List ℕ → ℕ → Type 0
+IsClosedAt content place = (place < length content) × (slice_index content place ≢ open_value)
 
 abbrev pub IsClosed : List ℕ → ℕ → Type 0
-IsClosed content k = (value : ℕ) × (gate content k ≡ Some value) × (value ≢ 0xA5)
+IsClosed content k = IsClosedAt content (256 * k)
 
 -- its kind and fields, bytes 1 to 223
 abbrev pub fields_at : List ℕ → ℕ → List ℕ

@@ -1,5 +1,7 @@
 -- What the calls of a disk do, and what a stop may leave between two syncs.
 use Rattle.std.specs.Prelude.{◌≡◌, ◌⊎◌, ℕ, ◌+◌, ◌<◌, ◌≤◌, max, List, [], ◌∷◌, length, slice_index, slice_range, Result, Ok, Err}
+use Rattle.state_file.specs.declared.disk.DiskFault.{DiskFault}
+use Rattle.state_file.specs.declared.disk.DiskFault.TheVariants.{Failed, PastEnd, OutOfMemory}
 
 -- the places from `from` on and below `to`
 pub record Range : Type 0 where
@@ -64,3 +66,10 @@ Syncs old new (Err _) = (new.base ≡ old.base) × (new.ranges ≡ old.ranges)
 abbrev pub CountsFailure : {A E : Type 0} (before after : ℕ) → Result A E → Type 0
 CountsFailure before after (Ok _) = after ≡ before
 CountsFailure before after (Err _) = after ≡ before + 1
+
+-- The count of reads past the end, which grows by one with each call that is refused as one.
+abbrev pub CountsPastEnd : {A : Type 0} (before after : ℕ) → Result A DiskFault → Type 0
+CountsPastEnd before after (Ok _) = after ≡ before
+CountsPastEnd before after (Err Failed) = after ≡ before
+CountsPastEnd before after (Err PastEnd) = after ≡ before + 1
+CountsPastEnd before after (Err OutOfMemory) = after ≡ before

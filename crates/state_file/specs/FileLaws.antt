@@ -3,10 +3,10 @@ use Rattle.std.specs.Prelude.{◌≡◌, ◌≢◌, ◌⊎◌, ℕ, ◌+◌, ◌
 use Rattle.std.proofs.Common.{inl, inr, ⊎_elim, refl, sym, ◌∙◌, ap, subst, arith, get_or, length-take-le, length-drop}
 use Rattle.std.proofs.lemmas.Bool.{cases_order}
 use Rattle.std.proofs.lemmas.List.{same_lists, get_or_default}
-use Rattle.std.proofs.lemmas.Option.{slice_get-get_or, slice_get_within}
+use Rattle.std.proofs.lemmas.Option.{slice_get-get_or, slice_get_within, get_or_from_slice_get}
 use Rattle.typecodes.proofs.Spelling.{one_value}
 use Rattle.typecodes.proofs.Steps.{ends-spelled}
-use Rattle.state_file.specs.Contents.{HasNoKey, IsClosed, SpellsRecords, fields_at}
+use Rattle.state_file.specs.Contents.{HasNoKey, IsClosed, SpellsRecords, fields_at, open_value}
 use Rattle.state_file.specs.Files.{StandsFor, IsFileOf, IsKept}
 use Rattle.state_file.specs.Disk.{State, MayLeave, settled}
 use Rattle.state_file.specs.Slots.{slot_record}
@@ -18,8 +18,8 @@ use Rattle.state_file.specs.declared.record.Record.TheVariants.{Key as KeyRecord
 pub fields_length : (content : List ℕ) (k : ℕ) → 256 * (k + 1) ≤ length content → length (fields_at content k) ≡ 223
 fields_length content k fits = length-take-le 223 (drop (256 * k + 1) content) (omega (arith, length-drop (256 * k + 1) content))
 
-pub closed_gate : (content : List ℕ) (k : ℕ) → 256 * k < length content → slice_index content (256 * k) ≢ 165 → IsClosed content k
-closed_gate content k within shut = (slice_index content (256 * k), slice_get-get_or content (256 * k) 0 within, shut)
+pub closed_gate : (content : List ℕ) (k : ℕ) → 256 * k < length content → slice_index content (256 * k) ≢ open_value → IsClosed content k
+closed_gate content k within shut = (within, shut)
 
 the_key : (entry : Record) → is_key entry ≡ true → (key : Key) × (Some entry ≡ Some (KeyRecord key))
 the_key (KeyRecord key) is = (key, refl)
@@ -30,16 +30,16 @@ the_key Moved is = absurd cc
 
 -- a file stands for its records
 pub file_stands : (records : List Record) (content : List ℕ) → IsFileOf records content → StandsFor records content
-file_stands [] content file = inr (closed_gate content 0 file.within file.closed)
+file_stands [] content file = inr file.closed
 file_stands (entry ∷ entries) content file = record {
   few = file.few;
-  opened = λ k below. slice_get-get_or content (256 * k) 0 (omega (arith, file.within)) ∙ ap Some (file.opened k below);
-  closed = closed_gate content (length (entry ∷ entries)) file.within file.closed;
+  opened = λ k below. slice_get-get_or content (256 * k) 0 (omega (arith, file.closed.0)) ∙ ap Some (file.opened k below);
+  closed = file.closed;
   first = the_key entry file.first;
   held = λ k one is.
       let below : k < length (entry ∷ entries) = slice_get_within (entry ∷ entries) k one is in
       record {
-        spelled = ends-spelled slot_record (fields_at content k) one 223 (file.spelled k one is) (fields_length content k (omega (arith, file.within)));
+        spelled = ends-spelled slot_record (fields_at content k) one 223 (file.spelled k one is) (fields_length content k (omega (arith, file.closed.0)));
         tagged = file.tagged k below;
       };
 }
@@ -48,8 +48,8 @@ pub kept_stands : (records : List Record) (tag : List ℕ) (state : State) → I
 kept_stands records tag state kept = file_stands records state.content kept.file
 
 -- a content stands for one list
-open_or_shut : (content : List ℕ) (k : ℕ) → slice_get content (256 * k) ≡ Some 165 → IsClosed content k → ⊥
-open_or_shut content k is_open shut = let same : Some 165 ≡ Some shut.0 = sym is_open ∙ shut.1 in let value : shut.0 ≡ 165 = cc in shut.2 value
+open_or_shut : (content : List ℕ) (k : ℕ) → slice_get content (256 * k) ≡ Some open_value → IsClosed content k → ⊥
+open_or_shut content k is_open shut = shut.1 (get_or_from_slice_get content (256 * k) open_value 0 is_open)
 
 spells_one : (a b : List Record) (content : List ℕ) → SpellsRecords content a → SpellsRecords content b → a ≡ b
 spells_one a b content first second =
@@ -64,7 +64,7 @@ spells_one a b content first second =
 
 no_key_spells : (content : List ℕ) (entry : Record) (entries : List Record) → HasNoKey content → SpellsRecords content (entry ∷ entries) → ⊥
 no_key_spells content entry entries none spells =
-    let long : 256 * length (entry ∷ entries) < length content = slice_get_within content (256 * length (entry ∷ entries)) spells.closed.0 spells.closed.1 in
+    let long : 256 * length (entry ∷ entries) < length content = spells.closed.0 in
     ⊎_elim (λ (short : length content < 257). absurd (omega (arith, long))) (λ shut. open_or_shut content 0 (spells.opened 0 (omega arith)) shut) none
 
 pub stands_one : (a b : List Record) (content : List ℕ) → StandsFor a content → StandsFor b content → a ≡ b

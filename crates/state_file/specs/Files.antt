@@ -1,8 +1,8 @@
 -- What a store over a disk knows of its content.
-use Rattle.std.specs.Prelude.{◌≡◌, ◌≢◌, ◌⊎◌, ℕ, ◌*◌, ◌<◌, ◌≤◌, true, List, [], ◌∷◌, length, slice_get, slice_index, Some, Ok}
+use Rattle.std.specs.Prelude.{◌≡◌, ◌⊎◌, ℕ, ◌*◌, ◌<◌, ◌≤◌, true, List, [], ◌∷◌, length, slice_get, slice_index, Some, Ok}
 use Rattle.std.proofs.Props.{props}
 use Rattle.typecodes.specs.Reading.{read}
-use Rattle.state_file.specs.Contents.{HasNoKey, SpellsRecords, fields_at, tag_at, previous_tag, tag_of, most_records}
+use Rattle.state_file.specs.Contents.{HasNoKey, IsClosed, SpellsRecords, fields_at, open_value, tag_at, previous_tag, tag_of, most_records}
 use Rattle.state_file.specs.Disk.{State}
 use Rattle.state_file.specs.Gates.{IsSynced}
 use Rattle.state_file.specs.Slots.{slot_record}
@@ -19,9 +19,8 @@ StandsFor (entry ∷ entries) content = SpellsRecords content (entry ∷ entries
 pub record IsFileOf (records : List Record) (content : List ℕ) : Type 0 where
   pub few : length records ≤ most_records
   pub first : begins_with_key records ≡ true
-  pub opened : (k : ℕ) → k < length records → slice_index content (256 * k) ≡ 165
-  pub within : 256 * length records < length content
-  pub closed : slice_index content (256 * length records) ≢ 165
+  pub opened : (k : ℕ) → k < length records → slice_index content (256 * k) ≡ open_value
+  pub closed : IsClosed content (length records)
   pub spelled : (k : ℕ) (entry : Record) → slice_get records k ≡ Some entry → read slot_record (fields_at content k) 0 ≡ Ok (entry, 223)
   pub tagged : (k : ℕ) → k < length records → tag_at content k ≡ tag_of (previous_tag content k) (fields_at content k)
 

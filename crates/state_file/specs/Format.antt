@@ -1,5 +1,6 @@
 -- What preparing a place does.
-use Rattle.std.specs.Prelude.{◌≡◌, ◌≢◌, ◌⊎◌, ℕ, ◌+◌, ◌<◌, ◌≤◌, List, [], ◌∷◌, length, slice_index, slice_range, Result, Ok, Err}
+use Rattle.std.specs.Prelude.{◌≡◌, ◌⊎◌, ℕ, ◌+◌, ◌<◌, ◌≤◌, List, [], ◌∷◌, length, slice_index, slice_range, Result, Ok, Err}
+use Rattle.state_file.specs.Contents.{IsClosed, open_value}
 use Rattle.state_file.specs.Disk.{State, settled, ChangesOnly, range_of}
 use Rattle.state_file.specs.Gates.{IsAtRest}
 use Rattle.state_file.specs.declared.gates.FormatFault.{FormatFault}
@@ -8,12 +9,12 @@ use Rattle.state_file.specs.declared.gates.FormatFault.TheVariants.{NotKeyFile, 
 -- What preparing leaves: of under 257 bytes the first is zero and no other has changed, and of 257 none has.
 abbrev pub Prepares : (content : List ℕ) (new : State) → Type 0
 Prepares content new =
-    IsAtRest [] new × (((length content < 257) × (slice_range new.content 0 1 ≡ 0 ∷ []) × ChangesOnly (range_of 0 (0 ∷ []) ∷ []) content new.content) ⊎ ((length content ≡ 257) × (slice_index content 0 ≢ 165) × (new.content ≡ content)))
+    IsAtRest [] new × (((length content < 257) × (slice_range new.content 0 1 ≡ 0 ∷ []) × ChangesOnly (range_of 0 (0 ∷ []) ∷ []) content new.content) ⊎ ((length content ≡ 257) × IsClosed content 0 × (new.content ≡ content)))
 
 -- when each refusal comes, by what a read gave, and what it leaves
 abbrev pub RefusesFormat : (content : List ℕ) (new : State) → FormatFault → Type 0
-RefusesFormat content new KeyThere = (257 ≤ length content) × (slice_index content 0 ≡ 165) × (new ≡ settled content)
-RefusesFormat content new NotKeyFile = (257 < length content) × (slice_index content 0 ≢ 165) × (new ≡ settled content)
+RefusesFormat content new KeyThere = (257 ≤ length content) × (slice_index content 0 ≡ open_value) × (new ≡ settled content)
+RefusesFormat content new NotKeyFile = (257 < length content) × IsClosed content 0 × (new ≡ settled content)
 RefusesFormat content new DeviceFailed = Unit {0}
 
 abbrev pub Formats : {A : Type 0} (content : List ℕ) (new : State) → Result A FormatFault → Type 0

@@ -1,13 +1,16 @@
 pub mod Contents
 pub mod Disk
 pub mod FileLaws
+pub mod FileStoreWords
 pub mod Files
 pub mod Format
 pub mod Gates
 pub mod Legal
 pub mod Memory
 pub mod MemoryDisk
+pub mod MemoryDiskWords
 pub mod MemoryMoments
+pub mod MemoryStoreWords
 pub mod Moments
 pub mod Opened
 pub mod Past

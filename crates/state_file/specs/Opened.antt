@@ -4,7 +4,7 @@ use Rattle.state_file.specs.Contents.{Holds, IsWhole, MayHaveKey, Opens, SpellsR
 use Rattle.state_file.specs.Disk.{State, MayLeave, settled}
 use Rattle.state_file.specs.Moments.{LeavesOnly}
 use Rattle.state_file.specs.declared.opening.OpenFault.{OpenFault}
-use Rattle.state_file.specs.declared.opening.OpenFault.TheVariants.{NoKey, NotKeyFile, UnknownVersion, Damaged, DeviceFailed}
+use Rattle.state_file.specs.declared.opening.OpenFault.TheVariants.{NoKey, NotKeyFile, Version as VersionFault, Damaged, DeviceFailed}
 use Rattle.state_file.specs.declared.record.Record.{Record}
 use Rattle.state_file.specs.declared.record.Version.{Version}
 
@@ -12,7 +12,7 @@ use Rattle.state_file.specs.declared.record.Version.{Version}
 abbrev pub Tells : List ℕ → OpenFault → Type 0
 Tells content NoKey = Opens content no_key
 Tells content NotKeyFile = Opens content no_key_file
-Tells content UnknownVersion = Opens content unknown_version
+Tells content VersionFault = Opens content unknown_version
 Tells content (Damaged k) = Opens content (damaged k)
 Tells content DeviceFailed = Unit {0}
 
@@ -20,15 +20,20 @@ Tells content DeviceFailed = Unit {0}
 abbrev pub KeepsContent : List ℕ → State → OpenFault → Type 0
 KeepsContent content new NoKey = new ≡ settled content
 KeepsContent content new NotKeyFile = new ≡ settled content
-KeepsContent content new UnknownVersion = new ≡ settled content
+KeepsContent content new VersionFault = new ≡ settled content
 KeepsContent content new (Damaged k) = new ≡ settled content
 KeepsContent content new DeviceFailed = Unit {0}
+
+-- What opening leaves: a store, or a refusal for what stands there, leaves the content as it was, and all of it synced.
+abbrev pub Settles : {A : Type 0} → List ℕ → State → Result A OpenFault → Type 0
+Settles content new (Ok _) = new ≡ settled content
+Settles content new (Err fault) = KeepsContent content new fault
 
 -- 45 comes exactly where the device failed
 abbrev pub CountsFault : (before after : ℕ) → OpenFault → Type 0
 CountsFault before after NoKey = after ≡ before
 CountsFault before after NotKeyFile = after ≡ before
-CountsFault before after UnknownVersion = after ≡ before
+CountsFault before after VersionFault = after ≡ before
 CountsFault before after (Damaged k) = after ≡ before
 CountsFault before after DeviceFailed = after ≡ before + 1
 
@@ -63,7 +68,7 @@ HasEntry content k (Some entry) = Holds content k entry
 abbrev pub TellsSlot : List ℕ → ℕ → OpenFault → Type 0
 TellsSlot content slot NoKey = ⊥
 TellsSlot content slot NotKeyFile = ⊥
-TellsSlot content slot UnknownVersion = ⊥
+TellsSlot content slot VersionFault = ⊥
 TellsSlot content slot (Damaged k) = (k ≡ slot) × (IsWhole content slot → ⊥)
 TellsSlot content slot DeviceFailed = Unit {0}
 

@@ -18,6 +18,10 @@ abbrev pub begins_with_key : List Record → Bool
 begins_with_key [] = true
 begins_with_key (entry ∷ entries) = is_key entry
 
+-- The record can be written after this list: the first one is a Key.
+abbrev pub CanFollow : List Record → Record → Type 0
+CanFollow list entry = length list ≡ 0 → is_key entry ≡ true
+
 -- What an append does, by its answer: to the list, to whether the store has stopped, and to the count of
 -- its device's failures.
 abbrev pub Appends : {A : Type 0} (most : ℕ) (old : List Record) (old_stopped : Bool) (entry : Record) (new : List Record) (new_stopped : Bool) (failures_before failures_after : ℕ)

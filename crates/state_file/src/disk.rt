@@ -1,7 +1,7 @@
 //! What a disk is: bytes that may get lost, where they weren't synced, when the power goes.
 
-ghost use Rattle.std.specs.Prelude.{◌≡◌, ◌+◌, ◌≤◌, ℕ, List, Bool, IsTrue, length, slice_range, IfOk, OnOk};
-ghost use Rattle.state_file.specs.Disk.{State, MayLeave, Writes, Syncs, CountsFailure};
+ghost use Rattle.std.specs.Prelude.{◌≡◌, ◌+◌, ◌<◌, ◌≤◌, ℕ, List, Bool, IsTrue, length, slice_range, IfOk, OnOk};
+ghost use Rattle.state_file.specs.Disk.{State, MayLeave, Writes, Syncs, CountsFailure, CountsPastEnd};
 ghost use Rattle.state_file.specs.Moments.{Elapses};
 
 use thiserror::Error;
@@ -37,6 +37,9 @@ pub trait Disk {
     // how many calls it has refused
     ghost failures: { Self → ℕ };
 
+    // how many of these were reads past the end
+    ghost past_ends: { Self → ℕ };
+
     // whether it keeps these promises
     ghost honest: { Self → Bool };
 
@@ -44,17 +47,27 @@ pub trait Disk {
     fn len(&mut self) -> Result<u64, DiskFault>
         ensures length { IsTrue (honest self.old) → IfOk result (λ n. n ≡ length (state self.old).content) }
         ensures stays { IsTrue (honest self.old) → state self.new ≡ state self.old }
-        ensures time { IsTrue (honest self.old) → Elapses (moment self.old) (moment self.new) (left_since self.old) (left_since self.new) (MayLeave (state self.new)) }
+        ensures time { IsTrue (honest self.old) →
+            Elapses (moment self.old) (moment self.new) (left_since self.old) (left_since self.new)
+            (MayLeave (state self.new)) }
         ensures failures { CountsFailure (failures self.old) (failures self.new) result }
+        ensures past_ends { past_ends self.new ≡ past_ends self.old }
         ensures honest { honest self.new ≡ honest self.old };
 
-    /// Reads as many bytes as `into` has, from the place `at` on. A read past the end is refused. After an
-    /// Err nothing is said of `into`.
+    /// Reads as many bytes as `into` has, from the place `at` on. A read past the end is refused, and no other is
+    /// refused as one. After an Err nothing is said of `into`.
     fn read_at(&mut self, at: u64, into: &mut [u8]) -> Result<(), DiskFault>
-        ensures within { IsTrue (honest self.old) → OnOk result (at + length into.old ≤ length (state self.old).content) }
-        ensures bytes { IsTrue (honest self.old) → OnOk result (into.new ≡ slice_range (state self.old).content at (at + length into.old)) }
+        ensures within { IsTrue (honest self.old) →
+            OnOk result (at + length into.old ≤ length (state self.old).content) }
+        ensures bytes { IsTrue (honest self.old) →
+            OnOk result (into.new ≡ slice_range (state self.old).content at (at + length into.old)) }
+        ensures past_end { IsTrue (honest self.old) → result ≡ Err DiskFault.PastEnd →
+            length (state self.old).content < at + length into.old }
+        ensures past_ends { CountsPastEnd (past_ends self.old) (past_ends self.new) result }
         ensures stays { IsTrue (honest self.old) → state self.new ≡ state self.old }
-        ensures time { IsTrue (honest self.old) → Elapses (moment self.old) (moment self.new) (left_since self.old) (left_since self.new) (MayLeave (state self.new)) }
+        ensures time { IsTrue (honest self.old) →
+            Elapses (moment self.old) (moment self.new) (left_since self.old) (left_since self.new)
+            (MayLeave (state self.new)) }
         ensures failures { CountsFailure (failures self.old) (failures self.new) result }
         ensures honest { honest self.new ≡ honest self.old };
 
@@ -62,15 +75,21 @@ pub trait Disk {
     /// range.
     fn write_at(&mut self, at: u64, bytes: &[u8]) -> Result<(), DiskFault>
         ensures written { IsTrue (honest self.old) → Writes at bytes.now (state self.old) (state self.new) result }
-        ensures time { IsTrue (honest self.old) → Elapses (moment self.old) (moment self.new) (left_since self.old) (left_since self.new) (MayLeave (state self.new)) }
+        ensures time { IsTrue (honest self.old) →
+            Elapses (moment self.old) (moment self.new) (left_since self.old) (left_since self.new)
+            (MayLeave (state self.new)) }
         ensures failures { CountsFailure (failures self.old) (failures self.new) result }
+        ensures past_ends { past_ends self.new ≡ past_ends self.old }
         ensures honest { honest self.new ≡ honest self.old };
 
     /// After it, a stop leaves what a read gives.
     fn sync(&mut self) -> Result<(), DiskFault>
         ensures synced { IsTrue (honest self.old) → Syncs (state self.old) (state self.new) result }
-        ensures time { IsTrue (honest self.old) → Elapses (moment self.old) (moment self.new) (left_since self.old) (left_since self.new) (MayLeave (state self.new)) }
+        ensures time { IsTrue (honest self.old) →
+            Elapses (moment self.old) (moment self.new) (left_since self.old) (left_since self.new)
+            (MayLeave (state self.new)) }
         ensures failures { CountsFailure (failures self.old) (failures self.new) result }
+        ensures past_ends { past_ends self.new ≡ past_ends self.old }
         ensures honest { honest self.new ≡ honest self.old };
 
     // What a read gives is one of the contents that a stop may leave.

@@ -1,17 +1,18 @@
 //! A store over a disk.
 
-ghost use Rattle.std.specs.Prelude.{◌≡◌, ◌≢◌, ◌⊎◌, ◌≤◌, ◌<◌, ◌+◌, ◌^◌, ◌∷◌, ℕ, List, [], ◌++◌, true, false, IsTrue, IfOk, IfErr, OnOk, OnErr, MatchResult, length, replicate};
+ghost use Rattle.std.specs.Prelude.{◌≡◌, ◌≢◌, ◌⊎◌, ◌≤◌, ◌<◌, ◌+◌, ◌^◌, ◌∷◌, ℕ, List, [], ◌++◌, true, false, IsTrue, IfOk, IfErr, OnOk, OnErr, MatchResult, length, max, replicate};
 ghost use Rattle.typecodes.specs.Layout.{Spells};
 ghost use Rattle.state_file.specs.Moments.{Elapses, LeavesOnly};
 ghost use Rattle.state_file.specs.Disk.{State, settled, MayLeave, CountsFailure};
 ghost use Rattle.state_file.specs.Contents.{HasNoKey, SpellsRecords, fields_at, tag_at, tag_of};
 ghost use Rattle.state_file.specs.Files.{StandsFor, LeftLists, IsKept, IsKept-prop};
 ghost use Rattle.state_file.specs.FileLaws.{kept_stands, kept_list};
-ghost use Rattle.state_file.specs.Format.{CountsRefusal, IsOfContent, Prepares, RefusesFormat};
-ghost use Rattle.state_file.specs.Opened.{CountsFault, KeepsContent, OnlyReads, Tells};
+ghost use Rattle.state_file.specs.Gates.{AddsSlot};
+ghost use Rattle.state_file.specs.Format.{CountsDevice, Formats, WritesNothing};
+ghost use Rattle.state_file.specs.Opened.{CountsOpening, OnlyReads, Settles, Tells};
 ghost use Rattle.std.proofs.Common.{inl};
 ghost use Rattle.state_file.specs.Slots.{slot_record};
-ghost use Rattle.state_file.specs.Store.{Appends, Loads, ReadsTag, is_key};
+ghost use Rattle.state_file.specs.Store.{Appends, CanFollow, Loads, ReadsTag};
 
 use crate::disk::Disk;
 use crate::gates::{FormatFault, add_slot, format};
@@ -32,20 +33,23 @@ pub struct FileStore<D: Disk> {
     stopped: bool,
     records: RecordList,
     ghost counted: { count ≡ length records },
+    ghost few: { length records ≤ 2 ^ 31 },
     ghost kept: { IsTrue (D.honest disk) → stopped ≡ false → IsKept records tag (D.state disk) } by { Prim.hlevel IsKept-prop },
 }
 
 impl<D: Disk + Drop> FileStore<D> {
+    ghost use Rattle.state_file.specs.FileStoreWords.{disk_after, disk_of, has_stopped, records_of, told_by};
+
     /// How many records there are.
     pub fn count(&self) -> u32
-        ensures { result ≡ length self.now.records }
+        ensures { result ≡ length (records_of self.now) }
     {
         self.count
     }
 
     /// Gives the disk back.
     pub fn into_disk(self) -> D
-        ensures { result ≡ self.disk }
+        ensures { result ≡ disk_of self }
     {
         self.disk
     }
@@ -54,18 +58,20 @@ impl<D: Disk + Drop> FileStore<D> {
     /// first alone changes, to zero; where there are 257 or more, nothing is written, whatever the answer. A
     /// refusal hands the disk back.
     pub fn format(disk: D) -> Result<Self, Refused<D, FormatFault>>
-        ensures records { IfOk result (λ store. (store.records ≡ []) × (store.stopped ≡ false)) }
-        ensures answer { IsTrue (D.honest disk) → IfOk result (λ store. Prepares (D.state disk).content (D.state store.disk)) }
-        ensures fault { IsTrue (D.honest disk) → IfErr result (λ refused. RefusesFormat (D.state disk).content (D.state refused.given) refused.fault) }
-        ensures any_moment { IsTrue (D.honest disk) → IfOk result (λ store. LeavesOnly D.moment D.left_since disk store.disk (λ c. MayLeave (D.state disk) c ⊎ HasNoKey c)) }
-        ensures any_moment_err { IsTrue (D.honest disk) → IfErr result (λ refused. LeavesOnly D.moment D.left_since disk refused.given (λ c. MayLeave (D.state disk) c ⊎ HasNoKey c)) }
-        ensures long { IsTrue (D.honest disk) → 257 ≤ length (D.state disk).content → IfOk result (λ store. LeavesOnly D.moment D.left_since disk store.disk (MayLeave (D.state disk))) }
-        ensures long_err { IsTrue (D.honest disk) → 257 ≤ length (D.state disk).content → IfErr result (λ refused. LeavesOnly D.moment D.left_since disk refused.given (MayLeave (D.state disk))) }
-        ensures nothing_written { IsTrue (D.honest disk) → IfErr result (λ refused. IsOfContent refused.fault → LeavesOnly D.moment D.left_since disk refused.given (MayLeave (D.state disk))) }
-        ensures failures { IfOk result (λ store. D.failures store.disk ≡ D.failures disk) }
-        ensures failures_err { IfErr result (λ refused. CountsRefusal (D.failures disk) (D.failures refused.given) refused.fault) }
-        ensures honest { IfOk result (λ store. D.honest store.disk ≡ D.honest disk) }
-        ensures honest_err { IfErr result (λ refused. D.honest refused.given ≡ D.honest disk) }
+        ensures records { IfOk result (λ store. (records_of store ≡ []) × (has_stopped store ≡ false)) }
+        ensures answer { IsTrue (D.honest disk) →
+            Formats (D.state disk).content (D.state (disk_after result)) (told_by result) }
+        ensures len { IsTrue (D.honest disk) →
+            OnOk result (length (D.state (disk_after result)).content ≡ max (length (D.state disk).content) 1) }
+        ensures any_moment { IsTrue (D.honest disk) →
+            LeavesOnly D.moment D.left_since disk (disk_after result) (λ c. MayLeave (D.state disk) c ⊎ HasNoKey c) }
+        ensures long { IsTrue (D.honest disk) → 257 ≤ length (D.state disk).content →
+            LeavesOnly D.moment D.left_since disk (disk_after result) (MayLeave (D.state disk)) }
+        ensures nothing_written { IsTrue (D.honest disk) → WritesNothing (told_by result) →
+            LeavesOnly D.moment D.left_since disk (disk_after result) (MayLeave (D.state disk)) }
+        ensures failures { CountsDevice (D.failures disk) (D.failures (disk_after result)) (told_by result) }
+        ensures past_ends { IsTrue (D.honest disk) → D.past_ends (disk_after result) ≡ D.past_ends disk }
+        ensures honest { D.honest (disk_after result) ≡ D.honest disk }
     {
         let mut disk = disk;
         match format(&mut disk) {
@@ -84,18 +90,20 @@ impl<D: Disk + Drop> FileStore<D> {
     /// the order of their numbers, and each hands the disk back, with its content as it was where the device
     /// didn't fail.
     pub fn open(disk: D) -> Result<Self, Refused<D, OpenFault>>
-        ensures records { IsTrue (D.honest disk) → IfOk result (λ store. SpellsRecords (D.state disk).content store.records) }
-        ensures running { IfOk result (λ store. store.stopped ≡ false) }
+        ensures records { IsTrue (D.honest disk) →
+            IfOk result (λ store. SpellsRecords (D.state disk).content (records_of store)) }
+        ensures running { IfOk result (λ store. has_stopped store ≡ false) }
         ensures fault { IsTrue (D.honest disk) → IfErr result (λ refused. Tells (D.state disk).content refused.fault) }
-        ensures shown { IsTrue (D.honest disk) → IfOk result (λ store. (c : List ℕ) → MayLeave (D.state store.disk) c → SpellsRecords c store.records) }
-        ensures any_moment { IsTrue (D.honest disk) → IfOk result (λ store. LeavesOnly D.moment D.left_since disk store.disk (MayLeave (D.state disk))) }
-        ensures any_moment_err { IsTrue (D.honest disk) → IfErr result (λ refused. LeavesOnly D.moment D.left_since disk refused.given (MayLeave (D.state disk))) }
-        ensures synced { IsTrue (D.honest disk) → IfOk result (λ store. D.state store.disk ≡ settled (D.state disk).content) }
-        ensures kept { IsTrue (D.honest disk) → IfErr result (λ refused. KeepsContent (D.state disk).content (D.state refused.given) refused.fault) }
-        ensures failures { IfOk result (λ store. D.failures store.disk ≡ D.failures disk) }
-        ensures failures_err { IfErr result (λ refused. CountsFault (D.failures disk) (D.failures refused.given) refused.fault) }
-        ensures honest { IfOk result (λ store. D.honest store.disk ≡ D.honest disk) }
-        ensures honest_err { IfErr result (λ refused. D.honest refused.given ≡ D.honest disk) }
+        ensures shown { IsTrue (D.honest disk) →
+            IfOk result
+            (λ store. (c : List ℕ) → MayLeave (D.state (disk_of store)) c → SpellsRecords c (records_of store)) }
+        ensures any_moment { IsTrue (D.honest disk) →
+            LeavesOnly D.moment D.left_since disk (disk_after result) (MayLeave (D.state disk)) }
+        ensures settled { IsTrue (D.honest disk) →
+            Settles (D.state disk).content (D.state (disk_after result)) (told_by result) }
+        ensures failures { CountsOpening (D.failures disk) (D.failures (disk_after result)) (told_by result) }
+        ensures past_ends { IsTrue (D.honest disk) → D.past_ends (disk_after result) ≡ D.past_ends disk }
+        ensures honest { D.honest (disk_after result) ≡ D.honest disk }
     {
         let mut disk = disk;
         match find_records(&mut disk) {
@@ -116,13 +124,22 @@ impl<D: Disk + Drop> FileStore<D> {
     // Adds a record. A stop at any moment of it leaves a content that spells the old records, or these and the
     // new one.
     fn add(&mut self, new: &Record) -> Result<(), StoreFault>
-        requires { length self.old.records ≡ 0 → is_key new.now ≡ true }
+        requires { CanFollow (records_of self.old) new.now }
         ensures memory { result ≢ Err StoreFault.OutOfMemory }
         ensures full { result ≡ Err StoreFault.Full → self.new ≡ self.old }
-        ensures answer { Appends (2 ^ 31) self.old.records self.old.stopped new.now self.new.records self.new.stopped (D.failures self.old.disk) (D.failures self.new.disk) result }
-        ensures any_moment { IsTrue (D.honest self.old.disk) → self.old.stopped ≡ false → LeavesOnly D.moment D.left_since self.old.disk self.new.disk (λ c. StandsFor self.old.records c ⊎ StandsFor (self.old.records ++ new.now ∷ []) c) }
-        ensures honest { D.honest self.new.disk ≡ D.honest self.old.disk }
-        ensures stays { self.old.stopped ≡ true → self.new ≡ self.old }
+        ensures answer { Appends (2 ^ 31) (records_of self.old) (has_stopped self.old) new.now (records_of self.new)
+            (has_stopped self.new) (D.failures (disk_of self.old)) (D.failures (disk_of self.new)) result }
+        ensures any_moment { IsTrue (D.honest (disk_of self.old)) → has_stopped self.old ≡ false →
+            LeavesOnly D.moment D.left_since (disk_of self.old) (disk_of self.new)
+            (λ c. StandsFor (records_of self.old) c ⊎ StandsFor (records_of self.old ++ new.now ∷ []) c) }
+        ensures adds { IsTrue (D.honest (disk_of self.old)) →
+            OnOk result
+            (AddsSlot (length (records_of self.old)) (D.state (disk_of self.old)).content
+            (D.state (disk_of self.new))) }
+        ensures past_ends { IsTrue (D.honest (disk_of self.old)) →
+            D.past_ends (disk_of self.new) ≡ D.past_ends (disk_of self.old) }
+        ensures honest { D.honest (disk_of self.new) ≡ D.honest (disk_of self.old) }
+        ensures stays { has_stopped self.old ≡ true → self.new ≡ self.old }
     {
         if self.stopped {
             return Err(StoreFault::Stopped);
@@ -148,16 +165,24 @@ impl<D: Disk + Drop> FileStore<D> {
 }
 
 impl<D: Disk + Drop> FileStore<D> {
+    ghost use Rattle.state_file.specs.FileStoreWords.{disk_of, has_stopped, records_of};
+
     /// The tag of slot k, 32 bytes.
     pub fn tag_at(&mut self, k: u32) -> Result<[u8; 32], StoreFault>
-        requires { k < length self.old.records }
-        ensures answer { ReadsTag self.old.stopped self.new.stopped (D.failures self.old.disk) (D.failures self.new.disk) result }
-        ensures tag { IsTrue (D.honest self.old.disk) → IfOk result (λ tag. tag ≡ tag_at (D.state self.old.disk).content k) }
-        ensures same { self.new.records ≡ self.old.records }
-        ensures reads { IsTrue (D.honest self.old.disk) → self.old.stopped ≡ false → OnlyReads D.state D.moment D.left_since self.old.disk self.new.disk }
-        ensures any_moment { IsTrue (D.honest self.old.disk) → self.old.stopped ≡ false → LeavesOnly D.moment D.left_since self.old.disk self.new.disk (StandsFor self.old.records) }
-        ensures honest { D.honest self.new.disk ≡ D.honest self.old.disk }
-        ensures stays { self.old.stopped ≡ true → self.new ≡ self.old }
+        requires { k < length (records_of self.old) }
+        ensures answer { ReadsTag (has_stopped self.old) (has_stopped self.new) (D.failures (disk_of self.old))
+            (D.failures (disk_of self.new)) result }
+        ensures tag { IsTrue (D.honest (disk_of self.old)) →
+            IfOk result (λ tag. tag ≡ tag_at (D.state (disk_of self.old)).content k) }
+        ensures same { records_of self.new ≡ records_of self.old }
+        ensures reads { IsTrue (D.honest (disk_of self.old)) → has_stopped self.old ≡ false →
+            OnlyReads D.state D.moment D.left_since (disk_of self.old) (disk_of self.new) }
+        ensures any_moment { IsTrue (D.honest (disk_of self.old)) → has_stopped self.old ≡ false →
+            LeavesOnly D.moment D.left_since (disk_of self.old) (disk_of self.new) (StandsFor (records_of self.old)) }
+        ensures past_ends { IsTrue (D.honest (disk_of self.old)) →
+            D.past_ends (disk_of self.new) ≡ D.past_ends (disk_of self.old) }
+        ensures honest { D.honest (disk_of self.new) ≡ D.honest (disk_of self.old) }
+        ensures stays { has_stopped self.old ≡ true → self.new ≡ self.old }
     {
         if self.stopped {
             return Err(StoreFault::Stopped);
@@ -173,19 +198,23 @@ impl<D: Disk + Drop> FileStore<D> {
 }
 
 impl<D: Disk + Drop> Store for FileStore<D> {
-    ghost list = { λ store. store.records };
+    ghost use Rattle.state_file.specs.FileStoreWords.{disk_of, has_stopped, records_of};
 
-    ghost stopped = { λ store. store.stopped };
+    ghost list = { λ store. records_of store };
 
-    ghost failures = { λ store. D.failures store.disk };
+    ghost stopped = { λ store. has_stopped store };
 
-    ghost honest = { λ store. D.honest store.disk };
+    ghost failures = { λ store. D.failures (disk_of store) };
+
+    ghost honest = { λ store. D.honest (disk_of store) };
 
     ghost most = { λ _. 2 ^ 31 };
 
-    ghost moment = { λ store. D.moment store.disk };
+    ghost moment = { λ store. D.moment (disk_of store) };
 
-    ghost left_since = { λ store. LeftLists (D.left_since store.disk) };
+    ghost left_since = { λ store. LeftLists (D.left_since (disk_of store)) };
+
+    ghost few = { λ store. store.few };
 
     ghost leaves_list = { λ store t honest running early. ((D.state store.disk).content, D.counts_now store.disk t (D.state store.disk).content honest early (D.shows store.disk honest), inl (kept_stands store.records store.tag (D.state store.disk) (store.kept honest running))) };
 
@@ -193,13 +222,20 @@ impl<D: Disk + Drop> Store for FileStore<D> {
 
     /// Record k, or None behind the last. It takes no memory and writes nothing.
     fn load(&mut self, k: u32) -> Result<Option<Record>, StoreFault>
-        ensures answer { Loads (D.honest self.old.disk) self.old.records self.old.stopped k self.new.stopped (D.failures self.old.disk) (D.failures self.new.disk) result }
+        ensures answer { Loads (D.honest (disk_of self.old)) (records_of self.old) (has_stopped self.old) k
+            (has_stopped self.new)
+            (D.failures (disk_of self.old)) (D.failures (disk_of self.new)) result }
         ensures memory { result ≢ Err StoreFault.OutOfMemory }
-        ensures same { self.new.records ≡ self.old.records }
-        ensures reads { IsTrue (D.honest self.old.disk) → self.old.stopped ≡ false → OnlyReads D.state D.moment D.left_since self.old.disk self.new.disk }
-        ensures any_moment { IsTrue (D.honest self.old.disk) → self.old.stopped ≡ false → LeavesOnly (λ store. D.moment store.disk) (λ store. LeftLists (D.left_since store.disk)) self.old self.new (λ left. left ≡ self.old.records) }
-        ensures stays { self.old.stopped ≡ true → self.new ≡ self.old }
-        ensures honest { D.honest self.new.disk ≡ D.honest self.old.disk }
+        ensures same { records_of self.new ≡ records_of self.old }
+        ensures reads { IsTrue (D.honest (disk_of self.old)) → has_stopped self.old ≡ false →
+            OnlyReads D.state D.moment D.left_since (disk_of self.old) (disk_of self.new) }
+        ensures any_moment { IsTrue (D.honest (disk_of self.old)) → has_stopped self.old ≡ false →
+            LeavesOnly (λ store. D.moment (disk_of store)) (λ store. LeftLists (D.left_since (disk_of store)))
+            self.old self.new (λ left. left ≡ records_of self.old) }
+        ensures stays { has_stopped self.old ≡ true → self.new ≡ self.old }
+        ensures past_ends { IsTrue (D.honest (disk_of self.old)) →
+            D.past_ends (disk_of self.new) ≡ D.past_ends (disk_of self.old) }
+        ensures honest { D.honest (disk_of self.new) ≡ D.honest (disk_of self.old) }
     {
         if self.stopped {
             return Err(StoreFault::Stopped);
@@ -219,15 +255,26 @@ impl<D: Disk + Drop> Store for FileStore<D> {
         }
     }
 
-    /// Adds a record at the end. It takes no memory. Where the store is full nothing changes.
+    /// Adds a record at the end. It takes no memory. Where the store is full nothing changes. On the disk the bytes of
+    /// the new slot and the gate after it change, and no other.
     fn append(&mut self, new: &Record) -> Result<(), StoreFault>
-        requires { length self.old.records ≡ 0 → is_key new.now ≡ true }
-        ensures any_moment { IsTrue (D.honest self.old.disk) → self.old.stopped ≡ false → LeavesOnly (λ store. D.moment store.disk) (λ store. LeftLists (D.left_since store.disk)) self.old self.new (λ left. (left ≡ self.old.records) ⊎ (left ≡ self.old.records ++ new.now ∷ [])) }
-        ensures stays { self.old.stopped ≡ true → self.new ≡ self.old }
-        ensures answer { Appends (2 ^ 31) self.old.records self.old.stopped new.now self.new.records self.new.stopped (D.failures self.old.disk) (D.failures self.new.disk) result }
+        requires { CanFollow (records_of self.old) new.now }
+        ensures any_moment { IsTrue (D.honest (disk_of self.old)) → has_stopped self.old ≡ false →
+            LeavesOnly (λ store. D.moment (disk_of store)) (λ store. LeftLists (D.left_since (disk_of store)))
+            self.old self.new
+            (λ left. (left ≡ records_of self.old) ⊎ (left ≡ records_of self.old ++ new.now ∷ [])) }
+        ensures stays { has_stopped self.old ≡ true → self.new ≡ self.old }
+        ensures answer { Appends (2 ^ 31) (records_of self.old) (has_stopped self.old) new.now (records_of self.new)
+            (has_stopped self.new) (D.failures (disk_of self.old)) (D.failures (disk_of self.new)) result }
         ensures memory { result ≢ Err StoreFault.OutOfMemory }
         ensures full { result ≡ Err StoreFault.Full → self.new ≡ self.old }
-        ensures honest { D.honest self.new.disk ≡ D.honest self.old.disk }
+        ensures adds { IsTrue (D.honest (disk_of self.old)) →
+            OnOk result
+            (AddsSlot (length (records_of self.old)) (D.state (disk_of self.old)).content
+            (D.state (disk_of self.new))) }
+        ensures past_ends { IsTrue (D.honest (disk_of self.old)) →
+            D.past_ends (disk_of self.new) ≡ D.past_ends (disk_of self.old) }
+        ensures honest { D.honest (disk_of self.new) ≡ D.honest (disk_of self.old) }
     {
         self.add(new)
     }

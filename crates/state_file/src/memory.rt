@@ -27,16 +27,19 @@ pub struct MemoryStore {
     cut: Option<(u32, Cut)>,
     stopped: bool,
     failures: Count,
+    ghost few: { length records.items ≤ limit },
 }
 
 impl MemoryStore {
+    ghost use Rattle.state_file.specs.MemoryStoreWords.{cut_of, failures_of, has_stopped, limit_of, records_of};
+
     /// An empty store that takes `limit` records.
     pub fn with_limit(alloc: Global, limit: u32) -> Self
-        ensures records { result.records.items ≡ [] }
-        ensures limit { result.limit ≡ limit }
-        ensures cut { result.cut ≡ None }
-        ensures stopped { result.stopped ≡ false }
-        ensures failures { result.failures ≡ 0 }
+        ensures records { records_of result ≡ [] }
+        ensures limit { limit_of result ≡ limit }
+        ensures cut { cut_of result ≡ None }
+        ensures stopped { has_stopped result ≡ false }
+        ensures failures { failures_of result ≡ 0 }
     {
         MemoryStore {
             records: Vec::new(alloc),
@@ -52,22 +55,22 @@ impl MemoryStore {
     ///
     /// The appends that count are those that reach the device, not those that are answered 26, 46 or 52.
     pub fn cut_at(&mut self, n: u32, cut: Cut)
-        ensures cut { self.new.cut ≡ cut_of_append n cut }
-        ensures records { self.new.records ≡ self.old.records }
-        ensures limit { self.new.limit ≡ self.old.limit }
-        ensures stopped { self.new.stopped ≡ self.old.stopped }
-        ensures failures { self.new.failures ≡ self.old.failures }
+        ensures cut { cut_of self.new ≡ cut_of_append n cut }
+        ensures records { records_of self.new ≡ records_of self.old }
+        ensures limit { limit_of self.new ≡ limit_of self.old }
+        ensures stopped { has_stopped self.new ≡ has_stopped self.old }
+        ensures failures { failures_of self.new ≡ failures_of self.old }
     {
         self.cut = n.checked_sub(1).map(|before| (before, cut));
     }
 
     /// Opens the place again after a failure.
     pub fn reopen(&mut self)
-        ensures stopped { self.new.stopped ≡ false }
-        ensures records { self.new.records ≡ self.old.records }
-        ensures limit { self.new.limit ≡ self.old.limit }
-        ensures cut { self.new.cut ≡ self.old.cut }
-        ensures failures { self.new.failures ≡ self.old.failures }
+        ensures stopped { has_stopped self.new ≡ false }
+        ensures records { records_of self.new ≡ records_of self.old }
+        ensures limit { limit_of self.new ≡ limit_of self.old }
+        ensures cut { cut_of self.new ≡ cut_of self.old }
+        ensures failures { failures_of self.new ≡ failures_of self.old }
     {
         self.stopped = false;
     }
@@ -75,11 +78,11 @@ impl MemoryStore {
     // Stops the store, as its device failed. The cut has come.
     fn fail(&mut self) -> StoreFault
         ensures fault { result ≡ StoreFault.DeviceFailed }
-        ensures stopped { self.new.stopped ≡ true }
-        ensures failures { self.new.failures ≡ self.old.failures + 1 }
-        ensures cut { self.new.cut ≡ None }
-        ensures records { self.new.records ≡ self.old.records }
-        ensures limit { self.new.limit ≡ self.old.limit }
+        ensures stopped { has_stopped self.new ≡ true }
+        ensures failures { failures_of self.new ≡ failures_of self.old + 1 }
+        ensures cut { cut_of self.new ≡ None }
+        ensures records { records_of self.new ≡ records_of self.old }
+        ensures limit { limit_of self.new ≡ limit_of self.old }
     {
         self.cut = None;
         self.stopped = true;
@@ -89,19 +92,24 @@ impl MemoryStore {
 }
 
 impl Store for MemoryStore {
-    ghost list = { λ store. store.records.items };
+    ghost use Rattle.state_file.specs.MemoryStoreWords.{HasRoom, cut_of, failures_of, has_stopped, limit_of};
+    ghost use Rattle.state_file.specs.MemoryStoreWords.{records_of};
 
-    ghost stopped = { λ store. store.stopped };
+    ghost list = { records_of };
 
-    ghost failures = { λ store. store.failures };
+    ghost stopped = { has_stopped };
+
+    ghost failures = { failures_of };
 
     ghost honest = { λ _. true };
 
-    ghost most = { λ store. store.limit };
+    ghost most = { limit_of };
 
-    ghost moment = { λ store. length store.records.items };
+    ghost moment = { λ store. length (records_of store) };
 
-    ghost left_since = { λ store. HadBeen store.records.items };
+    ghost left_since = { λ store. HadBeen (records_of store) };
+
+    ghost few = { λ store. store.few };
 
     ghost leaves_list = { λ store t _ _ early. had_been_all store.records.items t early };
 
@@ -109,11 +117,16 @@ impl Store for MemoryStore {
 
     /// Record k, or None behind the last. It fails only where the store has stopped.
     fn load(&mut self, k: u32) -> Result<Option<Record>, StoreFault>
-        ensures answer { Loads true self.old.records.items self.old.stopped k self.new.stopped self.old.failures self.new.failures result }
-        ensures same { self.new.records.items ≡ self.old.records.items }
-        ensures any_moment { IsTrue true → self.old.stopped ≡ false → LeavesOnly (λ store. length store.records.items) (λ store. HadBeen store.records.items) self.old self.new (λ left. left ≡ self.old.records.items) }
+        ensures answer { Loads true (records_of self.old) (has_stopped self.old) k (has_stopped self.new)
+            (failures_of self.old)
+            (failures_of self.new) result }
+        ensures same { records_of self.new ≡ records_of self.old }
+        ensures any_moment { IsTrue true → has_stopped self.old ≡ false →
+            LeavesOnly (λ store. length (records_of store)) (λ store. HadBeen (records_of store)) self.old self.new
+            (λ left. left ≡ records_of self.old) }
         ensures stays { self.new ≡ self.old }
-        ensures value { result ≡ (if self.old.stopped then Err StoreFault.Stopped else Ok (slice_get self.old.records.items k)) }
+        ensures value { result ≡
+            (if has_stopped self.old then Err StoreFault.Stopped else Ok (slice_get (records_of self.old) k)) }
     {
         if self.stopped {
             Err(StoreFault::Stopped)
@@ -126,12 +139,17 @@ impl Store for MemoryStore {
     /// that is due comes with the next append. Memory is asked for only where the records have no room
     /// left, and not for a cut that leaves the old records.
     fn append(&mut self, new: &Record) -> Result<(), StoreFault>
-        ensures answer { Appends self.old.limit self.old.records.items self.old.stopped new.now self.new.records.items self.new.stopped self.old.failures self.new.failures result }
-        ensures any_moment { IsTrue true → self.old.stopped ≡ false → LeavesOnly (λ store. length store.records.items) (λ store. HadBeen store.records.items) self.old self.new (λ left. (left ≡ self.old.records.items) ⊎ (left ≡ self.old.records.items ++ new.now ∷ [])) }
-        ensures stays { self.old.stopped ≡ true → self.new ≡ self.old }
-        ensures limit { self.new.limit ≡ self.old.limit }
-        ensures cut { Cuts self.old.cut self.old.records.items new.now self.new.records.items self.new.cut result }
-        ensures room { vec_len self.old.records < vec_capacity self.old.records → result ≢ Err StoreFault.OutOfMemory }
+        ensures answer { Appends (limit_of self.old) (records_of self.old) (has_stopped self.old) new.now
+            (records_of self.new)
+            (has_stopped self.new) (failures_of self.old) (failures_of self.new) result }
+        ensures any_moment { IsTrue true → has_stopped self.old ≡ false →
+            LeavesOnly (λ store. length (records_of store)) (λ store. HadBeen (records_of store)) self.old self.new
+            (λ left. (left ≡ records_of self.old) ⊎ (left ≡ records_of self.old ++ new.now ∷ [])) }
+        ensures stays { has_stopped self.old ≡ true → self.new ≡ self.old }
+        ensures limit { limit_of self.new ≡ limit_of self.old }
+        ensures cut { Cuts (cut_of self.old) (records_of self.old) new.now (records_of self.new) (cut_of self.new)
+            result }
+        ensures room { HasRoom self.old → result ≢ Err StoreFault.OutOfMemory }
     {
         if self.stopped {
             return Err(StoreFault::Stopped);

@@ -2,7 +2,7 @@
 
 ghost use Rattle.std.specs.Prelude.{if◌then◌else◌, nat_le, reverse, ◌↔◌, IsTrue, ◌-◌, ◌≡◌, ◌+◌, ◌≤◌, ◌<◌, ◌∷◌, [], ◌++◌, true, length, take, slice_range, IfOk, OnOk, OnErr, MatchOption, ℕ, max, slice_index};
 ghost use Rattle.std.proofs.Props.{props};
-ghost use Rattle.state_file.specs.Disk.{State, MayLeave, ChangesOnly, settled, IsOutside, greatest_end, Writes, Syncs, CountsFailure};
+ghost use Rattle.state_file.specs.Disk.{State, MayLeave, ChangesOnly, settled, IsOutside, greatest_end, Writes, Syncs, CountsFailure, CountsPastEnd};
 ghost use Rattle.state_file.specs.Moments.{Elapses};
 ghost use Rattle.state_file.specs.MemoryDisk.{base_of, ranges_of, state_of, LeftBy, LeftSince, Overlays, calls_before, fate_of, stop_after, fail_after, Picks, IsFilled, answer_of, Stores, Flushes};
 ghost use Rattle.state_file.specs.MemoryMoments.{left_now, left_only_now};
@@ -75,15 +75,19 @@ pub struct MemoryDisk {
     log: Vec<Entry>,
     plan: Plan,
     failures: Count,
+    past_ends: Count,
     ghost shows: { LeftBy first.items log.items content.items } by { Prim.hlevel props },
 }
 
 impl MemoryDisk {
+    ghost use Rattle.state_file.specs.MemoryDiskWords.{SameHistory, state_in};
+    ghost use Rattle.state_file.specs.MemoryDiskWords.{fail_in, failures_in, past_ends_in, stop_in};
+
     /// A disk with these bytes, all of them synced.
     pub fn of(alloc: Global, bytes: &[u8]) -> Result<Self, AllocError>
-        ensures state { IfOk result (λ disk. state_of disk.content.items disk.first.items disk.log.items ≡ settled bytes.now) }
-        ensures plan { IfOk result (λ disk. (disk.plan.stop ≡ None) × (disk.plan.fail ≡ None)) }
-        ensures failures { IfOk result (λ disk. disk.failures ≡ 0) }
+        ensures state { IfOk result (λ disk. state_in disk ≡ settled bytes.now) }
+        ensures plan { IfOk result (λ disk. (stop_in disk ≡ None) × (fail_in disk ≡ None)) }
+        ensures failures { IfOk result (λ disk. (failures_in disk ≡ 0) × (past_ends_in disk ≡ 0)) }
     {
         Ok(MemoryDisk {
             alloc,
@@ -95,6 +99,7 @@ impl MemoryDisk {
                 fail: None,
             },
             failures: Count::new(),
+            past_ends: Count::new(),
         })
     }
 
@@ -102,12 +107,11 @@ impl MemoryDisk {
     /// first half of its bytes, rounded down. It takes the place of a failure that didn't come yet; for 0
     /// none comes.
     pub fn fail_at(&mut self, n: u32)
-        ensures fail { self.new.plan.fail ≡ calls_before n }
-        ensures stop { self.new.plan.stop ≡ self.old.plan.stop }
-        ensures content { self.new.content ≡ self.old.content }
-        ensures first { self.new.first ≡ self.old.first }
-        ensures log { self.new.log ≡ self.old.log }
-        ensures failures { self.new.failures ≡ self.old.failures }
+        ensures fail { fail_in self.new ≡ calls_before n }
+        ensures stop { stop_in self.new ≡ stop_in self.old }
+        ensures history { SameHistory self.old self.new }
+        ensures failures { failures_in self.new ≡ failures_in self.old }
+        ensures past_ends { past_ends_in self.new ≡ past_ends_in self.old }
     {
         self.plan.fail = n.checked_sub(1);
     }
@@ -115,12 +119,11 @@ impl MemoryDisk {
     /// Stops the disk right before the n-th call from now, the next one for 1: that call and all later ones
     /// are refused and do nothing. It takes the place of another stop; for 0 none comes.
     pub fn stop_at(&mut self, n: u32)
-        ensures stop { self.new.plan.stop ≡ calls_before n }
-        ensures fail { self.new.plan.fail ≡ self.old.plan.fail }
-        ensures content { self.new.content ≡ self.old.content }
-        ensures first { self.new.first ≡ self.old.first }
-        ensures log { self.new.log ≡ self.old.log }
-        ensures failures { self.new.failures ≡ self.old.failures }
+        ensures stop { stop_in self.new ≡ calls_before n }
+        ensures fail { fail_in self.new ≡ fail_in self.old }
+        ensures history { SameHistory self.old self.new }
+        ensures failures { failures_in self.new ≡ failures_in self.old }
+        ensures past_ends { past_ends_in self.new ≡ past_ends_in self.old }
     {
         self.plan.stop = n.checked_sub(1);
     }
@@ -128,8 +131,8 @@ impl MemoryDisk {
     /// One of the contents that a stop may leave now. Calls that were refused since a stop did nothing, so
     /// that it is as of the moment before them.
     pub fn stop(&self, pick: Pick) -> Result<Vec<u8>, AllocError>
-        ensures left { IfOk result (λ c. MayLeave (state_of self.now.content.items self.now.first.items self.now.log.items) c.items) }
-        ensures picked { IfOk result (λ c. Picks pick (state_of self.now.content.items self.now.first.items self.now.log.items) c.items) }
+        ensures left { IfOk result (λ c. MayLeave (state_in self.now) c.items) }
+        ensures picked { IfOk result (λ c. Picks pick (state_in self.now) c.items) }
     {
         match pick {
             Pick::Old => base(&self.first, &self.log).to_vec(self.alloc),
@@ -140,13 +143,18 @@ impl MemoryDisk {
 }
 
 impl Disk for MemoryDisk {
-    ghost state = { λ disk. state_of disk.content.items disk.first.items disk.log.items };
+    ghost use Rattle.state_file.specs.MemoryDiskWords.{left_in, moment_in, state_in};
+    ghost use Rattle.state_file.specs.MemoryDiskWords.{fail_in, failures_in, next_fate, past_ends_in, stop_in};
 
-    ghost moment = { λ disk. length disk.log.items };
+    ghost state = { state_in };
 
-    ghost left_since = { λ disk. LeftSince disk.first.items disk.log.items };
+    ghost moment = { moment_in };
 
-    ghost failures = { λ disk. disk.failures };
+    ghost left_since = { left_in };
+
+    ghost failures = { failures_in };
+
+    ghost past_ends = { past_ends_in };
 
     ghost honest = { λ _. true };
 
@@ -157,14 +165,17 @@ impl Disk for MemoryDisk {
     ghost only_now = { λ disk c _ since. left_only_now disk.first.items disk.log.items c since };
 
     fn len(&mut self) -> Result<u64, DiskFault>
-        ensures value { result ≡ answer_of (fate_of self.old.plan.stop self.old.plan.fail) (Ok (length self.old.content.items)) }
-        ensures length { IsTrue true → IfOk result (λ n. n ≡ length self.old.content.items) }
-        ensures stays { IsTrue true → state_of self.new.content.items self.new.first.items self.new.log.items ≡ state_of self.old.content.items self.old.first.items self.old.log.items }
-        ensures time { IsTrue true → Elapses (length self.old.log.items) (length self.new.log.items) (LeftSince self.old.first.items self.old.log.items) (LeftSince self.new.first.items self.new.log.items) (MayLeave (state_of self.new.content.items self.new.first.items self.new.log.items)) }
-        ensures failures { CountsFailure self.old.failures self.new.failures result }
+        ensures value { result ≡ answer_of (next_fate self.old) (Ok (length (state_in self.old).content)) }
+        ensures length { IsTrue true → IfOk result (λ n. n ≡ length (state_in self.old).content) }
+        ensures stays { IsTrue true → state_in self.new ≡ state_in self.old }
+        ensures time { IsTrue true →
+            Elapses (moment_in self.old) (moment_in self.new) (left_in self.old) (left_in self.new)
+            (MayLeave (state_in self.new)) }
+        ensures failures { CountsFailure (failures_in self.old) (failures_in self.new) result }
+        ensures past_ends { past_ends_in self.new ≡ past_ends_in self.old }
         ensures honest { true ≡ true }
-        ensures stop { self.new.plan.stop ≡ stop_after self.old.plan.stop }
-        ensures fail { self.new.plan.fail ≡ fail_after self.old.plan.fail }
+        ensures stop { stop_in self.new ≡ stop_after (stop_in self.old) }
+        ensures fail { fail_in self.new ≡ fail_after (fail_in self.old) }
     {
         if self.plan.next() != Fate::Runs {
             return refuse(&mut self.failures, DiskFault::Failed);
@@ -173,15 +184,23 @@ impl Disk for MemoryDisk {
     }
 
     fn read_at(&mut self, at: u64, into: &mut [u8]) -> Result<(), DiskFault>
-        ensures value { result ≡ answer_of (fate_of self.old.plan.stop self.old.plan.fail) (if nat_le (at + length into.old) (length self.old.content.items) then Ok tt else Err DiskFault.PastEnd) }
-        ensures within { IsTrue true → OnOk result (at + length into.old ≤ length self.old.content.items) }
-        ensures bytes { IsTrue true → OnOk result (into.new ≡ slice_range self.old.content.items at (at + length into.old)) }
-        ensures stays { IsTrue true → state_of self.new.content.items self.new.first.items self.new.log.items ≡ state_of self.old.content.items self.old.first.items self.old.log.items }
-        ensures time { IsTrue true → Elapses (length self.old.log.items) (length self.new.log.items) (LeftSince self.old.first.items self.old.log.items) (LeftSince self.new.first.items self.new.log.items) (MayLeave (state_of self.new.content.items self.new.first.items self.new.log.items)) }
-        ensures failures { CountsFailure self.old.failures self.new.failures result }
+        ensures value { result ≡ answer_of (next_fate self.old)
+            (if nat_le (at + length into.old) (length (state_in self.old).content) then Ok tt else Err
+            DiskFault.PastEnd) }
+        ensures within { IsTrue true → OnOk result (at + length into.old ≤ length (state_in self.old).content) }
+        ensures bytes { IsTrue true →
+            OnOk result (into.new ≡ slice_range (state_in self.old).content at (at + length into.old)) }
+        ensures past_end { IsTrue true → result ≡ Err DiskFault.PastEnd →
+            length (state_in self.old).content < at + length into.old }
+        ensures past_ends { CountsPastEnd (past_ends_in self.old) (past_ends_in self.new) result }
+        ensures stays { IsTrue true → state_in self.new ≡ state_in self.old }
+        ensures time { IsTrue true →
+            Elapses (moment_in self.old) (moment_in self.new) (left_in self.old) (left_in self.new)
+            (MayLeave (state_in self.new)) }
+        ensures failures { CountsFailure (failures_in self.old) (failures_in self.new) result }
         ensures honest { true ≡ true }
-        ensures stop { self.new.plan.stop ≡ stop_after self.old.plan.stop }
-        ensures fail { self.new.plan.fail ≡ fail_after self.old.plan.fail }
+        ensures stop { stop_in self.new ≡ stop_after (stop_in self.old) }
+        ensures fail { fail_in self.new ≡ fail_after (fail_in self.old) }
     {
         if self.plan.next() != Fate::Runs {
             return refuse(&mut self.failures, DiskFault::Failed);
@@ -191,18 +210,24 @@ impl Disk for MemoryDisk {
                 into.copy_from_slice(part);
                 Ok(())
             }
-            None => refuse(&mut self.failures, DiskFault::PastEnd),
+            None => {
+                self.past_ends.add_one();
+                refuse(&mut self.failures, DiskFault::PastEnd)
+            }
         }
     }
 
     fn write_at(&mut self, at: u64, bytes: &[u8]) -> Result<(), DiskFault>
-        ensures stores { Stores at bytes.now (state_of self.old.content.items self.old.first.items self.old.log.items) (state_of self.new.content.items self.new.first.items self.new.log.items) (fate_of self.old.plan.stop self.old.plan.fail) result }
-        ensures written { IsTrue true → Writes at bytes.now (state_of self.old.content.items self.old.first.items self.old.log.items) (state_of self.new.content.items self.new.first.items self.new.log.items) result }
-        ensures time { IsTrue true → Elapses (length self.old.log.items) (length self.new.log.items) (LeftSince self.old.first.items self.old.log.items) (LeftSince self.new.first.items self.new.log.items) (MayLeave (state_of self.new.content.items self.new.first.items self.new.log.items)) }
-        ensures failures { CountsFailure self.old.failures self.new.failures result }
+        ensures stores { Stores at bytes.now (state_in self.old) (state_in self.new) (next_fate self.old) result }
+        ensures written { IsTrue true → Writes at bytes.now (state_in self.old) (state_in self.new) result }
+        ensures time { IsTrue true →
+            Elapses (moment_in self.old) (moment_in self.new) (left_in self.old) (left_in self.new)
+            (MayLeave (state_in self.new)) }
+        ensures failures { CountsFailure (failures_in self.old) (failures_in self.new) result }
+        ensures past_ends { past_ends_in self.new ≡ past_ends_in self.old }
         ensures honest { true ≡ true }
-        ensures stop { self.new.plan.stop ≡ stop_after self.old.plan.stop }
-        ensures fail { self.new.plan.fail ≡ fail_after self.old.plan.fail }
+        ensures stop { stop_in self.new ≡ stop_after (stop_in self.old) }
+        ensures fail { fail_in self.new ≡ fail_after (fail_in self.old) }
     {
         match self.plan.next() {
             Fate::Runs => match write(&mut self.content, &mut self.log, at, bytes, bytes.len()) {
@@ -224,13 +249,16 @@ impl Disk for MemoryDisk {
     }
 
     fn sync(&mut self) -> Result<(), DiskFault>
-        ensures flushes { Flushes (state_of self.old.content.items self.old.first.items self.old.log.items) (state_of self.new.content.items self.new.first.items self.new.log.items) (fate_of self.old.plan.stop self.old.plan.fail) result }
-        ensures synced { IsTrue true → Syncs (state_of self.old.content.items self.old.first.items self.old.log.items) (state_of self.new.content.items self.new.first.items self.new.log.items) result }
-        ensures time { IsTrue true → Elapses (length self.old.log.items) (length self.new.log.items) (LeftSince self.old.first.items self.old.log.items) (LeftSince self.new.first.items self.new.log.items) (MayLeave (state_of self.new.content.items self.new.first.items self.new.log.items)) }
-        ensures failures { CountsFailure self.old.failures self.new.failures result }
+        ensures flushes { Flushes (state_in self.old) (state_in self.new) (next_fate self.old) result }
+        ensures synced { IsTrue true → Syncs (state_in self.old) (state_in self.new) result }
+        ensures time { IsTrue true →
+            Elapses (moment_in self.old) (moment_in self.new) (left_in self.old) (left_in self.new)
+            (MayLeave (state_in self.new)) }
+        ensures failures { CountsFailure (failures_in self.old) (failures_in self.new) result }
+        ensures past_ends { past_ends_in self.new ≡ past_ends_in self.old }
         ensures honest { true ≡ true }
-        ensures stop { self.new.plan.stop ≡ stop_after self.old.plan.stop }
-        ensures fail { self.new.plan.fail ≡ fail_after self.old.plan.fail }
+        ensures stop { stop_in self.new ≡ stop_after (stop_in self.old) }
+        ensures fail { fail_in self.new ≡ fail_after (fail_in self.old) }
     {
         if self.plan.next() != Fate::Runs {
             return refuse(&mut self.failures, DiskFault::Failed);
@@ -310,7 +338,8 @@ fn filled(alloc: Global, base: &[u8], log: &[Entry], byte: u8) -> Result<Vec<u8>
 
 // So many bytes from a place on, if they are there.
 fn part(content: &[u8], at: u64, len: usize) -> Option<&[u8]>
-    ensures { MatchOption result (length content.now < at + len) (λ p. (at + len ≤ length content.now) × (p.now ≡ slice_range content.now at (at + len))) }
+    ensures { MatchOption result (length content.now < at + len)
+        (λ p. (at + len ≤ length content.now) × (p.now ≡ slice_range content.now at (at + len))) }
 {
     let at = usize::try_from(at).ok()?;
     content.get(at..at.checked_add(len)?)
@@ -353,10 +382,17 @@ fn overlay(content: &mut Vec<u8>, at: u64, bytes: &[u8]) -> Result<(), AllocErro
 
 fn overwrite(content: &mut Vec<u8>, at: usize, bytes: &[u8]) -> Result<(), AllocError>
     ensures len { OnOk result (length content.new.items ≡ max (length content.old.items) (at + length bytes.now)) }
-    ensures put { OnOk result ((i : ℕ) → i < length bytes.now → slice_index content.new.items (at + i) ≡ slice_index bytes.now i) }
-    ensures before { OnOk result ((i : ℕ) → i < length content.old.items → i < at → slice_index content.new.items i ≡ slice_index content.old.items i) }
-    ensures behind { OnOk result ((i : ℕ) → i < length content.old.items → at + length bytes.now ≤ i → slice_index content.new.items i ≡ slice_index content.old.items i) }
-    ensures gap { OnOk result ((i : ℕ) → length content.old.items ≤ i → i < at → i < length content.new.items → slice_index content.new.items i ≡ 0) }
+    ensures put { OnOk result
+        ((i : ℕ) → i < length bytes.now → slice_index content.new.items (at + i) ≡ slice_index bytes.now i) }
+    ensures before { OnOk result
+        ((i : ℕ) → i < length content.old.items → i < at →
+        slice_index content.new.items i ≡ slice_index content.old.items i) }
+    ensures behind { OnOk result
+        ((i : ℕ) → i < length content.old.items → at + length bytes.now ≤ i →
+        slice_index content.new.items i ≡ slice_index content.old.items i) }
+    ensures gap { OnOk result
+        ((i : ℕ) → length content.old.items ≤ i → i < at → i < length content.new.items →
+        slice_index content.new.items i ≡ 0) }
     ensures content_err { OnErr result (content.new.items ≡ content.old.items) }
 {
     let end = at.checked_add(bytes.len()).ok_or(AllocError)?;
@@ -369,7 +405,8 @@ fn overwrite(content: &mut Vec<u8>, at: usize, bytes: &[u8]) -> Result<(), Alloc
 
 // Logs a sync.
 fn keep(alloc: Global, content: &[u8], log: &mut Vec<Entry>) -> Result<(), AllocError>
-    ensures log { OnOk result ((copy : _) × (copy.items ≡ content.now) × (log.new.items ≡ log.old.items ++ Entry.Synced copy ∷ [])) }
+    ensures log { OnOk result
+        ((copy : _) × (copy.items ≡ content.now) × (log.new.items ≡ log.old.items ++ Entry.Synced copy ∷ [])) }
     ensures log_err { OnErr result (log.new.items ≡ log.old.items) }
 {
     let copy = content.to_vec(alloc)?;

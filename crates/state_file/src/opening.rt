@@ -1,8 +1,8 @@
 //! What stands in a file: its slots are read one after the other, up to the first whose gate is closed.
 
-ghost use Rattle.std.specs.Prelude.{◌≡◌, ◌+◌, ◌*◌, ◌-◌, ◌^◌, ◌<◌, ◌==◌, ◌∷◌, [], ◌++◌, IsTrue, IfOk, IfErr, OnOk, MatchOption, length, replicate, slice_index};
+ghost use Rattle.std.specs.Prelude.{◌≡◌, ◌+◌, ◌*◌, ◌-◌, ◌^◌, ◌<◌, ◌≤◌, ◌==◌, ◌∷◌, [], ◌++◌, IsTrue, IfOk, IfErr, OnOk, MatchOption, length, replicate, slice_index};
 ghost use Rattle.typecodes.specs.Layout.{Spells};
-ghost use Rattle.state_file.specs.Contents.{fields_at, previous_tag, tag_at, tag_of};
+ghost use Rattle.state_file.specs.Contents.{fields_at, open_value, previous_tag, tag_at, tag_of};
 ghost use Rattle.state_file.specs.Slots.{slot_record};
 ghost use Rattle.state_file.specs.declared.record.Record.{Record as Entry};
 ghost use Rattle.state_file.specs.Disk.{settled, MayLeave, CountsFailure};
@@ -10,7 +10,7 @@ ghost use Rattle.state_file.specs.Moments.{LeavesOnly};
 ghost use Rattle.state_file.specs.Opened.{CountsOpening, HasEntry, HasSlot, IsFound, KeepsContent, OnlyReads, StartsWithKey, Tells, TellsSlot};
 
 use crate::disk::{Disk, DiskFault};
-use crate::gates::{SLOT, settle};
+use crate::gates::{SLOT, read_within, settle};
 use crate::record::Record;
 use crate::record_list::RecordList;
 use crate::slot::{begins_key, is_open, read_record, tag, version};
@@ -30,7 +30,7 @@ pub enum OpenFault {
     NotKeyFile,
     /// 42: the version of the Key isn't known.
     #[error("the version of the key file is not known")]
-    UnknownVersion,
+    Version,
     /// 43: this slot, and none before it, is open and spells no record, or its tag is wrong, or the next gate
     /// lies past the end.
     #[error("slot {0} is damaged")]
@@ -74,47 +74,57 @@ struct Body {
 
 // Whether the gate of slot k is open.
 fn read_gate<D: Disk>(disk: &mut D, k: u32) -> Result<bool, DiskFault>
-    ensures within { IsTrue (D.honest disk.old) → OnOk result (256 * k < length (D.state disk.old).content) }
-    ensures gate { IsTrue (D.honest disk.old) → IfOk result (λ opened. opened ≡ (slice_index (D.state disk.old).content (256 * k) == 165)) }
+    requires { IsTrue (D.honest disk.old) → 256 * k < length (D.state disk.old).content }
+    ensures gate { IsTrue (D.honest disk.old) →
+        IfOk result (λ opened. opened ≡ (slice_index (D.state disk.old).content (256 * k) == open_value)) }
     ensures reads { IsTrue (D.honest disk.old) → OnlyReads D.state D.moment D.left_since disk.old disk.new }
     ensures failures { CountsFailure (D.failures disk.old) (D.failures disk.new) result }
+    ensures past_ends { IsTrue (D.honest disk.old) → D.past_ends disk.new ≡ D.past_ends disk.old }
     ensures honest { D.honest disk.new ≡ D.honest disk.old }
 {
     let mut gate = [0];
-    disk.read_at(SLOT * u64::from(k), &mut gate)?;
+    read_within(disk, SLOT * u64::from(k), &mut gate)?;
     Ok(is_open(gate[0]))
 }
 
 // The bytes 1 to 223 of slot k.
 fn read_fields<D: Disk>(disk: &mut D, k: u32) -> Result<[u8; 223], DiskFault>
-    ensures fields { IsTrue (D.honest disk.old) → IfOk result (λ fields. fields ≡ fields_at (D.state disk.old).content k) }
+    requires { IsTrue (D.honest disk.old) → 256 * k + 224 ≤ length (D.state disk.old).content }
+    ensures fields { IsTrue (D.honest disk.old) →
+        IfOk result (λ fields. fields ≡ fields_at (D.state disk.old).content k) }
     ensures reads { IsTrue (D.honest disk.old) → OnlyReads D.state D.moment D.left_since disk.old disk.new }
     ensures failures { CountsFailure (D.failures disk.old) (D.failures disk.new) result }
+    ensures past_ends { IsTrue (D.honest disk.old) → D.past_ends disk.new ≡ D.past_ends disk.old }
     ensures honest { D.honest disk.new ≡ D.honest disk.old }
 {
     let mut fields = [0; 223];
-    disk.read_at(SLOT * u64::from(k) + 1, &mut fields)?;
+    read_within(disk, SLOT * u64::from(k) + 1, &mut fields)?;
     Ok(fields)
 }
 
 /// The bytes 224 to 255 of slot k.
 pub(crate) fn read_tag<D: Disk>(disk: &mut D, k: u32) -> Result<[u8; 32], DiskFault>
+    requires { IsTrue (D.honest disk.old) → 256 * k + 256 ≤ length (D.state disk.old).content }
     ensures tag { IsTrue (D.honest disk.old) → IfOk result (λ tag. tag ≡ tag_at (D.state disk.old).content k) }
     ensures reads { IsTrue (D.honest disk.old) → OnlyReads D.state D.moment D.left_since disk.old disk.new }
     ensures failures { CountsFailure (D.failures disk.old) (D.failures disk.new) result }
+    ensures past_ends { IsTrue (D.honest disk.old) → D.past_ends disk.new ≡ D.past_ends disk.old }
     ensures honest { D.honest disk.new ≡ D.honest disk.old }
 {
     let mut tag = [0; 32];
-    disk.read_at(SLOT * u64::from(k) + 224, &mut tag)?;
+    read_within(disk, SLOT * u64::from(k) + 224, &mut tag)?;
     Ok(tag)
 }
 
 // The fields of slot k and its tag.
 fn read_body<D: Disk>(disk: &mut D, k: u32) -> Result<Body, DiskFault>
-    ensures fields { IsTrue (D.honest disk.old) → IfOk result (λ body. body.fields ≡ fields_at (D.state disk.old).content k) }
+    requires { IsTrue (D.honest disk.old) → 256 * k + 256 ≤ length (D.state disk.old).content }
+    ensures fields { IsTrue (D.honest disk.old) →
+        IfOk result (λ body. body.fields ≡ fields_at (D.state disk.old).content k) }
     ensures tag { IsTrue (D.honest disk.old) → IfOk result (λ body. body.tag ≡ tag_at (D.state disk.old).content k) }
     ensures reads { IsTrue (D.honest disk.old) → OnlyReads D.state D.moment D.left_since disk.old disk.new }
     ensures failures { CountsFailure (D.failures disk.old) (D.failures disk.new) result }
+    ensures past_ends { IsTrue (D.honest disk.old) → D.past_ends disk.new ≡ D.past_ends disk.old }
     ensures honest { D.honest disk.new ≡ D.honest disk.old }
 {
     let fields = read_fields(disk, k)?;
@@ -124,9 +134,11 @@ fn read_body<D: Disk>(disk: &mut D, k: u32) -> Result<Body, DiskFault>
 
 // The tag of the slot before slot k; 32 zeros before slot 0.
 fn read_previous_tag<D: Disk>(disk: &mut D, k: u32) -> Result<[u8; 32], DiskFault>
+    requires { IsTrue (D.honest disk.old) → 256 * k ≤ length (D.state disk.old).content }
     ensures tag { IsTrue (D.honest disk.old) → IfOk result (λ tag. tag ≡ previous_tag (D.state disk.old).content k) }
     ensures reads { IsTrue (D.honest disk.old) → OnlyReads D.state D.moment D.left_since disk.old disk.new }
     ensures failures { CountsFailure (D.failures disk.old) (D.failures disk.new) result }
+    ensures past_ends { IsTrue (D.honest disk.old) → D.past_ends disk.new ≡ D.past_ends disk.old }
     ensures honest { D.honest disk.new ≡ D.honest disk.old }
 {
     match k.checked_sub(1) {
@@ -137,9 +149,11 @@ fn read_previous_tag<D: Disk>(disk: &mut D, k: u32) -> Result<[u8; 32], DiskFaul
 
 /// The record of slot k, if it spells one and its tag is right.
 pub(crate) fn read_entry<D: Disk>(disk: &mut D, k: u32) -> Result<Option<Record>, DiskFault>
+    requires { IsTrue (D.honest disk.old) → 256 * k + 256 ≤ length (D.state disk.old).content }
     ensures entry { IsTrue (D.honest disk.old) → IfOk result (HasEntry (D.state disk.old).content k) }
     ensures reads { IsTrue (D.honest disk.old) → OnlyReads D.state D.moment D.left_since disk.old disk.new }
     ensures failures { CountsFailure (D.failures disk.old) (D.failures disk.new) result }
+    ensures past_ends { IsTrue (D.honest disk.old) → D.past_ends disk.new ≡ D.past_ends disk.old }
     ensures honest { D.honest disk.new ≡ D.honest disk.old }
 {
     let previous = read_previous_tag(disk, k)?;
@@ -157,10 +171,12 @@ fn read_slot<D: Disk>(
     requires len { IsTrue (D.honest disk.old) → len ≡ length (D.state disk.old).content }
     requires previous { IsTrue (D.honest disk.old) → previous.now ≡ previous_tag (D.state disk.old).content k }
     ensures few { OnOk result (k < 2 ^ 31) }
-    ensures slot { IsTrue (D.honest disk.old) → IfOk result (λ slot. HasSlot (D.state disk.old).content k slot.entry slot.tag) }
+    ensures slot { IsTrue (D.honest disk.old) →
+        IfOk result (λ slot. HasSlot (D.state disk.old).content k slot.entry slot.tag) }
     ensures fault { IsTrue (D.honest disk.old) → IfErr result (TellsSlot (D.state disk.old).content k) }
     ensures reads { IsTrue (D.honest disk.old) → OnlyReads D.state D.moment D.left_since disk.old disk.new }
     ensures failures { CountsOpening (D.failures disk.old) (D.failures disk.new) result }
+    ensures past_ends { IsTrue (D.honest disk.old) → D.past_ends disk.new ≡ D.past_ends disk.old }
     ensures honest { D.honest disk.new ≡ D.honest disk.old }
 {
     if k >= MOST || SLOT * (u64::from(k) + 1) >= len {
@@ -178,7 +194,10 @@ fn read_slot<D: Disk>(
 
 // The record of a slot behind one of that tag, if it spells one and its tag is that of it.
 fn entry_of(previous: &[u8; 32], body: &Body) -> Option<Record>
-    ensures { MatchOption result ((entry : Entry) → Spells slot_record entry body.now.fields → body.now.tag ≡ tag_of previous.now body.now.fields → ⊥) (λ entry. Spells slot_record entry body.now.fields × (body.now.tag ≡ tag_of previous.now body.now.fields)) }
+    ensures { MatchOption result
+        ((entry : Entry) → Spells slot_record entry body.now.fields →
+        body.now.tag ≡ tag_of previous.now body.now.fields → ⊥)
+        (λ entry. Spells slot_record entry body.now.fields × (body.now.tag ≡ tag_of previous.now body.now.fields)) }
 {
     if body.tag == tag(previous, &body.fields) {
         read_record(&body.fields)
@@ -194,6 +213,7 @@ fn check_key<D: Disk>(disk: &mut D, len: u64) -> Result<(), OpenFault>
     ensures fault { IsTrue (D.honest disk.old) → IfErr result (Tells (D.state disk.old).content) }
     ensures reads { IsTrue (D.honest disk.old) → OnlyReads D.state D.moment D.left_since disk.old disk.new }
     ensures failures { CountsOpening (D.failures disk.old) (D.failures disk.new) result }
+    ensures past_ends { IsTrue (D.honest disk.old) → D.past_ends disk.new ≡ D.past_ends disk.old }
     ensures honest { D.honest disk.new ≡ D.honest disk.old }
 {
     if len < SLOT + 1 {
@@ -206,7 +226,7 @@ fn check_key<D: Disk>(disk: &mut D, len: u64) -> Result<(), OpenFault>
     if !begins_key(&fields) {
         Err(OpenFault::NotKeyFile)
     } else if version(&fields).is_none() {
-        Err(OpenFault::UnknownVersion)
+        Err(OpenFault::Version)
     } else {
         Ok(())
     }
@@ -242,10 +262,13 @@ fn read_slots<D: Disk>(disk: &mut D, len: u64) -> Result<Found, OpenFault>
     requires len { IsTrue (D.honest disk.old) → len ≡ length (D.state disk.old).content }
     requires key { IsTrue (D.honest disk.old) → StartsWithKey (D.state disk.old).content }
     ensures counted { IfOk result (λ found. found.count ≡ length found.records) }
-    ensures found { IsTrue (D.honest disk.old) → IfOk result (λ found. IsFound (D.state disk.old).content found.records found.tag) }
+    ensures few { IfOk result (λ found. found.count ≤ 2 ^ 31) }
+    ensures found { IsTrue (D.honest disk.old) →
+        IfOk result (λ found. IsFound (D.state disk.old).content found.records found.tag) }
     ensures fault { IsTrue (D.honest disk.old) → IfErr result (Tells (D.state disk.old).content) }
     ensures reads { IsTrue (D.honest disk.old) → OnlyReads D.state D.moment D.left_since disk.old disk.new }
     ensures failures { CountsOpening (D.failures disk.old) (D.failures disk.new) result }
+    ensures past_ends { IsTrue (D.honest disk.old) → D.past_ends disk.new ≡ D.past_ends disk.old }
     ensures honest { D.honest disk.new ≡ D.honest disk.old }
 {
     let mut found = Found::none();
@@ -260,12 +283,17 @@ fn read_slots<D: Disk>(disk: &mut D, len: u64) -> Result<Found, OpenFault>
 /// leave.
 pub(crate) fn find_records<D: Disk>(disk: &mut D) -> Result<Found, OpenFault>
     ensures counted { IfOk result (λ found. found.count ≡ length found.records) }
-    ensures found { IsTrue (D.honest disk.old) → IfOk result (λ found. IsFound (D.state disk.old).content found.records found.tag) }
+    ensures few { IfOk result (λ found. found.count ≤ 2 ^ 31) }
+    ensures found { IsTrue (D.honest disk.old) →
+        IfOk result (λ found. IsFound (D.state disk.old).content found.records found.tag) }
     ensures fault { IsTrue (D.honest disk.old) → IfErr result (Tells (D.state disk.old).content) }
     ensures synced { IsTrue (D.honest disk.old) → OnOk result (D.state disk.new ≡ settled (D.state disk.old).content) }
-    ensures kept { IsTrue (D.honest disk.old) → IfErr result (KeepsContent (D.state disk.old).content (D.state disk.new)) }
-    ensures any_moment { IsTrue (D.honest disk.old) → LeavesOnly D.moment D.left_since disk.old disk.new (MayLeave (D.state disk.old)) }
+    ensures kept { IsTrue (D.honest disk.old) →
+        IfErr result (KeepsContent (D.state disk.old).content (D.state disk.new)) }
+    ensures any_moment { IsTrue (D.honest disk.old) →
+        LeavesOnly D.moment D.left_since disk.old disk.new (MayLeave (D.state disk.old)) }
     ensures failures { CountsOpening (D.failures disk.old) (D.failures disk.new) result }
+    ensures past_ends { IsTrue (D.honest disk.old) → D.past_ends disk.new ≡ D.past_ends disk.old }
     ensures honest { D.honest disk.new ≡ D.honest disk.old }
 {
     let len = settle(disk)?;

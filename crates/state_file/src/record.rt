@@ -1,15 +1,14 @@
-//! The records of a key.
+//! The records of a key. None that holds a secret can be printed.
 
 ghost use Rattle.std.specs.Prelude.{◌≡◌};
 ghost use Rattle.typecodes.specs.Types.{named};
 ghost use Rattle.state_file.specs.Slots.{version_code, versions};
 ghost use Rattle.state_file.specs.declared.record.Version.{Version as V};
 
-use crate::levels::Levels;
-use typecodes::{LmsPair, Name, XmssType};
+use typecodes::{Levels, LmsPair, Name, XmssType};
 
 /// One record. A list of them stands for a key and all that it has signed.
-#[derive(Debug, PartialEq, Eq, Drop)]
+#[derive(PartialEq, Eq, Drop)]
 pub enum Record {
     /// The key itself, the first record.
     Key(Key),
@@ -68,7 +67,7 @@ impl Version {
 }
 
 /// A key: what it is made from, and its root.
-#[derive(Debug, PartialEq, Eq, Drop)]
+#[derive(PartialEq, Eq, Drop)]
 pub struct Key {
     /// The version of the file that it begins.
     pub version: Version,
@@ -92,7 +91,7 @@ impl Key {
 }
 
 /// What the leaves of a key are made from, by its scheme.
-#[derive(Debug, PartialEq, Eq, Drop)]
+#[derive(PartialEq, Eq, Drop)]
 pub enum Secret {
     /// One tree (RFC 8554 5).
     Lms {
@@ -162,7 +161,7 @@ impl Secret {
 }
 
 /// A new tree of a lower level of HSS, and the leaf of the tree above that signs its public key.
-#[derive(Clone, Copy, Debug, PartialEq, Eq)]
+#[derive(Clone, Copy, PartialEq, Eq)]
 pub struct Extend {
     /// The level of the new tree, from 1.
     pub level: u8,

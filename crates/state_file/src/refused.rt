@@ -1,7 +1,7 @@
 //! What a refused call gives back.
 
 /// A refusal of a call that takes things by value: why, and the things.
-#[derive(Debug, Drop)]
+#[derive(Drop)]
 pub struct Refused<T, F> {
     pub fault: F,
     pub given: T,

@@ -29,7 +29,7 @@ pub enum StoreFault {
 /// A list of records that grows at its end.
 pub trait Store {
     ghost use Rattle.state_file.specs.declared.record.Record.{Record as R};
-    ghost use Rattle.state_file.specs.Store.{Appends, Loads, is_key};
+    ghost use Rattle.state_file.specs.Store.{Appends, CanFollow, Loads};
 
     // its records
     ghost list: { Self → List R };
@@ -55,25 +55,35 @@ pub trait Store {
 
     /// Record k, or None behind the last.
     fn load(&mut self, k: u32) -> Result<Option<Record>, StoreFault>
-        ensures answer { Loads (honest self.old) (list self.old) (stopped self.old) k (stopped self.new) (failures self.old) (failures self.new) result }
+        ensures answer { Loads (honest self.old) (list self.old) (stopped self.old) k (stopped self.new)
+            (failures self.old)
+            (failures self.new) result }
         ensures same { list self.new ≡ list self.old }
-        ensures any_moment { IsTrue (honest self.old) → stopped self.old ≡ false → LeavesOnly moment left_since self.old self.new (λ left. left ≡ list self.old) }
+        ensures any_moment { IsTrue (honest self.old) → stopped self.old ≡ false →
+            LeavesOnly moment left_since self.old self.new (λ left. left ≡ list self.old) }
         ensures stays { stopped self.old ≡ true → self.new ≡ self.old }
         ensures honest { honest self.new ≡ honest self.old }
         ensures most { most self.new ≡ most self.old };
 
     /// Adds a record at the end; the caller gives a Key where there is none yet. A stop at any moment of it leaves the old records, or these and the new one.
     fn append(&mut self, new: &Record) -> Result<(), StoreFault>
-        requires { length (list self.old) ≡ 0 → is_key new.now ≡ true }
-        ensures any_moment { IsTrue (honest self.old) → stopped self.old ≡ false → LeavesOnly moment left_since self.old self.new (λ left. (left ≡ list self.old) ⊎ (left ≡ list self.old ++ new.now ∷ [])) }
+        requires { CanFollow (list self.old) new.now }
+        ensures any_moment { IsTrue (honest self.old) → stopped self.old ≡ false →
+            LeavesOnly moment left_since self.old self.new
+            (λ left. (left ≡ list self.old) ⊎ (left ≡ list self.old ++ new.now ∷ [])) }
         ensures stays { stopped self.old ≡ true → self.new ≡ self.old }
-        ensures answer { Appends (most self.old) (list self.old) (stopped self.old) new.now (list self.new) (stopped self.new) (failures self.old) (failures self.new) result }
+        ensures answer { Appends (most self.old) (list self.old) (stopped self.old) new.now (list self.new)
+            (stopped self.new)
+            (failures self.old) (failures self.new) result }
         ensures honest { honest self.new ≡ honest self.old }
         ensures most { most self.new ≡ most self.old };
 
     /// How many records the store takes.
     fn limit(&self) -> u32
         ensures { result ≡ most self.now };
+
+    // It never has more records than it takes.
+    ghost few: { (store : Self) → length (list store) ≤ most store };
 
     // Where no call has failed, a stop leaves its list ..
     ghost leaves_list: { (store : Self) (t : ℕ) → IsTrue (honest store) → stopped store ≡ false → t ≤ moment store → left_since store t (list store) };

@@ -1,6 +1,7 @@
 //! The gates of slots.
 
 ghost use Rattle.std.specs.Prelude.{◌≡◌, ◌==◌};
+ghost use Rattle.state_file.specs.Contents.{open_value};
 
 /// The value of an open gate.
 pub(crate) const OPEN: u8 = 0xa5;
@@ -10,7 +11,7 @@ pub(crate) const CLOSED: u8 = 0;
 
 /// Whether a gate is open.
 pub(crate) fn is_open(gate: u8) -> bool
-    ensures { result ≡ (gate == 0xA5) }
+    ensures { result ≡ (gate == open_value) }
 {
     gate == OPEN
 }

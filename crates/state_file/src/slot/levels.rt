@@ -4,9 +4,8 @@ ghost use Rattle.std.specs.Prelude.{◌≡◌, ◌<◌, ◌≤◌, ◌+◌, ◌*
 ghost use Rattle.typecodes.specs.Reading.{read, Gives};
 ghost use Rattle.state_file.specs.Slots.{levels_field, pair_field, pairs};
 
-use crate::levels::Levels;
 use crate::slot::fields::{read_byte_within, read_zeros};
-use typecodes::{Cursor, LmsPair, LmsType, OtsType, ReadFault};
+use typecodes::{Cursor, Levels, LmsPair, LmsType, OtsType, ReadFault};
 
 /// A pair, by its codes.
 #[tactic(auto, using(typecodes::proofs::Steps::reading), unfolding(crate::specs::Slots::pair_field))]

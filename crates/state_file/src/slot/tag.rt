@@ -4,11 +4,9 @@ ghost use Rattle.std.specs.Prelude.{◌≡◌, length};
 ghost use Rattle.state_file.specs.Contents.{begins_key, tag_of, version_of};
 
 use crate::record::Version;
+use crate::slot::reading::MAGIC;
 use byteorder::{BigEndian, ByteOrder};
 use sha2::{Digest, Sha256};
-
-// What the bytes 1 to 223 of a Key's slot begin with.
-const KIND_AND_MAGIC: &[u8; 9] = b"\x01HBSSTATE";
 
 /// The tag of a slot whose bytes 1 to 223 are these, behind a slot of the previous tag.
 pub(crate) fn tag(previous: &[u8; 32], fields: &[u8]) -> [u8; 32]
@@ -25,7 +23,7 @@ pub(crate) fn begins_key(fields: &[u8]) -> bool
     requires { length fields.now ≡ 223 }
     ensures { result ≡ begins_key fields.now }
 {
-    fields[..9] == KIND_AND_MAGIC[..]
+    fields[0] == 1 && fields[1..9] == MAGIC[..]
 }
 
 /// The version that the fields of a Key tell, if it is known.

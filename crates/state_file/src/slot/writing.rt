@@ -7,11 +7,10 @@ ghost use Rattle.typecodes.specs.Fields.{block, number, lms_type, ots_type, xmss
 ghost use Rattle.state_file.specs.Slots.{byte, byte_within, extend_fields, bound_fields, exactly, fields_of, hss_secret, key_fields, levels_field, lms_secret, moved_fields, name_field, pair_field, pairs, retire_fields, secret_of, slot_record, version_field, xmss_secret, zeros};
 ghost use Rattle.state_file.specs.Writing.{Writes, kind_of, scheme_of};
 
-use crate::levels::Levels;
 use crate::record::{Bound, Extend, Key, Record, Secret, Version};
 use crate::slot::reading::MAGIC;
 use arrayvec::ArrayVec;
-use typecodes::{LmsPair, Name, XmssType};
+use typecodes::{Levels, LmsPair, Name, XmssType};
 
 type Fields = ArrayVec<u8, 223>;
 

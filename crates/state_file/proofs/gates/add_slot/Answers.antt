@@ -1,5 +1,6 @@
-use Rattle.std.proofs.Common.{◌≡◌, ◌⊎◌, inl, ◌*◌, ◌∷◌, ◌++◌, length, ◌∙◌, arith}
-use Rattle.state_file.specs.Gates.{IsClosedAfter, IsAtRest}
+use Rattle.std.proofs.Common.{◌≡◌, ◌⊎◌, inl, ℕ, ◌*◌, ◌∷◌, ◌++◌, length, ◌∙◌, subst, arith}
+use Rattle.state_file.specs.Gates.{AddsSlot, IsClosedAfter, IsAtRest}
+use Rattle.state_file.proofs.Adding.{slot_added}
 use Rattle.state_file.proofs.Moments.{weaker, joined, ok_along}
 use Rattle.state_file.proofs.SlotWrites.{stage_leaves, stage_done, gate_leaves, gate_done}
 use Rattle.state_file.proofs.gates.add_slot.Goals as goal
@@ -16,7 +17,7 @@ returns-clause-added g c front honest rest size =
     let len : length front ≡ 256 * c.from-gate.result = omega arith in
     let written = c.in_ok-write_synced.ensures.written honest in
     let staged = stage_done front c.args.body.now (256 * c.from-gate.result) len (g.D.Disk.state c.args.disk.now).content (g.D.Disk.state c.write_synced.new.disk).content c.with_gate.result
-    rest.ends c.with_gate.ensures written.1 written.2 in
+    rest.ends c.with_gate.ensures.bytes written.1 written.2 in
     ok_along c.write_synced-2.result _ (IsAtRest (front ++ 165 ∷ c.args.body.now) (g.D.Disk.state c.write_synced-2.new.disk))
     (λ done. record {
       synced = done.0;
@@ -33,9 +34,21 @@ returns-clause-any_moment g c front honest rest size =
     (c.write_synced.ensures.any_moment honest rest.synced) in
     let written = c.in_ok-write_synced.ensures.written honest in
     let staged = stage_done front c.args.body.now (256 * c.from-gate.result) len (g.D.Disk.state c.args.disk.now).content (g.D.Disk.state c.write_synced.new.disk).content c.with_gate.result
-    rest.ends c.with_gate.ensures written.1 written.2 in
+    rest.ends c.with_gate.ensures.bytes written.1 written.2 in
     let second =
     weaker g.D.Disk.moment g.D.Disk.left_since c.write_synced.new.disk c.write_synced-2.new.disk _ (λ left. IsClosedAfter front left ⊎ IsClosedAfter (front ++ 165 ∷ c.args.body.now) left)
     (λ left changes. gate_leaves front c.args.body.now (256 * c.from-gate.result) len (g.D.Disk.state c.write_synced.new.disk).content left staged changes)
     (c.write_synced-2.ensures.any_moment (c.write_synced.ensures.honest ∙ honest) written.0) in
     joined g.D.Disk.moment g.D.Disk.left_since c.args.disk.now c.write_synced.new.disk c.write_synced-2.new.disk _ first second
+
+pub returns-clause-adds : goal.returns-clause-adds
+returns-clause-adds g c honest =
+    let content = (g.D.Disk.state c.args.disk.now).content in
+    let mid = (g.D.Disk.state c.write_synced.new.disk).content in
+    let after = g.D.Disk.state c.write_synced-2.new.disk in
+    let same : c.from-gate.result ≡ c.args.slot = omega arith in
+    let written = c.in_ok-write_synced.ensures.written honest in
+    ok_along c.write_synced-2.result _ (AddsSlot c.args.slot content after)
+    (λ done. subst (λ (n : ℕ). AddsSlot n content after) same
+    (slot_added c.from-gate.result c.args.body.now c.with_gate.result content mid after c.with_gate.ensures.body c.with_gate.ensures.bytes written.1 written.2 done.0 done.1))
+    (c.write_synced-2.ensures.written (c.write_synced.ensures.honest ∙ honest))

@@ -11,6 +11,7 @@ invariant-loop-disk g l = record {
   few : l.found.count ≤ 2 ^ 31;
   honest : g.D.Disk.honest l.disk ≡ g.D.Disk.honest l.initial.disk;
   failures : g.D.Disk.failures l.disk ≡ g.D.Disk.failures l.initial.disk;
+  past_ends : IsTrue (g.D.Disk.honest l.initial.disk) → g.D.Disk.past_ends l.disk ≡ g.D.Disk.past_ends l.initial.disk;
   reads : IsTrue (g.D.Disk.honest l.initial.disk) → OnlyReads g.D.Disk.state g.D.Disk.moment g.D.Disk.left_since l.initial.disk l.disk;
   found : IsTrue (g.D.Disk.honest l.initial.disk) → BeginsFound (g.D.Disk.state l.initial.disk).content l.found.count l.found.records l.found.tag;
 }

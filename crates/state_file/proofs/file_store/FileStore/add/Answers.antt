@@ -1,6 +1,7 @@
-use Rattle.std.proofs.Common.{inl, ◌*◌, [], ◌∷◌, length, take, sym, ◌∙◌, ap, arith, length-append}
+use Rattle.std.proofs.Common.{inl, ◌*◌, [], ◌∷◌, ℕ, length, take, sym, ◌∙◌, ap, subst, arith, length-append}
 use Rattle.state_file.proofs.Moments.{started, weaker}
 use Rattle.state_file.specs.FileLaws.{kept_leaves}
+use Rattle.state_file.specs.Gates.{AddsSlot}
 use Rattle.state_file.proofs.Kept.{follows_key, kept_rests, kept_size, kept_grows, added_leaves}
 use Rattle.state_file.proofs.file_store.FileStore.add.Goals as goal
 
@@ -13,6 +14,7 @@ returns-then-self-ge-MOST-clause-any_moment g c honest running =
 pub invariant_of-self : goal.invariant_of-self
 invariant_of-self g c = record {
   counted = omega (arith, ap length c.push.ensures, length-append c.args.self.now.records (c.args.new.now ∷ []), c.args.self.now.counted);
+  few = omega (arith, ap length c.push.ensures, length-append c.args.self.now.records (c.args.new.now ∷ []), c.args.self.now.counted);
   kept = λ honest running.
       let self = c.args.self.now in
       let state = g.D.Disk.state self.disk in
@@ -46,3 +48,7 @@ returns-in-Err-clause-any_moment g c honest running =
     (added_leaves self.records self.tag state self.count c.args.new.now c.record_bytes-fields.result c.tag-next_tag.result c.joined.result self.counted (omega arith) (follows_key c.args.self.now.records c.args.new.now kept.file.first c.requires)
     c.joined.ensures.fields c.joined.ensures.tag c.joined.ensures.bytes c.record_bytes-fields.ensures c.tag-next_tag.ensures kept)
     (c.add_slot.ensures.any_moment front honest (kept_rests self.records self.tag state kept) (kept_size self.records self.tag state self.count kept self.counted))
+
+pub returns-in-Ok-clause-adds : goal.returns-in-Ok-clause-adds
+returns-in-Ok-clause-adds g c honest =
+    subst (λ (n : ℕ). AddsSlot n (g.D.Disk.state c.args.self.now.disk).content (g.D.Disk.state c.add_slot.new.disk)) c.args.self.now.counted (c.in-Ok.ensures.adds honest)

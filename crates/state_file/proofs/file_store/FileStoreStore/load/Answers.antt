@@ -1,5 +1,4 @@
-use Rattle.std.proofs.Common.{◌≡◌, ℕ, List, Some, refl, sym, ◌∙◌, ap, subst, arith, rules}
-use Rattle.typecodes.specs.Layout.{Spells}
+use Rattle.std.proofs.Common.{◌≡◌, Some, refl, ◌∙◌, ap, arith, rules}
 use Rattle.typecodes.proofs.Spelling.{one_value}
 use Rattle.state_file.specs.FileLaws.{kept_leaves}
 use Rattle.state_file.specs.Slots.{slot_record}
