@@ -3,15 +3,15 @@
 ghost use Rattle.std.specs.Prelude.{◌≡◌, ◌≤◌, IfOk};
 ghost use Rattle.typecodes.specs.Reading.{Reads};
 
-use crate::levels::number_at;
+use crate::levels::level_count_at;
 use lms::LmsPublic;
-use typecodes::{Cursor, ReadFault};
+use typecodes::{Cursor, LevelCount, ReadFault};
 
 /// The public key of one to eight levels of trees (RFC 8554 6.1).
 #[derive(Clone, Copy, Debug, PartialEq, Eq)]
 pub struct HssPublic {
     /// L, the number of levels, 1 to 8.
-    pub levels: u8,
+    pub levels: LevelCount,
     /// The public key of the top tree.
     pub top: LmsPublic,
 }
@@ -28,7 +28,7 @@ impl HssPublic {
         ensures most { IfOk result (λ key. key.levels ≤ 8) }
     {
         let mut cursor = Cursor::new(bytes);
-        let levels = number_at(&mut cursor, 1, 8)?;
+        let levels = level_count_at(&mut cursor)?;
         let top = LmsPublic::from_cursor(&mut cursor)?;
         cursor.end()?;
         Ok(HssPublic { levels, top })

@@ -1,7 +1,7 @@
 //! A signature of two levels of H5/W8 by Bouncy Castle is made here again, byte for byte, and refused
 //! with its bytes changed.
 
-ghost use Rattle.std.specs.Prelude.{◌≡◌};
+ghost use Rattle.std.specs.Prelude.{◌≤◌};
 
 use crate::{
     HssPublic, HssSigView, Level, signature_len, verify, write_public, write_signature,
@@ -13,7 +13,7 @@ use merkle::{TreeHash, root_from_path};
 use sha2::{Digest, Sha256};
 use std::process::Abort;
 use std::test::Fail;
-use typecodes::{Cause, LmsPair, LmsType, OtsType, ReadFault, Refusal};
+use typecodes::{Cause, LevelCount, LmsPair, LmsType, OtsType, ReadFault, Refusal};
 
 const PAIR: LmsPair = LmsPair {
     tree: LmsType::H5,
@@ -98,10 +98,19 @@ fn level<'a>(
     }
 }
 
-// The signature of the message by both levels, and its key.
-fn signed() -> (HssPublic, [u8; 2644])
-    ensures { result.0.levels ≡ 2 }
+// The count of this number.
+fn level_count(number: u8) -> LevelCount
+    requires least { 1 ≤ number }
+    requires most { number ≤ 8 }
 {
+    match LevelCount::new(number) {
+        Some(count) => count,
+        None => unreachable!(),
+    }
+}
+
+// The signature of the message by both levels, and its key.
+fn signed() -> (HssPublic, [u8; 2644]) {
     let (top_root, top_path) = tree_of(TOP);
     let (bottom_root, bottom_path) = tree_of(BOTTOM);
     let bottom = level(
@@ -117,7 +126,7 @@ fn signed() -> (HssPublic, [u8; 2644])
     let mut signature = [0; 2644];
     write_signature(&[top], &bottom, &mut signature);
     let public = HssPublic {
-        levels: 2,
+        levels: level_count(2),
         top: top.public(),
     };
     (public, signature)
@@ -215,7 +224,7 @@ fn cuts_are_refused(rt: HostRuntime) {
 fn levels_are_compared(rt: HostRuntime) {
     let (public, signature) = signed();
     let one = HssPublic {
-        levels: 1,
+        levels: level_count(1),
         top: public.top,
     };
     assert_eq!(rt; refusal(&rt, &one, &signature), (Refusal::LevelMismatch, 1));
@@ -261,7 +270,7 @@ fn keys_are_read(rt: HostRuntime) {
             cause: Cause::LevelCount,
         };
         assert_eq!(rt;
-            read.ok().map(|key| key.levels),
+            read.ok().map(|key| key.levels.get()),
             known.then_some(levels),
             "{levels} levels"
         );

@@ -24,7 +24,7 @@ pub fn verify(public: &HssPublic, message: &mut &[u8], signature: &[u8]) -> Resu
     ensures message { LeavesMessage public.now message.old.now message.new.now result }
 {
     let view = HssSigView::read(signature).map_err(Refusal::Unreadable)?;
-    if view.levels() != public.levels {
+    if view.levels() != public.levels.get() {
         return Err(Refusal::LevelMismatch);
     }
     let bottom = view.levels() - 1;

@@ -32,14 +32,12 @@ pub fn signature_len(pairs: &[LmsPair]) -> u32
 
 /// Writes a public key, 60 bytes (RFC 8554 6.1).
 pub fn write_public(public: &HssPublic, into: &mut [u8])
-    requires some { 1 ≤ public.now.levels }
-    requires most { public.now.levels ≤ 8 }
-    requires room { length into.old ≡ 60 }
+    requires { length into.old ≡ 60 }
     ensures bytes { into.new ≡ public_bytes public.now }
     // They spell the key.
     ensures spells { Spells public_key public.now into.new }
 {
-    write_number(public.levels, into);
+    write_number(public.levels.get(), into);
     lms::write_public(&public.top, &mut into[4..60]);
 }
 

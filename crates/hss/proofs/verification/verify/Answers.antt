@@ -14,7 +14,7 @@ spelled : (c : After-levels-bottom) → Spells signature (signature_of c.in_ok-v
 spelled c = read_spells _ signature signature_of _ c.read.result _ _ c.read.ensures.reads c.in_ok-view.ensures.cases (λ _ never. never)
 
 count : (c : After-levels-bottom) → level_count (signature_of c.in_ok-view.view) ≡ c.args.public.now.levels
-count c = sym c.levels.ensures.value ∙ c.if-levels-public.false
+count c = sym c.levels.ensures.value ∙ (c.if-levels-get.false ∙ c.get.ensures.value)
 
 -- a level above the bottom is the first that isn't valid
 pub returns-in_err-key-clause-verdict : goal.returns-in_err-key-clause-verdict

@@ -1,4 +1,4 @@
-use Rattle.std.proofs.Common.{◌≡◌, sym, subst, arith}
+use Rattle.std.proofs.Common.{◌≡◌, ◌≤◌, sym, subst, arith}
 use Rattle.std.proofs.lemmas.Grind.{common_steps}
 use borrow.Rule.Slice.PartMut.{put_mid}
 use Rattle.typecodes.specs.Layout.{Spells}
@@ -11,4 +11,6 @@ pub returns-clause-spells : goal.returns-clause-spells
 returns-clause-spells c =
     let key = c.args.public.now in
     let written : put_mid 4 56 c.write_number.new.into c.write_public.new.into ≡ public_bytes key = grind (arith, common_steps) in
-    subst (Spells public_key key) (sym written) (key-spelled key c.requires.some c.requires.most (subst (Spells _ key.top) c.write_public.ensures.bytes c.write_public.ensures.spells))
+    let some : 1 ≤ key.levels = omega arith in
+    let most : key.levels ≤ 8 = omega arith in
+    subst (Spells public_key key) (sym written) (key-spelled key some most (subst (Spells _ key.top) c.write_public.ensures.bytes c.write_public.ensures.spells))
