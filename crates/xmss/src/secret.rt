@@ -10,8 +10,8 @@ use merkle::{NodeHash, TreeHash};
 use typecodes::{Count, XmssType};
 use wots_plus::{Prf, Wots};
 
-/// What an XMSS key is made from (RFC 8391 4.1.3).
-#[derive(Clone, Copy, Debug)]
+/// What an XMSS key is made from (RFC 8391 4.1.3). It isn't printed, since it is secret.
+#[derive(Clone, Copy)]
 pub struct XmssSecret {
     /// The tree's type.
     pub tree: XmssType,
