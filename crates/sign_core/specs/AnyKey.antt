@@ -1,5 +1,5 @@
 -- Public keys of every scheme: how they are spelled, and what their verification answers.
-use Rattle.std.specs.Prelude.{◌≡◌, ◌≢◌, ◌≤◌, ◌⊎◌, ⊤, ℕ, List, length, Result}
+use Rattle.std.specs.Prelude.{◌≡◌, ◌≢◌, ◌⊎◌, ℕ, List, length, Result}
 use Rattle.typecodes.specs.declared.refusal.Refusal.{Refusal}
 use Rattle.typecodes.specs.Layout.{Spells, HasFault}
 use Rattle.lms.specs.Layouts.{public_key as lms_public_key}
@@ -18,12 +18,6 @@ abbrev pub SpellsKey : AnyPublic → List ℕ → Type 0
 SpellsKey (Lms key) bytes = Spells lms_public_key key bytes
 SpellsKey (Hss key) bytes = Spells hss_public_key key bytes
 SpellsKey (Xmss key) bytes = Spells xmss_public_key key bytes
-
--- A key has a spelling, an HSS key where it has 1 to 8 levels.
-abbrev pub HasSpelling : AnyPublic → Type 0
-HasSpelling (Lms key) = ⊤
-HasSpelling (Hss key) = (1 ≤ key.levels) × (key.levels ≤ 8)
-HasSpelling (Xmss key) = ⊤
 
 -- What is wrong with bytes that spell no key: they have no scheme's length, which is 56, 60 or 68 bytes; or
 -- they have one's, and as a key of this scheme they have this fault.

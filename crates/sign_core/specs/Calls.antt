@@ -1,8 +1,6 @@
 -- What the calls of a signer are: steps of the world.
 use Rattle.std.specs.Prelude.{◌≡◌, ℕ, ◌+◌, ◌<◌, ◌⊎◌, Bool, true, false, ◌&&◌, ◌||◌, List, [], ◌++◌, length, Option, Some, None, is_some, Result, Ok, Err, if◌then◌else◌}
 use Rattle.typecodes.specs.declared.types.LmsPair.{LmsPair}
-use Rattle.typecodes.specs.declared.spec.Spec.{Spec}
-use Rattle.typecodes.specs.declared.spec.Spec.TheVariants.{Lms}
 use Rattle.sign_core.specs.declared.key.LmsKey.{LmsKey}
 use Rattle.state_file.specs.declared.record.Record.{Record}
 use Rattle.lms.specs.declared.key.LmsPublic.{LmsPublic}
@@ -70,10 +68,6 @@ StoreCount (Err StoreFailed) before after = after ≡ before + 1
 StoreCount _ before after = after ≡ before
 
 -- ---- create
-
--- the pair of a spec
-abbrev pub pair_of : Spec → LmsPair
-pair_of (Lms pair) = pair
 
 -- what the load of record 0 failed with, by the store that it failed on
 abbrev pub FailsLoad : Option SignFault → List Record → (stopped honest : Bool) → Type 0

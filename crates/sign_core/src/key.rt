@@ -8,7 +8,7 @@ use typecodes::LmsPair;
 
 /// An LMS key as its record tells it: its types, the secret that its leaves are made from, and its
 /// root.
-#[derive(Clone, Copy, Debug)]
+#[derive(Clone, Copy)]
 pub(crate) struct LmsKey {
     pub(crate) pair: LmsPair,
     /// I, 16 bytes.

@@ -12,7 +12,7 @@ use state_file::Bound;
 use typecodes::Name;
 
 /// The key, its bindings, and the next leaf.
-#[derive(Debug, Drop)]
+#[derive(Drop)]
 pub(crate) struct Ledger {
     pub(crate) key: LmsKey,
     pub(crate) bounds: Vec<Bound>,

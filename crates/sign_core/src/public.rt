@@ -1,7 +1,7 @@
 //! Public keys of every scheme.
 
 ghost use Rattle.std.specs.Prelude.{◌≡◌, ◌≤◌, length, IfErr, IfOk, Ok};
-ghost use Rattle.sign_core.specs.AnyKey.{HasSpelling, KeyHasFault, KeyLeavesMessage, KeyVerdict, SpellsKey};
+ghost use Rattle.sign_core.specs.AnyKey.{KeyHasFault, KeyLeavesMessage, KeyVerdict, SpellsKey};
 
 use arrayvec::ArrayVec;
 use hss::HssPublic;
@@ -41,7 +41,6 @@ impl AnyPublic {
         ensures ok { IfOk result (λ key. SpellsKey key bytes.now) }
         ensures err { IfErr result (KeyHasFault bytes.now) }
         ensures spelled { (key : Key) → SpellsKey key bytes.now → result ≡ Ok key }
-        ensures writable { IfOk result HasSpelling }
     {
         Self::read_by_length(bytes)
     }
@@ -50,7 +49,6 @@ impl AnyPublic {
     fn read_by_length(bytes: &[u8]) -> Result<Self, KeyFault>
         ensures ok { IfOk result (λ key. SpellsKey key bytes.now) }
         ensures err { IfErr result (KeyHasFault bytes.now) }
-        ensures writable { IfOk result HasSpelling }
     {
         match bytes.len() {
             56 => LmsPublic::read(bytes)
@@ -66,9 +64,8 @@ impl AnyPublic {
         }
     }
 
-    /// The bytes that spell the key: 56, 60 or 68. The caller keeps the levels of an HSS key at 1 to 8.
+    /// The bytes that spell the key: 56, 60 or 68.
     pub fn write(&self) -> ArrayVec<u8, 68>
-        requires { HasSpelling self.now }
         ensures { SpellsKey self.now result.items }
     {
         match self {

@@ -1,7 +1,8 @@
 //! A request under a name that is bound.
 
-ghost use Rattle.std.specs.Prelude.{◌≡◌, ◌<◌, ◌^◌, Bool, ℕ, [], None};
+ghost use Rattle.std.specs.Prelude.{◌≡◌, ◌<◌, ◌^◌, Bool, ℕ, [], None, Err, vec_capacity};
 ghost use Rattle.typecodes.specs.Types.{height_of};
+ghost use Rattle.lms.specs.Textbook.{signature_size};
 ghost use Rattle.sign_core.specs.Calls.{RandomCount, StoreCount, answered};
 ghost use Rattle.sign_core.specs.World.{repeated};
 ghost use Rattle.sign_core.specs.World.Fate.{acked};
@@ -24,6 +25,8 @@ pub(crate) fn repeat(
     ensures random { (n : ℕ) → RandomCount result n n }
     ensures store { (n : ℕ) → StoreCount result n n }
     ensures read { message.new.now ≡ [] }
+    // Memory is asked for only where there is no room for the signature yet.
+    ensures full { result ≡ Err SignFault.OutOfMemory → vec_capacity out.old < signature_size key.now.pair }
 {
     let text = take_all(message);
     if digest(key, bound.leaf, &bound.randomizer, text) != bound.digest {

@@ -1,6 +1,6 @@
 //! The signer over a store.
 
-ghost use Rattle.std.specs.Prelude.{◌≡◌, ◌≤◌, true, false, [], None, Some, OnErr, IfOk, IfErr, IsSome, MatchResult};
+ghost use Rattle.std.specs.Prelude.{◌≡◌, ◌≤◌, ◌<◌, true, false, [], None, Some, OnErr, IfOk, IfErr, IsSome, MatchResult, Err, vec_capacity};
 
 use crate::begin::begin;
 use crate::fault::SignFault;
@@ -12,7 +12,7 @@ use lms::LmsPublic;
 use state_file::{Record, Refused, Store};
 use std::alloc::Global;
 use std::marker::Model;
-use typecodes::{Name, Spec};
+use typecodes::{LmsPair, Name};
 
 /// Signs messages under names, each new name with a leaf of its own. What it signed stands in its
 /// store, and it asks its source for each new randomizer.
@@ -39,7 +39,8 @@ impl<S: Store, R: Source> Model for Signer<S, R> {
 }
 
 impl<S: Store, R: Source> Signer<S, R> {
-    ghost use Rattle.sign_core.specs.Calls.{Creates, Leaves, LeavesSource, RandomCount, Signs, StoreCount, answered, pair_of, state_of};
+    ghost use Rattle.sign_core.specs.Calls.{Creates, Leaves, LeavesSource, RandomCount, Signs, StoreCount, answered, state_of};
+    ghost use Rattle.lms.specs.Textbook.{signature_size};
     ghost use Rattle.sign_core.specs.Ledger.{binding_of, key_of, public_key_of};
     ghost use Rattle.sign_core.specs.declared.key.LmsKey.{LmsKey};
 
@@ -49,20 +50,19 @@ impl<S: Store, R: Source> Signer<S, R> {
     /// The caller gives a store that takes at least one record.
     pub fn create(
         alloc: Global,
-        spec: Spec,
+        pair: LmsPair,
         store: S,
         random: R,
     ) -> Result<Self, Refused<(S, R), SignFault>>
         requires { 1 ≤ S.most store }
-        ensures created { IfOk result (λ signer. Creates (pair_of spec) (S.stopped store) (S.honest store) (state_of (S.list store) false) (state_of (S.list signer.store) signer.is_open) (R.told random) (R.told signer.random) (Ok (public_key_of signer.key))) }
-        ensures refused { IfErr result (λ refused. Creates (pair_of spec) (S.stopped store) (S.honest store) (state_of (S.list store) false) (state_of (S.list refused.given.0) false) (R.told random) (R.told refused.given.1) (Err refused.fault)) }
+        ensures created { IfOk result (λ signer. Creates pair (S.stopped store) (S.honest store) (state_of (S.list store) false) (state_of (S.list signer.store) signer.is_open) (R.told random) (R.told signer.random) (Ok (public_key_of signer.key))) }
+        ensures refused { IfErr result (λ refused. Creates pair (S.stopped store) (S.honest store) (state_of (S.list store) false) (state_of (S.list refused.given.0) false) (R.told random) (R.told refused.given.1) (Err refused.fault)) }
         ensures leaves { IfErr result (λ refused. LeavesSource refused.fault random refused.given.1) }
         ensures random { MatchResult result (λ signer. R.failures signer.random ≡ R.failures random) (λ refused. RandomCount {A = LmsKey} (Err refused.fault) (R.failures random) (R.failures refused.given.1)) }
         ensures store { MatchResult result (λ signer. S.failures signer.store ≡ S.failures store) (λ refused. StoreCount {A = LmsKey} (Err refused.fault) (S.failures store) (S.failures refused.given.0)) }
         ensures honest { MatchResult result (λ signer. S.honest signer.store ≡ S.honest store) (λ refused. S.honest refused.given.0 ≡ S.honest store) }
         ensures most { MatchResult result (λ signer. S.most signer.store ≡ S.most store) (λ refused. S.most refused.given.0 ≡ S.most store) }
     {
-        let Spec::Lms(pair) = spec;
         let mut store = store;
         let mut random = random;
         match begin(pair, &mut store, &mut random) {
@@ -111,6 +111,9 @@ impl<S: Store, R: Source> Signer<S, R> {
         ensures empty { OnErr result (out.new.items ≡ []) }
         ensures leaves { Leaves result self.old self.new }
         ensures repeat { IsSome (binding_of (S.list self.old.store) name.now) → self.new ≡ self.old }
+        // A repeat wants memory only where there is no room for the signature yet.
+        ensures full { IsSome (binding_of (S.list self.old.store) name.now) → result ≡ Err SignFault.OutOfMemory →
+            vec_capacity out.old < signature_size self.old.key.pair }
         ensures random { RandomCount result (R.failures self.old.random) (R.failures self.new.random) }
         ensures store { StoreCount result (S.failures self.old.store) (S.failures self.new.store) }
         ensures key { self.new.key ≡ self.old.key }
@@ -134,6 +137,9 @@ impl<S: Store, R: Source> Signer<S, R> {
         ensures step { Signs (S.most self.old.store) (state_of (S.list self.old.store) self.old.is_open) (state_of (S.list self.new.store) self.new.is_open) (R.told self.old.random) (R.told self.new.random) name.now message.old.now message.new.now (answered result out.new.items) }
         ensures leaves { Leaves result self.old self.new }
         ensures repeat { IsSome (binding_of (S.list self.old.store) name.now) → self.new ≡ self.old }
+        // A repeat wants memory only where there is no room for the signature yet.
+        ensures full { IsSome (binding_of (S.list self.old.store) name.now) → result ≡ Err SignFault.OutOfMemory →
+            vec_capacity out.old < signature_size self.old.key.pair }
         ensures random { RandomCount result (R.failures self.old.random) (R.failures self.new.random) }
         ensures store { StoreCount result (S.failures self.old.store) (S.failures self.new.store) }
         ensures key { self.new.key ≡ self.old.key }

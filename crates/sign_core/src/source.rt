@@ -27,7 +27,7 @@ pub trait Source {
 }
 
 /// A source of given bytes in their order, for tests and known answers.
-#[derive(Debug, Drop)]
+#[derive(Drop)]
 pub struct TapeSource<'a> {
     bytes: &'a [u8],
     failures: Count,

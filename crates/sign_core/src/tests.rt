@@ -5,7 +5,7 @@ use state_file::{Cut, Key, MemoryStore, Record, Secret, Store, Version};
 use std::alloc::{AllocError, Global};
 use std::process::Abort;
 use std::test::*;
-use typecodes::{LmsPair, LmsType, Name, OtsType, Refusal, Spec};
+use typecodes::{LevelCount, LmsPair, LmsType, Name, OtsType, Refusal};
 
 type TestSigner<'a> = Signer<MemoryStore, TapeSource<'a>>;
 
@@ -25,7 +25,7 @@ fn counting(alloc: Global, count: usize) -> Result<Vec<u8>, AllocError> {
 
 fn signer<'a>(alloc: Global, limit: u32, tape: &'a [u8]) -> Result<TestSigner<'a>, SignFault> {
     let store = MemoryStore::with_limit(alloc, limit.max(1));
-    Signer::create(alloc, Spec::Lms(PAIR), store, TapeSource::new(tape)).map_err(
+    Signer::create(alloc, PAIR, store, TapeSource::new(tape)).map_err(
         |refused| refused.fault,
     )
 }
@@ -94,9 +94,11 @@ fn a_signature_verifies_by_its_scheme(rt: HostRuntime) -> Result<(), Fail> {
     one_level.resize(4, 0)?;
     one_level.extend_from_slice(&signature)?;
     let mut text = message.as_slice();
-    let key = AnyPublic::Hss(HssPublic { levels: 1, top });
+    let levels = LevelCount::new(1).ok_or("levels")?;
+    let key = AnyPublic::Hss(HssPublic { levels, top });
     verify_any(&key, &mut text, &one_level)?;
-    let key = AnyPublic::Hss(HssPublic { levels: 2, top });
+    let levels = LevelCount::new(2).ok_or("levels")?;
+    let key = AnyPublic::Hss(HssPublic { levels, top });
     let mut text = message.as_slice();
     assert_eq!(rt;
         verify_any(&key, &mut text, &one_level),
@@ -111,7 +113,7 @@ fn cut_while_signing(rt: &impl Abort, alloc: Global, cut: Cut) -> Result<MemoryS
     let tape = counting(alloc, 200)?;
     let mut store = MemoryStore::with_limit(alloc, 100);
     store.cut_at(2, cut);
-    let made = Signer::create(alloc, Spec::Lms(PAIR), store, TapeSource::new(&tape));
+    let made = Signer::create(alloc, PAIR, store, TapeSource::new(&tape));
     let mut signer = made.map_err(|refused| refused.fault)?;
     assert_eq!(rt;
         refusal(rt, alloc, &mut signer, b"a", b"x")?,
@@ -214,7 +216,7 @@ fn a_store_with_a_key(rt: HostRuntime) -> Result<(), Fail> {
         root: [3; 32],
     }))?;
     let source = TapeSource::new(&tape);
-    match Signer::create(rt.alloc(), Spec::Lms(PAIR), store, source) {
+    match Signer::create(rt.alloc(), PAIR, store, source) {
         Ok(_) => assert!(rt; false),
         Err(refused) => {
             assert_eq!(rt; refused.fault, SignFault::KeyThere);
@@ -234,7 +236,7 @@ fn a_cut_create(rt: HostRuntime) -> Result<(), Fail> {
     let tape = counting(rt.alloc(), 48)?;
     let mut store = MemoryStore::with_limit(rt.alloc(), 2);
     store.cut_at(1, Cut::Old);
-    match Signer::create(rt.alloc(), Spec::Lms(PAIR), store, TapeSource::new(&tape)) {
+    match Signer::create(rt.alloc(), PAIR, store, TapeSource::new(&tape)) {
         Ok(_) => assert!(rt; false),
         Err(refused) => {
             assert_eq!(rt; refused.fault, SignFault::StoreFailed);
@@ -274,7 +276,7 @@ fn a_higher_tree(rt: HostRuntime) -> Result<(), Fail> {
         ots: OtsType::W4,
     };
     let store = MemoryStore::with_limit(rt.alloc(), 100);
-    let made = Signer::create(rt.alloc(), Spec::Lms(pair), store, TapeSource::new(&tape));
+    let made = Signer::create(rt.alloc(), pair, store, TapeSource::new(&tape));
     let mut signer = made.map_err(|refused| refused.fault)?;
     let first = signed(&rt, rt.alloc(), &mut signer, b"a", b"x")?;
     assert_eq!(rt; first.len(), 2508);
@@ -304,7 +306,7 @@ fn signed_at_last(
 // A create again, where memory was refused: in the store that it gave back.
 fn created_at_last<'a>(alloc: Global, tape: &'a [u8]) -> Result<TestSigner<'a>, SignFault> {
     let store = MemoryStore::with_limit(alloc, 100);
-    match Signer::create(alloc, Spec::Lms(PAIR), store, TapeSource::new(tape)) {
+    match Signer::create(alloc, PAIR, store, TapeSource::new(tape)) {
         Ok(signer) => Ok(signer),
         Err(refused) => {
             let (store, _) = refused.given;
@@ -312,7 +314,7 @@ fn created_at_last<'a>(alloc: Global, tape: &'a [u8]) -> Result<TestSigner<'a>, 
                 SignFault::OutOfMemory => {
                     let again = Signer::create(
                         alloc,
-                        Spec::Lms(PAIR),
+                        PAIR,
                         store,
                         TapeSource::new(tape),
                     );

@@ -1,6 +1,6 @@
 //! What a signer does with one key and one binding.
 
-ghost use Rattle.std.specs.Prelude.{◌≡◌, Some, [], ◌<◌, ◌^◌, length, true, false, IfErr, IfOk, OnOk};
+ghost use Rattle.std.specs.Prelude.{◌≡◌, Some, [], ◌<◌, ◌^◌, length, true, false, IfErr, IfOk, OnErr, OnOk, vec_capacity};
 ghost use Rattle.typecodes.specs.Types.{height_of};
 ghost use Rattle.lmots.specs.Formulas.{message_digest_of};
 ghost use Rattle.lms.specs.Textbook.{path_in, signature_size};
@@ -78,6 +78,8 @@ pub(crate) fn digest(key: &LmsKey, leaf: u32, randomizer: &[u8; 32], text: &[u8]
 pub(crate) fn make_room(pair: LmsPair, out: &mut Vec<u8>) -> Result<(), SignFault>
     ensures room { OnOk result (length out.new.items ≡ signature_size pair) }
     ensures refused { IfErr result (λ fault. fault ≡ SignFault.OutOfMemory) }
+    // Memory is asked for only where there is no room for it yet.
+    ensures full { OnErr result (vec_capacity out.old < signature_size pair) }
 {
     out.resize(pair.signature_len() as usize, 0)
         .map_err(|_| SignFault::OutOfMemory)

@@ -1,6 +1,6 @@
 use super::*;
 use std::test::Fail;
-use typecodes::{Cause, LmsPair, LmsType, OtsType, XmssType};
+use typecodes::{Cause, LevelCount, LmsPair, LmsType, OtsType, XmssType};
 
 const LMS: LmsPublic = LmsPublic {
     pair: LmsPair {
@@ -21,7 +21,7 @@ const XMSS: XmssPublic = XmssPublic {
 #[test]
 fn keys_are_read_as_they_are_written(rt: HostRuntime) -> Result<(), Fail> {
     let hss = HssPublic {
-        levels: 2,
+        levels: LevelCount::new(2).ok_or("levels")?,
         top: LMS,
     };
     for (key, length, first) in [
@@ -60,9 +60,9 @@ fn a_length_names_the_scheme(rt: HostRuntime) {
 }
 
 #[test]
-fn each_scheme_verifies(rt: HostRuntime) {
+fn each_scheme_verifies(rt: HostRuntime) -> Result<(), Fail> {
     let hss = HssPublic {
-        levels: 1,
+        levels: LevelCount::new(1).ok_or("levels")?,
         top: LMS,
     };
     let cut = Refusal::Unreadable(ReadFault {
@@ -85,4 +85,5 @@ fn each_scheme_verifies(rt: HostRuntime) {
         Err(Refusal::RootMismatch(0))
     );
     assert_eq!(rt; message.len(), 0);
+    Ok(())
 }

@@ -49,3 +49,12 @@ returns-in-None-clause-repeat g c = λ some.
     (ap (find (λ bound. same_bytes bound.name c.args.name.now)) (sym c.deref.ensures.value) ∙ c.in-None.ensures) in
     let never : false ≡ true = subst IsSome none some in
     absurd (true≢false (sym never))
+
+pub returns-in-None-clause-full : goal.returns-in-None-clause-full
+returns-in-None-clause-full g c = λ some refused.
+    let i = c.self.inside in
+    let none = ap (λ w. binding_of (g.S.Store.list w.store) c.args.name.now) (sym c.self.view_is)
+    ∙ kept_binding _ _ i.ledger.key i.ledger.bounds.items i.ledger.next c.args.name.now None (c.self.invariant.1 c.if-not-self.false)
+    (ap (find (λ bound. same_bytes bound.name c.args.name.now)) (sym c.deref.ensures.value) ∙ c.in-None.ensures) in
+    let never : false ≡ true = subst IsSome none some in
+    absurd (true≢false (sym never))
