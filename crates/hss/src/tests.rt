@@ -1,7 +1,7 @@
 //! A signature of two levels of H5/W8 by Bouncy Castle is made here again, byte for byte, and refused
 //! with its bytes changed.
 
-ghost use Rattle.std.specs.Prelude.{◌≤◌};
+ghost use Rattle.std.specs.Prelude.{◌≡◌, ◌≤◌};
 
 use crate::{
     HssPublic, HssSigView, Level, signature_len, verify, write_public, write_signature,
@@ -263,18 +263,22 @@ fn zero_key(levels: u8) -> [u8; 60] {
 
 #[test]
 fn keys_are_read(rt: HostRuntime) {
+    let top = LmsPublic {
+        pair: PAIR,
+        identifier: [0; 16],
+        root: [0; 32],
+    };
+    let fault = ReadFault {
+        place: 0,
+        cause: Cause::LevelCount,
+    };
     for (levels, known) in [(0, false), (1, true), (8, true), (9, false)] {
-        let read = HssPublic::read(&zero_key(levels));
-        let expected = ReadFault {
-            place: 0,
-            cause: Cause::LevelCount,
+        let wanted = match LevelCount::new(levels) {
+            Some(levels) => Ok(HssPublic { levels, top }),
+            None => Err(fault),
         };
-        assert_eq!(rt;
-            read.ok().map(|key| key.levels.get()),
-            known.then_some(levels),
-            "{levels} levels"
-        );
-        assert_eq!(rt; read.err(), (!known).then_some(expected), "{levels} levels");
+        assert_eq!(rt; HssPublic::read(&zero_key(levels)), wanted, "{levels} levels");
+        assert_eq!(rt; wanted.is_ok(), known, "{levels} levels");
     }
     let mut bytes = zero_key(2);
     let trailing = ReadFault {

@@ -7,83 +7,92 @@ fn read(disk: &mut MemoryDisk, into: &mut [u8]) -> Result<(), DiskFault> {
     disk.read_at(0, into)
 }
 
+// Whether a stop leaves these bytes by this pick.
+fn leaves(disk: &MemoryDisk, pick: Pick, wanted: &[u8]) -> bool {
+    match disk.stop(pick) {
+        Ok(left) => left.as_slice() == wanted,
+        Err(_) => false,
+    }
+}
+
+#[test]
+fn reads_what_is_there(rt: HostRuntime) -> Result<(), Fail> {
+    let mut disk = MemoryDisk::of(rt.alloc(), &[1, 2, 3])?;
+    assert_eq!(rt; disk.len(), Ok(3));
+    let mut two = [0; 2];
+    assert_eq!(rt; disk.read_at(1, &mut two), Ok(()));
+    assert_eq!(rt; two, [2, 3]);
+    assert_eq!(rt; disk.read_at(2, &mut two), Err(DiskFault::PastEnd));
+    assert_eq!(rt; disk.read_at(u64::MAX, &mut two), Err(DiskFault::PastEnd));
+    Ok(())
+}
+
 #[test]
 fn reads_what_was_written(rt: HostRuntime) -> Result<(), Fail> {
     let mut disk = MemoryDisk::of(rt.alloc(), &[1, 2, 3])?;
-    assert_eq!(rt; disk.len()?, 3);
-    let mut two = [0; 2];
-    disk.read_at(1, &mut two)?;
-    assert_eq!(rt; two, [2, 3]);
-    disk.write_at(2, &[9, 8, 7])?;
+    assert_eq!(rt; disk.write_at(2, &[9, 8, 7]), Ok(()));
     let mut all = [0; 5];
-    read(&mut disk, &mut all)?;
+    assert_eq!(rt; read(&mut disk, &mut all), Ok(()));
     assert_eq!(rt; all, [1, 2, 9, 8, 7]);
+    let mut two = [0; 2];
     assert_eq!(rt; disk.read_at(4, &mut two), Err(DiskFault::PastEnd));
-    assert_eq!(rt; disk.read_at(u64::MAX, &mut two), Err(DiskFault::PastEnd));
-    assert_eq!(rt; disk.len()?, 5);
+    assert_eq!(rt; disk.len(), Ok(5));
     Ok(())
 }
 
 #[test]
 fn a_gap_is_filled_with_zeros(rt: HostRuntime) -> Result<(), Fail> {
     let mut disk = MemoryDisk::of(rt.alloc(), &[1])?;
-    disk.write_at(3, &[5])?;
-    disk.write_at(9, &[])?;
-    assert_eq!(rt; disk.stop(Pick::New)?.as_slice(), [1, 0, 0, 5].as_slice());
-    assert_eq!(rt;
-        disk.stop(Pick::Fill(7))?.as_slice(),
-        [1, 7, 7, 7, 7, 7, 7, 7, 7].as_slice()
-    );
+    assert_eq!(rt; disk.write_at(3, &[5]), Ok(()));
+    assert_eq!(rt; disk.write_at(9, &[]), Ok(()));
+    assert!(rt; leaves(&disk, Pick::New, &[1, 0, 0, 5]));
+    assert!(rt; leaves(&disk, Pick::Fill(7), &[1, 7, 7, 7, 7, 7, 7, 7, 7]));
     Ok(())
 }
 
 #[test]
 fn a_stop_leaves_what_was_not_synced_open(rt: HostRuntime) -> Result<(), Fail> {
     let mut disk = MemoryDisk::of(rt.alloc(), &[1, 2, 3])?;
-    disk.write_at(1, &[8])?;
-    disk.write_at(2, &[9, 9, 9])?;
-    assert_eq!(rt; disk.stop(Pick::Old)?.as_slice(), [1, 2, 3].as_slice());
-    assert_eq!(rt;
-        disk.stop(Pick::New)?.as_slice(),
-        [1, 8, 9, 9, 9].as_slice()
-    );
-    assert_eq!(rt;
-        disk.stop(Pick::Fill(7))?.as_slice(),
-        [1, 7, 7, 7, 7].as_slice()
-    );
-    disk.sync()?;
-    disk.write_at(0, &[6])?;
-    assert_eq!(rt;
-        disk.stop(Pick::Old)?.as_slice(),
-        [1, 8, 9, 9, 9].as_slice()
-    );
-    assert_eq!(rt;
-        disk.stop(Pick::New)?.as_slice(),
-        [6, 8, 9, 9, 9].as_slice()
-    );
-    assert_eq!(rt;
-        disk.stop(Pick::Fill(7))?.as_slice(),
-        [7, 8, 9, 9, 9].as_slice()
-    );
+    assert_eq!(rt; disk.write_at(1, &[8]), Ok(()));
+    assert_eq!(rt; disk.write_at(2, &[9, 9, 9]), Ok(()));
+    assert!(rt; leaves(&disk, Pick::Old, &[1, 2, 3]));
+    assert!(rt; leaves(&disk, Pick::New, &[1, 8, 9, 9, 9]));
+    assert!(rt; leaves(&disk, Pick::Fill(7), &[1, 7, 7, 7, 7]));
+    Ok(())
+}
+
+#[test]
+fn a_stop_leaves_what_was_synced(rt: HostRuntime) -> Result<(), Fail> {
+    let mut disk = MemoryDisk::of(rt.alloc(), &[1, 2, 3])?;
+    assert_eq!(rt; disk.write_at(1, &[8, 9, 9, 9]), Ok(()));
+    assert_eq!(rt; disk.sync(), Ok(()));
+    assert_eq!(rt; disk.write_at(0, &[6]), Ok(()));
+    assert!(rt; leaves(&disk, Pick::Old, &[1, 8, 9, 9, 9]));
+    assert!(rt; leaves(&disk, Pick::New, &[6, 8, 9, 9, 9]));
+    assert!(rt; leaves(&disk, Pick::Fill(7), &[7, 8, 9, 9, 9]));
+    Ok(())
+}
+
+#[test]
+fn a_write_that_fails_has_written_its_first_half(rt: HostRuntime) -> Result<(), Fail> {
+    let mut disk = MemoryDisk::of(rt.alloc(), &[1, 2, 3])?;
+    disk.fail_at(2);
+    assert_eq!(rt; disk.len(), Ok(3));
+    assert_eq!(rt; disk.write_at(0, &[7, 8, 9, 6, 5]), Err(DiskFault::Failed));
+    // the first half was written, and the whole range is open
+    assert!(rt; leaves(&disk, Pick::New, &[7, 8, 3]));
+    assert!(rt; leaves(&disk, Pick::Fill(0), &[0, 0, 0, 0, 0]));
+    assert_eq!(rt; disk.sync(), Ok(()));
+    assert!(rt; leaves(&disk, Pick::Fill(0), &[7, 8, 3]));
     Ok(())
 }
 
 #[test]
 fn the_nth_call_fails_once(rt: HostRuntime) -> Result<(), Fail> {
     let mut disk = MemoryDisk::of(rt.alloc(), &[1, 2, 3])?;
-    disk.fail_at(2);
-    assert_eq!(rt; disk.len(), Ok(3));
-    assert_eq!(rt; disk.write_at(0, &[7, 8, 9, 6, 5]), Err(DiskFault::Failed));
-    // the first half was written, and the whole range is open
-    assert_eq!(rt; disk.stop(Pick::New)?.as_slice(), [7, 8, 3].as_slice());
-    assert_eq!(rt;
-        disk.stop(Pick::Fill(0))?.as_slice(),
-        [0, 0, 0, 0, 0].as_slice()
-    );
-    disk.sync()?;
-    assert_eq!(rt; disk.stop(Pick::Fill(0))?.as_slice(), [7, 8, 3].as_slice());
     disk.fail_at(1);
     assert_eq!(rt; disk.sync(), Err(DiskFault::Failed));
+    assert_eq!(rt; disk.len(), Ok(3));
     disk.fail_at(1);
     assert_eq!(rt; disk.len(), Err(DiskFault::Failed));
     disk.fail_at(1);
@@ -96,15 +105,15 @@ fn the_nth_call_fails_once(rt: HostRuntime) -> Result<(), Fail> {
 fn a_stop_refuses_all_that_follows(rt: HostRuntime) -> Result<(), Fail> {
     let mut disk = MemoryDisk::of(rt.alloc(), &[1, 2, 3])?;
     disk.stop_at(2);
-    disk.write_at(0, &[7])?;
+    assert_eq!(rt; disk.write_at(0, &[7]), Ok(()));
     assert_eq!(rt; disk.write_at(1, &[8, 9]), Err(DiskFault::Failed));
     assert_eq!(rt; disk.sync(), Err(DiskFault::Failed));
     assert_eq!(rt; disk.len(), Err(DiskFault::Failed));
     assert_eq!(rt; read(&mut disk, &mut [0]), Err(DiskFault::Failed));
     // the refused write's range doesn't count
-    assert_eq!(rt; disk.stop(Pick::Old)?.as_slice(), [1, 2, 3].as_slice());
-    assert_eq!(rt; disk.stop(Pick::New)?.as_slice(), [7, 2, 3].as_slice());
-    assert_eq!(rt; disk.stop(Pick::Fill(5))?.as_slice(), [5, 2, 3].as_slice());
+    assert!(rt; leaves(&disk, Pick::Old, &[1, 2, 3]));
+    assert!(rt; leaves(&disk, Pick::New, &[7, 2, 3]));
+    assert!(rt; leaves(&disk, Pick::Fill(5), &[5, 2, 3]));
     Ok(())
 }
 

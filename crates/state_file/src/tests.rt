@@ -7,14 +7,14 @@ fn takes_as_many_as_its_limit(rt: HostRuntime) -> Result<(), Fail> {
     let mut store = MemoryStore::with_limit(rt.alloc(), 2);
     let second = bound()?;
     assert_eq!(rt; store.limit(), 2);
-    assert!(rt; store.load(0)? == None);
-    store.append(&key())?;
-    store.append(&second)?;
+    assert!(rt; store.load(0) == Ok(None));
+    assert_eq!(rt; store.append(&key()), Ok(()));
+    assert_eq!(rt; store.append(&second), Ok(()));
     assert_eq!(rt; store.append(&second), Err(StoreFault::Full));
-    assert!(rt; store.load(0)? == Some(key()));
-    assert!(rt; store.load(1)? == Some(second));
-    assert!(rt; store.load(2)? == None);
-    assert!(rt; store.load(u32::MAX)? == None);
+    assert!(rt; store.load(0) == Ok(Some(key())));
+    assert!(rt; store.load(1) == Ok(Some(second)));
+    assert!(rt; store.load(2) == Ok(None));
+    assert!(rt; store.load(u32::MAX) == Ok(None));
     Ok(())
 }
 
@@ -22,16 +22,16 @@ fn takes_as_many_as_its_limit(rt: HostRuntime) -> Result<(), Fail> {
 fn cut_that_leaves_the_old_records(rt: HostRuntime) -> Result<(), Fail> {
     let mut store = MemoryStore::with_limit(rt.alloc(), 2);
     let second = bound()?;
-    store.append(&key())?;
+    assert_eq!(rt; store.append(&key()), Ok(()));
     store.cut_at(1, Cut::Old);
     assert_eq!(rt; store.append(&second), Err(StoreFault::DeviceFailed));
     assert_eq!(rt; store.append(&second), Err(StoreFault::Stopped));
     assert!(rt; store.load(0) == Err(StoreFault::Stopped));
     store.reopen();
-    assert!(rt; store.load(0)? == Some(key()));
-    assert!(rt; store.load(1)? == None);
-    store.append(&second)?;
-    assert!(rt; store.load(1)? == Some(second));
+    assert!(rt; store.load(0) == Ok(Some(key())));
+    assert!(rt; store.load(1) == Ok(None));
+    assert_eq!(rt; store.append(&second), Ok(()));
+    assert!(rt; store.load(1) == Ok(Some(second)));
     Ok(())
 }
 
@@ -40,14 +40,14 @@ fn cut_that_leaves_the_new_record(rt: HostRuntime) -> Result<(), Fail> {
     let mut store = MemoryStore::with_limit(rt.alloc(), 3);
     let second = bound()?;
     store.cut_at(2, Cut::New);
-    store.append(&key())?;
+    assert_eq!(rt; store.append(&key()), Ok(()));
     assert_eq!(rt; store.append(&second), Err(StoreFault::DeviceFailed));
     assert!(rt; store.load(1) == Err(StoreFault::Stopped));
     store.reopen();
-    assert!(rt; store.load(0)? == Some(key()));
-    assert!(rt; store.load(1)? == Some(second));
-    assert!(rt; store.load(2)? == None);
-    store.append(&key())?;
+    assert!(rt; store.load(0) == Ok(Some(key())));
+    assert!(rt; store.load(1) == Ok(Some(second)));
+    assert!(rt; store.load(2) == Ok(None));
+    assert_eq!(rt; store.append(&key()), Ok(()));
     assert_eq!(rt; store.append(&key()), Err(StoreFault::Full));
     Ok(())
 }
@@ -57,12 +57,12 @@ fn cut_that_leaves_the_new_record(rt: HostRuntime) -> Result<(), Fail> {
 fn appends_that_dont_reach_the_device(rt: HostRuntime) -> Result<(), Fail> {
     let mut store = MemoryStore::with_limit(rt.alloc(), 1);
     store.cut_at(2, Cut::Old);
-    store.append(&key())?;
+    assert_eq!(rt; store.append(&key()), Ok(()));
     assert_eq!(rt; store.append(&key()), Err(StoreFault::Full));
     let mut store = MemoryStore::with_limit(rt.alloc(), 1);
     store.cut_at(1, Cut::Old);
     store.cut_at(0, Cut::Old);
-    store.append(&key())?;
+    assert_eq!(rt; store.append(&key()), Ok(()));
     Ok(())
 }
 
