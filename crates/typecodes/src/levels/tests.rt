@@ -37,11 +37,9 @@ fn levels_of_each_count(rt: HostRuntime) -> Result<(), Fail> {
 
 #[test]
 fn levels_are_copied_whole(rt: HostRuntime) -> Result<(), Fail> {
-    for pairs in [[TOP].as_slice(), &[TOP, BELOW], &[BELOW; 8]] {
-        let levels = Levels::new(pairs).ok_or("levels")?;
-        assert_eq!(rt; levels.copied().as_slice(), pairs);
-        assert_eq!(rt; levels.copied(), levels);
-    }
+    let levels = Levels::new(&[TOP, BELOW]).ok_or("levels")?;
+    assert_eq!(rt; levels.copied().as_slice(), [TOP, BELOW].as_slice());
+    assert_eq!(rt; levels.copied(), levels);
     Ok(())
 }
 
