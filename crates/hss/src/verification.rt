@@ -46,8 +46,8 @@ fn bottom_key(top: &LmsPublic, view: &HssSigView<'_>) -> Result<LmsPublic, Refus
 // The key that level i, above the bottom, signs, where its signature is valid.
 fn next_key(key: &LmsPublic, view: &HssSigView<'_>, i: u8) -> Result<LmsPublic, Refusal>
     requires { i + 1 < level_count (signature_of view.now) }
-    ensures verdict { (message : List ℕ) →
-        LevelVerdict key.now (message_at message (signature_of view.now) i) (signature_at (signature_of view.now) i) i result }
+    ensures verdict { (message : List ℕ) → LevelVerdict key.now (message_at message (signature_of view.now) i)
+        (signature_at (signature_of view.now) i) i result }
     ensures next { (top : LmsPublic) → IfOk result (λ next. next ≡ key_at top (signature_of view.now) (i + 1)) }
 {
     let next = view.key(i + 1);

@@ -11,7 +11,8 @@ use Rattle.lmots.specs.Formulas.{chain_value, step_of}
 -- private value walked from the first step to the chain's digit of Q (4.5)
 abbrev pub signed_values : List ℕ → ℕ → OtsType → List ℕ → List ℕ → List (List ℕ)
 signed_values identifier q ots seed digest =
-    map (λ i. chain_value identifier q seed i (slice_index (digits_of (width_of ots) digest) i)) (range_with_len 0 (chains_of ots))
+    map (λ i. chain_value identifier q seed i (slice_index (digits_of (width_of ots) digest) i))
+    (range_with_len 0 (chains_of ots))
 
 -- The values of a signature of the digest Q climb to these ends: each is walked from its chain's digit of Q
 -- to the end of the chain (4.6, algorithm 4b, step 3).
