@@ -1,3 +1,5 @@
+ghost use Rattle.std.specs.Prelude.{None};
+
 mod sample;
 
 use crate::files::{Folder, Machine};
