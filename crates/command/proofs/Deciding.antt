@@ -1,5 +1,5 @@
 -- The first bytes of a signature decide, one more than the greatest has.
-use Rattle.std.proofs.Common.{◌≡◌, ◌∙◌, ℕ, ◌+◌, ◌*◌, ◌^◌, ◌<◌, ◌≤◌, zero, suc, Bool, true, false, cond, nat_lt, nat_le, List, [], ◌∷◌, take, Result, Ok, Err, refl, ap, subst, arith, leb-true}
+use Rattle.std.proofs.Common.{◌≡◌, ℕ, ◌+◌, ◌*◌, ◌^◌, ◌<◌, ◌≤◌, zero, suc, Bool, true, false, cond, nat_lt, nat_le, List, [], ◌∷◌, take, Result, Ok, Err, refl, subst, arith, leb-true}
 use Rattle.std.specs.Prelude.{◌&&◌}
 use Rattle.typecodes.specs.declared.fault.Cause.TheVariants.{LeafOutOfRange, LevelCount}
 use Rattle.typecodes.specs.declared.types.OtsType.{OtsType}
@@ -18,8 +18,8 @@ use Rattle.lms.specs.declared.key.LmsPublic.{LmsPublic}
 use Rattle.lms.specs.Layouts.{Signature as LmsSignature, signature_with, type_end, signature as lms_signature, public_key as lms_public_key}
 use Rattle.lms.specs.Verdict.{Verdict as LmsVerdict}
 use Rattle.hss.specs.declared.key.HssPublic.{HssPublic}
-use Rattle.hss.specs.Layouts.{SignedKey, level_number, signed_key, signed_keys, signature as hss_signature}
-use Rattle.hss.specs.Verdict.{Reaches, Verdict as HssVerdict}
+use Rattle.hss.specs.Layouts.{level_number, signed_key, signed_keys, signature as hss_signature}
+use Rattle.hss.specs.Verdict.{Verdict as HssVerdict}
 use Rattle.xmss.specs.declared.key.XmssPublic.{XmssPublic}
 use Rattle.xmss.specs.Layouts.{leaf_index, signature as xmss_signature}
 use Rattle.xmss.specs.Verdict.{Verdict as XmssVerdict}

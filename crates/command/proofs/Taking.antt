@@ -1,5 +1,5 @@
 -- How many bytes a layout takes, and what bytes behind them change: nothing.
-use Rattle.std.proofs.Common.{◌≡◌, ◌∙◌, ℕ, zero, suc, ◌∷◌, ◌+◌, ◌*◌, ◌<◌, ◌≤◌, Bool, true, false, cond, List, [], ◌++◌, length, take, drop, Option, Some, None, refl, ap, sym, subst, inl, inr, arith, append_assoc, length-append, length-take-le, take_all, take-append-drop}
+use Rattle.std.proofs.Common.{◌≡◌, ◌∙◌, ℕ, zero, suc, ◌∷◌, ◌+◌, ◌*◌, ◌<◌, ◌≤◌, Bool, true, false, cond, List, [], ◌++◌, length, take, drop, Option, Some, None, refl, ap, subst, inl, inr, arith, append_assoc, length-append, length-take-le, take_all, take-append-drop}
 use Rattle.std.specs.Prelude.{⊤}
 use Rattle.std.proofs.lemmas.Bool.{cases_lt}
 use Rattle.typecodes.specs.declared.fault.Cause.{Cause}

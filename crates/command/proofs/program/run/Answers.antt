@@ -1,5 +1,4 @@
 use Rattle.std.proofs.Common.{◌∙◌, inl, refl, subst, sym}
-use Rattle.clap.specs.Words.{kind_of}
 use Rattle.command.specs.Lines.{Explains}
 use Rattle.command.specs.declared.refusal.Refusal.TheVariants.{OutOfMemory}
 use Rattle.command.proofs.Contents.{tells_failure, tells_of_line}

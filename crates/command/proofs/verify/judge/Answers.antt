@@ -1,7 +1,7 @@
 use Rattle.std.proofs.Common.{subst}
 use Rattle.command.specs.Judgement.{Judgement}
 use Rattle.command.proofs.Deciding.{decided}
-use Rattle.command.proofs.Judging.{judged, no_key, read_key}
+use Rattle.command.proofs.Judging.{judged, read_key}
 use Rattle.command.proofs.verify.judge.Goals as goal
 
 pub returns : goal.returns
