@@ -1,20 +1,32 @@
 -- From what reading a key and verifying say to the judgement.
-use Rattle.std.proofs.Common.{◌≡◌, ℕ, List, Result, Ok, Err, IfOk, MatchResult, IsErrAnd, subst, subst₂}
+use Rattle.std.proofs.Common.{◌≡◌, ◌∙◌, ℕ, List, Result, Ok, Err, MatchResult, IsErrAnd, sym, subst}
+use Rattle.std.specs.Prelude.{⊤}
 use Rattle.typecodes.specs.declared.refusal.Refusal.{Refusal as SignatureRefusal}
 use Rattle.sign_core.specs.declared.public.AnyPublic.{AnyPublic}
 use Rattle.sign_core.specs.declared.public.AnyPublic.TheVariants.{Lms, Hss, Xmss}
 use Rattle.sign_core.specs.declared.public.KeyFault.{KeyFault}
 use Rattle.sign_core.specs.AnyKey.{KeyVerdict, SpellsKey}
-use Rattle.command.specs.Judgement.{Judgement}
+use Rattle.command.specs.Judgement.{Answers, Judgement, ReadsKey}
 use Rattle.command.specs.declared.refusal.Refusal.{Refusal}
-use Rattle.command.specs.declared.refusal.Refusal.TheVariants.{Key, Signature}
+use Rattle.command.specs.declared.refusal.Refusal.TheVariants.{Key, Signature, OutOfMemory, FileFailed}
 
 -- the key that was read is the one that the bytes spell
 pub read_key : (bytes : List ℕ) (key : AnyPublic) (read : Result AnyPublic KeyFault) (r : Result AnyPublic Refusal)
-    → IfOk read (λ k. SpellsKey k bytes) → MatchResult read (λ k. r ≡ Ok k) (λ fault. IsErrAnd r (λ e. e ≡ Key fault)) → r ≡ Ok key
+    → ReadsKey bytes read → MatchResult read (λ k. r ≡ Ok k) (λ fault. IsErrAnd r (λ e. e ≡ Key fault)) → r ≡ Ok key
     → SpellsKey key bytes
 read_key bytes key (Ok k) r spelled told was = let same : k ≡ key = cc (told, was) in subst (λ k. SpellsKey k bytes) same spelled
 read_key bytes key (Err fault) r _ told was = absurd (subst (λ r. IsErrAnd r (λ e. e ≡ Key fault)) was told)
+
+-- the fault of bytes that spell no key is the judgement
+pub no_key : {A : Type 0} (bytes message signature : List ℕ) (read : Result AnyPublic KeyFault) (r : Result AnyPublic Refusal) (e : Refusal) (answer : Result A Refusal)
+    → ReadsKey bytes read → MatchResult read (λ k. r ≡ Ok k) (λ fault. IsErrAnd r (λ e. e ≡ Key fault)) → r ≡ Err e → IsErrAnd answer (λ x. x ≡ e)
+    → Judgement bytes message signature answer
+no_key bytes message signature read r e (Ok a) reads told was is = absurd is
+no_key bytes message signature (Ok k) r e (Err x) reads told was is = cc
+no_key {A = A} bytes message signature (Err fault) r e (Err x) reads told was is =
+    let of_fault : e ≡ Key fault = subst (λ r. IsErrAnd r (λ e. e ≡ Key fault)) was told in
+    let same : x ≡ Key fault = is ∙ of_fault in
+    subst (λ y. Judgement {A = A} bytes message signature (Err y)) (sym same) reads
 
 -- a verdict on that key is the judgement
 pub judged : {A : Type 0} (public message signature : List ℕ) (key : AnyPublic) (given : Result A SignatureRefusal) (r : Result A Refusal)
@@ -30,8 +42,20 @@ same_verdict (Lms key) message signature a b verdict = verdict
 same_verdict (Hss key) message signature a b verdict = verdict
 same_verdict (Xmss key) message signature a b verdict = verdict
 
--- and a judgement neither, on the same bytes
-pub same_judgement : {A B : Type 0} (p m s public message signature : List ℕ) (a : A) (b : B) → public ≡ p → message ≡ m → signature ≡ s
-    → Judgement public message signature (Ok a) → Judgement p m s (Ok b)
-same_judgement p m s public message signature a b p_is m_is s_is (key, spelled, verdict) =
-    (key, subst (SpellsKey key) p_is spelled, subst₂ (λ x y. KeyVerdict key x y (Ok b)) m_is s_is (same_verdict key message signature a b verdict))
+-- and a judgement neither
+pub same_judgement : {A B : Type 0} (public message signature : List ℕ) (a : A) (b : B)
+    → Judgement public message signature (Ok a) → Judgement public message signature (Ok b)
+same_judgement public message signature a b (key, spelled, verdict) = (key, spelled, same_verdict key message signature a b verdict)
+
+-- a refusal by judgement is an answer
+answered : (B : Type 0) (p m s : List ℕ) (e : Refusal) → Judgement {A = ⊤} p m s (Err e) → Answers {A = B} p m s (Err e)
+answered B p m s (Key fault) has = has
+answered B p m s (Signature refusal) refused = refused
+answered B p m s OutOfMemory never = tt
+answered B p m s FileFailed never = tt
+
+-- also where it is handed on
+pub refused : {B : Type 0} (p m s : List ℕ) (e : Refusal) (answer : Result B Refusal) → Judgement {A = ⊤} p m s (Err e)
+    → IsErrAnd answer (λ x. x ≡ e) → Answers p m s answer
+refused p m s e (Ok b) judged is = absurd is
+refused {B = B} p m s e (Err x) judged is = subst (λ y. Answers {A = B} p m s (Err y)) (sym is) (answered B p m s e judged)

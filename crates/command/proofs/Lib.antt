@@ -1,4 +1,8 @@
+pub mod Contents
+pub mod Deciding
 pub mod Finding
 pub mod Judging
+pub mod Taking
+pub mod Turns
 pub mod Walking
-pub mod Writing
+pub mod Walks

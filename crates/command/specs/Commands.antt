@@ -13,7 +13,7 @@ verify_app = with_rule (with_rule (with_rule (new_app (codes "verify")) (file_ru
 -- the program, before its commands
 abbrev pub bare_app : App
 bare_app = record (new_app (codes "hbsign")) {
-  top = record (new_app (codes "hbsign")).top { no_binary_name = true; subcommand_required = true; arg_required_else_help = true };
+  top = record (new_app (codes "hbsign")).top { no_binary_name = true; has_version = true; subcommand_required = true; arg_required_else_help = true };
 }
 
 -- the program

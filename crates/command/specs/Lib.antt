@@ -1,4 +1,6 @@
 pub mod Commands
 pub mod Judgement
 pub mod Lines
+pub mod Opening
+pub mod Outputs
 pub mod Requests

@@ -1,6 +1,5 @@
 -- The line that tells each answer, and the exit status.
-use Rattle.std.specs.Prelude.{◌≡◌, ℕ, ◌⊎◌, List, [], ◌++◌, Option, Result, Ok, Err, codes, decimal}
-use Rattle.std.specs.Io.KnownBytes.{Appends, Keeps}
+use Rattle.std.specs.Prelude.{◌≡◌, ℕ, ◌<◌, ◌⊎◌, List, [], ◌++◌, Option, None, Result, Ok, Err, length, codes, decimal}
 use Rattle.typecodes.specs.Fault.{cause_number}
 use Rattle.typecodes.specs.declared.fault.Cause.{Cause}
 use Rattle.typecodes.specs.declared.fault.Cause.TheVariants.{Truncated, UnknownType, LevelCount, LeafOutOfRange, Trailing}
@@ -11,7 +10,8 @@ use Rattle.clap.specs.Words.{IsAmong, fault_of}
 use Rattle.clap.specs.declared.error.kind.ErrorKind.{ErrorKind}
 use Rattle.clap.specs.declared.error.kind.ErrorKind.TheVariants as kind
 use Rattle.command.specs.Commands.{hbsign_app}
-use Rattle.command.specs.Judgement.{Answers}
+use Rattle.command.specs.Judgement.{AnswersOf}
+use Rattle.command.specs.Outputs.{Taken, Writes, Fails}
 use Rattle.command.specs.declared.refusal.Refusal.{Refusal}
 use Rattle.command.specs.declared.refusal.Refusal.TheVariants.{Key, Signature, OutOfMemory, FileFailed}
 use Rattle.command.specs.declared.answer.Done.{Done}
@@ -75,33 +75,48 @@ status_of (Err FileFailed) = 3
 status_of (Err (Key fault)) = 1
 status_of (Err (Signature refusal)) = 1
 
--- The answer was told: its line was written, and the status is its own; or the output failed.
--- What an output tells of its bytes stands before and after.
-abbrev pub Tells : Result Done Refusal → Option (List ℕ) → Option (List ℕ) → ℕ → Type 0
-Tells answer old new status = ((status ≡ status_of answer) × Appends old new (answer_line answer)) ⊎ (status ≡ 3)
+-- The answer was told: its line was written, and the status is its own; or the output failed, and the status
+-- is 3. What an output has taken stands before and after.
+abbrev pub Tells : Result Done Refusal → Taken → Taken → ℕ → Type 0
+Tells answer old new status = ((status ≡ status_of answer) × Writes (answer_line answer) old new) ⊎ ((status ≡ 3) × Fails old new)
+
+-- An answer was told that is right for what is told of the three files.
+abbrev pub TellsOf : Option (List ℕ) → Option (List ℕ) → Option (List ℕ) → Taken → Taken → ℕ → Type 0
+TellsOf public message signature old new status =
+    (answer : Result Done Refusal) × AnswersOf public message signature answer × Tells answer old new status
 
 -- An answer was told that is right for some contents of the three files.
-abbrev pub TellsRightly : Option (List ℕ) → Option (List ℕ) → ℕ → Type 0
-TellsRightly old new status =
-    (public message signature : List ℕ) × (answer : Result Done Refusal) × Answers public message signature answer × Tells answer old new status
+abbrev pub TellsRightly : Taken → Taken → ℕ → Type 0
+TellsRightly old new status = TellsOf None None None old new status
 
--- The text of help was written, with status 0, or the output failed.
-abbrev pub Helps : List ℕ → Option (List ℕ) → Option (List ℕ) → ℕ → Type 0
-Helps text old new status = ((status ≡ 0) × Appends old new text) ⊎ (status ≡ 3)
+-- A text that was asked for was written, with status 0, or the output failed.
+abbrev pub Helps : List ℕ → Taken → Taken → ℕ → Type 0
+Helps text old new status = ((status ≡ 0) × Writes text old new) ⊎ ((status ≡ 3) × Fails old new)
+
+-- the line of the program's name and version
+abbrev pub version_line : List ℕ
+version_line = codes "hbsign 0.1.0\n"
+
+-- A line was refused: nothing is on the output, and a text on the output for errors, or this failed.
+abbrev pub Refuses : Taken → Taken → Taken → Taken → Type 0
+Refuses old new errors_old errors_new =
+    (new ≡ old) × (((text : List ℕ) × (0 < length text) × Writes text errors_old errors_new) ⊎ Fails errors_old errors_new)
 
 -- What is left of a line for which `clap` gives an error of this kind: the answer that there is no
--- memory; help, or no memory for it; or nothing on the output.
-abbrev pub Explains : ErrorKind → Option (List ℕ) → Option (List ℕ) → ℕ → Type 0
+-- memory; help, or no memory for it; the version; or nothing on the output.
+abbrev pub Explains : ErrorKind → Taken → Taken → ℕ → Type 0
 Explains kind.OutOfMemory old new status = Tells (Err OutOfMemory) old new status
 Explains kind.DisplayHelp old new status = ((text : List ℕ) × Helps text old new status) ⊎ Tells (Err OutOfMemory) old new status
-Explains other old new status = (status ≡ 2) × Keeps old new
+Explains kind.DisplayVersion old new status = Helps version_line old new status
+Explains other old new status = (status ≡ 2) × (new ≡ old)
 
--- What a run of the program on these words leaves: of words without a fault an answer that was
--- told, right for some contents of the files; help, where it may be asked for; the answer that
--- there is no memory; or, of a line that was refused, nothing on the output.
-abbrev pub Runs : List (List ℕ) → Option (List ℕ) → Option (List ℕ) → ℕ → Type 0
+-- What a run of the program on these words leaves on the output: of words without a fault an answer
+-- that was told, right for some contents of the files; help or the version, where it may be asked for;
+-- the answer that there is no memory; or, of a line that was refused, nothing.
+abbrev pub Runs : List (List ℕ) → Taken → Taken → ℕ → Type 0
 Runs words old new status =
     ((fault_of hbsign_app words ≡ []) × TellsRightly old new status)
     ⊎ (IsAmong kind.DisplayHelp (fault_of hbsign_app words) × ((text : List ℕ) × Helps text old new status))
+    ⊎ (IsAmong kind.DisplayVersion (fault_of hbsign_app words) × Helps version_line old new status)
     ⊎ Tells (Err OutOfMemory) old new status
-    ⊎ ((status ≡ 2) × Keeps old new)
+    ⊎ ((status ≡ 2) × (new ≡ old))

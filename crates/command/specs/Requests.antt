@@ -1,9 +1,14 @@
 -- What a line asks for.
-use Rattle.std.specs.Prelude.{List, Option, codes, option_map}
+use Rattle.std.specs.Prelude.{List, [], ◌∷◌, Option, codes, option_map}
 use Rattle.clap.specs.Words.{Row, Text, first_of}
 use Rattle.command.specs.Commands.{verify_line}
+use Rattle.command.specs.declared.verify.Verify.{Verify as VerifyFiles}
 use Rattle.command.specs.declared.line.Request.{Request}
 use Rattle.command.specs.declared.line.Request.TheVariants.{Verify}
+
+-- the paths of the files, in the order of the line
+abbrev pub paths_of : VerifyFiles → List Text
+paths_of files = files.public.now ∷ files.message.now ∷ files.signature.now ∷ []
 
 -- the line that asks for it
 abbrev pub line_of : Request → List Text

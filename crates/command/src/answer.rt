@@ -1,12 +1,11 @@
 //! What a command answers, and how it is told.
 
-ghost use Rattle.std.specs.Prelude.{◌≡◌, Some, OnOk};
-ghost use Rattle.std.specs.Io.KnownBytes.{Appends};
+ghost use Rattle.std.specs.Prelude.{◌≡◌, Some};
 ghost use Rattle.command.specs.Lines.{Tells, answer_line, done_line, status_of};
 
+use crate::output::Output;
 use crate::refusal::Refusal;
-use std::io::Write;
-use std::{fmt, io};
+use std::fmt;
 
 /// What a command has done.
 #[derive(Clone, Copy, Debug, PartialEq, Eq)]
@@ -32,24 +31,32 @@ pub type Answer = Result<Done, Refusal>;
 /// The exit status of an output that fails.
 pub const OUTPUT_FAILED: u8 = 3;
 
-/// Prints the answer's line, and gives the exit status of the program.
-pub fn tell<W: Write>(answer: &Answer, output: &mut W) -> u8
-    ensures { Tells answer.now (W.contents output.old) (W.contents output.new) result }
-{
-    match print(answer, output) {
-        Ok(()) => status(answer),
-        Err(_) => OUTPUT_FAILED,
+// An answer's line.
+#[derive(Clone, Copy)]
+struct Line<'a> {
+    answer: &'a Answer,
+}
+
+/// Writes the line with its end.
+impl fmt::Display for Line<'_> {
+    ghost output = { λ line. Some (answer_line line.answer.now) };
+
+    fn fmt<W: fmt::Write>(&self, f: &mut fmt::Formatter<W>) -> fmt::Result {
+        match self.answer {
+            Ok(done) => writeln!(f, "{done}"),
+            Err(refusal) => writeln!(f, "{refusal}"),
+        }
     }
 }
 
-fn print<W: Write>(answer: &Answer, output: &mut W) -> io::Result<()>
-    ensures { OnOk result (Appends (W.contents output.old) (W.contents output.new) (answer_line answer.now)) }
+/// Prints the answer's line, and gives the exit status of the program.
+pub fn tell<O: Output>(answer: &Answer, output: &mut O) -> u8
+    ensures { Tells answer.now (O.taken output.old) (O.taken output.new) result }
 {
-    match answer {
-        Ok(done) => writeln!(output, "{done}")?,
-        Err(refusal) => writeln!(output, "{refusal}")?,
+    match output.print(Line { answer }) {
+        Ok(()) => status(answer),
+        Err(_) => OUTPUT_FAILED,
     }
-    output.flush()
 }
 
 // 0 for what is done, 3 where the machine fails, and 1 for every other refusal.

@@ -18,6 +18,20 @@ pub enum Request<'a> {
     Verify(Verify<'a>),
 }
 
+impl<'a> Request<'a> {
+    /// The files of a request to verify.
+    pub fn files(&self) -> Verify<'a>
+        ensures { line_of self.now ≡ verify_line result.public.now result.message.now result.signature.now }
+    {
+        match self {
+            Request::Verify(files) => *files,
+        }
+    }
+}
+
+/// The program's version, as its package has it.
+pub const VERSION: &str = "0.1.0";
+
 /// Reads the words of a line, without the program's name.
 ///
 /// An error has one of the kinds that `clap` gives for these words, or there is no memory.
@@ -41,6 +55,7 @@ fn hbsign<'a>(alloc: Global) -> Result<Command<'a>, AllocError>
     Command::new(alloc, "hbsign")
         .bin_name("hbsign")?
         .about("Hash-based signatures on files")
+        .version(VERSION)
         .no_binary_name(true)
         .subcommand_required(true)
         .arg_required_else_help(true)

@@ -1,41 +1,45 @@
 //! `hbsign`: hash-based signatures on files (RFC 8554, RFC 8391).
 //!
-//! `program::run` is the whole program, over the files of a runtime, a reader and two writers. It
-//! reads the line (`line`), does what is asked (a module for each command, as `verify`) and tells
-//! what came of it (`answer`, `refusal`).
+//! `program::run` is the whole program, over a folder of files, a reader and two outputs. It reads the
+//! line (`line`), does what is asked (a module for each command, as `verify`) and tells what came of it
+//! (`answer`, `refusal`). `files` and `output` are where it meets the machine.
 #![tactic(auto)]
 
 mod answer;
 mod files;
 mod line;
+mod output;
+mod paths;
 mod program;
 mod refusal;
 #[cfg(test)]
 mod tests;
 mod verify;
 
+use files::Machine;
+use output::{Output, Printer};
 use refusal::Refusal;
-use std::io::ErrorKind;
 use std::process::ExitCode;
 use std::{env, io};
 
 fn main(rt: HostRuntime) -> ExitCode {
-    let mut output = io::writer(&rt);
     let stderr = rt.stderr();
-    let mut errors = io::writer(&stderr);
+    let mut output = Printer::new(io::writer(&rt));
+    let mut errors = Printer::new(io::writer(&stderr));
     ExitCode::from(match words(&rt) {
         Ok(words) => program::run(
-            &rt,
+            rt.alloc(),
+            &mut Machine::new(&rt),
             words.as_slice(),
             &mut rt.reader(),
             &mut output,
             &mut errors,
         ),
-        Err(error) if error.kind() == ErrorKind::OutOfMemory => {
+        Err(error) if error.kind() == io::ErrorKind::OutOfMemory => {
             answer::tell(&Err(Refusal::OutOfMemory), &mut output)
         }
         Err(_) => {
-            let _ = eprintln!(rt; "error: a word of the line isn't UTF-8");
+            let _ = errors.print("error: a word of the line isn't UTF-8\n");
             program::LINE_REFUSED
         }
     })

@@ -1,86 +1,131 @@
 //! The whole program.
 
-ghost use Rattle.std.specs.Prelude.{◌≡◌, ◌≢◌, ℕ, List, map};
-ghost use Rattle.std.specs.Io.KnownBytes.{Keeps};
-ghost use Rattle.clap.specs.Words.{kind_of};
-ghost use Rattle.command.specs.Commands.{IsFileWord, verify_line};
-ghost use Rattle.command.specs.Lines.{Explains, Helps, Runs, TellsRightly};
+ghost use Rattle.std.specs.Prelude.{◌≡◌, ◌≢◌, ◌++◌, ◌∷◌, ◌<◌, ◌⊎◌, ℕ, List, [], length, map};
+ghost use Rattle.clap.specs.Words.{fault_of, kind_of};
+ghost use Rattle.command.specs.Commands.{IsFileWord, hbsign_app, verify_line};
+ghost use Rattle.command.specs.Lines.{Explains, Helps, Refuses, Runs, TellsOf};
+ghost use Rattle.command.specs.Opening.{OpensInTurn};
+ghost use Rattle.command.specs.Outputs.{Fails, Writes};
+ghost use Rattle.command.specs.Requests.{paths_of};
 
 use crate::answer::{OUTPUT_FAILED, tell};
+use crate::files::Folder;
 use crate::line;
-use crate::line::Request;
+use crate::output::Output;
 use crate::refusal::Refusal;
 use crate::verify::Verify;
 use clap::error::ErrorKind;
 use std::alloc::Global;
 use std::convert::AsStr;
-use std::fs::Files;
-use std::io::{Read, Write};
+use std::io::Read;
 
 /// The exit status of a line that is refused.
 pub const LINE_REFUSED: u8 = 2;
+
+// What is told of a refused line where there is no memory for more.
+const REFUSED_LINE: &str = "error: this line can't be read\n";
+
+// The program's name and version.
+const VERSION_LINE: &str = "hbsign 0.1.0\n";
 
 /// Does what the words of a line ask for, without the program's name, and gives the exit status.
 ///
 /// A line on the output tells what came of it. A line that is refused is explained on `errors`
 /// alone.
-pub fn run<R, S, I, W, E>(rt: &R, words: &[S], _input: &mut I, output: &mut W, errors: &mut E) -> u8
+pub fn run<D, S, I, O, E>(
+    alloc: Global,
+    folder: &mut D,
+    words: &[S],
+    _input: &mut I,
+    output: &mut O,
+    errors: &mut E,
+) -> u8
 where
-    R: Files + AllocGlobal,
+    D: Folder,
     S: AsStr,
     I: Read,
-    W: Write,
-    E: Write,
-    ensures runs { Runs (map S.text words.now) (W.contents output.old) (W.contents output.new) result }
-    ensures verifies { (p m s : List ℕ) → map S.text words.now ≡ verify_line p m s → IsFileWord p → IsFileWord m → IsFileWord s → TellsRightly (W.contents output.old) (W.contents output.new) result }
-    ensures silent { result ≢ 2 → Keeps (E.contents errors.old) (E.contents errors.new) }
+    O: Output,
+    E: Output,
+    ensures runs { Runs (map S.text words.now) (O.taken output.old) (O.taken output.new) result }
+    ensures verifies { (p m s : List ℕ) → map S.text words.now ≡ verify_line p m s → IsFileWord p → IsFileWord m → IsFileWord s → TellsOf (D.content folder.old p) (D.content folder.old m) (D.content folder.old s) (O.taken output.old) (O.taken output.new) result }
+    ensures opens { (p m s : List ℕ) → map S.text words.now ≡ verify_line p m s → IsFileWord p → IsFileWord m → IsFileWord s → OpensInTurn (p ∷ m ∷ s ∷ []) (D.opened folder.old) (D.opened folder.new) }
+    ensures opens_all { (p m s : List ℕ) → map S.text words.now ≡ verify_line p m s → IsFileWord p → IsFileWord m → IsFileWord s → result ≢ 3 → D.opened folder.new ≡ D.opened folder.old ++ p ∷ m ∷ s ∷ [] }
+    ensures opens_none { fault_of hbsign_app (map S.text words.now) ≢ [] → D.opened folder.new ≡ D.opened folder.old }
+    ensures refuses { result ≡ 2 → Refuses (O.taken output.old) (O.taken output.new) (E.taken errors.old) (E.taken errors.new) }
+    ensures silent { result ≢ 2 → E.taken errors.new ≡ E.taken errors.old }
 {
-    match line::read(rt.alloc(), words) {
-        Ok(Request::Verify(verify)) => perform(rt, &verify, output),
-        Err(error) => explain(rt.alloc(), &error, output, errors),
+    match line::read(alloc, words) {
+        Ok(request) => perform(alloc, folder, &request.files(), output),
+        Err(error) => explain(alloc, &error, output, errors),
     }
 }
 
 // Opens the files and tells what they come to.
-fn perform<R: Files + AllocGlobal, W: Write>(rt: &R, verify: &Verify<'_>, output: &mut W) -> u8
-    ensures { TellsRightly (W.contents output.old) (W.contents output.new) result }
+fn perform<D: Folder, O: Output>(
+    alloc: Global,
+    folder: &mut D,
+    verify: &Verify<'_>,
+    output: &mut O,
+) -> u8
+    ensures tells { TellsOf (D.content folder.old verify.now.public.now) (D.content folder.old verify.now.message.now) (D.content folder.old verify.now.signature.now) (O.taken output.old) (O.taken output.new) result }
+    ensures opens { OpensInTurn (paths_of verify.now) (D.opened folder.old) (D.opened folder.new) }
+    ensures opens_all { result ≢ 3 → D.opened folder.new ≡ D.opened folder.old ++ paths_of verify.now }
 {
-    match verify.open(rt) {
-        Ok(mut opened) => opened.tell(rt.alloc(), output),
+    match verify.open(folder) {
+        Ok(mut opened) => opened.tell(alloc, output),
         Err(refusal) => tell(&Err(refusal), output),
     }
 }
 
-// Tells why `clap` gives no request: the help that was asked for, what is wrong with the line, or
-// that there is no memory.
-fn explain<W: Write, E: Write>(
+// Tells why `clap` gives no request: the help or the version that was asked for, what is wrong with the
+// line, or that there is no memory.
+fn explain<O: Output, E: Output>(
     alloc: Global,
     error: &clap::Error,
-    output: &mut W,
+    output: &mut O,
     errors: &mut E,
 ) -> u8
-    ensures explains { Explains (kind_of error.now) (W.contents output.old) (W.contents output.new) result }
-    ensures silent { result ≢ 2 → Keeps (E.contents errors.old) (E.contents errors.new) }
+    ensures explains { Explains (kind_of error.now) (O.taken output.old) (O.taken output.new) result }
+    ensures refuses { result ≡ 2 → Refuses (O.taken output.old) (O.taken output.new) (E.taken errors.old) (E.taken errors.new) }
+    ensures silent { result ≢ 2 → E.taken errors.new ≡ E.taken errors.old }
 {
     match error.kind() {
         ErrorKind::OutOfMemory => tell(&Err(Refusal::OutOfMemory), output),
         ErrorKind::DisplayHelp => match format!(in alloc; "{error}") {
-            Ok(text) => help(&text, output),
+            Ok(text) => print(&text, output),
             Err(_) => tell(&Err(Refusal::OutOfMemory), output),
         },
+        ErrorKind::DisplayVersion => print(VERSION_LINE, output),
         _ => {
-            let _ = write!(errors, "{error}");
+            refuse(alloc, error, errors);
             LINE_REFUSED
         }
     }
 }
 
-// Prints the text of help.
-fn help<W: Write>(text: &str, output: &mut W) -> u8
-    ensures { Helps text.now (W.contents output.old) (W.contents output.new) result }
+// Prints a text that was asked for.
+fn print<O: Output>(text: &str, output: &mut O) -> u8
+    ensures { Helps text.now (O.taken output.old) (O.taken output.new) result }
 {
-    match output.write_all(text.as_bytes()) {
+    match output.print(text) {
         Ok(()) => 0,
         Err(_) => OUTPUT_FAILED,
     }
+}
+
+// Says what is wrong with a line.
+fn refuse<E: Output>(alloc: Global, error: &clap::Error, errors: &mut E)
+    ensures { ((text : List ℕ) × (0 < length text) × Writes text (E.taken errors.old) (E.taken errors.new)) ⊎ Fails (E.taken errors.old) (E.taken errors.new) }
+{
+    let _ = match format!(in alloc; "{error}") {
+        Ok(text) => errors.print(text_or_refusal(&text)),
+        Err(_) => errors.print(REFUSED_LINE),
+    };
+}
+
+// The text, or one that isn't empty.
+fn text_or_refusal(text: &str) -> &str
+    ensures { 0 < length result.now }
+{
+    if text.is_empty() { REFUSED_LINE } else { text }
 }

@@ -1,10 +1,13 @@
 //! Why a command refuses: each refusal with its number, its name and its line.
 
 ghost use Rattle.std.specs.Prelude.{◌≡◌, Some};
+ghost use Rattle.std.specs.IoError.{error_kind};
 ghost use Rattle.command.specs.Lines.{fault_name_of, name_of, number_of, refusal_line};
+ghost use Rattle.command.specs.Judgement.{refusal_of};
 
 use sign_core::KeyFault;
-use std::{error, fmt};
+use std::io::ErrorKind;
+use std::{error, fmt, io};
 use typecodes::{Cause, Refusal as SignatureRefusal};
 
 /// Why a command doesn't do what it was asked.
@@ -90,3 +93,15 @@ impl fmt::Display for Refusal {
 }
 
 impl error::Error for Refusal {}
+
+/// 46 exactly where memory was refused, and 53 for every other failure of a file.
+impl From<io::Error> for Refusal {
+    ghost from_gives = { λ error refusal. refusal ≡ refusal_of (error_kind error) };
+
+    fn from(error: io::Error) -> Refusal {
+        match error.kind() {
+            ErrorKind::OutOfMemory => Refusal::OutOfMemory,
+            _ => Refusal::FileFailed,
+        }
+    }
+}

@@ -1,6 +1,12 @@
+ghost use Rattle.std.specs.Prelude.{None};
+
 mod sample;
 
+use crate::files::{Folder, Machine};
+use crate::output::Printer;
+use crate::paths::{Entry, PathLog};
 use crate::program::run;
+use crate::refusal::Refusal;
 use crate::verify::tell_files;
 use sample::Sample;
 use std::io::{Read, Write};
@@ -10,22 +16,22 @@ use std::{env, fs, io, process};
 
 // A folder of a test's own, with the three files of a line.
 #[derive(Drop)]
-struct Folder {
+struct Place {
     path: PathBuf,
     public: PathBuf,
     message: PathBuf,
     signature: PathBuf,
 }
 
-impl Folder {
-    fn new(rt: &HostRuntime, name: &str) -> Result<Folder, Fail> {
+impl Place {
+    fn new(rt: &HostRuntime, name: &str) -> Result<Place, Fail> {
         let alloc = rt.alloc();
         let id = process::id(rt.process());
         let folder = format!(in alloc; "hbsign-{name}-{id}")?;
         let path = env::temp_dir(rt)?.join(alloc, folder.as_str())?;
         let _ = fs::remove_dir_all(rt, path.as_path());
         fs::create_dir(rt, path.as_path())?;
-        Ok(Folder {
+        Ok(Place {
             public: path.join(alloc, "public")?,
             message: path.join(alloc, "message")?,
             signature: path.join(alloc, "signature")?,
@@ -80,13 +86,24 @@ impl Told {
 }
 
 fn run_words(rt: &HostRuntime, words: &[&str]) -> Told {
-    let mut output = Vec::new(rt.alloc());
-    let mut errors = Vec::new(rt.alloc());
+    run_in(rt, &mut Machine::new(rt), words)
+}
+
+fn run_in<D: Folder>(rt: &HostRuntime, folder: &mut D, words: &[&str]) -> Told {
+    let mut output = Printer::new(Vec::new(rt.alloc()));
+    let mut errors = Printer::new(Vec::new(rt.alloc()));
     let mut input: &[u8] = &[];
-    let status = run(rt, words, &mut input, &mut output, &mut errors);
+    let status = run(
+        rt.alloc(),
+        folder,
+        words,
+        &mut input,
+        &mut output,
+        &mut errors,
+    );
     Told {
-        output,
-        errors,
+        output: output.writer,
+        errors: errors.writer,
         status,
     }
 }
@@ -109,7 +126,7 @@ fn zero_signature(ots: u8, tree: u8) -> [u8; 1292] {
 
 #[test]
 fn tells_each_refusal_of_keys_and_signatures(rt: HostRuntime) -> Result<(), Fail> {
-    let folder = Folder::new(&rt, "refusals")?;
+    let folder = Place::new(&rt, "refusals")?;
     let key = zero_key(5, 4);
     let zeros = zero_signature(4, 5);
     for (public, signature, line) in [
@@ -170,7 +187,7 @@ fn signature_of_height_10(high: u8, low: u8) -> [u8; 1452] {
 
 #[test]
 fn refuses_another_type_and_a_leaf_of_no_tree(rt: HostRuntime) -> Result<(), Fail> {
-    let folder = Folder::new(&rt, "types")?;
+    let folder = Place::new(&rt, "types")?;
     for (public, signature, line) in [
         (
             zero_key(5, 4),
@@ -196,7 +213,7 @@ fn refuses_another_type_and_a_leaf_of_no_tree(rt: HostRuntime) -> Result<(), Fai
 
 #[test]
 fn verifies_a_signature_and_refuses_its_neighbours(rt: HostRuntime) -> Result<(), Fail> {
-    let folder = Folder::new(&rt, "neighbours")?;
+    let folder = Place::new(&rt, "neighbours")?;
     let Sample { public, signature } = Sample::new(rt.alloc(), b"a message")?;
     let valid = signature.as_slice();
     let mut longer = signature.clone()?;
@@ -229,7 +246,7 @@ fn with_leaf(signature: &Vec<u8>, leaf: u8) -> Result<Vec<u8>, Fail> {
 
 #[test]
 fn refuses_a_file_that_is_missing_or_a_folder(rt: HostRuntime) -> Result<(), Fail> {
-    let folder = Folder::new(&rt, "files")?;
+    let folder = Place::new(&rt, "files")?;
     let told_at_first = folder.verify(&rt, b"", b"", b"")?;
     assert!(rt; told_at_first.is("refused 6 KeyLength of 0", 1));
     let missing = folder.path.join(rt.alloc(), "missing")?;
@@ -247,7 +264,7 @@ fn refuses_a_file_that_is_missing_or_a_folder(rt: HostRuntime) -> Result<(), Fai
 
 #[test]
 fn takes_two_hyphens_before_the_files(rt: HostRuntime) -> Result<(), Fail> {
-    let folder = Folder::new(&rt, "hyphens")?;
+    let folder = Place::new(&rt, "hyphens")?;
     let Sample { public, signature } = Sample::new(rt.alloc(), b"a message")?;
     let told = folder.verify(&rt, &public, b"a message", &signature)?;
     assert!(rt; told.is("verified", 0));
@@ -374,7 +391,7 @@ fn tells_of_failing_readers(rt: HostRuntime) -> Result<(), Fail> {
         (io::ErrorKind::NotFound, b"refused 53 FileFailed\n"),
         (io::ErrorKind::Other, b"refused 53 FileFailed\n"),
     ] {
-        let mut output = Vec::new(rt.alloc());
+        let mut output = Printer::new(Vec::new(rt.alloc()));
         let status = tell_files(
             rt.alloc(),
             &mut Failing::new(kind),
@@ -382,8 +399,139 @@ fn tells_of_failing_readers(rt: HostRuntime) -> Result<(), Fail> {
             &mut Failing::new(kind),
             &mut output,
         );
-        assert_eq!(rt; output.as_slice(), line, "{kind:?}");
+        assert_eq!(rt; output.writer.as_slice(), line, "{kind:?}");
         assert_eq!(rt; status, 3, "{kind:?}");
+    }
+    Ok(())
+}
+
+// Some bytes, and behind them an end, zeros without end, or a failure.
+#[derive(Drop)]
+struct Source<'a> {
+    bytes: &'a [u8],
+    behind: Behind,
+}
+
+#[derive(Clone, Copy)]
+enum Behind {
+    End,
+    Zeros,
+    Failure(io::ErrorKind),
+}
+
+impl Read for Source<'_> {
+    fn read(&mut self, buf: &mut [u8]) -> io::Result<usize> {
+        let bytes = self.bytes;
+        let n = bytes.len().min(buf.len());
+        if n > 0 {
+            buf[..n].copy_from_slice(&bytes[..n]);
+            self.bytes = &bytes[n..];
+            return Ok(n);
+        }
+        match self.behind {
+            Behind::End => Ok(0),
+            Behind::Zeros => {
+                buf.fill(0);
+                Ok(buf.len())
+            }
+            Behind::Failure(kind) => Err(io::Error::from(kind)),
+        }
+    }
+}
+
+#[test]
+fn tells_the_first_failure(rt: HostRuntime) -> Result<(), Fail> {
+    let memory = Behind::Failure(io::ErrorKind::OutOfMemory);
+    let pipe = Behind::Failure(io::ErrorKind::BrokenPipe);
+    for (public, message, signature, line) in [
+        (
+            Behind::End,
+            memory,
+            pipe,
+            b"refused 46 OutOfMemory\n".as_slice(),
+        ),
+        (Behind::End, pipe, memory, b"refused 53 FileFailed\n"),
+        (memory, pipe, pipe, b"refused 46 OutOfMemory\n"),
+        (pipe, memory, memory, b"refused 53 FileFailed\n"),
+        (Behind::End, Behind::End, pipe, b"refused 53 FileFailed\n"),
+        (
+            Behind::End,
+            Behind::End,
+            memory,
+            b"refused 46 OutOfMemory\n",
+        ),
+    ] {
+        let mut output = Printer::new(Vec::new(rt.alloc()));
+        let status = tell_files(
+            rt.alloc(),
+            &mut Source {
+                bytes: b"some bytes",
+                behind: public,
+            },
+            &mut Source {
+                bytes: b"more",
+                behind: message,
+            },
+            &mut Source {
+                bytes: b"",
+                behind: signature,
+            },
+            &mut output,
+        );
+        assert_eq!(rt; output.writer.as_slice(), line);
+        assert_eq!(rt; status, 3);
+    }
+    Ok(())
+}
+
+#[test]
+fn reads_no_more_of_a_signature_than_decides(rt: HostRuntime) -> Result<(), Fail> {
+    let Sample { public, signature } = Sample::new(rt.alloc(), b"a message")?;
+    let mut output = Printer::new(Vec::new(rt.alloc()));
+    let status = tell_files(
+        rt.alloc(),
+        &mut Source {
+            bytes: &public,
+            behind: Behind::End,
+        },
+        &mut Source {
+            bytes: b"a message",
+            behind: Behind::End,
+        },
+        &mut Source {
+            bytes: &signature,
+            behind: Behind::Zeros,
+        },
+        &mut output,
+    );
+    assert_eq!(rt;
+        output.writer.as_slice(),
+        b"refused 5 Trailing at 1292\n".as_slice()
+    );
+    assert_eq!(rt; status, 1);
+    Ok(())
+}
+
+#[test]
+fn tells_the_length_of_a_long_key(rt: HostRuntime) -> Result<(), Fail> {
+    for (length, line) in [
+        (68, b"refused 2 UnknownType at 0\n".as_slice()),
+        (69, b"refused 6 KeyLength of 69\n"),
+        (4165, b"refused 6 KeyLength of 4165\n"),
+        (4166, b"refused 6 KeyLength of 4166\n"),
+        (100_000, b"refused 6 KeyLength of 100000\n"),
+    ] {
+        let key = vec![in rt.alloc(); 0; length]?;
+        let mut output = Printer::new(Vec::new(rt.alloc()));
+        let status = tell_files(
+            rt.alloc(),
+            &mut key.as_slice(),
+            &mut b"a message".as_slice(),
+            &mut b"".as_slice(),
+            &mut output,
+        );
+        assert_eq!(rt; output.writer.as_slice(), line);
+        assert_eq!(rt; status, 1);
     }
     Ok(())
 }
@@ -391,7 +539,7 @@ fn tells_of_failing_readers(rt: HostRuntime) -> Result<(), Fail> {
 #[test]
 fn reads_the_key_the_message_and_the_signature(rt: HostRuntime) -> Result<(), Fail> {
     let Sample { public, signature } = Sample::new(rt.alloc(), b"a message")?;
-    let mut output = Vec::new(rt.alloc());
+    let mut output = Printer::new(Vec::new(rt.alloc()));
     let status = tell_files(
         rt.alloc(),
         &mut public.as_slice(),
@@ -399,7 +547,7 @@ fn reads_the_key_the_message_and_the_signature(rt: HostRuntime) -> Result<(), Fa
         &mut signature.as_slice(),
         &mut output,
     );
-    assert_eq!(rt; output.as_slice(), b"verified\n".as_slice());
+    assert_eq!(rt; output.writer.as_slice(), b"verified\n".as_slice());
     assert_eq!(rt; status, 0);
     Ok(())
 }
@@ -412,13 +560,147 @@ fn tells_of_failing_writers(rt: HostRuntime) -> Result<(), Fail> {
             3,
         ),
         (["--help"].as_slice(), 3),
+        (["--version"].as_slice(), 3),
         (["--nonsense"].as_slice(), 2),
     ] {
-        let mut output = Failing::new(io::ErrorKind::BrokenPipe);
-        let mut errors = Failing::new(io::ErrorKind::BrokenPipe);
+        let mut output = Printer::new(Failing::new(io::ErrorKind::BrokenPipe));
+        let mut errors = Printer::new(Failing::new(io::ErrorKind::BrokenPipe));
         let mut input: &[u8] = &[];
-        let told = run(&rt, words, &mut input, &mut output, &mut errors);
+        let told = run(
+            rt.alloc(),
+            &mut Machine::new(&rt),
+            words,
+            &mut input,
+            &mut output,
+            &mut errors,
+        );
         assert_eq!(rt; told, status, "{words:?}");
+    }
+    Ok(())
+}
+
+// Takes every text, and can't pass it on.
+#[derive(Drop)]
+struct Stuck {
+    taken: Vec<u8>,
+}
+
+impl Write for Stuck {
+    fn write(&mut self, buf: &[u8]) -> io::Result<usize> {
+        self.taken.extend_from_slice(buf)?;
+        Ok(buf.len())
+    }
+
+    fn flush(&mut self) -> io::Result<()> {
+        Err(io::Error::from(io::ErrorKind::StorageFull))
+    }
+}
+
+#[test]
+fn tells_of_outputs_that_fail_at_the_end(rt: HostRuntime) -> Result<(), Fail> {
+    let Sample { public, signature } = Sample::new(rt.alloc(), b"a message")?;
+    let mut output = Printer::new(Stuck {
+        taken: Vec::new(rt.alloc()),
+    });
+    let status = tell_files(
+        rt.alloc(),
+        &mut public.as_slice(),
+        &mut b"a message".as_slice(),
+        &mut signature.as_slice(),
+        &mut output,
+    );
+    assert_eq!(rt; output.writer.taken.as_slice(), b"verified\n".as_slice());
+    assert_eq!(rt; status, 3);
+    Ok(())
+}
+
+#[test]
+fn tells_its_version(rt: HostRuntime) -> Result<(), Fail> {
+    for word in ["--version", "-V"] {
+        assert!(rt; run_words(&rt, &[word]).is("hbsign 0.1.0", 0), "{word}");
+    }
+    Ok(())
+}
+
+// Files in memory by their paths, and the paths that were opened.
+#[derive(Drop)]
+struct Shelf<'a> {
+    files: &'a [(&'a str, &'a [u8])],
+    opened: Vec<u8>,
+    log: PathLog,
+}
+
+impl<'a> Folder for Shelf<'a> {
+    type File = &'a [u8];
+
+    ghost opened = { λ shelf. shelf.log.paths };
+
+    ghost content = { λ _ _. None };
+
+    fn open(&mut self, path: &str) -> Result<&'a [u8], Refusal> {
+        self.log = self.log.and(&Entry { path });
+        let noted = self.opened.extend_from_slice(path.as_bytes());
+        if noted.is_err() || self.opened.push(b'|').is_err() {
+            return Err(Refusal::FileFailed);
+        }
+        for (name, bytes) in self.files {
+            if *name == path {
+                return Ok(*bytes);
+            }
+        }
+        Err(Refusal::FileFailed)
+    }
+}
+
+#[test]
+fn opens_the_files_of_the_words_in_turn(rt: HostRuntime) -> Result<(), Fail> {
+    let Sample { public, signature } = Sample::new(rt.alloc(), b"a message")?;
+    let files = [
+        (" key ", public.as_slice()),
+        ("message\t", b"a message".as_slice()),
+        (" ", signature.as_slice()),
+        ("key", b""),
+        ("message", b""),
+    ];
+    for (line, told, status, opened) in [
+        (
+            ["verify", " key ", "message\t", " "],
+            "verified",
+            0,
+            b" key |message\t| |".as_slice(),
+        ),
+        (
+            ["verify", "key", "message", " "],
+            "refused 6 KeyLength of 0",
+            1,
+            b"key|message| |",
+        ),
+        (
+            ["verify", " key ", "message\t", "  "],
+            "refused 53 FileFailed",
+            3,
+            b" key |message\t|  |",
+        ),
+        (
+            ["verify", " key ", "message ", " "],
+            "refused 53 FileFailed",
+            3,
+            b" key |message |",
+        ),
+        (
+            ["verify", " key", "message\t", " "],
+            "refused 53 FileFailed",
+            3,
+            b" key|",
+        ),
+    ] {
+        let mut shelf = Shelf {
+            files: &files,
+            opened: Vec::new(rt.alloc()),
+            log: PathLog::new(),
+        };
+        assert!(rt; run_in(&rt, &mut shelf, &line).is(told, status), "{line:?}");
+        assert_eq!(rt; shelf.opened.as_slice(), opened, "{line:?}");
     }
     Ok(())
 }

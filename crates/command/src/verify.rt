@@ -1,20 +1,22 @@
 //! `verify PUBLIC MESSAGE SIGNATURE`.
 
-ghost use Rattle.std.specs.Prelude.{◌≡◌, ◌≢◌, ◌↔◌, ℕ, List, Some, length, codes, IfErr, IfOk, IfSome, IsErrOf, IsSome, Result};
+ghost use Rattle.std.specs.Prelude.{◌≡◌, ◌↔◌, ◌++◌, ℕ, List, Some, take, codes, IfErr, IfOk, IfSome, IsSome, OnOk};
 ghost use Rattle.clap.specs.declared.builder.command.Command.{Command as ClapCommand};
 ghost use Rattle.clap.specs.Words.{AddsSubcommand, app_of, first_value, found_of, with_subcommand};
 ghost use Rattle.command.specs.Commands.{verify_app};
-ghost use Rattle.command.specs.Judgement.{Answers, Judgement};
-ghost use Rattle.command.specs.Lines.{Tells, TellsRightly};
+ghost use Rattle.command.specs.Judgement.{AnswersOf, Judgement, ReadsKey, decisive};
+ghost use Rattle.command.specs.Lines.{TellsOf};
+ghost use Rattle.command.specs.Opening.{OpensInTurn, ReadsInTurn, Shows};
 
 use crate::answer::{Answer, Done, tell};
 use crate::files;
+use crate::files::{DECISIVE, Folder};
+use crate::output::Output;
 use crate::refusal::Refusal;
 use clap::{Arg, ArgMatches, Command};
-use sign_core::{AnyPublic, verify_any};
+use sign_core::{AnyPublic, KeyFault, verify_any};
 use std::alloc::{AllocError, Global};
-use std::fs::Files;
-use std::io::{Read, Write};
+use std::io::Read;
 
 /// The files of the line, by their paths.
 #[derive(Clone, Copy, Debug)]
@@ -39,6 +41,8 @@ pub struct Opened<F> {
 }
 
 impl<'a> Verify<'a> {
+    ghost use Rattle.command.specs.Requests.{paths_of};
+
     /// The command's name on the line.
     pub const NAME: &'static str = "verify";
 
@@ -79,23 +83,27 @@ impl<'a> Verify<'a> {
         })
     }
 
-    /// Opens the files in the order of the line.
-    pub fn open<R: Files>(&self, rt: &R) -> Result<Opened<R::File>, Refusal>
-        ensures { IfErr result (λ refusal. refusal ≡ Refusal.FileFailed) }
+    /// Opens the files in the order of the line, each for reading.
+    pub fn open<D: Folder>(&self, folder: &mut D) -> Result<Opened<D::File>, Refusal>
+        ensures all { OnOk result (D.opened folder.new ≡ D.opened folder.old ++ paths_of self.now) }
+        ensures opens { OpensInTurn (paths_of self.now) (D.opened folder.old) (D.opened folder.new) }
+        ensures public { IfOk result (λ files. Shows (D.content folder.old self.now.public.now) (D.File.remaining files.public)) }
+        ensures message { IfOk result (λ files. Shows (D.content folder.old self.now.message.now) (D.File.remaining files.message)) }
+        ensures signature { IfOk result (λ files. Shows (D.content folder.old self.now.signature.now) (D.File.remaining files.signature)) }
+        ensures err { IfErr result (λ refusal. refusal ≡ Refusal.FileFailed) }
     {
         Ok(Opened {
-            public: files::open(rt, self.public)?,
-            message: files::open(rt, self.message)?,
-            signature: files::open(rt, self.signature)?,
+            public: folder.open(self.public)?,
+            message: folder.open(self.message)?,
+            signature: folder.open(self.signature)?,
         })
     }
 }
 
 impl<F: Read> Opened<F> {
     /// Tells what the files come to, as `tell_files` does.
-    pub fn tell<W: Write>(&mut self, alloc: Global, output: &mut W) -> u8
-        ensures known { (p m s : List ℕ) → F.remaining self.old.public ≡ Some p → F.remaining self.old.message ≡ Some m → F.remaining self.old.signature ≡ Some s → (answer : Result Done Refusal) × Answers p m s answer × Tells answer (W.contents output.old) (W.contents output.new) result }
-        ensures rightly { TellsRightly (W.contents output.old) (W.contents output.new) result }
+    pub fn tell<O: Output>(&mut self, alloc: Global, output: &mut O) -> u8
+        ensures { TellsOf (F.remaining self.old.public) (F.remaining self.old.message) (F.remaining self.old.signature) (O.taken output.old) (O.taken output.new) result }
     {
         tell_files(
             alloc,
@@ -107,39 +115,43 @@ impl<F: Read> Opened<F> {
     }
 }
 
-/// Reads the files whole, in this order, judges what they hold, and prints the answer's line. Gives
-/// the exit status of the program.
-pub fn tell_files<F: Read, W: Write>(
+/// Reads the files in this order, judges what they hold, and prints the answer's line. Gives the exit
+/// status of the program.
+pub fn tell_files<F: Read, O: Output>(
     alloc: Global,
     public: &mut F,
     message: &mut F,
     signature: &mut F,
-    output: &mut W,
+    output: &mut O,
 ) -> u8
-    ensures known { (p m s : List ℕ) → F.remaining public.old ≡ Some p → F.remaining message.old ≡ Some m → F.remaining signature.old ≡ Some s → (answer : Result Done Refusal) × Answers p m s answer × Tells answer (W.contents output.old) (W.contents output.new) result }
-    ensures rightly { TellsRightly (W.contents output.old) (W.contents output.new) result }
+    ensures tells { TellsOf (F.remaining public.old) (F.remaining message.old) (F.remaining signature.old) (O.taken output.old) (O.taken output.new) result }
+    ensures order { ReadsInTurn F.remaining public.new message.old message.new signature.old signature.new }
 {
     tell(&judge_files(alloc, public, message, signature), output)
 }
 
-// Reads the files whole, in this order, and judges what they hold.
+// Reads the files in this order, and judges what they hold.
 fn judge_files<F: Read>(alloc: Global, public: &mut F, message: &mut F, signature: &mut F) -> Answer
-    ensures known { (p m s : List ℕ) → F.remaining public.old ≡ Some p → F.remaining message.old ≡ Some m → F.remaining signature.old ≡ Some s → Answers p m s result }
-    ensures some { (p m s : List ℕ) × Answers p m s result }
+    ensures answers { AnswersOf (F.remaining public.old) (F.remaining message.old) (F.remaining signature.old) result }
+    ensures order { ReadsInTurn F.remaining public.new message.old message.new signature.old signature.new }
 {
-    let public = files::read_whole(alloc, public)?;
+    let key = files::read_key(public)?;
     let message = files::read_whole(alloc, message)?;
-    let signature = files::read_whole(alloc, signature)?;
-    judge(&public, &message, &signature)?;
+    let signature = files::read_first(alloc, signature, DECISIVE)?;
+    judge(key, &message, &signature)?;
     Ok(Done::Verified)
 }
 
-/// Whether the bytes of a signature sign the message under the bytes of a public key. The key is
-/// judged first: its length, then its fields.
-pub fn judge(public: &[u8], message: &[u8], signature: &[u8]) -> Result<(), Refusal>
-    ensures { Judgement public.now message.now signature.now result }
+/// Whether the bytes of a signature sign the message under the public key that was read, or why there is
+/// none. The first bytes of a signature decide: see `DECISIVE`.
+pub fn judge(
+    key: Result<AnyPublic, KeyFault>,
+    message: &[u8],
+    signature: &[u8],
+) -> Result<(), Refusal>
+    ensures { (p s : List ℕ) → ReadsKey p key → signature.now ≡ take decisive s → Judgement p message.now s result }
 {
-    let key = AnyPublic::read(public).map_err(Refusal::Key)?;
+    let key = key.map_err(Refusal::Key)?;
     let mut message = message;
     verify_any(&key, &mut message, signature).map_err(Refusal::Signature)
 }

@@ -1,5 +1,29 @@
-use Rattle.command.proofs.Writing.{kept}
+use Rattle.std.proofs.Common.{◌∙◌, inl, refl, subst, sym}
+use Rattle.command.specs.Lines.{Explains}
+use Rattle.command.specs.declared.refusal.Refusal.TheVariants.{OutOfMemory}
+use Rattle.command.proofs.Contents.{tells_failure, tells_of_line}
+use Rattle.command.proofs.Turns.{opens_of_line}
 use Rattle.command.proofs.program.run.Goals as goal
 
-pub returns-in-Ok-Verify-clause-silent : goal.returns-in-Ok-Verify-clause-silent
-returns-in-Ok-Verify-clause-silent g c other = kept (g.E.Write.contents c.args.errors.now)
+pub returns-in-Ok-clause-verifies : goal.returns-in-Ok-clause-verifies
+returns-in-Ok-clause-verifies g c p m s line public message signature =
+    let files = c.files.result in
+    let same = sym c.files.ensures ∙ c.in-Ok.ensures.plain p m s line public message signature in
+    tells_of_line (g.D.Folder.content c.args.folder.now) files.public.now files.message.now files.signature.now p m s
+    (g.O.Output.taken c.args.output.now) (g.O.Output.taken c.perform.new.output) c.perform.result same c.perform.ensures.tells
+
+pub returns-in-Ok-clause-opens_all : goal.returns-in-Ok-clause-opens_all
+returns-in-Ok-clause-opens_all g c p m s line public message signature told =
+    let files = c.files.result in
+    let same = sym c.files.ensures ∙ c.in-Ok.ensures.plain p m s line public message signature in
+    opens_of_line files.public.now files.message.now files.signature.now p m s
+    (g.D.Folder.opened c.args.folder.now) (g.D.Folder.opened c.perform.new.folder) same (c.perform.ensures.opens_all told)
+
+pub returns-in-Err-clause-verifies : goal.returns-in-Err-clause-verifies
+returns-in-Err-clause-verifies g c p m s line public message signature =
+    let content = g.D.Folder.content c.args.folder.now in
+    let old = g.O.Output.taken c.args.output.now in
+    let new = g.O.Output.taken c.explain.new.output in
+    let memory = c.in-Err.ensures.plain p m s line public message signature in
+    tells_failure (content p) (content m) (content s) old new c.explain.result OutOfMemory (inl refl)
+    (subst (λ k. Explains k old new c.explain.result) memory c.explain.ensures.explains)

@@ -1,19 +1,37 @@
-use Rattle.std.proofs.Common.{rules, refl}
+use Rattle.std.proofs.Common.{◌∙◌, take, ap, sym, subst}
+use Rattle.std.specs.IoError.{error_kind}
+use Rattle.command.specs.Opening.{IsContent}
 use Rattle.command.specs.declared.answer.Done.TheVariants.{Verified}
-use Rattle.command.proofs.Judging.{same_judgement}
+use Rattle.command.proofs.Contents.{failed_read}
+use Rattle.command.proofs.Deciding.{decisive_is}
+use Rattle.command.proofs.Judging.{refused, same_judgement}
 use Rattle.command.proofs.verify.judge_files.Goals as goal
 
-pub returns-in_err-judge-clause-some : goal.returns-in_err-judge-clause-some
-returns-in_err-judge-clause-some g c = (c.in_ok-public.public.items, c.in_ok-message.message.items, c.in_ok-signature.signature.items, search rules)
+pub returns-in_err-key-clause-answers : goal.returns-in_err-key-clause-answers
+returns-in_err-key-clause-answers g c = failed_read _ _ _ (error_kind c.in_err-key.field-0.0) c.from_residual.result c.from_residual.ensures.1
 
-pub returns-clause-known : goal.returns-clause-known
-returns-clause-known g c p m s public message signature =
-    same_judgement p m s c.deref.result.now c.deref-2.result.now c.deref-3.result.now c.in_ok-judge.field-0 Verified
-    (search rules) (search rules) (search rules) c.in_ok-judge.ensures
+pub returns-in_err-message-clause-answers : goal.returns-in_err-message-clause-answers
+returns-in_err-message-clause-answers g c =
+    failed_read _ _ _ (error_kind c.in_err-message.field-0.0) c.from_residual-in_err-message.result c.from_residual-in_err-message.ensures.1
 
-pub returns-clause-some : goal.returns-clause-some
-returns-clause-some g c =
-    let p = c.deref.result.now in
-    let m = c.deref-2.result.now in
-    let s = c.deref-3.result.now in
-    (p, m, s, same_judgement p m s p m s c.in_ok-judge.field-0 Verified refl refl refl c.in_ok-judge.ensures)
+pub returns-in_err-signature-clause-answers : goal.returns-in_err-signature-clause-answers
+returns-in_err-signature-clause-answers g c =
+    failed_read _ _ _ (error_kind c.in_err-signature.field-0.0) c.from_residual-in_err-signature.result c.from_residual-in_err-signature.ensures.1
+
+pub returns-in_err-judge-clause-answers : goal.returns-in_err-judge-clause-answers
+returns-in_err-judge-clause-answers g c =
+    let (p, p_fits, reads) = c.in_ok-key.ensures.key in
+    let (s, s_fits, s_is) = c.in_ok-signature.ensures in
+    let m = c.deref.result.now in
+    let first = c.deref-2.ensures.value ∙ s_is ∙ ap (λ n. take n s) decisive_is in
+    let m_fits = subst (IsContent _) (sym c.deref.ensures.value) c.in_ok-message.ensures.whole in
+    (p, m, s, p_fits, m_fits, s_fits, refused p m s c.in_err-judge.field-0.0 c.from_residual-in_err-judge.result (c.in_err-judge.ensures p s reads first) c.from_residual-in_err-judge.ensures.1)
+
+pub returns-clause-answers : goal.returns-clause-answers
+returns-clause-answers g c =
+    let (p, p_fits, reads) = c.in_ok-key.ensures.key in
+    let (s, s_fits, s_is) = c.in_ok-signature.ensures in
+    let m = c.deref.result.now in
+    let first = c.deref-2.ensures.value ∙ s_is ∙ ap (λ n. take n s) decisive_is in
+    let m_fits = subst (IsContent _) (sym c.deref.ensures.value) c.in_ok-message.ensures.whole in
+    (p, m, s, p_fits, m_fits, s_fits, same_judgement p m s c.in_ok-judge.field-0 Verified (c.in_ok-judge.ensures p s reads first))

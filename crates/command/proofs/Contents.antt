@@ -1,0 +1,109 @@
+-- What is told of contents, and which answers are right for it.
+use Rattle.std.proofs.Common.{◌≡◌, ◌∙◌, ℕ, ◌≤◌, ◌<◌, ◌⊎◌, List, [], ◌++◌, length, take, Option, Some, None, Result, Ok, Err, IfOk, IfErr, IsErrAnd, inl, inr, refl, sym, subst, ap, append-nil, arith, length-take-le, take_all, take_at}
+use Rattle.std.proofs.lemmas.Bool.{cases_lt}
+use Rattle.std.specs.Io.KnownBytes.{Consumes, IsAtEnd}
+use Rattle.std.specs.declared.io.ErrorKind.{ErrorKind}
+use Rattle.std.specs.declared.io.ErrorKind.TheVariants as kind
+use Rattle.sign_core.specs.declared.public.AnyPublic.{AnyPublic}
+use Rattle.sign_core.specs.declared.public.KeyFault.{KeyFault}
+use Rattle.sign_core.specs.AnyKey.{KeyHasFault, SpellsKey}
+use Rattle.command.specs.Commands.{verify_line}
+use Rattle.command.specs.Judgement.{Answers, AnswersOf, ReadsKey, refusal_of}
+use Rattle.command.specs.Lines.{Tells, TellsOf, TellsRightly}
+use Rattle.command.specs.Opening.{IsContent, Shows}
+use Rattle.command.specs.Outputs.{Taken}
+use Rattle.command.specs.declared.refusal.Refusal.{Refusal}
+use Rattle.command.specs.declared.refusal.Refusal.TheVariants.{OutOfMemory, FileFailed}
+use Rattle.command.specs.declared.answer.Done.{Done}
+
+-- some bytes fit whatever is told
+pub some_content : (told : Option (List ℕ)) → (bytes : List ℕ) × IsContent told bytes
+some_content None = ([], tt)
+some_content (Some bytes) = (bytes, refl)
+
+-- memory that was refused, or a file that failed
+abbrev pub IsFailure : Refusal → Type 0
+IsFailure refusal = (refusal ≡ OutOfMemory) ⊎ (refusal ≡ FileFailed)
+
+failure_of : (k : ErrorKind) → IsFailure (refusal_of k)
+failure_of kind.OutOfMemory = inl refl
+failure_of _ = inr refl
+
+failed : (A : Type 0) (p m s : List ℕ) (refusal : Refusal) → IsFailure refusal → Answers {A = A} p m s (Err refusal)
+failed A p m s refusal (inl is) = subst (λ r. Answers {A = A} p m s (Err r)) (sym is) tt
+failed A p m s refusal (inr is) = subst (λ r. Answers {A = A} p m s (Err r)) (sym is) tt
+
+-- a failure is an answer whatever the files hold
+pub failed_answer : (A : Type 0) (public message signature : Option (List ℕ)) (refusal : Refusal) → IsFailure refusal
+    → AnswersOf {A = A} public message signature (Err refusal)
+failed_answer A public message signature refusal failure =
+    let (p, p_is) = some_content public in
+    let (m, m_is) = some_content message in
+    let (s, s_is) = some_content signature in
+    (p, m, s, p_is, m_is, s_is, failed A p m s refusal failure)
+
+-- so is an error of a reader
+pub failed_read : {A : Type 0} (public message signature : Option (List ℕ)) (k : ErrorKind) (answer : Result A Refusal)
+    → IsErrAnd answer (λ refusal. refusal ≡ refusal_of k) → AnswersOf public message signature answer
+failed_read public message signature k (Ok a) is = absurd is
+failed_read {A = A} public message signature k (Err refusal) is =
+    failed_answer A public message signature refusal (subst IsFailure (sym is) (failure_of k))
+
+same_content : (content left : Option (List ℕ)) (bytes : List ℕ) → Shows content left → IsContent left bytes → IsContent content bytes
+same_content None left bytes shows fits = tt
+same_content (Some content) left bytes shows fits = subst (λ l. IsContent l bytes) shows fits
+
+-- an answer that is right for what readers tell is right for what is told of their files
+pub tells_of_files : (p m s p_left m_left s_left : Option (List ℕ)) (old new : Taken) (status : ℕ)
+    → Shows p p_left → Shows m m_left → Shows s s_left → TellsOf p_left m_left s_left old new status → TellsOf p m s old new status
+tells_of_files p m s p_left m_left s_left old new status p_shows m_shows s_shows (answer, (a, b, c, a_fits, b_fits, c_fits, right), told) =
+    (answer, (a, b, c, same_content p p_left a p_shows a_fits, same_content m m_left b m_shows b_fits, same_content s s_left c s_shows c_fits, right), told)
+
+-- and for some contents
+pub tells_rightly : (p m s : Option (List ℕ)) (old new : Taken) (status : ℕ) → TellsOf p m s old new status → TellsRightly old new status
+tells_rightly p m s old new status (answer, (a, b, c, a_fits, b_fits, c_fits, right), told) = (answer, (a, b, c, tt, tt, tt, right), told)
+
+-- a failure that was told
+pub tells_failure : (p m s : Option (List ℕ)) (old new : Taken) (status : ℕ) (refusal : Refusal) → IsFailure refusal
+    → Tells (Err refusal) old new status → TellsOf p m s old new status
+tells_failure p m s old new status refusal failure told = (Err refusal, failed_answer Done p m s refusal failure, told)
+
+-- what was read to the end is the content
+pub content_at_end : (old new : Option (List ℕ)) (bytes : List ℕ) → Consumes old new bytes → IsAtEnd new → IsContent old bytes
+content_at_end None new bytes read end = tt
+content_at_end (Some xs) None bytes read end = absurd read
+content_at_end (Some xs) (Some ys) bytes read end = sym (read ∙ ap (λ l. bytes ++ l) end ∙ append-nil bytes)
+
+-- what reading a key told
+pub reads_key : (bytes : List ℕ) (key : Result AnyPublic KeyFault) → IfOk key (λ k. SpellsKey k bytes) → IfErr key (KeyHasFault bytes) → ReadsKey bytes key
+reads_key bytes (Ok key) spelled fault = spelled
+reads_key bytes (Err fault) spelled is = is
+
+-- the first bytes that were read are those of the content
+pub first_of : (count n : ℕ) (old new : Option (List ℕ)) (buffer : List ℕ) → length buffer ≡ count → n ≤ length buffer
+    → Consumes old new (take n buffer) → (n < length buffer → IsAtEnd new)
+    → (whole : List ℕ) × IsContent old whole × (take n buffer ≡ take count whole)
+first_of count n None new buffer size within read end =
+    let short : length (take n buffer) ≤ count = omega (arith, size, length-take-le n buffer within) in
+    (take n buffer, tt, sym (take_all count (take n buffer) short))
+first_of count n (Some xs) None buffer size within read end = absurd read
+first_of count n (Some xs) (Some ys) buffer size within read end = elim (cases_lt n count) [
+  | inl less ↦
+      let short : length (take n buffer) ≤ count = omega (arith, size, length-take-le n buffer within) in
+      let whole : take n buffer ≡ xs = sym (read ∙ ap (λ l. take n buffer ++ l) (end (omega (arith, size, less))) ∙ append-nil (take n buffer)) in
+      (xs, refl, sym (take_all count (take n buffer) short) ∙ ap (take count) whole)
+  | inr full ↦
+      let long : count ≡ length (take n buffer) = omega (arith, size, full, within, length-take-le n buffer within) in
+      (xs, refl, sym (take_at (take n buffer) ys count (sym long)) ∙ ap (take count) (sym read))
+]
+
+-- the answer on the files of a line is that on the paths of the same line
+pub tells_of_line : (content : List ℕ → Option (List ℕ)) (a b d p m s : List ℕ) (old new : Taken) (status : ℕ) → verify_line a b d ≡ verify_line p m s
+    → TellsOf (content a) (content b) (content d) old new status → TellsOf (content p) (content m) (content s) old new status
+tells_of_line content a b d p m s old new status same told =
+    let first : a ≡ p = cc in
+    let second : b ≡ m = cc in
+    let third : d ≡ s = cc in
+    subst (λ x. TellsOf (content p) (content m) (content x) old new status) third
+    (subst (λ x. TellsOf (content p) (content x) (content d) old new status) second
+    (subst (λ x. TellsOf (content x) (content b) (content d) old new status) first told))
