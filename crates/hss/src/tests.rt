@@ -277,7 +277,11 @@ fn keys_are_read(rt: HostRuntime) {
             Some(levels) => Ok(HssPublic { levels, top }),
             None => Err(fault),
         };
-        assert_eq!(rt; HssPublic::read(&zero_key(levels)), wanted, "{levels} levels");
+        assert_eq!(rt;
+            HssPublic::read(&zero_key(levels)),
+            wanted,
+            "{levels} levels"
+        );
         assert_eq!(rt; wanted.is_ok(), known, "{levels} levels");
     }
     let mut bytes = zero_key(2);

@@ -25,9 +25,7 @@ fn counting(alloc: Global, count: usize) -> Result<Vec<u8>, AllocError> {
 
 fn signer<'a>(alloc: Global, limit: u32, tape: &'a [u8]) -> Result<TestSigner<'a>, SignFault> {
     let store = MemoryStore::with_limit(alloc, limit.max(1));
-    Signer::create(alloc, PAIR, store, TapeSource::new(tape)).map_err(
-        |refused| refused.fault,
-    )
+    Signer::create(alloc, PAIR, store, TapeSource::new(tape)).map_err(|refused| refused.fault)
 }
 
 // Signs, and verifies what is signed.
@@ -312,12 +310,7 @@ fn created_at_last<'a>(alloc: Global, tape: &'a [u8]) -> Result<TestSigner<'a>, 
             let (store, _) = refused.given;
             match refused.fault {
                 SignFault::OutOfMemory => {
-                    let again = Signer::create(
-                        alloc,
-                        PAIR,
-                        store,
-                        TapeSource::new(tape),
-                    );
+                    let again = Signer::create(alloc, PAIR, store, TapeSource::new(tape));
                     again.map_err(|refused| refused.fault)
                 }
                 fault => Err(fault),
