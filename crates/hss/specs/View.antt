@@ -1,4 +1,6 @@
 -- What a view of a signature's bytes shows.
+use denote.Bor.{Bor}
+use Rattle.std.specs.Prelude.{ℕ, List}
 use Rattle.hss.specs.declared.signature.HssSigView.{HssSigView}
 use Rattle.hss.specs.Layouts.{Signature}
 use Rattle.hss.specs.Spelled.{spelled_by}
@@ -6,3 +8,11 @@ use Rattle.hss.specs.Spelled.{spelled_by}
 -- the signature
 abbrev pub signature_of : HssSigView → Signature
 signature_of view = spelled_by view.bytes.now
+
+-- the bytes that spell it, as they were lent
+abbrev pub lent_of : HssSigView → Bor (List ℕ)
+lent_of view = view.bytes
+
+-- and as a list
+abbrev pub bytes_of : HssSigView → List ℕ
+bytes_of view = view.bytes.now

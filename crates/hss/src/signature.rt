@@ -7,7 +7,7 @@ ghost use Rattle.typecodes.specs.Reading.{Gives, Reads, read};
 ghost use Rattle.typecodes.specs.Types.{lms_signature_len_of};
 ghost use Rattle.lms.specs.declared.key.LmsPublic.{LmsPublic};
 ghost use Rattle.lms.specs.Layouts.{public_key as lms_public_key, signature as lms_signature};
-ghost use Rattle.lms.specs.View.{signature_of as lms_signature_of};
+ghost use Rattle.lms.specs.View.{bytes_of as lms_bytes_of, pair_of as lms_pair_of, signature_of as lms_signature_of};
 ghost use Rattle.hss.specs.Bytes.{signature_size};
 ghost use Rattle.hss.specs.Ends.{end_of};
 ghost use Rattle.hss.specs.Layouts.{signature, signed_key, signed_keys};
@@ -30,14 +30,14 @@ pub struct HssSigView<'a> {
 }
 
 impl<'a> HssSigView<'a> {
-    ghost use Rattle.hss.specs.View.{signature_of};
+    ghost use Rattle.hss.specs.View.{bytes_of, lent_of, signature_of};
 
     /// The signature that the bytes spell, and no more: 2644 bytes for two levels of H5/W8. Otherwise
     /// their first fault (1 to 5).
     #[tactic(auto, using(typecodes::proofs::Steps::steps, typecodes::proofs::Steps::reading), unfolding(crate::specs::Layouts::signature))]
     pub fn read(bytes: &'a [u8]) -> Result<Self, ReadFault>
         ensures reads { Reads signature signature_of bytes.entry.now result }
-        ensures whole { IfOk result (λ view. view.bytes ≡ bytes.entry) }
+        ensures whole { IfOk result (λ view. lent_of view ≡ bytes.entry) }
     {
         let mut cursor = Cursor::new(bytes);
         let above = number_at(&mut cursor, 0, 7)?;
@@ -53,7 +53,7 @@ impl<'a> HssSigView<'a> {
     /// L, the number of levels, 1 to 8: one more than the number in the first 4 bytes.
     pub fn levels(&self) -> u8
         ensures value { result ≡ level_count (signature_of self.now) }
-        ensures range { result ≡ big_number 4 (take 4 self.now.bytes.now) + 1 }
+        ensures range { result ≡ big_number 4 (take 4 (bytes_of self.now)) + 1 }
         ensures most { result ≤ 8 }
     {
         self.levels
@@ -64,7 +64,8 @@ impl<'a> HssSigView<'a> {
     pub fn level(&self, i: u8) -> LmsSigView<'a>
         requires { i < level_count (signature_of self.now) }
         ensures value { lms_signature_of result ≡ signature_at (signature_of self.now) i }
-        ensures range { result.bytes.now ≡ take (lms_signature_len_of result.pair) (drop (start_of (signature_of self.now) i) self.now.bytes.now) }
+        ensures range { lms_bytes_of result ≡
+            take (lms_signature_len_of (lms_pair_of result)) (drop (start_of (signature_of self.now) i) (bytes_of self.now)) }
     {
         let mut cursor = Cursor {
             bytes: self.bytes,
@@ -82,7 +83,7 @@ impl<'a> HssSigView<'a> {
         requires above { 1 ≤ i }
         requires below { i < level_count (signature_of self.now) }
         ensures value { (top : LmsPublic) → result ≡ key_at top (signature_of self.now) i }
-        ensures range { Spells lms_public_key result (take 56 (drop (start_of (signature_of self.now) i - 56) self.now.bytes.now)) }
+        ensures range { Spells lms_public_key result (take 56 (drop (start_of (signature_of self.now) i - 56) (bytes_of self.now))) }
     {
         let mut cursor = Cursor {
             bytes: self.bytes,
@@ -96,7 +97,7 @@ impl<'a> HssSigView<'a> {
 
     /// The bytes that spell the signature, and no others.
     pub fn bytes(&self) -> &'a [u8]
-        ensures whole { result ≡ self.now.bytes }
+        ensures whole { result ≡ lent_of self.now }
         ensures spells { Spells signature (signature_of self.now) result.now }
         ensures len { length result.now ≡ signature_size (map (λ level. level.pair) (signatures_of (signature_of self.now))) }
     {
@@ -108,7 +109,7 @@ impl<'a> HssSigView<'a> {
         requires { i < level_count (signature_of self.now) }
         ensures value { result ≡ start_of (signature_of self.now) i }
         ensures most { result ≤ 75000 }
-        ensures inside { result ≤ length self.now.bytes.now }
+        ensures inside { result ≤ length (bytes_of self.now) }
     {
         let mut cursor = Cursor {
             bytes: self.bytes,

@@ -42,10 +42,12 @@ pub struct LmsTree {
 }
 
 impl LmsTree {
+    ghost use Rattle.lms.specs.Secret.{leaves_made};
+
     /// The tree of a secret, of which no leaf was made yet.
     pub fn new(secret: LmsSecret) -> Self
         ensures secret { result.secret ≡ secret }
-        ensures made { result.made ≡ 0 }
+        ensures made { leaves_made result ≡ 0 }
     {
         LmsTree {
             secret,
@@ -63,9 +65,11 @@ impl NodeHash for LmsTree {
 }
 
 impl TreeHash for LmsTree {
+    ghost use Rattle.lms.specs.Secret.{leaves_made};
+
     ghost leaf_of = { λ tree. leaves_of tree.secret };
 
-    ghost made = { λ tree. tree.made };
+    ghost made = { leaves_made };
 
     fn leaf(&mut self, i: u32) -> [u8; 32] {
         self.made.add_one();

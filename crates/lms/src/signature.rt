@@ -31,7 +31,7 @@ pub struct LmsSigView<'a> {
 }
 
 impl<'a> LmsSigView<'a> {
-    ghost use Rattle.lms.specs.View.{signature_of};
+    ghost use Rattle.lms.specs.View.{bytes_of, lent_of, pair_of, signature_of};
 
     /// The signature at a cursor: q, the one-time type, C, a value for each chain, the tree's type and
     /// the path. An index that is no leaf of the tree is told when the tree's type is read, at the
@@ -41,9 +41,9 @@ impl<'a> LmsSigView<'a> {
     pub fn from_cursor(cursor: &mut Cursor<'a>) -> Result<Self, ReadFault>
         requires { cursor.old.place + 9324 < 2 ^ 32 }
         ensures read { Gives (λ view. (signature_of view, cursor.new.place)) result (read signature cursor.old.bytes.now cursor.old.place) }
-        ensures len { IfOk result (λ view. cursor.new.place ≡ cursor.old.place + (4 + signature_len_of view.pair.ots + (4 + 32 * height_of view.pair.tree))) }
+        ensures len { IfOk result (λ view. cursor.new.place ≡ cursor.old.place + (4 + signature_len_of (pair_of view).ots + (4 + 32 * height_of (pair_of view).tree))) }
         ensures bytes { cursor.new.bytes ≡ cursor.old.bytes }
-        ensures part { IfOk result (λ view. view.bytes.now ≡ take (cursor.new.place - cursor.old.place) (drop cursor.old.place cursor.old.bytes.now)) }
+        ensures part { IfOk result (λ view. bytes_of view ≡ take (cursor.new.place - cursor.old.place) (drop cursor.old.place cursor.old.bytes.now)) }
         ensures err { OnErr result (cursor.new.place ≡ cursor.old.place) }
     {
         let (all, start) = (cursor.bytes, cursor.place);
@@ -76,7 +76,7 @@ impl<'a> LmsSigView<'a> {
     #[tactic(auto, using(typecodes::proofs::Steps::steps))]
     pub fn read(bytes: &'a [u8]) -> Result<Self, ReadFault>
         ensures reads { Reads signature signature_of bytes.entry.now result }
-        ensures whole { IfOk result (λ view. view.bytes.now ≡ bytes.entry.now) }
+        ensures whole { IfOk result (λ view. bytes_of view ≡ bytes.entry.now) }
     {
         let mut cursor = Cursor::new(bytes);
         let view = Self::from_cursor(&mut cursor)?;
@@ -87,7 +87,7 @@ impl<'a> LmsSigView<'a> {
     /// q, the index of its leaf.
     pub fn index(&self) -> u32
         ensures value { result ≡ (signature_of self.now).index }
-        ensures range { result ≡ big_number 4 (take 4 self.now.bytes.now) }
+        ensures range { result ≡ big_number 4 (take 4 (bytes_of self.now)) }
     {
         self.index
     }
@@ -102,34 +102,34 @@ impl<'a> LmsSigView<'a> {
     /// C, the randomizer, 32 bytes from byte 8 on.
     pub fn c(&self) -> &'a [u8; 32]
         ensures value { result.now ≡ (signature_of self.now).randomizer }
-        ensures range { result.now ≡ take 32 (drop 8 self.now.bytes.now) }
+        ensures range { result.now ≡ take 32 (drop 8 (bytes_of self.now)) }
     {
         self.randomizer
     }
 
     /// The value of chain i, 32 bytes. The caller keeps i below the number of chains.
     pub fn chain(&self, i: u16) -> &'a [u8; 32]
-        requires { i < chains_of self.now.pair.ots }
+        requires { i < chains_of (pair_of self.now).ots }
         ensures value { result.now ≡ slice_index_or (signature_of self.now).chains i [] }
-        ensures range { result.now ≡ take 32 (drop (40 + 32 * i) self.now.bytes.now) }
+        ensures range { result.now ≡ take 32 (drop (40 + 32 * i) (bytes_of self.now)) }
     {
         &self.chains[usize::from(i)]
     }
 
     /// Node k of the path, that of height k, 32 bytes. The caller keeps k below the tree's height.
     pub fn node(&self, k: u8) -> &'a [u8; 32]
-        requires { k < height_of self.now.pair.tree }
+        requires { k < height_of (pair_of self.now).tree }
         ensures value { result.now ≡ slice_index_or (signature_of self.now).path k [] }
-        ensures range { result.now ≡ take 32 (drop (8 + signature_len_of self.now.pair.ots + 32 * k) self.now.bytes.now) }
+        ensures range { result.now ≡ take 32 (drop (8 + signature_len_of (pair_of self.now).ots + 32 * k) (bytes_of self.now)) }
     {
         &self.path[usize::from(k)]
     }
 
     /// The bytes that spell the signature, and no others.
     pub fn bytes(&self) -> &'a [u8]
-        ensures whole { result ≡ self.now.bytes }
+        ensures whole { result ≡ lent_of self.now }
         ensures spells { Spells signature (signature_of self.now) result.now }
-        ensures len { length result.now ≡ lms_signature_len_of self.now.pair }
+        ensures len { length result.now ≡ lms_signature_len_of (pair_of self.now) }
     {
         self.bytes
     }

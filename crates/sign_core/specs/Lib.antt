@@ -3,6 +3,7 @@ pub mod Uses
 pub mod World
 pub mod Once
 pub mod Source
+pub mod TapeSource
 pub mod Calls
 pub mod Keeping
 pub mod AnyKey

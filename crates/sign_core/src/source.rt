@@ -34,10 +34,12 @@ pub struct TapeSource<'a> {
 }
 
 impl<'a> TapeSource<'a> {
+    ghost use Rattle.sign_core.specs.TapeSource.{failures_of, left_in};
+
     /// The source of these bytes.
     pub fn new(bytes: &'a [u8]) -> Self
-        ensures bytes { result.bytes.now ≡ bytes.entry.now }
-        ensures failures { result.failures ≡ 0 }
+        ensures bytes { left_in result ≡ bytes.entry.now }
+        ensures failures { failures_of result ≡ 0 }
     {
         TapeSource {
             bytes,
@@ -47,14 +49,16 @@ impl<'a> TapeSource<'a> {
 }
 
 impl Source for TapeSource<'_> {
-    ghost failures = { λ source. source.failures };
+    ghost use Rattle.sign_core.specs.TapeSource.{failures_of, left_in};
 
-    ghost told = { λ source. Some source.bytes.now };
+    ghost failures = { failures_of };
+
+    ghost told = { λ source. Some (left_in source) };
 
     /// Fills `into` with the next bytes, where as many are left.
     fn fill(&mut self, into: &mut [u8]) -> Result<(), SourceFault>
-        ensures gives { Fills self.old.failures self.new.failures (Some self.old.bytes.now) (Some self.new.bytes.now) into.new result }
-        ensures refuses { IsErr result ↔ length self.old.bytes.now < length into.old }
+        ensures gives { Fills (failures_of self.old) (failures_of self.new) (Some (left_in self.old)) (Some (left_in self.new)) into.new result }
+        ensures refuses { IsErr result ↔ length (left_in self.old) < length into.old }
     {
         if self.bytes.len() < into.len() {
             self.failures.add_one();

@@ -1,5 +1,6 @@
 pub mod Layouts
 pub mod View
+pub mod Secret
 pub mod Formulas
 pub mod Valid
 pub mod Verdict

@@ -1,4 +1,7 @@
 -- What a view of a signature's bytes shows.
+use denote.Bor.{Bor}
+use Rattle.std.specs.Prelude.{ℕ, List}
+use Rattle.typecodes.specs.declared.xmss.XmssType.{XmssType}
 use Rattle.xmss.specs.declared.signature.XmssSigView.{XmssSigView}
 use Rattle.xmss.specs.Layouts.{Signature}
 
@@ -10,3 +13,15 @@ signature_of view = record {
   chains = view.chains.now;
   path = view.path.now;
 }
+
+-- the type of its key
+abbrev pub tree_of : XmssSigView → XmssType
+tree_of view = view.tree
+
+-- the bytes that spell it, as they were lent
+abbrev pub lent_of : XmssSigView → Bor (List ℕ)
+lent_of view = view.bytes
+
+-- and as a list
+abbrev pub bytes_of : XmssSigView → List ℕ
+bytes_of view = view.bytes.now

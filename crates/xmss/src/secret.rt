@@ -52,10 +52,12 @@ pub struct XmssTree {
 }
 
 impl XmssTree {
+    ghost use Rattle.xmss.specs.Secret.{leaves_made, secret_of};
+
     /// The tree of a secret, of which no leaf was made yet.
     pub fn new(secret: XmssSecret) -> Self
-        ensures secret { result.secret ≡ secret }
-        ensures made { result.made ≡ 0 }
+        ensures secret { secret_of result ≡ secret }
+        ensures made { leaves_made result ≡ 0 }
     {
         XmssTree {
             secret,
@@ -66,7 +68,9 @@ impl XmssTree {
 }
 
 impl NodeHash for XmssTree {
-    ghost join_of = { λ tree. joins_of tree.secret };
+    ghost use Rattle.xmss.specs.Secret.{secret_of};
+
+    ghost join_of = { λ tree. joins_of (secret_of tree) };
 
     fn join(&self, height: u8, index: u32, left: &[u8; 32], right: &[u8; 32]) -> [u8; 32] {
         Nodes { seed: &self.seed }.join(height, index, left, right)
@@ -74,9 +78,11 @@ impl NodeHash for XmssTree {
 }
 
 impl TreeHash for XmssTree {
-    ghost leaf_of = { λ tree. leaves_of tree.secret };
+    ghost use Rattle.xmss.specs.Secret.{leaves_made, secret_of};
 
-    ghost made = { λ tree. tree.made };
+    ghost leaf_of = { λ tree. leaves_of (secret_of tree) };
+
+    ghost made = { leaves_made };
 
     fn leaf(&mut self, i: u32) -> [u8; 32] {
         self.made.add_one();

@@ -32,7 +32,7 @@ pub struct XmssSigView<'a> {
 }
 
 impl<'a> XmssSigView<'a> {
-    ghost use Rattle.xmss.specs.View.{signature_of};
+    ghost use Rattle.xmss.specs.View.{bytes_of, lent_of, signature_of, tree_of};
 
     /// The signature of a type that the bytes spell, and no more: 2500, 2692 or 2820 bytes. Otherwise
     /// their first fault (1, 4 or 5). An index that is no leaf of the tree is told before what follows
@@ -40,8 +40,8 @@ impl<'a> XmssSigView<'a> {
     #[tactic(auto, using(crate::proofs::Fields::fields), unfolding(crate::specs::Layouts::signature))]
     pub fn read(tree: XmssType, bytes: &'a [u8]) -> Result<Self, ReadFault>
         ensures reads { Reads (signature tree) signature_of bytes.entry.now result }
-        ensures tree { IfOk result (λ view. view.tree ≡ tree) }
-        ensures whole { IfOk result (λ view. view.bytes.now ≡ bytes.entry.now) }
+        ensures tree { IfOk result (λ view. tree_of view ≡ tree) }
+        ensures whole { IfOk result (λ view. bytes_of view ≡ bytes.entry.now) }
     {
         let mut cursor = Cursor::new(bytes);
         let index = leaf_index(&mut cursor, tree)?;
@@ -62,8 +62,8 @@ impl<'a> XmssSigView<'a> {
     /// idx, the index of its leaf.
     pub fn index(&self) -> u32
         ensures value { result ≡ (signature_of self.now).index }
-        ensures range { result ≡ big_number 4 (take 4 self.now.bytes.now) }
-        ensures inside { result < 2 ^ xmss_height_of self.now.tree }
+        ensures range { result ≡ big_number 4 (take 4 (bytes_of self.now)) }
+        ensures inside { result < 2 ^ xmss_height_of (tree_of self.now) }
     {
         self.index
     }
@@ -71,7 +71,7 @@ impl<'a> XmssSigView<'a> {
     /// r, the randomizer, 32 bytes from byte 4 on.
     pub fn r(&self) -> &'a [u8; 32]
         ensures value { result.now ≡ (signature_of self.now).randomizer }
-        ensures range { result.now ≡ take 32 (drop 4 self.now.bytes.now) }
+        ensures range { result.now ≡ take 32 (drop 4 (bytes_of self.now)) }
     {
         self.randomizer
     }
@@ -80,25 +80,25 @@ impl<'a> XmssSigView<'a> {
     pub fn chain(&self, i: u16) -> &'a [u8; 32]
         requires { i < 67 }
         ensures value { result.now ≡ slice_index_or (signature_of self.now).chains i [] }
-        ensures range { result.now ≡ take 32 (drop (36 + 32 * i) self.now.bytes.now) }
+        ensures range { result.now ≡ take 32 (drop (36 + 32 * i) (bytes_of self.now)) }
     {
         &self.chains[usize::from(i)]
     }
 
     /// Node k of the path, that of height k, 32 bytes. The caller keeps k below the tree's height.
     pub fn node(&self, k: u8) -> &'a [u8; 32]
-        requires { k < xmss_height_of self.now.tree }
+        requires { k < xmss_height_of (tree_of self.now) }
         ensures value { result.now ≡ slice_index_or (signature_of self.now).path k [] }
-        ensures range { result.now ≡ take 32 (drop (2180 + 32 * k) self.now.bytes.now) }
+        ensures range { result.now ≡ take 32 (drop (2180 + 32 * k) (bytes_of self.now)) }
     {
         &self.path[usize::from(k)]
     }
 
     /// The bytes that spell the signature, and no others.
     pub fn bytes(&self) -> &'a [u8]
-        ensures whole { result ≡ self.now.bytes }
-        ensures spells { Spells (signature self.now.tree) (signature_of self.now) result.now }
-        ensures len { length result.now ≡ xmss_signature_len_of self.now.tree }
+        ensures whole { result ≡ lent_of self.now }
+        ensures spells { Spells (signature (tree_of self.now)) (signature_of self.now) result.now }
+        ensures len { length result.now ≡ xmss_signature_len_of (tree_of self.now) }
     {
         self.bytes
     }
