@@ -4,7 +4,7 @@ ghost use Rattle.std.specs.Prelude.{◌≡◌, Some, [], ◌<◌, ◌^◌, lengt
 ghost use Rattle.typecodes.specs.Types.{height_of};
 ghost use Rattle.lmots.specs.Formulas.{message_digest_of};
 ghost use Rattle.lms.specs.Textbook.{path_in, signature_size};
-ghost use Rattle.state_file.specs.Store.{is_key};
+ghost use Rattle.state_file.specs.Store.{CanFollow};
 ghost use Rattle.sign_core.specs.Keeping.{DrawsBytes, Stores};
 ghost use Rattle.sign_core.specs.Ledger.{is_sound, secret_of, signature_of};
 ghost use Rattle.sign_core.specs.Once.{AreDrawn};
@@ -117,7 +117,7 @@ pub(crate) fn take_all<'a>(message: &mut &'a [u8]) -> &'a [u8]
 pub(crate) fn append<S: Store>(store: &mut S, entry: &Record) -> Result<(), SignFault>
     requires running { S.stopped store.old ≡ false }
     requires room { length (S.list store.old) < S.most store.old }
-    requires key_first { length (S.list store.old) ≡ 0 → is_key entry.now ≡ true }
+    requires key_first { CanFollow (S.list store.old) entry.now }
     ensures stored { Stores (S.list store.old) entry.now (S.list store.new) (S.stopped store.new) (S.failures store.old) (S.failures store.new) result }
     ensures honest { S.honest store.new ≡ S.honest store.old }
     ensures most { S.most store.new ≡ S.most store.old }
