@@ -6,8 +6,8 @@ use Rattle.sha2.proofs.Facts256.{length-sha256}
 use Rattle.typecodes.specs.Fields.{values_in}
 use Rattle.typecodes.specs.Types.{chains_of, width_of}
 use Rattle.typecodes.specs.declared.types.OtsType.{OtsType}
-use Rattle.winternitz.specs.Walk.{walk, walk_on}
-use Rattle.winternitz.specs.Digits.{digit_count, digits_of}
+use Rattle.winternitz.specs.Chain.{walk, walk_on}
+use Rattle.winternitz.specs.Digest.{digit_count, digits_of}
 use Rattle.winternitz.proofs.Joined.{chunks_of_joined}
 use Rattle.winternitz.proofs.Walks.{walk_joined}
 use Rattle.winternitz.proofs.Coefs.{digit_most}

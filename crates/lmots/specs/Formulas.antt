@@ -6,7 +6,7 @@ use Rattle.byteorder.specs.Endian.{big_bytes}
 use Rattle.sha2.specs.Sha256.{sha256}
 use Rattle.typecodes.specs.Types.{chains_of, width_of}
 use Rattle.typecodes.specs.declared.types.OtsType.{OtsType}
-use Rattle.winternitz.specs.Walk.{Steps, walk}
+use Rattle.winternitz.specs.Chain.{Steps, walk}
 
 -- big-endian numbers (3.1)
 abbrev pub u8str : ℕ → List ℕ

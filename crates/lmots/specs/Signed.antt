@@ -3,8 +3,8 @@ use Rattle.std.specs.Prelude.{ℕ, List, map, slice_index}
 use Rattle.std.specs.List.{range_with_len}
 use Rattle.typecodes.specs.Types.{chains_of, width_of}
 use Rattle.typecodes.specs.declared.types.OtsType.{OtsType}
-use Rattle.winternitz.specs.Digits.{digits_of}
-use Rattle.winternitz.specs.Ends.{AreEnds}
+use Rattle.winternitz.specs.Digest.{digits_of}
+use Rattle.winternitz.specs.Chain.{AreEnds}
 use Rattle.lmots.specs.Formulas.{chain_value, step_of}
 
 -- the values of the signature of a digest Q, by a key whose private values are made of a seed: each

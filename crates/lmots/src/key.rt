@@ -7,8 +7,8 @@ ghost use Rattle.lmots.specs.Formulas.{ends_of_seed, message_digest_of, private_
 ghost use Rattle.lmots.specs.Signed.{ClimbTo, signed_values};
 ghost use Rattle.typecodes.specs.Fields.{values_in};
 ghost use Rattle.typecodes.specs.Types.{chains_of, width_of};
-ghost use Rattle.winternitz.specs.Digits.{digits_of};
-ghost use Rattle.winternitz.specs.Ends.{ends_of};
+ghost use Rattle.winternitz.specs.Digest.{digits_of};
+ghost use Rattle.winternitz.specs.Chain.{ends_of};
 
 use sha2::{Digest, Sha256};
 use typecodes::OtsType;

@@ -6,11 +6,11 @@
 //! node of that list, and the path of leaf q leads from it to the root.
 #![tactic(auto)]
 
-mod nodes;
+mod ascent;
 mod tree;
 
-pub use crate::nodes::{path, root};
-pub use crate::tree::{NodeHash, TreeHash, root_from_path};
+pub use crate::ascent::root_from_path;
+pub use crate::tree::{NodeHash, TreeHash, path, root};
 
 #[cfg(test)]
 mod tests;

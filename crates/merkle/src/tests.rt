@@ -2,8 +2,8 @@
 
 ghost use Rattle.std.specs.Prelude.{◌+◌, ◌%◌, replicate, slice_index, slice_set};
 
-use crate::nodes::{path, root};
-use crate::tree::{NodeHash, TreeHash, root_from_path};
+use crate::ascent::root_from_path;
+use crate::tree::{NodeHash, TreeHash, path, root};
 use typecodes::Count;
 
 /// Byte 0 of leaf i is i + 1; of a node it is the sum of its children's, byte 1 is their height and

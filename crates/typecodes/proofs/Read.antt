@@ -7,7 +7,7 @@ use Rattle.typecodes.specs.declared.fault.Cause.TheVariants.{Truncated}
 use Rattle.typecodes.specs.declared.fault.ReadFault.{ReadFault}
 use Rattle.typecodes.specs.Fault.{fault_at}
 use Rattle.typecodes.specs.Layout.{Layout, done, refuse, field, ◌>>=◌, Spells, HasFault}
-use Rattle.typecodes.specs.Reading.{and_then, read, whole}
+use Rattle.typecodes.specs.Cursor.{and_then, read, whole}
 
 -- a field that fits is taken, and reading goes on behind it
 pub read-fits : {V : Type 0} (n : ℕ) (next : List ℕ → Layout V) (bytes : List ℕ) (place : ℕ) → place + n ≤ length bytes → read (field n next) bytes place ≡ read (next (take n (drop place bytes))) bytes (place + n)

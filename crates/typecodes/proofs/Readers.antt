@@ -2,7 +2,7 @@
 use Rattle.std.proofs.Common.{◌≡◌, ◌⊎◌, inl, inr, ℕ, List, Result, Ok, Err, ap, subst, arith}
 use Rattle.typecodes.specs.declared.fault.ReadFault.{ReadFault}
 use Rattle.typecodes.specs.Layout.{Layout, Spells, HasFault}
-use Rattle.typecodes.specs.Reading.{read, whole, Reads, Gives}
+use Rattle.typecodes.specs.Cursor.{read, whole, Reads, Gives}
 use Rattle.typecodes.proofs.Read.{read-tells, Tells}
 use Rattle.typecodes.proofs.Spelling.{one_value, one_fault, no_value}
 

@@ -5,7 +5,7 @@ use Rattle.typecodes.specs.declared.fault.Cause.TheVariants.{Trailing}
 use Rattle.typecodes.specs.declared.fault.ReadFault.{ReadFault}
 use Rattle.typecodes.specs.Fault.{fault_at}
 use Rattle.typecodes.specs.Layout.{Layout, Spells, HasFault}
-use Rattle.typecodes.specs.Reading.{read, whole}
+use Rattle.typecodes.specs.Cursor.{read, whole}
 use Rattle.typecodes.proofs.Read.{read-bind}
 use Rattle.typecodes.proofs.Readers.{told}
 

@@ -8,7 +8,7 @@ use Rattle.typecodes.specs.declared.fault.ReadFault.{ReadFault}
 use Rattle.typecodes.specs.Fault.{fault_at}
 use Rattle.typecodes.specs.Layout.{Layout, done, ◌>>=◌}
 use Rattle.typecodes.specs.Fields.{block, values, values_in}
-use Rattle.typecodes.specs.Reading.{and_then, read, Gives}
+use Rattle.typecodes.specs.Cursor.{and_then, read, Gives}
 use Rattle.typecodes.proofs.Read.{read-fits, read-cut, read-bind}
 
 -- the first value of a block of them, and the others

@@ -1,7 +1,6 @@
 -- Layouts whose values are spelled in one way, by the parts that each value shows.
 use Rattle.std.proofs.Common.{◌≡◌, ℕ, Bool, true, false, cond, List, subst}
-use Rattle.typecodes.specs.Layout.{Layout, done, ◌>>=◌, Spells}
-use Rattle.typecodes.specs.Reading.{OneSpelling}
+use Rattle.typecodes.specs.Layout.{Layout, done, ◌>>=◌, Spells, OneSpelling}
 use Rattle.typecodes.proofs.OneWay.{one_way-bind, one_way-done}
 use Rattle.typecodes.proofs.Spelling.{in_turn}
 

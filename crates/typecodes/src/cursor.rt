@@ -3,8 +3,7 @@
 ghost use Rattle.std.specs.Prelude.{◌≡◌, ◌<◌, ◌≤◌, ◌+◌, ◌*◌, ◌/◌, ◌^◌, length, IfOk, OnOk, OnErr, MatchResult};
 
 use crate::fault::{Cause, ReadFault};
-use crate::types::{LmsType, OtsType};
-use crate::xmss::XmssType;
+use crate::types::{LmsType, OtsType, XmssType};
 use byteorder::{BigEndian, ByteOrder};
 
 /// Hands out the fields of its bytes one after the other, without copying.
@@ -20,7 +19,7 @@ pub struct Cursor<'a> {
 impl<'a> Cursor<'a> {
     ghost use Rattle.std.specs.Simd.{first_chunks};
     ghost use Rattle.typecodes.specs.Fields.{number, block, values, ots_type, lms_type, xmss_type};
-    ghost use Rattle.typecodes.specs.Reading.{read, Gives};
+    ghost use Rattle.typecodes.specs.Cursor.{read, Gives};
     ghost use Rattle.typecodes.specs.Fault.{fault_at};
 
     /// A cursor before the first field.

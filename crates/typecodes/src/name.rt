@@ -1,7 +1,7 @@
 //! The names under which messages are signed.
 
 ghost use Rattle.std.specs.Prelude.{◌≡◌, ◌↔◌, IfOk, IsOk, List, ℕ};
-ghost use Rattle.typecodes.specs.Names.{IsName};
+ghost use Rattle.typecodes.specs.Name.{IsName};
 
 use arrayvec::ArrayVec;
 use std::marker::Model;

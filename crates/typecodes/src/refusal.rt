@@ -1,7 +1,7 @@
 //! Why a signature isn't verified.
 
 ghost use Rattle.std.specs.Prelude.{◌≡◌};
-ghost use Rattle.typecodes.specs.Refusals.{refusal_number};
+ghost use Rattle.typecodes.specs.Refusal.{refusal_number};
 
 use crate::fault::ReadFault;
 use std::fmt;

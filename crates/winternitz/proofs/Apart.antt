@@ -6,7 +6,7 @@ use Rattle.std.proofs.Math.ListN.{get_or-append}
 use Rattle.std.proofs.lemmas.List.{get_or-append-add}
 use Rattle.std.proofs.lemmas.List.Sums.{sum_by-cons}
 use Rattle.std.proofs.lemmas.List.Elements.{All-from_get_or, recursion_from_All}
-use Rattle.winternitz.specs.Digits.{lacking_of, HasWholeChecksum}
+use Rattle.winternitz.specs.Digest.{lacking_of, HasWholeChecksum}
 use Rattle.winternitz.proofs.Bases.{same_digits}
 
 -- each digit of one list is at most the other's

@@ -7,8 +7,8 @@ use Rattle.std.proofs.lemmas.List.Elements.{All-from_get_or, recursion_from_All}
 use Rattle.std.proofs.lemmas.List.FromFn.{length-map-range_with_len, take-map-range_with_len}
 use Rattle.byteorder.specs.Endian.{big_bytes}
 use Rattle.typecodes.specs.Types.{IsWidth}
-use Rattle.typecodes.specs.Coef.{coef_of}
-use Rattle.winternitz.specs.Digits.{message_count, checksum_count, digit_count, checksum_shift, lacking_of, checksum_of, AreDigitsOf, AreWinternitzDigits, HasWholeChecksum, first_digits, digits_of}
+use Rattle.typecodes.specs.Coefficient.{coef_of}
+use Rattle.winternitz.specs.Digest.{message_count, checksum_count, digit_count, checksum_shift, lacking_of, checksum_of, AreDigitsOf, AreWinternitzDigits, HasWholeChecksum, first_digits, digits_of}
 use Rattle.winternitz.proofs.Widths.{by_width}
 use Rattle.winternitz.proofs.Bases.{same_digits}
 use Rattle.winternitz.proofs.Coefs.{digits_below, number_within, number_of_digits, digits_joined}

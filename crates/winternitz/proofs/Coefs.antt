@@ -11,8 +11,8 @@ use Rattle.std.proofs.lemmas.Int.Digits.{number_push, number_more}
 use Rattle.std.proofs.lemmas.Nat.{shr-shr, shr_split, div-mul-add, mod-mul-add, mod_below, pow_pos}
 use Rattle.std.proofs.lemmas.Bool.{cases_lt}
 use Rattle.typecodes.specs.Types.{IsWidth}
-use Rattle.typecodes.specs.Coef.{coef_of}
-use Rattle.winternitz.specs.Digits.{checksum_of, digit_count, digits_of, first_digits, message_count}
+use Rattle.typecodes.specs.Coefficient.{coef_of}
+use Rattle.winternitz.specs.Digest.{checksum_of, digit_count, digits_of, first_digits, message_count}
 use Rattle.byteorder.specs.Endian.{big_bytes}
 use Rattle.winternitz.proofs.Widths.{by_width, whole_digits, place_inside}
 

@@ -1,6 +1,6 @@
 -- Walks along a chain.
 use Rattle.std.proofs.Common.{◌≡◌, ◌∙◌, ap, ℕ, zero, suc, ◌+◌, ◌-◌, ◌≤◌, List, arith}
-use Rattle.winternitz.specs.Walk.{Steps, walk_on, walk}
+use Rattle.winternitz.specs.Chain.{Steps, walk_on, walk}
 
 -- a walk of no steps stays where it is
 pub walk_none : (step : Steps) (c a : ℕ) (v : List ℕ) → v ≡ walk step c a a v

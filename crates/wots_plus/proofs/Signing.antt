@@ -5,9 +5,8 @@ use Rattle.std.specs.List.{concat, range_with_len}
 use Rattle.std.proofs.lemmas.List.FromFn.{fill_by_all, get_or-map-range_with_len, length-map-range_with_len}
 use Rattle.std.proofs.lemmas.List.{take_all}
 use Rattle.typecodes.specs.Fields.{values_in}
-use Rattle.winternitz.specs.Walk.{Steps, walk, walk_on}
-use Rattle.winternitz.specs.Digits.{digit_count, digits_of}
-use Rattle.winternitz.specs.Ends.{AreEnds, end_of, ends_of}
+use Rattle.winternitz.specs.Chain.{Steps, walk, walk_on, AreEnds, end_of, ends_of}
+use Rattle.winternitz.specs.Digest.{digit_count, digits_of}
 use Rattle.winternitz.proofs.Joined.{chunks_of_joined}
 use Rattle.winternitz.proofs.Walks.{walk_joined}
 use Rattle.winternitz.proofs.Coefs.{digit_most}

@@ -2,8 +2,8 @@
 -- w is 16, so digits have 4 bits and chains 15 steps, and there are 67 of them (3.1.1).
 use Rattle.std.specs.Prelude.{ℕ, List, map, slice_index}
 use Rattle.std.specs.List.{range_with_len}
-use Rattle.winternitz.specs.Walk.{Steps, walk}
-use Rattle.winternitz.specs.Digits.{digits_of}
+use Rattle.winternitz.specs.Chain.{Steps, walk}
+use Rattle.winternitz.specs.Digest.{digits_of}
 use Rattle.wots_plus.specs.Addresses.{l_tree, one_time}
 use Rattle.wots_plus.specs.Formulas.{private_value_at, rand_hash, step_at}
 use Rattle.wots_plus.specs.LTree.{Joins, l_tree_root}

@@ -3,8 +3,8 @@
 ghost use Rattle.std.specs.Prelude.{◌≡◌, ℕ, ◌<◌, ◌≤◌, ◌+◌, ◌*◌, ◌/◌, List, length, take};
 ghost use Rattle.std.specs.List.{concat};
 ghost use Rattle.typecodes.specs.Fields.{values_in};
-ghost use Rattle.winternitz.specs.Digits.{digits_of};
-ghost use Rattle.winternitz.specs.Ends.{AreEnds, ends_of};
+ghost use Rattle.winternitz.specs.Digest.{digits_of};
+ghost use Rattle.winternitz.specs.Chain.{AreEnds, ends_of};
 ghost use Rattle.wots_plus.specs.Addresses.{one_time};
 ghost use Rattle.wots_plus.specs.LTree.{IsLTreeRoot, joined, l_tree_root};
 ghost use Rattle.wots_plus.specs.Signed as spec;

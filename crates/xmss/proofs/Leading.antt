@@ -1,7 +1,7 @@
 -- The root to which a signature leads, from the steps by which it is computed.
 use Rattle.std.proofs.Common.{◌≡◌, ℕ, List, length, sym, subst, ◌∙◌}
-use Rattle.winternitz.specs.Digits.{digits_of}
-use Rattle.winternitz.specs.Ends.{AreEnds}
+use Rattle.winternitz.specs.Digest.{digits_of}
+use Rattle.winternitz.specs.Chain.{AreEnds}
 use Rattle.merkle.specs.Ascent.{IsAscent, at}
 use Rattle.wots_plus.specs.Signed.{step_of}
 use Rattle.xmss.specs.declared.key.XmssPublic.{XmssPublic}

@@ -2,7 +2,7 @@
 -- their bytes.
 use Rattle.std.specs.Prelude.{ℕ, List, ◌++◌}
 use Rattle.std.specs.List.{concat}
-use Rattle.typecodes.specs.XmssTypes.{xmss_code, xmss_height_of}
+use Rattle.typecodes.specs.Types.{xmss_code, xmss_height_of}
 use Rattle.merkle.specs.Tree.{Joins, Leaves, path_of, root_of}
 use Rattle.wots_plus.specs.Formulas.{to_byte}
 use Rattle.wots_plus.specs.Signed.{ends_of_secret, signed_values}

@@ -1,8 +1,8 @@
 -- Which signatures are valid (RFC 8391 4.1.10, 3.1.6 and 4.1.5).
 use Rattle.std.specs.Prelude.{◌≡◌, ℕ, ◌<◌, ◌^◌, List, length}
-use Rattle.typecodes.specs.XmssTypes.{xmss_height_of}
-use Rattle.winternitz.specs.Digits.{digits_of}
-use Rattle.winternitz.specs.Ends.{AreEnds}
+use Rattle.typecodes.specs.Types.{xmss_height_of}
+use Rattle.winternitz.specs.Digest.{digits_of}
+use Rattle.winternitz.specs.Chain.{AreEnds}
 use Rattle.merkle.specs.Ascent.{IsAscent, at}
 use Rattle.wots_plus.specs.Signed.{step_of}
 use Rattle.xmss.specs.declared.key.XmssPublic.{XmssPublic}

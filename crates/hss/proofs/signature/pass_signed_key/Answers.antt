@@ -1,5 +1,5 @@
 use Rattle.std.proofs.Common.{◌≡◌, Ok, Err, rules}
-use Rattle.typecodes.specs.Reading.{read}
+use Rattle.typecodes.specs.Cursor.{read}
 use Rattle.lms.specs.Layouts.{public_key as lms_public_key, signature as lms_signature}
 use Rattle.lms.specs.View.{signature_of as lms_signature_of}
 use Rattle.hss.proofs.Passing.{signed_key-faulty}

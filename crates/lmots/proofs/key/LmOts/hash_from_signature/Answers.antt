@@ -1,10 +1,10 @@
 use Rattle.std.proofs.Common.{◌≡◌, ◌∙◌, refl, sym, ap, subst, arith, length, get_or, ◌<◌, ◌^◌}
 use Rattle.sha2.specs.Hashers.{Holds256}
 use Rattle.sha2.specs.Sha256.{sha256}
-use Rattle.winternitz.specs.Digits.{digit_count, digits_of}
+use Rattle.winternitz.specs.Digest.{digit_count, digits_of}
 use Rattle.lmots.specs.Formulas.{public_hash, step_of}
 use Rattle.typecodes.specs.Types.{width_of}
-use Rattle.winternitz.specs.Ends.{ends_of}
+use Rattle.winternitz.specs.Chain.{ends_of}
 use Rattle.winternitz.proofs.Ends.{are_ends, same_ends}
 use Rattle.lmots.proofs.Ends.{fed_none, fed_more, fed_all_ends}
 use Rattle.lmots.proofs.Counts.{digits_are_chains}

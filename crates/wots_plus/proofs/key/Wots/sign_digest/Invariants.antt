@@ -1,7 +1,7 @@
 -- The values of the chains so far are written.
 use Rattle.std.proofs.Common.{◌≡◌, ◌*◌, get_or, map, take}
 use Rattle.std.specs.List.{concat, range_with_len}
-use Rattle.winternitz.specs.Walk.{walk}
+use Rattle.winternitz.specs.Chain.{walk}
 use Rattle.wots_plus.specs.Signed.{private_value, step_of}
 use Rattle.wots_plus.proofs.key.Wots.sign_digest.Given as goal
 

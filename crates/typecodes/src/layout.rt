@@ -1,12 +1,10 @@
-//! The laws of layouts. These functions do nothing: what their contracts say is proved of every
-//! layout, so that no format proves it again.
+//! The laws of layouts, which are described in `specs/Layout.antt`. These functions do nothing: what their contracts say
+//! is proved of every layout, so that no format proves it again.
 
-ghost use Rattle.std.specs.Prelude.{◌≡◌, ◌≢◌, ◌≤◌, All, ◌+◌, ◌↔◌, ◌⊎◌, ℕ, List, [], ◌++◌, length, drop, Result, Ok, Err};
+ghost use Rattle.std.specs.Prelude.{◌≡◌, ◌≤◌, ◌+◌, ◌↔◌, ◌⊎◌, ℕ, List, [], ◌++◌, length, drop, Result, Ok, Err};
 ghost use Rattle.typecodes.specs.declared.fault.ReadFault.{ReadFault};
-ghost use Rattle.typecodes.specs.Layout.{Layout, Spells, HasFault, InTurn, followed_by};
-ghost use Rattle.typecodes.specs.Reading.{read, whole, and_then, Gives, Reads, OneSpelling, Shows};
-ghost use Rattle.typecodes.specs.Types.{named};
-ghost use Rattle.typecodes.specs.Fields.{number, block, values, typed};
+ghost use Rattle.typecodes.specs.Layout.{Layout, Spells, HasFault, InTurn, followed_by, OneSpelling, Shows};
+ghost use Rattle.typecodes.specs.Cursor.{read, whole, and_then, Gives, Reads};
 
 /// What holds of every layout of values V.
 ///
@@ -42,19 +40,4 @@ pub fn following_laws<V, W>()
     ensures read_on { (first : Layout V) (next : V → Layout W) (bytes : List ℕ) (place : ℕ) → read (followed_by first next) bytes place ≡ and_then (read first bytes place) (λ x. read (next x.0) bytes x.1) }
     ensures one_spelling { (first : Layout V) (next : V → Layout W) (of : W → V) → OneSpelling first → ((v : V) → OneSpelling (next v)) → ((v : V) → Shows (next v) of v) → OneSpelling (followed_by first next) }
     ensures reader { (layout : Layout V) (view : W → V) (bytes : List ℕ) (result : Result W ReadFault) → Gives view result (whole bytes (read layout bytes 0)) → Reads layout view bytes result }
-{}
-
-/// What holds of the fields that layouts are made of, and of any table of codes for types T.
-///
-/// - Each field's values are spelled in one way: numbers, blocks, values, and types by their code
-///   (`number`, `block`, `values`, `typed`).
-/// - The type that a code names has this code (`named`), and a code names none exactly where no type
-///   of the table has it (`unnamed`).
-pub fn field_laws<T>()
-    ensures number { OneSpelling number }
-    ensures block { (n : ℕ) → OneSpelling (block n) }
-    ensures values { (n : ℕ) → OneSpelling (values n) }
-    ensures typed { (code : T → ℕ) (types : List T) → OneSpelling (typed code types) }
-    ensures named { (code : T → ℕ) (types : List T) (c : ℕ) (t : T) → named code types c ≡ Some t → code t ≡ c }
-    ensures unnamed { (code : T → ℕ) (types : List T) (c : ℕ) → named code types c ≡ None ↔ All (λ t. code t ≢ c) types }
 {}

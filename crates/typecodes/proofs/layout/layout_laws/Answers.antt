@@ -2,7 +2,7 @@ use Rattle.std.proofs.Common.{Ok, Err}
 use Rattle.typecodes.proofs.Read.{read-stands, spelled-found}
 use Rattle.typecodes.proofs.Readers.{told, answered, either}
 use Rattle.typecodes.proofs.Spelling.{no_longer, no_value, one_fault, one_value}
-use Rattle.typecodes.proofs.laws.layout_laws.Goals as goal
+use Rattle.typecodes.proofs.layout.layout_laws.Goals as goal
 
 pub returns-clause-either : goal.returns-clause-either
 returns-clause-either g c = either

@@ -1,6 +1,6 @@
 use Rattle.typecodes.proofs.Codes.{named-has, named-none, none-named}
 use Rattle.typecodes.proofs.OneWay.{one_way-block, one_way-number, one_way-typed, one_way-values}
-use Rattle.typecodes.proofs.laws.field_laws.Goals as goal
+use Rattle.typecodes.proofs.fields.field_laws.Goals as goal
 
 pub returns-clause-number : goal.returns-clause-number
 returns-clause-number g c = one_way-number

@@ -1,22 +1,9 @@
 -- Reading by a layout, as a cursor does it: along the whole bytes, from a place on.
-use Rattle.std.specs.Prelude.{◌≡◌, ◌==◌, ℕ, ◌+◌, ◌-◌, ◌<◌, List, length, take, drop, slice_index, Result, Ok, Err, nat_le, if◌then◌else◌}
+use Rattle.std.specs.Prelude.{◌≡◌, ◌==◌, ℕ, ◌+◌, ◌-◌, List, length, take, drop, Result, Ok, Err, nat_le, if◌then◌else◌}
 use Rattle.typecodes.specs.declared.fault.Cause.TheVariants.{Truncated, Trailing}
 use Rattle.typecodes.specs.declared.fault.ReadFault.{ReadFault}
 use Rattle.typecodes.specs.Fault.{fault_at}
 use Rattle.typecodes.specs.Layout.{Layout, done, refuse, field, Spells, HasFault}
-
--- each number of the list is a byte
-abbrev pub AreBytes : List ℕ → Type 0
-AreBytes bytes = (i : ℕ) → slice_index bytes i < 256
-
--- Values are spelled in one way: bytes that spell one value are one list.
-abbrev pub OneSpelling : {V : Type 0} → Layout V → Type 0
-OneSpelling {V = V} layout =
-    (v : V) (a b : List ℕ) → AreBytes a → AreBytes b → Spells layout v a → Spells layout v b → a ≡ b
-
--- Every value that the layout spells shows x: `of` the value is x.
-abbrev pub Shows : {V X : Type 0} → Layout V → (V → X) → X → Type 0
-Shows {V = V} layout of x = (v : V) (bytes : List ℕ) → Spells layout v bytes → of v ≡ x
 
 -- What a reader of a layout answers for the bytes: the value that they spell, or their first fault.
 -- view tells the value from what the reader makes of it.

@@ -1,6 +1,6 @@
 use Rattle.std.proofs.Common.{rules, arith, sym, ap, ◌∙◌, ◌≡◌, length, ◌/◌}
-use Rattle.merkle.proofs.tree.root_from_path.Goals as goal
-use Rattle.merkle.proofs.tree.root_from_path.Goals.{then-right, else-right}
+use Rattle.merkle.proofs.ascent.root_from_path.Goals as goal
+use Rattle.merkle.proofs.ascent.root_from_path.Goals.{then-right, else-right}
 use Rattle.merkle.proofs.Leading.{climbed_to_root}
 use Rattle.merkle.proofs.Climb.{climbed, climbed-zero, half_of, climb_step, ascent_at, climb_end, climbed_nodes, climbed_nodes_at, climbed_is_ascent}
 

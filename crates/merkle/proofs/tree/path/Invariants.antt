@@ -1,6 +1,6 @@
 use Rattle.std.proofs.Common.{◌≡◌, ℕ, ◌+◌, ◌-◌, ◌<◌, ◌/◌, ◌^◌, [], get_or}
 use Rattle.merkle.specs.Tree.{node, sibling}
-use Rattle.merkle.proofs.nodes.path.Given as goal
+use Rattle.merkle.proofs.tree.path.Given as goal
 
 -- the nodes below k are written, and each leaf below them was made once
 abbrev pub invariant-loop-k : goal.invariant-loop-k

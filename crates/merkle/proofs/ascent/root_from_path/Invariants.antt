@@ -1,6 +1,6 @@
 use Rattle.std.proofs.Common.{◌≡◌, ◌/◌, ◌^◌}
 use Rattle.merkle.proofs.Climb.{climbed}
-use Rattle.merkle.proofs.tree.root_from_path.Given as goal
+use Rattle.merkle.proofs.ascent.root_from_path.Given as goal
 
 -- the node at height k above the leaf, and its index
 abbrev pub invariant-loop-k : goal.invariant-loop-k

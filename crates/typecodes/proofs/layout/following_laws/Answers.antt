@@ -4,7 +4,7 @@ use Rattle.typecodes.proofs.OneWay.{one_way-bind}
 use Rattle.typecodes.proofs.Read.{read-bind}
 use Rattle.typecodes.proofs.Readers.{reads-from_gives}
 use Rattle.typecodes.proofs.Spelling.{from_turn, in_turn}
-use Rattle.typecodes.proofs.laws.following_laws.Goals as goal
+use Rattle.typecodes.proofs.layout.following_laws.Goals as goal
 
 pub returns-clause-in_turn : goal.returns-clause-in_turn
 returns-clause-in_turn g c =

@@ -1,5 +1,5 @@
 use Rattle.std.proofs.Common.{rules, arith, sym, ◌∙◌}
-use Rattle.merkle.proofs.nodes.+node_at.Goals as goal
+use Rattle.merkle.proofs.tree.+node_at.Goals as goal
 use Rattle.merkle.proofs.Building.{node_leaf, node_children, leaves_twice, children_inside}
 
 pub returns-then-height-eq0-clause-value : goal.returns-then-height-eq0-clause-value

@@ -4,7 +4,7 @@ use Rattle.std.specs.Prelude.{◌≡◌, ◌≤◌, ◌<◌, ◌==◌, ℕ, ◌+
 use Rattle.std.specs.List.{range_with_len}
 use Rattle.std.specs.Int.Digits.{number_from_digits, AllBelowBase}
 use Rattle.byteorder.specs.Endian.{big_bytes}
-use Rattle.typecodes.specs.Coef.{coef_of}
+use Rattle.typecodes.specs.Coefficient.{coef_of}
 
 -- u: the digits of the 256 bits of a digest
 abbrev pub message_count : ℕ → ℕ

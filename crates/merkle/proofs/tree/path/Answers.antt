@@ -2,7 +2,7 @@ use Rattle.std.proofs.Common.{arith, ap, ◌∙◌, ◌≡◌, ◌^◌, ℕ, ◌
 use Rattle.std.proofs.lemmas.List.Edits.{fill_by_more}
 use Rattle.std.proofs.lemmas.List.FromFn.{fill_by_all}
 use Rattle.merkle.specs.Tree.{node, sibling}
-use Rattle.merkle.proofs.nodes.path.Goals as goal
+use Rattle.merkle.proofs.tree.path.Goals as goal
 use Rattle.merkle.proofs.Climb.{half_of}
 use Rattle.merkle.proofs.Building.{sibling_inside, over_inside, path_leaves_more}
 
