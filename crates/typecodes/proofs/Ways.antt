@@ -21,7 +21,7 @@ pub way-bind : {V W : Type 0} (first : Layout V) (next : V → Layout W) (of : W
     → OneSpelling first → ((v : V) → Way (next v) (λ w. (of w ≡ v) × HasParts w)) → Way (first >>= next) HasParts
 way-bind first next of HasParts first_one ways = record {
   one = one_way-bind first next of first_one (λ v. (ways v).one) (λ v w bytes spelled. ((ways v).has w bytes spelled).0);
-  has = λ w bytes spelled. let (v, a, b, _, _, behind) = in_turn first next w bytes spelled in ((ways v).has w b behind).1;
+  has = λ w bytes spelled. let (v, a, b, _, _, after) = in_turn first next w bytes spelled in ((ways v).has w b after).1;
 }
 
 -- either of two layouts

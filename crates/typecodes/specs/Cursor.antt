@@ -6,12 +6,12 @@ use Rattle.typecodes.specs.Fault.{fault_at}
 use Rattle.typecodes.specs.Layout.{Layout, done, refuse, field, Spells, HasFault}
 
 -- What a reader of a layout answers for the bytes: the value that they spell, or their first fault.
--- view tells the value from what the reader makes of it.
+-- `view` shows the value of what the reader makes of it.
 abbrev pub Reads : {V X : Type 0} → Layout V → (X → V) → List ℕ → Result X ReadFault → Type 0
 Reads layout view bytes (Ok x) = Spells layout (view x) bytes
 Reads layout view bytes (Err fault) = HasFault layout bytes 0 fault
 
--- the value that stands at a place, and the place behind it; or the first fault
+-- the value that stands at a place, and the place after it; or the first fault
 abbrev pub read : {V : Type 0} → Layout V → List ℕ → ℕ → Result (V × ℕ) ReadFault
 read (done v) bytes place = Ok (v, place)
 read (refuse back cause) bytes place = Err (fault_at (place - back) cause)

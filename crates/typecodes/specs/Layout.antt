@@ -34,7 +34,7 @@ Spells (refuse back cause) value bytes = ⊥
 Spells (field n next) value bytes =
     (front : List ℕ) × (rest : List ℕ) × (bytes ≡ front ++ rest) × (length front ≡ n) × Spells (next front) value rest
 
--- The bytes spell a value of one layout, and behind it one of the layout that depends on this value.
+-- The bytes spell a value of one layout, and after it one of the layout that depends on this value.
 abbrev pub InTurn : {A B : Type 0} → Layout A → (A → Layout B) → B → List ℕ → Type 0
 InTurn {A = A} first next w bytes =
     (v : A) × (a : List ℕ) × (b : List ℕ) × (bytes ≡ a ++ b) × Spells first v a × Spells (next v) w b

@@ -1,4 +1,4 @@
--- The numbers by which refusals are told.
+-- The numbers that report refusals.
 use Rattle.std.specs.Prelude.{ℕ}
 use Rattle.typecodes.specs.Fault.{cause_number}
 use Rattle.typecodes.specs.declared.refusal.Refusal.{Refusal}

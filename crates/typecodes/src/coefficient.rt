@@ -17,3 +17,6 @@ pub fn coef(s: &[u8], i: u32, w: u8) -> u8
     let digit = (s[place] as u16 >> after) % (1u16 << w);
     digit as u8
 }
+
+#[cfg(test)]
+mod tests;

@@ -11,7 +11,7 @@ ghost use Rattle.typecodes.specs.Cursor.{read, whole, and_then, Gives, Reads};
 /// - Bytes spell a value or have a fault (`either`), not both (`not_both`), and of each but one
 ///   (`one_value`, `one_fault`).
 /// - No spelling of a value begins another (`no_longer`).
-/// - Reading to the end tells the value that the bytes spell (`value_read`), or else their first fault
+/// - Reading to the end gives the value that the bytes spell (`value_read`), or else their first fault
 ///   (`fault_read`).
 /// - Reading in the middle of other bytes finds the value that stands at the place, and only such a
 ///   value (`found`, `stands`).
@@ -30,7 +30,7 @@ pub fn layout_laws<V>()
 /// What holds of a layout of values V, and of one of values W that follows it and depends on the
 /// first's value.
 ///
-/// - Their bytes spell the one and then the other (`in_turn`), and are read one behind the other
+/// - Their bytes spell the one and then the other (`in_turn`), and are read one after the other
 ///   (`read_on`).
 /// - Where each is spelled in one way, and the second's values show the first's, so are both
 ///   (`one_spelling`).
@@ -41,3 +41,6 @@ pub fn following_laws<V, W>()
     ensures one_spelling { (first : Layout V) (next : V → Layout W) (of : W → V) → OneSpelling first → ((v : V) → OneSpelling (next v)) → ((v : V) → Shows (next v) of v) → OneSpelling (followed_by first next) }
     ensures reader { (layout : Layout V) (view : W → V) (bytes : List ℕ) (result : Result W ReadFault) → Gives view result (whole bytes (read layout bytes 0)) → Reads layout view bytes result }
 {}
+
+#[cfg(test)]
+mod tests;

@@ -19,8 +19,6 @@ mod levels;
 mod name;
 mod refusal;
 mod spec;
-#[cfg(test)]
-mod tests;
 mod types;
 
 pub use crate::coefficient::coef;

@@ -48,7 +48,7 @@ impl Name {
         self.bytes.as_slice()
     }
 
-    /// The same name once more. It can't fail, as a name holds no memory.
+    /// The same name once more. It can't fail, as a name owns no memory.
     pub fn copied(&self) -> Self
         ensures { result ≡ self.now }
     {

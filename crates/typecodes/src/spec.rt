@@ -50,7 +50,7 @@ impl Spec {
     }
 }
 
-// The levels that this is the text of, pairs joined by commas.
+// The levels that this is the text of, pairs with commas between them.
 fn parse_levels(text: &str) -> Result<Levels, BadSpec>
     ensures ok { IfOk result (λ levels. text.now ≡ levels_text levels) }
     ensures levels { IfOk result AreLevels }

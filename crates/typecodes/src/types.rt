@@ -220,3 +220,6 @@ impl XmssType {
         4 + 32 + 32 * 67 + 32 * u32::from(self.height())
     }
 }
+
+#[cfg(test)]
+mod tests;

@@ -122,9 +122,9 @@ coef_rest w is xs ys i =
     rw (byte, place, get_or-append-add xs ys (i * w / 8) 0) refl
 
 -- the digits of bytes one after the other: those of the first bytes, and then those of the others
-pub digits_joined : (w : ℕ) → IsWidth w → (n : ℕ) (xs ys : List ℕ)
+pub first_digits-append : (w : ℕ) → IsWidth w → (n : ℕ) (xs ys : List ℕ)
     → first_digits w (length xs * (8 / w)) xs ++ first_digits w n ys ≡ first_digits w (length xs * (8 / w) + n) (xs ++ ys)
-digits_joined w is n xs ys =
+first_digits-append w is n xs ys =
     let m = length xs * (8 / w) in
     let first = first_digits w m xs in
     let rest = first_digits w n ys in

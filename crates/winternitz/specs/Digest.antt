@@ -43,7 +43,7 @@ pub record AreWinternitzDigits (w : ℕ) (digest digits : List ℕ) : Type 0 whe
   pub checksum : List ℕ
   pub message_digits : AreDigitsOf (2 ^ w) (message_count w) (number_from_digits 256 digest) message
   pub checksum_digits : AreDigitsOf (2 ^ w) (16 / w) (checksum_of w message) checksum
-  pub joined : digits ≡ take (digit_count w) (message ++ checksum)
+  pub all : digits ≡ take (digit_count w) (message ++ checksum)
 
 -- The checksum stands whole in the list: v digits are enough for what the digits of a digest lack, and
 -- the cut takes none of them away.
@@ -52,7 +52,7 @@ pub record HasWholeChecksum (w : ℕ) (digest digits : List ℕ) : Type 0 where
   pub checksum : List ℕ
   pub message_digits : AreDigitsOf (2 ^ w) (message_count w) (number_from_digits 256 digest) message
   pub checksum_digits : AreDigitsOf (2 ^ w) (checksum_count w) (lacking_of w message) checksum
-  pub joined : digits ≡ message ++ checksum
+  pub all : digits ≡ message ++ checksum
 
 -- No other digest's digits are all at least these: digits that grow make their checksum fall.
 abbrev pub NoneAbove : ℕ → List ℕ → List ℕ → Type 0

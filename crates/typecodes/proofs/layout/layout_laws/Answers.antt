@@ -1,6 +1,6 @@
 use Rattle.std.proofs.Common.{Ok, Err}
 use Rattle.typecodes.proofs.Read.{read-stands, spelled-found}
-use Rattle.typecodes.proofs.Readers.{told, answered, either}
+use Rattle.typecodes.proofs.Readers.{outcome_of_reading, reading_of_outcome, either}
 use Rattle.typecodes.proofs.Spelling.{no_longer, no_value, one_fault, one_value}
 use Rattle.typecodes.proofs.layout.layout_laws.Goals as goal
 
@@ -20,10 +20,10 @@ pub returns-clause-no_longer : goal.returns-clause-no_longer
 returns-clause-no_longer g c = no_longer
 
 pub returns-clause-value_read : goal.returns-clause-value_read
-returns-clause-value_read g c = λ layout v bytes. (answered layout bytes (Ok v), told layout bytes (Ok v))
+returns-clause-value_read g c = λ layout v bytes. (reading_of_outcome layout bytes (Ok v), outcome_of_reading layout bytes (Ok v))
 
 pub returns-clause-fault_read : goal.returns-clause-fault_read
-returns-clause-fault_read g c = λ layout fault bytes. (answered layout bytes (Err fault), told layout bytes (Err fault))
+returns-clause-fault_read g c = λ layout fault bytes. (reading_of_outcome layout bytes (Err fault), outcome_of_reading layout bytes (Err fault))
 
 pub returns-clause-found : goal.returns-clause-found
 returns-clause-found g c = spelled-found
