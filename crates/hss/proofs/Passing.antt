@@ -9,7 +9,8 @@ use Rattle.typecodes.specs.Types.{height_of, signature_len_of}
 use Rattle.typecodes.specs.Layout.{Layout, done, ◌>>=◌}
 use Rattle.typecodes.specs.Cursor.{and_then, read}
 use Rattle.typecodes.proofs.Read.{read-bind}
-use Rattle.lms.specs.Layouts.{Signature as LmsSignature, public_key as lms_public_key, signature as lms_signature}
+use Rattle.lms.specs.Signature.{Signature as LmsSignature, signature as lms_signature}
+use Rattle.lms.specs.Key.{public_key as lms_public_key}
 use Rattle.hss.specs.Ends.{end_of}
 use Rattle.hss.specs.Layouts.{SignedKey, signed_key, signed_keys}
 

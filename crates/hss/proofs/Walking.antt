@@ -17,7 +17,8 @@ use Rattle.typecodes.proofs.Read.{read-bind, read-cut, read-fits, read-stands}
 use Rattle.typecodes.proofs.Sizes.{HasSize, size-bind, size-block, size-done, size-typed}
 use Rattle.typecodes.proofs.Steps.{ends-spelled}
 use Rattle.lms.specs.declared.key.LmsPublic.{LmsPublic}
-use Rattle.lms.specs.Layouts.{Signature as LmsSignature, public_key as lms_public_key, signature as lms_signature}
+use Rattle.lms.specs.Signature.{Signature as LmsSignature, signature as lms_signature}
+use Rattle.lms.specs.Key.{public_key as lms_public_key}
 use Rattle.lms.proofs.Parts.{in_turn, laid_out, part_read}
 use Rattle.hss.specs.Bytes.{signature_size}
 use Rattle.hss.specs.Ends.{end_of}

@@ -3,8 +3,8 @@ use Rattle.std.specs.Prelude.{ℕ, ◌+◌, ◌-◌, ◌*◌, List, ◌++◌, le
 use Rattle.std.specs.List.{flat_map}
 use Rattle.typecodes.specs.declared.types.LmsPair.{LmsPair}
 use Rattle.typecodes.specs.Types.{lms_signature_len_of}
-use Rattle.lmots.specs.Formulas.{u32str}
-use Rattle.lms.specs.Textbook.{public_bytes as lms_public_bytes, signature_bytes as lms_signature_bytes}
+use Rattle.lmots.specs.Hashes.{u32str}
+use Rattle.lms.specs.Writing.{public_bytes as lms_public_bytes, signature_bytes as lms_signature_bytes}
 use Rattle.hss.specs.declared.key.HssPublic.{HssPublic}
 use Rattle.hss.specs.Layouts.{Signature, SignedKey}
 

@@ -2,8 +2,8 @@
 use Rattle.std.specs.Prelude.{ℕ, ◌+◌, List, [], ◌∷◌, ◌++◌, length, map, slice_index_or, sum_by, take}
 use Rattle.typecodes.specs.Types.{lms_signature_len_of}
 use Rattle.lms.specs.declared.key.LmsPublic.{LmsPublic}
-use Rattle.lms.specs.Layouts.{Signature as LmsSignature}
-use Rattle.lms.specs.Textbook.{public_bytes}
+use Rattle.lms.specs.Signature.{Signature as LmsSignature}
+use Rattle.lms.specs.Writing.{public_bytes}
 use Rattle.hss.specs.Layouts.{Signature}
 
 -- L: one more than its signed keys

@@ -4,7 +4,7 @@ use Rattle.typecodes.specs.declared.fault.ReadFault.{ReadFault}
 use Rattle.typecodes.specs.declared.types.LmsType.TheVariants.{H5}
 use Rattle.typecodes.specs.declared.types.OtsType.TheVariants.{W8}
 use Rattle.typecodes.specs.Cursor.{read}
-use Rattle.lms.specs.Layouts.{signature_with}
+use Rattle.lms.specs.Signature.{signature_with}
 use Rattle.hss.specs.Layouts.{Signature, signature}
 
 -- what stands for bytes that spell none

@@ -2,11 +2,12 @@
 use Rattle.std.specs.Prelude.{◌≡◌, ℕ, ◌+◌, ◌<◌, ◌^◌, List, [], ◌∷◌, ◌++◌, length, map, drop, slice_index_or}
 use Rattle.std.specs.List.{zip}
 use Rattle.typecodes.specs.Types.{height_of}
-use Rattle.lmots.specs.Formulas.{message_digest_of}
+use Rattle.lmots.specs.Key.{message_digest_of}
 use Rattle.lms.specs.declared.key.LmsPublic.{LmsPublic}
 use Rattle.lms.specs.declared.secret.LmsSecret.{LmsSecret}
-use Rattle.lms.specs.Layouts.{Signature as LmsSignature}
-use Rattle.lms.specs.Textbook.{public_of as lms_public_of, textbook as lms_textbook}
+use Rattle.lms.specs.Signature.{Signature as LmsSignature}
+use Rattle.lms.specs.Secret.{public_of as lms_public_of}
+use Rattle.lms.specs.Writing.{textbook as lms_textbook}
 use Rattle.hss.specs.declared.key.HssPublic.{HssPublic}
 use Rattle.hss.specs.Layouts.{Signature}
 use Rattle.hss.specs.Levels.{message_at}

@@ -1,7 +1,7 @@
 -- Which signatures are valid (RFC 8554 6.3).
 use Rattle.std.specs.Prelude.{◌≡◌, ℕ, ◌<◌, List}
 use Rattle.lms.specs.declared.key.LmsPublic.{LmsPublic}
-use Rattle.lms.specs.Valid.{IsValid as IsLmsValid}
+use Rattle.lms.specs.Verification.{IsValid as IsLmsValid}
 use Rattle.hss.specs.declared.key.HssPublic.{HssPublic}
 use Rattle.hss.specs.Layouts.{Signature}
 use Rattle.hss.specs.Levels.{key_at, level_count, message_at, signature_at}

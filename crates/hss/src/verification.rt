@@ -2,7 +2,7 @@
 
 ghost use Rattle.std.specs.Prelude.{◌≡◌, ◌+◌, ◌<◌, ℕ, List, IfOk};
 ghost use Rattle.lms.specs.declared.key.LmsPublic.{LmsPublic};
-ghost use Rattle.lms.specs.Verdict.{LevelVerdict};
+ghost use Rattle.lms.specs.Verification.{LevelVerdict};
 ghost use Rattle.hss.specs.Levels.{key_at, level_count, message_at, signature_at};
 ghost use Rattle.hss.specs.Steps.{AboveVerdict};
 ghost use Rattle.hss.specs.Verdict.{LeavesMessage, Verdict};

@@ -1,16 +1,15 @@
 //! The one-time key of a leaf.
 
-ghost use Rattle.std.specs.Prelude.{◌≡◌, ℕ, ◌-◌, ◌*◌, ◌^◌, List, ◌++◌, length};
+ghost use Rattle.std.specs.Prelude.{◌≡◌, ℕ, ◌-◌, ◌*◌, ◌^◌, List, length};
 ghost use Rattle.std.specs.List.{concat};
-ghost use Rattle.sha2.specs.Hashers.{Holds256};
-ghost use Rattle.lmots.specs.Formulas.{ends_of_seed, message_digest_of, private_value, public_hash, step_of, u16str, u32str};
-ghost use Rattle.lmots.specs.Signed.{ClimbTo, signed_values};
+ghost use Rattle.lmots.specs.Key.{ClimbTo, ends_of_seed, message_digest_of, private_value, public_hash, signed_values, step_of};
 ghost use Rattle.typecodes.specs.Fields.{values_in};
 ghost use Rattle.typecodes.specs.Types.{chains_of, width_of};
 ghost use Rattle.winternitz.specs.Digest.{digits_of};
 ghost use Rattle.winternitz.specs.Chain.{ends_of};
 
-use sha2::{Digest, Sha256};
+use crate::hashes::{MESSAGE, PUBLIC};
+use sha2::Digest;
 use typecodes::OtsType;
 use winternitz::{Step, climb, digits};
 
@@ -115,17 +114,6 @@ impl LmOts {
             into[32 * chain..32 * chain + 32].copy_from_slice(&value);
         }
     }
-
-    // A hasher that holds I, q and a chain's number or a separator in its place.
-    fn hasher(&self, separator: u16) -> Sha256
-        ensures { Holds256 result (self.now.identifier ++ u32str self.now.leaf ++ u16str separator) }
-    {
-        let mut hasher = Sha256::new();
-        hasher.update(self.identifier);
-        hasher.update(self.leaf.to_be_bytes());
-        hasher.update(separator.to_be_bytes());
-        hasher
-    }
 }
 
 // The greatest digit of a type, which is also how many steps each of its chains has.
@@ -134,8 +122,3 @@ fn greatest_digit(ots: OtsType) -> u8
 {
     ((1u16 << ots.width()) - 1) as u8
 }
-
-// D_PBLC (RFC 8554 4.3) and D_MESG (4.5).
-const PUBLIC: u16 = 0x8080;
-
-const MESSAGE: u16 = 0x8181;

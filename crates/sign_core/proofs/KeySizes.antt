@@ -12,9 +12,9 @@ use Rattle.typecodes.proofs.Sizes.{HasSize, size-bind, size-block, size-done, si
 use Rattle.lms.specs.declared.key.LmsPublic.{LmsPublic}
 use Rattle.hss.specs.declared.key.HssPublic.{HssPublic}
 use Rattle.xmss.specs.declared.key.XmssPublic.{XmssPublic}
-use Rattle.lms.specs.Layouts.{public_key as lms_public_key}
+use Rattle.lms.specs.Key.{public_key as lms_public_key}
 use Rattle.hss.specs.Layouts.{level_number, public_key as hss_public_key}
-use Rattle.xmss.specs.Layouts.{public_key as xmss_public_key}
+use Rattle.xmss.specs.Key.{public_key as xmss_public_key}
 
 size-lms_type : HasSize lms_type 4
 unfolding lms_type

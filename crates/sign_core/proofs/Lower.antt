@@ -6,8 +6,9 @@ use Rattle.typecodes.specs.Types.{height_of}
 use Rattle.typecodes.specs.Layout.{Spells}
 use Rattle.merkle.specs.Tree.{node, sibling}
 use Rattle.lms.specs.declared.secret.LmsSecret.{LmsSecret}
-use Rattle.lms.specs.Layouts.{signature}
-use Rattle.lms.specs.Textbook.{joins_of, leaves_of, path_in, signature_bytes, textbook}
+use Rattle.lms.specs.Signature.{signature}
+use Rattle.lms.specs.Secret.{joins_of, leaves_of, path_in}
+use Rattle.lms.specs.Writing.{signature_bytes, textbook}
 use Rattle.lms.proofs.SigningBytes.{signed_spelled}
 
 -- each node of a tree has 32 bytes

@@ -8,11 +8,12 @@ use Rattle.typecodes.specs.declared.types.LmsPair.{LmsPair}
 use Rattle.typecodes.specs.Layout.{Spells}
 use Rattle.typecodes.specs.Types.{height_of}
 use Rattle.typecodes.proofs.Spelling.{one_value}
-use Rattle.lmots.specs.Formulas.{message_digest_of}
+use Rattle.lmots.specs.Key.{message_digest_of}
 use Rattle.lms.specs.declared.key.LmsPublic.{LmsPublic}
-use Rattle.lms.specs.Layouts.{Signature, signature}
-use Rattle.lms.specs.Textbook.{public_of, textbook}
-use Rattle.lms.specs.Valid.{IsValid}
+use Rattle.lms.specs.Signature.{Signature, signature}
+use Rattle.lms.specs.Secret.{public_of}
+use Rattle.lms.specs.Writing.{textbook}
+use Rattle.lms.specs.Verification.{IsValid}
 use Rattle.state_file.specs.declared.record.Bound.{Bound}
 use Rattle.sign_core.specs.declared.key.LmsKey.{LmsKey}
 use Rattle.state_file.specs.declared.record.Record.{Record}

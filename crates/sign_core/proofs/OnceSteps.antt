@@ -5,7 +5,7 @@ use Rattle.std.specs.Cmp.Lexicographic.{bytes_decides}
 use Rattle.std.proofs.lemmas.Bool.{leb-false}
 use Rattle.typecodes.specs.declared.types.LmsPair.{LmsPair}
 use Rattle.typecodes.specs.Types.{height_of}
-use Rattle.lmots.specs.Formulas.{message_digest_of}
+use Rattle.lmots.specs.Key.{message_digest_of}
 use Rattle.lms.specs.declared.key.LmsPublic.{LmsPublic}
 use Rattle.state_file.specs.declared.record.Bound.{Bound}
 use Rattle.sign_core.specs.declared.key.LmsKey.{LmsKey}

@@ -2,7 +2,7 @@
 use Rattle.std.proofs.Common.{◌≡◌, ℕ, suc, ◌+◌, ◌<◌, ◌≤◌, ◌^◌, Bool, true, false, not, List, [], ◌∷◌, ◌++◌, length, Option, Some, None, Result, Ok, Err, cond, drop, refl, sym, ap, ◌∙◌, subst, arith, find, map, ⊎_elim}
 use Rattle.std.specs.Prelude.{fold, max, nat_le, nat_lt, if◌then◌else◌, ◌&&◌, ◌||◌, is_some}
 use Rattle.typecodes.specs.Types.{height_of}
-use Rattle.lmots.specs.Formulas.{message_digest_of}
+use Rattle.lmots.specs.Key.{message_digest_of}
 use Rattle.state_file.specs.declared.record.Bound.{Bound}
 use Rattle.sign_core.specs.declared.key.LmsKey.{LmsKey}
 use Rattle.state_file.specs.declared.record.Record.{Record}

@@ -9,7 +9,8 @@ use Rattle.state_file.specs.declared.record.Secret.TheVariants.{Lms, Hss, Xmss}
 use Rattle.state_file.specs.declared.record.Version.TheVariants.{One}
 use Rattle.lms.specs.declared.key.LmsPublic.{LmsPublic}
 use Rattle.lms.specs.declared.secret.LmsSecret.{LmsSecret}
-use Rattle.lms.specs.Textbook.{public_of, signature_bytes, textbook}
+use Rattle.lms.specs.Secret.{public_of}
+use Rattle.lms.specs.Writing.{signature_bytes, textbook}
 use Rattle.sign_core.specs.declared.key.LmsKey.{LmsKey}
 
 -- whether two lists of bytes are one

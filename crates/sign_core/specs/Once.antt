@@ -5,7 +5,7 @@ use Rattle.typecodes.specs.declared.types.LmsPair.{LmsPair}
 use Rattle.typecodes.specs.Name.{IsName}
 use Rattle.typecodes.specs.Layout.{AreBytes}
 use Rattle.typecodes.specs.Types.{height_of}
-use Rattle.lmots.specs.Formulas.{message_digest_of}
+use Rattle.lmots.specs.Key.{message_digest_of}
 use Rattle.state_file.specs.declared.record.Bound.{Bound}
 use Rattle.sign_core.specs.declared.key.LmsKey.{LmsKey}
 use Rattle.state_file.specs.declared.record.Record.{Record}

@@ -2,7 +2,8 @@
 
 ghost use Rattle.std.specs.Prelude.{◌≡◌, ◌^◌, true, ◌<◌, ◌+◌, ◌∷◌, [], ◌++◌, Bool, Some, None, MatchOption, IfErr, OnOk, find, vec_len, vec_capacity, length};
 ghost use Rattle.typecodes.specs.Types.{height_of};
-ghost use Rattle.lms.specs.Textbook.{path_in, signature_size};
+ghost use Rattle.lms.specs.Secret.{path_in};
+ghost use Rattle.lms.specs.Writing.{signature_size};
 ghost use Rattle.sign_core.specs.Ledger.{same_bytes};
 
 use crate::fault::SignFault;

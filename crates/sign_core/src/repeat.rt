@@ -2,7 +2,7 @@
 
 ghost use Rattle.std.specs.Prelude.{◌≡◌, ◌<◌, ◌^◌, Bool, ℕ, [], None, Err, vec_capacity};
 ghost use Rattle.typecodes.specs.Types.{height_of};
-ghost use Rattle.lms.specs.Textbook.{signature_size};
+ghost use Rattle.lms.specs.Writing.{signature_size};
 ghost use Rattle.sign_core.specs.Calls.{RandomCount, StoreCount, answered};
 ghost use Rattle.sign_core.specs.World.{repeated};
 ghost use Rattle.sign_core.specs.World.Fate.{acked};

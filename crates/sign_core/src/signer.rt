@@ -40,7 +40,7 @@ impl<S: Store, R: Source> Model for Signer<S, R> {
 
 impl<S: Store, R: Source> Signer<S, R> {
     ghost use Rattle.sign_core.specs.Calls.{Creates, Leaves, LeavesSource, RandomCount, Signs, StoreCount, answered, state_of};
-    ghost use Rattle.lms.specs.Textbook.{signature_size};
+    ghost use Rattle.lms.specs.Writing.{signature_size};
     ghost use Rattle.sign_core.specs.Ledger.{binding_of, key_of, public_key_of};
     ghost use Rattle.sign_core.specs.declared.key.LmsKey.{LmsKey};
 

@@ -2,8 +2,9 @@
 
 ghost use Rattle.std.specs.Prelude.{◌≡◌, Some, [], ◌<◌, ◌^◌, length, true, false, IfErr, IfOk, OnErr, OnOk, vec_capacity};
 ghost use Rattle.typecodes.specs.Types.{height_of};
-ghost use Rattle.lmots.specs.Formulas.{message_digest_of};
-ghost use Rattle.lms.specs.Textbook.{path_in, signature_size};
+ghost use Rattle.lmots.specs.Key.{message_digest_of};
+ghost use Rattle.lms.specs.Secret.{path_in};
+ghost use Rattle.lms.specs.Writing.{signature_size};
 ghost use Rattle.state_file.specs.Store.{CanFollow};
 ghost use Rattle.sign_core.specs.Keeping.{DrawsBytes, Stores};
 ghost use Rattle.sign_core.specs.Ledger.{is_sound, secret_of, signature_of};

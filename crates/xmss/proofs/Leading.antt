@@ -3,11 +3,12 @@ use Rattle.std.proofs.Common.{◌≡◌, ℕ, List, length, sym, subst, ◌∙�
 use Rattle.winternitz.specs.Digest.{digits_of}
 use Rattle.winternitz.specs.Chain.{AreEnds}
 use Rattle.merkle.specs.Ascent.{IsAscent, at}
-use Rattle.wots_plus.specs.Signed.{step_of}
+use Rattle.wots_plus.specs.Key.{step_of}
 use Rattle.xmss.specs.declared.key.XmssPublic.{XmssPublic}
-use Rattle.xmss.specs.Layouts.{Signature}
-use Rattle.xmss.specs.Formulas.{join_of, leaf_of, message_digest_of}
-use Rattle.xmss.specs.Valid.{LeadsTo}
+use Rattle.xmss.specs.Signature.{Signature}
+use Rattle.xmss.specs.Nodes.{join_of, leaf_of}
+use Rattle.xmss.specs.Digest.{message_digest_of}
+use Rattle.xmss.specs.Verification.{LeadsTo}
 
 -- the values climb to these ends under a seed and a digest
 abbrev Climbs : List ℕ → List ℕ → Signature → List (List ℕ) → Type 0

@@ -7,8 +7,8 @@ use Rattle.typecodes.specs.Layout.{Spells}
 use Rattle.typecodes.specs.Cursor.{Reads}
 use Rattle.xmss.specs.declared.key.XmssPublic.{XmssPublic}
 use Rattle.xmss.specs.declared.signature.XmssSigView.{XmssSigView}
-use Rattle.xmss.specs.Layouts.{signature}
-use Rattle.xmss.specs.Valid.{IsValid, LeadsTo}
+use Rattle.xmss.specs.Signature.{signature}
+use Rattle.xmss.specs.Verification.{IsValid, LeadsTo}
 use Rattle.xmss.specs.View.{signature_of}
 
 -- a reader's answer, whatever was made of its faults

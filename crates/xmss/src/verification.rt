@@ -2,8 +2,7 @@
 
 ghost use Rattle.std.specs.Prelude.{◌≡◌, ◌↔◌, List, ℕ, IsTrue};
 ghost use Rattle.xmss.specs.View.{signature_of};
-ghost use Rattle.xmss.specs.Valid.{LeadsTo};
-ghost use Rattle.xmss.specs.Verdict.{LeavesMessage, Verdict};
+ghost use Rattle.xmss.specs.Verification.{LeadsTo, LeavesMessage, Verdict};
 
 use crate::digest::message_digest;
 use crate::key::XmssPublic;

@@ -1,6 +1,6 @@
 use Rattle.std.proofs.Common.{◌≡◌, true, false, not}
 use Rattle.sign_core.specs.Ledger.{same_bytes, is_sound}
-use Rattle.lmots.specs.Formulas.{message_digest_of}
+use Rattle.lmots.specs.Key.{message_digest_of}
 use Rattle.sign_core.proofs.Steps.{repeated_unsound}
 use Rattle.sign_core.proofs.repeat.repeat.Goals as goal
 

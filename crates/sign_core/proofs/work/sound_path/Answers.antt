@@ -2,7 +2,7 @@ use Rattle.std.proofs.Common.{rules, ◌≡◌, ℕ, length, ap, sym, ◌∙◌}
 use Rattle.std.specs.Prelude.{nat_eq}
 use Rattle.std.specs.Cmp.Lexicographic.{pointwise}
 use Rattle.typecodes.specs.Types.{height_of}
-use Rattle.lms.specs.Textbook.{joins_of, leaves_of}
+use Rattle.lms.specs.Secret.{joins_of, leaves_of}
 use Rattle.merkle.specs.Tree.{Joins, Leaves, path_of, root_of}
 use Rattle.sign_core.specs.Ledger.{secret_of}
 use Rattle.sign_core.proofs.work.sound_path.Goals as goal

@@ -1,7 +1,7 @@
 use Rattle.std.proofs.Common.{◌≡◌, ◌+◌, ◌<◌, length, sym, ap, ◌∙◌, Ok, rules}
 use Rattle.typecodes.specs.Cursor.{read}
 use Rattle.typecodes.proofs.Steps.{ends-trailing}
-use Rattle.lms.specs.Layouts.{signature as lms_signature}
+use Rattle.lms.specs.Signature.{signature as lms_signature}
 use Rattle.lms.specs.View.{signature_of as lms_signature_of}
 use Rattle.hss.specs.Ends.{end_of}
 use Rattle.hss.specs.Layouts.{level_number, signature, signed_keys}

@@ -2,7 +2,7 @@ use Rattle.std.proofs.Common.{◌≡◌, ◌∙◌, refl, sym, ap, subst, arith,
 use Rattle.sha2.specs.Hashers.{Holds256}
 use Rattle.sha2.specs.Sha256.{sha256}
 use Rattle.winternitz.specs.Digest.{digit_count, digits_of}
-use Rattle.lmots.specs.Formulas.{public_hash, step_of}
+use Rattle.lmots.specs.Key.{public_hash, step_of}
 use Rattle.typecodes.specs.Types.{width_of}
 use Rattle.winternitz.specs.Chain.{ends_of}
 use Rattle.winternitz.proofs.Ends.{are_ends, same_ends}

@@ -2,7 +2,7 @@ use Rattle.std.proofs.Common.{◌≡◌, ℕ, List, [], arith, rules}
 use Rattle.std.proofs.lemmas.List.Edits.{fill_by_more}
 use Rattle.std.proofs.lemmas.List.FromFn.{fill_by_all}
 use Rattle.winternitz.specs.Chain.{walk}
-use Rattle.wots_plus.specs.Signed.{private_value, step_of}
+use Rattle.wots_plus.specs.Key.{private_value, step_of}
 use Rattle.wots_plus.proofs.key.Wots.ends_from_secret.Goals as goal
 
 pub loop-chain-preserved : goal.loop-chain-preserved

@@ -1,7 +1,7 @@
 -- The ends of the chains so far.
 use Rattle.std.proofs.Common.{◌≡◌, ℕ, ◌<◌, [], get_or, length}
 use Rattle.winternitz.specs.Chain.{walk}
-use Rattle.wots_plus.specs.Signed.{private_value, step_of}
+use Rattle.wots_plus.specs.Key.{private_value, step_of}
 use Rattle.wots_plus.proofs.key.Wots.ends_from_secret.Given as goal
 
 abbrev pub invariant-loop-chain : goal.invariant-loop-chain

@@ -2,7 +2,7 @@ use Rattle.std.proofs.Common.{◌≡◌, ◌∙◌, ap, sym}
 use Rattle.winternitz.specs.Digest.{digits_of}
 use Rattle.winternitz.specs.Chain.{ends_of}
 use Rattle.winternitz.proofs.Ends.{are_ends, same_ends}
-use Rattle.wots_plus.specs.Signed.{public_value, step_of}
+use Rattle.wots_plus.specs.Key.{public_value, step_of}
 use Rattle.wots_plus.proofs.key.Wots.public_from_signature.Goals as goal
 
 pub returns : goal.returns

@@ -1,5 +1,5 @@
 use Rattle.std.proofs.Common.{◌∙◌, ap}
-use Rattle.wots_plus.specs.Signed.{public_value}
+use Rattle.wots_plus.specs.Key.{public_value}
 use Rattle.wots_plus.proofs.key.Wots.public_value.Goals as goal
 
 pub returns : goal.returns

@@ -2,7 +2,7 @@
 use Rattle.std.proofs.Common.{◌≡◌, ◌*◌, get_or, map, take}
 use Rattle.std.specs.List.{concat, range_with_len}
 use Rattle.winternitz.specs.Chain.{walk}
-use Rattle.wots_plus.specs.Signed.{private_value, step_of}
+use Rattle.wots_plus.specs.Key.{private_value, step_of}
 use Rattle.wots_plus.proofs.key.Wots.sign_digest.Given as goal
 
 abbrev pub invariant-loop-chain : goal.invariant-loop-chain

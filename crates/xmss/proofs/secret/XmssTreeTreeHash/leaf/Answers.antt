@@ -1,6 +1,6 @@
 use Rattle.std.proofs.Common.{◌∙◌, ap}
-use Rattle.wots_plus.specs.Signed.{ends_of_secret}
-use Rattle.xmss.specs.Formulas.{leaf_of}
+use Rattle.wots_plus.specs.Key.{ends_of_secret}
+use Rattle.xmss.specs.Nodes.{leaf_of}
 use Rattle.xmss.proofs.secret.XmssTreeTreeHash.leaf.Goals as goal
 
 pub returns-clause-value : goal.returns-clause-value

@@ -4,9 +4,9 @@ use Rattle.std.specs.Prelude.{ℕ, List, map, slice_index}
 use Rattle.std.specs.List.{range_with_len}
 use Rattle.winternitz.specs.Chain.{Steps, walk}
 use Rattle.winternitz.specs.Digest.{digits_of}
-use Rattle.wots_plus.specs.Addresses.{l_tree, one_time}
-use Rattle.wots_plus.specs.Formulas.{private_value_at, rand_hash, step_at}
-use Rattle.wots_plus.specs.LTree.{Joins, l_tree_root}
+use Rattle.wots_plus.specs.Address.{one_time}
+use Rattle.wots_plus.specs.Hashes.{private_value_at, step_at}
+use Rattle.wots_plus.specs.LTree.{l_tree_join, l_tree_root}
 
 -- step j of chain i of a leaf's key (3.1.2)
 abbrev pub step_of : List ℕ → ℕ → Steps
@@ -27,10 +27,6 @@ signed_values seed leaf secret digest =
 abbrev pub ends_of_secret : List ℕ → ℕ → List ℕ → List (List ℕ)
 ends_of_secret seed leaf secret =
     map (λ i. walk (step_of seed leaf) i 0 15 (private_value seed leaf secret i)) (range_with_len 0 67)
-
--- the join of a leaf's L-tree (4.1.5)
-abbrev pub l_tree_join : List ℕ → ℕ → Joins
-l_tree_join seed leaf height index left right = rand_hash seed (l_tree leaf height index) left right
 
 -- the public value of a key, which is the leaf of the hash tree: the root of the L-tree over the ends
 -- of its chains (4.1.6)

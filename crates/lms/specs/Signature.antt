@@ -1,4 +1,4 @@
--- How LMS keys and signatures are spelled (RFC 8554 4.5, 5.3 and 5.4).
+-- How LMS signatures are spelled (RFC 8554 4.5 and 5.4).
 use Rattle.std.specs.Prelude.{ℕ, ◌+◌, ◌^◌, List, nat_lt, if◌then◌else◌}
 use Rattle.typecodes.specs.declared.fault.Cause.TheVariants.{LeafOutOfRange}
 use Rattle.typecodes.specs.declared.types.OtsType.{OtsType}
@@ -6,16 +6,6 @@ use Rattle.typecodes.specs.declared.types.LmsPair.{LmsPair}
 use Rattle.typecodes.specs.Types.{chains_of, height_of, signature_len_of}
 use Rattle.typecodes.specs.Layout.{Layout, done, refuse, ◌>>=◌}
 use Rattle.typecodes.specs.Fields.{number, block, values, ots_type, lms_type}
-use Rattle.lms.specs.declared.key.LmsPublic.{LmsPublic}
-
--- a public key, 56 bytes (5.3): the two types, I and the root T[1]
-unfoldable pub public_key : Layout LmsPublic
-public_key = do
-  tree ← lms_type
-  ots ← ots_type
-  identifier ← block 16
-  root ← block 32
-  done (record { pair = record { tree = tree; ots = ots }; identifier = identifier; root = root })
 
 -- a signature: its leaf's index q, C, the value of each chain, and the authentication path
 pub record Signature : Type 0 where

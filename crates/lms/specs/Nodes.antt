@@ -1,7 +1,7 @@
 -- The hashes of an LMS tree (RFC 8554 5.3). I is its identifier, h its height.
 use Rattle.std.specs.Prelude.{ℕ, ◌+◌, ◌-◌, ◌^◌, List, ◌++◌}
 use Rattle.sha2.specs.Sha256.{sha256}
-use Rattle.lmots.specs.Formulas.{u16str, u32str}
+use Rattle.lmots.specs.Hashes.{u16str, u32str}
 use Rattle.merkle.specs.Tree.{Joins}
 
 -- D_LEAF and D_INTR (5.3), which keep the hashes of the scheme apart

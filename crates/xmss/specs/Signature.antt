@@ -1,19 +1,10 @@
--- How XMSS keys and signatures are spelled (RFC 8391 4.1.7 and 4.1.8).
+-- How XMSS signatures are spelled (RFC 8391 4.1.8).
 use Rattle.std.specs.Prelude.{ℕ, ◌^◌, List, nat_lt, if◌then◌else◌}
 use Rattle.typecodes.specs.declared.fault.Cause.TheVariants.{LeafOutOfRange}
 use Rattle.typecodes.specs.declared.types.XmssType.{XmssType}
 use Rattle.typecodes.specs.Types.{xmss_height_of}
 use Rattle.typecodes.specs.Layout.{Layout, done, refuse, ◌>>=◌}
-use Rattle.typecodes.specs.Fields.{number, block, values, values_in, xmss_type}
-use Rattle.xmss.specs.declared.key.XmssPublic.{XmssPublic}
-
--- a public key, 68 bytes (4.1.7): the type, the root and SEED
-unfoldable pub public_key : Layout XmssPublic
-public_key = do
-  tree ← xmss_type
-  root ← block 32
-  seed ← block 32
-  done (record { tree = tree; root = root; seed = seed })
+use Rattle.typecodes.specs.Fields.{number, block, values, values_in}
 
 -- a signature: its leaf's index idx, r, the value of each chain, and the authentication path
 pub record Signature : Type 0 where

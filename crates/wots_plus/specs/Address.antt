@@ -3,7 +3,7 @@ use Rattle.std.specs.Prelude.{ℕ, List, [], ◌∷◌}
 use Rattle.std.specs.List.{flat_map}
 use Rattle.wots_plus.specs.declared.address.Address.{Address}
 use Rattle.wots_plus.specs.declared.address.Address.TheVariants.{OneTime, LTree, HashTree}
-use Rattle.wots_plus.specs.Formulas.{Adrs, to_byte}
+use Rattle.wots_plus.specs.Hashes.{Adrs, to_byte}
 
 -- the eight words of an address: layer, tree (two words), type, and the four that the type has, of
 -- which keyAndMask is the last
