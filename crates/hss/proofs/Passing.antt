@@ -10,8 +10,7 @@ use Rattle.typecodes.specs.Layout.{Layout, done, ◌>>=◌}
 use Rattle.typecodes.specs.Reading.{and_then, read}
 use Rattle.typecodes.proofs.Read.{read-bind}
 use Rattle.lms.specs.Layouts.{Signature as LmsSignature, public_key as lms_public_key, signature as lms_signature}
-use Rattle.hss.specs.Ends.{end_of}
-use Rattle.hss.specs.Layouts.{SignedKey, signed_key, signed_keys}
+use Rattle.hss.specs.Signature.{SignedKey, end_of, signed_key, signed_keys}
 
 -- no one-time signature is longer than W1's, and no tree is higher than H25's
 pub ots_most : (ots : OtsType) → signature_len_of ots ≤ 8516

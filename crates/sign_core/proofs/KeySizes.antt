@@ -14,7 +14,7 @@ use Rattle.lms.specs.declared.key.LmsPublic.{LmsPublic}
 use Rattle.hss.specs.declared.key.HssPublic.{HssPublic}
 use Rattle.xmss.specs.declared.key.XmssPublic.{XmssPublic}
 use Rattle.lms.specs.Layouts.{public_key as lms_public_key}
-use Rattle.hss.specs.Layouts.{level_number, public_key as hss_public_key}
+use Rattle.hss.specs.Key.{level_number, public_key as hss_public_key}
 use Rattle.xmss.specs.Layouts.{public_key as xmss_public_key}
 
 size-lms_type : HasSize lms_type 4
