@@ -18,8 +18,9 @@ use Rattle.lms.specs.Signature.{Signature as LmsSignature, signature_with, type_
 use Rattle.lms.specs.Key.{public_key as lms_public_key}
 use Rattle.lms.specs.Verification.{Verdict as LmsVerdict}
 use Rattle.hss.specs.declared.key.HssPublic.{HssPublic}
-use Rattle.hss.specs.Layouts.{level_number, signed_key, signed_keys, signature as hss_signature}
-use Rattle.hss.specs.Verdict.{Verdict as HssVerdict}
+use Rattle.hss.specs.Key.{level_number}
+use Rattle.hss.specs.Signature.{signature as hss_signature, signed_key, signed_keys}
+use Rattle.hss.specs.Verification.{Verdict as HssVerdict}
 use Rattle.xmss.specs.declared.key.XmssPublic.{XmssPublic}
 use Rattle.xmss.specs.Signature.{leaf_index, signature as xmss_signature}
 use Rattle.xmss.specs.Verification.{Verdict as XmssVerdict}

@@ -20,11 +20,11 @@ use Rattle.lms.specs.Key.{public_key as lms_public_key}
 use Rattle.lms.specs.Writing.{public_bytes as lms_public_bytes, signature_bytes as lms_signature_bytes}
 use Rattle.lms.proofs.SigningBytes.{last_field, number_spelled}
 use Rattle.hss.specs.declared.key.HssPublic.{HssPublic}
-use Rattle.hss.specs.declared.signing.Level.{Level}
-use Rattle.hss.specs.Bytes.{public_bytes, signature_bytes, signature_size, signed_key_bytes}
-use Rattle.hss.specs.Layouts.{Signature, SignedKey, level_number, public_key, signature, signed_key, signed_keys}
-use Rattle.hss.specs.Making.{key_of, pairs_of, part_size, signature_by, signed_by, signed_key_by}
-use Rattle.hss.specs.Textbook.{level_in, levels_in}
+use Rattle.hss.specs.declared.secret.Level.{Level}
+use Rattle.hss.specs.Key.{level_number, public_key}
+use Rattle.hss.specs.Signature.{Signature, SignedKey, signature, signature_size, signed_key, signed_keys}
+use Rattle.hss.specs.Secret.{key_of, signature_by}
+use Rattle.hss.specs.Writing.{level_in, levels_in, pairs_of, part_size, public_bytes, signature_bytes, signed_by, signed_key_by, signed_key_bytes}
 use Rattle.hss.proofs.Making.{signed-at, signed-count}
 
 -- a number of levels within its bounds is spelled by 4 bytes

@@ -12,7 +12,8 @@ use Rattle.lms.specs.Signature.{Signature as LmsSignature, signature as lms_sign
 use Rattle.lms.specs.Key.{public_key as lms_public_key}
 use Rattle.lms.proofs.OneWay.{one_way-public_key as one_way-lms_public_key, one_way-signature as one_way-lms_signature}
 use Rattle.hss.specs.declared.key.HssPublic.{HssPublic}
-use Rattle.hss.specs.Layouts.{Signature, SignedKey, level_number, public_key, signature, signed_key, signed_keys}
+use Rattle.hss.specs.Key.{level_number, public_key}
+use Rattle.hss.specs.Signature.{Signature, SignedKey, signature, signed_key, signed_keys}
 
 -- a number of levels
 tested : ℕ → ℕ → ℕ → Layout ℕ

@@ -2,7 +2,7 @@
 use Rattle.std.proofs.Common.{◌≡◌, ◌∙◌, sym, ap, arith, ℕ, inl, inr, List, length, Result, Ok, Err, IfErr, IfOk}
 use Rattle.typecodes.proofs.Spelling.{no_value, one_value}
 use Rattle.lms.specs.Key.{public_key as lms_public_key}
-use Rattle.hss.specs.Layouts.{public_key as hss_public_key}
+use Rattle.hss.specs.Key.{public_key as hss_public_key}
 use Rattle.xmss.specs.Key.{public_key as xmss_public_key}
 use Rattle.sign_core.specs.declared.public.AnyPublic.{AnyPublic}
 use Rattle.sign_core.specs.declared.public.AnyPublic.TheVariants.{Lms, Hss, Xmss}

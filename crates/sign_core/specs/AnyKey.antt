@@ -4,8 +4,8 @@ use Rattle.typecodes.specs.declared.refusal.Refusal.{Refusal}
 use Rattle.typecodes.specs.Layout.{Spells, HasFault}
 use Rattle.lms.specs.Key.{public_key as lms_public_key}
 use Rattle.lms.specs.Verification.{Verdict as LmsVerdict, LeavesMessage as LmsLeavesMessage}
-use Rattle.hss.specs.Layouts.{public_key as hss_public_key}
-use Rattle.hss.specs.Verdict.{Verdict as HssVerdict, LeavesMessage as HssLeavesMessage}
+use Rattle.hss.specs.Key.{public_key as hss_public_key}
+use Rattle.hss.specs.Verification.{LeavesMessage as HssLeavesMessage, Verdict as HssVerdict}
 use Rattle.xmss.specs.Key.{public_key as xmss_public_key}
 use Rattle.xmss.specs.Verification.{Verdict as XmssVerdict, LeavesMessage as XmssLeavesMessage}
 use Rattle.sign_core.specs.declared.public.AnyPublic.{AnyPublic}

@@ -28,7 +28,7 @@ pub struct Level<'a> {
 }
 
 impl Level<'_> {
-    ghost use Rattle.hss.specs.Making.{key_of, signature_by};
+    ghost use Rattle.hss.specs.Secret.{key_of, signature_by};
 
     /// The public key of the level's tree.
     pub fn public(&self) -> LmsPublic
