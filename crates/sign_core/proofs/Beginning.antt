@@ -19,7 +19,7 @@ use Rattle.sign_core.specs.Source.{Gives}
 pub unloaded_creates : (pair : LmsPair) (stopped honest : Bool) (list : List Record) (told : Option (List ℕ)) (fault : SignFault) → FailsLoad (Some fault) list stopped honest → Creates pair stopped honest (state_of list false) (state_of list false) told told (Err fault)
 unloaded_creates pair stopped honest list told fault load =
     let chance : Creation = record { failed_load = Some fault; drawn = None; has_room = true; fate = acked } in
-    record { chance = chance; step = refl; load = load; drawn = inl refl; possible = tt }
+    record { chance = chance; step = refl; load = load; drawn = inl refl; possible = tt; memory = refl }
 
 -- a create where a record stands
 pub there_creates : (pair : LmsPair) (stopped honest : Bool) (list : List Record) (told : Option (List ℕ)) → stopped ≡ false → 1 ≤ length list → Creates pair stopped honest (state_of list false) (state_of list false) told told (Err KeyThere)
@@ -32,6 +32,7 @@ there_creates pair stopped honest list told load some =
       load = load;
       drawn = inl refl;
       possible = tt;
+      memory = refl;
     }
 
 -- a create that ends with its look at the store
@@ -56,13 +57,13 @@ empty_step pair (first ∷ rest) chance loaded none = absurd (omega arith)
 pub undrawn_creates : (pair : LmsPair) (stopped honest : Bool) (list : List Record) (told left : Option (List ℕ)) → stopped ≡ false → length list ≡ 0 → DrawsKey None told left → Creates pair stopped honest (state_of list false) (state_of list false) told left (Err RandomFailed)
 undrawn_creates pair stopped honest list told left load none drawn =
     let chance : Creation = record { failed_load = None; drawn = None; has_room = true; fate = acked } in
-    record { chance = chance; step = empty_step pair list chance refl none; load = load; drawn = drawn; possible = tt }
+    record { chance = chance; step = empty_step pair list chance refl none; load = load; drawn = drawn; possible = tt; memory = refl }
 
 -- a create whose key's record the store is told of
 pub appended_creates : (pair : LmsPair) (stopped honest : Bool) (list new : List Record) (is_open : Bool) (told left : Option (List ℕ)) (identifier seed : List ℕ) (fate : Fate) (answer : Result LmsPublic SignFault) → stopped ≡ false → length list ≡ 0 → AreDrawn (Some (identifier, seed)) → Gives told (identifier ++ seed) left → (let key = new_key pair identifier seed in appended (state_of list false) (key_record key) (public_key_of key) fate ≡ record { state = state_of new is_open; answer = answer }) → Creates pair stopped honest (state_of list false) (state_of new is_open) told left answer
 appended_creates pair stopped honest list new is_open told left identifier seed fate answer load none drawn gave step =
     let chance : Creation = record { failed_load = None; drawn = Some (identifier, seed); has_room = true; fate = fate } in
-    record { chance = chance; step = empty_step pair list chance refl none ∙ step; load = load; drawn = (drawn.0, drawn.2, gave); possible = drawn }
+    record { chance = chance; step = empty_step pair list chance refl none ∙ step; load = load; drawn = (drawn.0, drawn.2, gave); possible = drawn; memory = refl }
 
 -- two fills, one after the other
 pub gives_both : (told : Option (List ℕ)) (a : List ℕ) (between : Option (List ℕ)) (b : List ℕ) (left : Option (List ℕ)) → Gives told a between → Gives between b left → Gives told (a ++ b) left

@@ -3,6 +3,7 @@ use Rattle.std.proofs.Common.{◌≡◌, ℕ, suc, ◌+◌, ◌<◌, ◌≤◌, 
 use Rattle.std.specs.Prelude.{fold, max, nat_le, nat_lt, if◌then◌else◌, ◌&&◌, ◌||◌, is_some}
 use Rattle.typecodes.specs.Types.{height_of}
 use Rattle.lmots.specs.Key.{message_digest_of}
+use Rattle.lms.specs.Writing.{signature_size}
 use Rattle.state_file.specs.declared.record.Bound.{Bound}
 use Rattle.sign_core.specs.declared.key.LmsKey.{LmsKey}
 use Rattle.state_file.specs.declared.record.Record.{Record}
@@ -12,7 +13,7 @@ use Rattle.sign_core.specs.declared.fault.SignFault.{SignFault}
 use Rattle.sign_core.specs.declared.fault.SignFault.TheVariants.{Changed, Exhausted, RandomFailed, StoreFailed, Stopped, Damaged, OutOfMemory, LedgerFull, Unreadable, KeyThere}
 use Rattle.sign_core.specs.Ledger.{above_of, binding_of, bounds_of, is_sound, key_of, key_record, next_leaf, same_bytes, signature_of}
 use Rattle.sign_core.specs.World.{Chance, Fate, Outcome, State, acked, cut_old, cut_new, no_memory, appended, bound_anew, bound_to, new_bound, refused, repeated, requested, requested_of, requested_under}
-use Rattle.sign_core.specs.Calls.{Leaves, Signs, View, is_read, state_of}
+use Rattle.sign_core.specs.Calls.{LacksMemory, Leaves, Signs, View, is_read, state_of}
 use Rattle.sign_core.specs.Once.{IsDrawn}
 use Rattle.sign_core.specs.Source.{Gives}
 use Rattle.sign_core.specs.Keeping.{DrawsBytes, IsKept, Stores, closes, hindrance, records_of}
@@ -133,20 +134,31 @@ anew_kept limit list stopped key bounds leaf name message chance hinders kept no
     ∙ anew_step limit state key name message chance
     ∙ ap (answers limit state key name message chance) (hindrance_kept limit list stopped key bounds leaf chance.has_room kept ∙ sym is)
 
+-- where nothing hinders, memory was granted
+granted : (limit height next count : ℕ) (has_room sound : Bool) → None ≡ hindrance limit height next count has_room sound → has_room ≡ true
+granted limit height next count has_room sound is =
+    by_tests (nat_le (2 ^ height) next) (nat_lt limit (count + 1)) has_room sound is
+  where
+    by_tests : (a b c d : Bool) → None ≡ (if a then Some Exhausted else (if b then Some LedgerFull else (if not c then Some OutOfMemory else (if not d then Some (Damaged 0) else None)))) → c ≡ true
+    by_tests a b true d e = refl
+    by_tests true b false d e = absurd (cc)
+    by_tests false true false d e = absurd (cc)
+    by_tests false false false d e = absurd (cc)
+
 -- the message of a name that isn't bound is read where C is drawn
 read_anew : (list : List Record) (name message : List ℕ) (drawn : Option (List ℕ)) → binding_of list name ≡ None → (if is_read (state_of list true) name drawn then [] else message) ≡ (if is_some drawn then [] else message)
 read_anew list name message drawn none =
     ap (λ (bound : Option Bound). if (true && is_some bound) || is_some drawn then [] else message) none
 
 -- to a signer that is closed
-pub closed_signs : (limit : ℕ) (list : List Record) (told : Option (List ℕ)) (name message : List ℕ) → Signs limit (state_of list false) (state_of list false) told told name message message (Err Stopped)
-closed_signs limit list told name message =
+pub closed_signs : (limit : ℕ) (lacking : Type 0) (list : List Record) (told : Option (List ℕ)) (name message : List ℕ) → Signs limit lacking (state_of list false) (state_of list false) told told name message message (Err Stopped)
+closed_signs limit lacking list told name message =
     let chance : Chance = record { drawn = None; has_room = true; fate = acked } in
-    record { chance = chance; step = closed_step limit list name message chance; drawn = refl; possible = tt; read = refl }
+    record { chance = chance; step = closed_step limit list name message chance; drawn = refl; possible = tt; memory = λ e. absurd (cc); early = λ e. refl; read = refl }
 
 -- under a name that is bound
-pub repeat_signs : (limit : ℕ) (list : List Record) (key : LmsKey) (bound : Bound) (told : Option (List ℕ)) (name message : List ℕ) (has_room : Bool) (answer : Result (List ℕ) SignFault) → key_of list ≡ Some key → binding_of list name ≡ Some bound → answer ≡ repeated key bound message (record { drawn = None; has_room = has_room; fate = acked }) → Signs limit (state_of list true) (state_of list true) told told name message [] answer
-repeat_signs limit list key bound told name message has_room answer is found made =
+pub repeat_signs : (limit : ℕ) (lacking : Type 0) (list : List Record) (key : LmsKey) (bound : Bound) (told : Option (List ℕ)) (name message : List ℕ) (has_room : Bool) (answer : Result (List ℕ) SignFault) → key_of list ≡ Some key → binding_of list name ≡ Some bound → answer ≡ repeated key bound message (record { drawn = None; has_room = has_room; fate = acked }) → (has_room ≡ false → lacking) → Signs limit lacking (state_of list true) (state_of list true) told told name message [] answer
+repeat_signs limit lacking list key bound told name message has_room answer is found made lacks =
     let chance : Chance = record { drawn = None; has_room = has_room; fate = acked } in
     let nothing : Option (List ℕ) = None in
     let step = repeated_step limit list key bound name message chance is found in record {
@@ -154,34 +166,40 @@ repeat_signs limit list key bound told name message has_room answer is found mad
       step = step ∙ ap (λ a. record { state = state_of list true; answer = a }) (sym made);
       drawn = refl;
       possible = tt;
+      memory = lacks;
+      early = λ e. refl;
       read = ap (λ (o : Option Bound). if (true && is_some o) || is_some nothing then [] else message) (sym found);
     }
 
 -- under a new name, where something hinders
-pub hindered_signs : (limit : ℕ) (list : List Record) (stopped : Bool) (key : LmsKey) (bounds : List Bound) (leaf : ℕ) (told : Option (List ℕ)) (name message : List ℕ) (has_room : Bool) (fault : SignFault) → IsKept list stopped key bounds leaf → binding_of list name ≡ None → Some fault ≡ hindrance limit (height_of key.pair.tree) leaf (length bounds + 1) has_room (is_sound key) → Signs limit (state_of list true) (state_of list true) told told name message message (Err fault)
-hindered_signs limit list stopped key bounds leaf told name message has_room fault kept none is =
+pub hindered_signs : (limit : ℕ) (lacking : Type 0) (list : List Record) (stopped : Bool) (key : LmsKey) (bounds : List Bound) (leaf : ℕ) (told : Option (List ℕ)) (name message : List ℕ) (has_room : Bool) (fault : SignFault) → IsKept list stopped key bounds leaf → binding_of list name ≡ None → Some fault ≡ hindrance limit (height_of key.pair.tree) leaf (length bounds + 1) has_room (is_sound key) → (has_room ≡ false → lacking) → Signs limit lacking (state_of list true) (state_of list true) told told name message message (Err fault)
+hindered_signs limit lacking list stopped key bounds leaf told name message has_room fault kept none is lacks =
     let chance : Chance = record { drawn = None; has_room = has_room; fate = acked } in record {
       chance = chance;
       step = anew_kept limit list stopped key bounds leaf name message chance (Some fault) kept none is;
       drawn = refl;
       possible = tt;
+      memory = lacks;
+      early = λ e. refl;
       read = sym (read_anew list name message None none);
     }
 
 -- under a new name, where the source fails
-pub undrawn_signs : (limit : ℕ) (list : List Record) (stopped : Bool) (key : LmsKey) (bounds : List Bound) (leaf : ℕ) (told left : Option (List ℕ)) (name message : List ℕ) (has_room : Bool) → IsKept list stopped key bounds leaf → binding_of list name ≡ None → None ≡ hindrance limit (height_of key.pair.tree) leaf (length bounds + 1) has_room (is_sound key) → left ≡ told → Signs limit (state_of list true) (state_of list true) told left name message message (Err RandomFailed)
-undrawn_signs limit list stopped key bounds leaf told left name message has_room kept none is same =
+pub undrawn_signs : (limit : ℕ) (lacking : Type 0) (list : List Record) (stopped : Bool) (key : LmsKey) (bounds : List Bound) (leaf : ℕ) (told left : Option (List ℕ)) (name message : List ℕ) (has_room : Bool) → IsKept list stopped key bounds leaf → binding_of list name ≡ None → None ≡ hindrance limit (height_of key.pair.tree) leaf (length bounds + 1) has_room (is_sound key) → left ≡ told → (has_room ≡ false → lacking) → Signs limit lacking (state_of list true) (state_of list true) told left name message message (Err RandomFailed)
+undrawn_signs limit lacking list stopped key bounds leaf told left name message has_room kept none is same lacks =
     let chance : Chance = record { drawn = None; has_room = has_room; fate = acked } in record {
       chance = chance;
       step = anew_kept limit list stopped key bounds leaf name message chance None kept none is;
       drawn = same;
       possible = tt;
+      memory = lacks;
+      early = λ e. refl;
       read = sym (read_anew list name message None none);
     }
 
 -- under a new name that the store is told of
-pub appended_signs : (limit : ℕ) (list new : List Record) (is_open stopped : Bool) (key : LmsKey) (bounds : List Bound) (leaf : ℕ) (told left : Option (List ℕ)) (name message randomizer : List ℕ) (has_room : Bool) (fate : Fate) (answer : Result (List ℕ) SignFault) → IsKept list stopped key bounds leaf → binding_of list name ≡ None → None ≡ hindrance limit (height_of key.pair.tree) leaf (length bounds + 1) has_room (is_sound key) → IsDrawn (Some randomizer) → Gives told randomizer left → (let bound = new_bound key leaf name message randomizer in appended (state_of list true) (BoundRecord bound) (signature_of key bound) fate ≡ record { state = state_of new is_open; answer = answer }) → Signs limit (state_of list true) (state_of new is_open) told left name message [] answer
-appended_signs limit list new is_open stopped key bounds leaf told left name message randomizer has_room fate answer kept none is drawn gave made =
+pub appended_signs : (limit : ℕ) (lacking : Type 0) (list new : List Record) (is_open stopped : Bool) (key : LmsKey) (bounds : List Bound) (leaf : ℕ) (told left : Option (List ℕ)) (name message randomizer : List ℕ) (has_room : Bool) (fate : Fate) (answer : Result (List ℕ) SignFault) → IsKept list stopped key bounds leaf → binding_of list name ≡ None → None ≡ hindrance limit (height_of key.pair.tree) leaf (length bounds + 1) has_room (is_sound key) → IsDrawn (Some randomizer) → Gives told randomizer left → (let bound = new_bound key leaf name message randomizer in appended (state_of list true) (BoundRecord bound) (signature_of key bound) fate ≡ record { state = state_of new is_open; answer = answer }) → (has_room ≡ false → lacking) → Signs limit lacking (state_of list true) (state_of new is_open) told left name message [] answer
+appended_signs limit lacking list new is_open stopped key bounds leaf told left name message randomizer has_room fate answer kept none is drawn gave made lacks =
     let chance : Chance = record { drawn = Some randomizer; has_room = has_room; fate = fate } in
     let state = state_of list true in record {
       chance = chance;
@@ -190,14 +208,21 @@ appended_signs limit list new is_open stopped key bounds leaf told left name mes
           ∙ made;
       drawn = gave;
       possible = drawn;
+      memory = lacks;
+      early = λ e. let room = granted limit (height_of key.pair.tree) leaf (length bounds + 1) has_room (is_sound key) is in absurd (cc);
       read = sym (read_anew list name message (Some randomizer) none);
     }
 
 -- the same call, told by equal things
-pub signs_along : {limit limit' : ℕ} {old old' new new' : State} {told told' left left' : Option (List ℕ)} {name message rest rest' : List ℕ} {answer answer' : Result (List ℕ) SignFault} → Signs limit old new told left name message rest answer → limit ≡ limit' → old ≡ old' → new ≡ new' → told ≡ told' → left ≡ left' → rest ≡ rest' → answer ≡ answer' → Signs limit' old' new' told' left' name message rest' answer'
-signs_along {name = name} {message = message} signs a b c d e f g =
-    subst (λ (t : ℕ × State × State × Option (List ℕ) × Option (List ℕ) × List ℕ × Result (List ℕ) SignFault). Signs t.0 t.1 t.2 t.3 t.4 name message t.5 t.6)
+pub signs_along : {limit limit' : ℕ} {lacking : Type 0} {old old' new new' : State} {told told' left left' : Option (List ℕ)} {name message rest rest' : List ℕ} {answer answer' : Result (List ℕ) SignFault} → Signs limit lacking old new told left name message rest answer → limit ≡ limit' → old ≡ old' → new ≡ new' → told ≡ told' → left ≡ left' → rest ≡ rest' → answer ≡ answer' → Signs limit' lacking old' new' told' left' name message rest' answer'
+signs_along {lacking = lacking} {name = name} {message = message} signs a b c d e f g =
+    subst (λ (t : ℕ × State × State × Option (List ℕ) × Option (List ℕ) × List ℕ × Result (List ℕ) SignFault). Signs t.0 lacking t.1 t.2 t.3 t.4 name message t.5 t.6)
     (λ i. (a i, b i, c i, d i, e i, f i, g i)) signs
+
+-- the same lack, of equal things
+pub lacks_along : {bound bound' : Option Bound} {key key' : LmsKey} {spare spare' : ℕ} (capacity : ℕ) → LacksMemory bound (signature_size key.pair) capacity spare → bound ≡ bound' → key ≡ key' → spare ≡ spare' → LacksMemory bound' (signature_size key'.pair) capacity spare'
+lacks_along capacity lacks a b c =
+    subst (λ (t : Option Bound × LmsKey × ℕ). LacksMemory t.0 (signature_size t.1.pair) capacity t.2) (λ i. (a i, b i, c i)) lacks
 
 -- a repeat where the record's root isn't the secret's
 pub repeated_unsound : (key : LmsKey) (bound : Bound) (message : List ℕ) → not (same_bytes (message_digest_of key.identifier bound.leaf bound.randomizer message) bound.digest) ≡ false → is_sound key ≡ false → Err (Damaged 0) ≡ repeated key bound message (record { drawn = None; has_room = true; fate = acked })
@@ -289,6 +314,27 @@ leaves_same (Err OutOfMemory) v = tt
 leaves_same (Err LedgerFull) v = refl
 leaves_same (Err (Unreadable k)) v = refl
 leaves_same (Err KeyThere) v = refl
+
+-- and all but the ledger's memory
+all_but_memory : {S R : Type 0} (A : Type 0) (fault : SignFault) (old new : View S R) → new ≡ record old { spare = new.spare } → Leaves {A = A} (Err fault) old new
+all_but_memory A Changed old new same = same
+all_but_memory A Exhausted old new same = same
+all_but_memory A RandomFailed old new same =
+    let random = ap (λ (v : View _ _). v.random) same in
+    same ∙ (λ i. record old { random = sym random i; spare = new.spare })
+all_but_memory A StoreFailed old new same = tt
+all_but_memory A Stopped old new same = same
+all_but_memory A (Damaged k) old new same = same
+all_but_memory A OutOfMemory old new same = tt
+all_but_memory A LedgerFull old new same = same
+all_but_memory A (Unreadable k) old new same = same
+all_but_memory A KeyThere old new same = same
+
+pub leaves_grown : {A S R : Type 0} (result : Result A SignFault) (fault : SignFault) (old view : View S R) (key : LmsKey) (spare : ℕ) → result ≡ Err fault → view ≡ old → key ≡ view.key → Leaves result old (record view { key = key; spare = spare })
+leaves_grown {A = A} result fault old view key spare failed seen same =
+    let key_is = same ∙ ap (λ (v : View _ _). v.key) seen in
+    subst (λ r. Leaves r old (record view { key = key; spare = spare })) (sym failed)
+    (all_but_memory A fault old (record view { key = key; spare = spare }) (λ i. record (seen i) { key = key_is i; spare = spare }))
 
 -- what a draw that fails says
 pub draw_fails : (before after : ℕ) (told left : Option (List ℕ)) (fault : SignFault) → DrawsBytes before after told left (Err fault) → (fault ≡ RandomFailed) × (left ≡ told)

@@ -30,6 +30,11 @@ hindrance limit height next count has_room sound =
     else (if not has_room then Some OutOfMemory
     else (if not sound then Some (Damaged 0) else None)))
 
+-- Nothing hinders, or this fault does; and memory is refused only where it is lacking.
+abbrev pub Hinders : (limit height next count : ℕ) (lacking : Type 0) (sound : Bool) → Option SignFault → Type 0
+Hinders limit height next count lacking sound fault =
+    (has_room : Bool) × (fault ≡ hindrance limit height next count has_room sound) × (has_room ≡ false → lacking)
+
 -- the fault of an answer
 abbrev pub fault_of : {A E : Type 0} → Result A E → Option E
 fault_of (Ok _) = None

@@ -1,6 +1,6 @@
 //! The records of a key, kept in memory.
 
-ghost use Rattle.std.specs.Prelude.{◌≡◌, ◌^◌, true, ◌<◌, ◌+◌, ◌∷◌, [], ◌++◌, Bool, Some, None, MatchOption, IfErr, OnOk, find, vec_len, vec_capacity, length};
+ghost use Rattle.std.specs.Prelude.{◌≡◌, ◌^◌, true, ◌<◌, ◌+◌, ◌-◌, ◌∷◌, [], ◌++◌, Some, None, MatchOption, IfErr, OnErr, OnOk, find, vec_len, vec_capacity, length};
 ghost use Rattle.typecodes.specs.Types.{height_of};
 ghost use Rattle.lms.specs.Secret.{path_in};
 ghost use Rattle.lms.specs.Writing.{signature_size};
@@ -33,7 +33,8 @@ pub(crate) fn find_bound<'a>(bounds: &'a [Bound], name: &Name) -> Option<&'a Bou
 }
 
 impl Ledger {
-    ghost use Rattle.sign_core.specs.Keeping.{fault_of, hindrance};
+    ghost use Rattle.sign_core.specs.Calls.{LacksMemory};
+    ghost use Rattle.sign_core.specs.Keeping.{Hinders, fault_of, hindrance};
     ghost use Rattle.sign_core.specs.Ledger.{is_sound, secret_of};
     ghost use Rattle.sign_core.specs.Once.{IsDrawn};
     ghost use Rattle.sign_core.specs.World.{new_bound};
@@ -56,6 +57,9 @@ impl Ledger {
         ensures room { OnOk result (length out.new.items ≡ signature_size self.old.key.pair) }
         ensures reserved { OnOk result (vec_len self.new.bounds < vec_capacity self.new.bounds) }
         ensures refused { IfErr result (λ fault. fault ≡ SignFault.OutOfMemory) }
+        // Memory is requested only where there isn't room for both yet.
+        ensures full { OnErr result (LacksMemory None (signature_size self.old.key.pair) (vec_capacity out.old)
+            (vec_capacity self.old.bounds - vec_len self.old.bounds)) }
         ensures key { self.new.key ≡ self.old.key }
         ensures bounds { self.new.bounds.items ≡ self.old.bounds.items }
         ensures next { self.new.next ≡ self.old.next }
@@ -74,7 +78,11 @@ impl Ledger {
         out: &mut Vec<u8>,
     ) -> Result<(), SignFault>
         requires { length path.old ≡ height_of self.old.key.pair.tree }
-        ensures hindrance { (has_room : Bool) × (fault_of result ≡ hindrance limit (height_of self.old.key.pair.tree) self.old.next (length self.old.bounds.items + 1) has_room (is_sound self.old.key)) }
+        ensures hindrance { Hinders limit (height_of self.old.key.pair.tree) self.old.next
+            (length self.old.bounds.items + 1)
+            (LacksMemory None (signature_size self.old.key.pair) (vec_capacity out.old) (vec_capacity self.old.bounds - vec_len self.old.bounds))
+            (is_sound self.old.key)
+            (fault_of result) }
         ensures free { OnOk result (self.old.next < 2 ^ height_of self.old.key.pair.tree) }
         ensures takes { OnOk result (length self.old.bounds.items + 1 < limit) }
         ensures path { OnOk result (path.new ≡ path_in (secret_of self.old.key) self.old.next) }

@@ -25,21 +25,21 @@ pub struct Signer<S: Store, R: Source> {
 }
 
 impl<S: Store, R: Source> Model for Signer<S, R> {
-    ghost use Rattle.std.specs.Prelude.{◌≡◌, true, Some};
+    ghost use Rattle.std.specs.Prelude.{◌≡◌, ◌-◌, true, Some, vec_len, vec_capacity};
     ghost use Rattle.sign_core.specs.Ledger.{key_of};
     ghost use Rattle.sign_core.specs.Calls.{View};
     ghost use Rattle.sign_core.specs.Keeping.{IsKept};
 
     ghost Value = { View S R };
 
-    ghost view = { λ s. record { store = s.store; random = s.random; key = s.ledger.key; is_open = s.is_open } };
+    ghost view = { λ s. record { store = s.store; random = s.random; key = s.ledger.key; is_open = s.is_open; spare = vec_capacity s.ledger.bounds - vec_len s.ledger.bounds } };
 
     // The key is that of the store's records; while open, the ledger is what they say.
     ghost invariant = { λ s. (key_of (S.list s.store) ≡ Some s.ledger.key) × (s.is_open ≡ true → IsKept (S.list s.store) (S.stopped s.store) s.ledger.key s.ledger.bounds.items s.ledger.next) };
 }
 
 impl<S: Store, R: Source> Signer<S, R> {
-    ghost use Rattle.sign_core.specs.Calls.{Creates, Leaves, LeavesSource, RandomCount, Signs, StoreCount, answered, state_of};
+    ghost use Rattle.sign_core.specs.Calls.{Creates, LacksMemory, Leaves, LeavesSource, RandomCount, Signs, StoreCount, answered, state_of};
     ghost use Rattle.lms.specs.Writing.{signature_size};
     ghost use Rattle.sign_core.specs.Ledger.{binding_of, key_of, public_key_of};
     ghost use Rattle.sign_core.specs.declared.key.LmsKey.{LmsKey};
@@ -107,7 +107,7 @@ impl<S: Store, R: Source> Signer<S, R> {
         message: &mut &[u8],
         out: &mut Vec<u8>,
     ) -> Result<(), SignFault>
-        ensures step { Signs (S.most self.old.store) (state_of (S.list self.old.store) self.old.is_open) (state_of (S.list self.new.store) self.new.is_open) (R.told self.old.random) (R.told self.new.random) name.now message.old.now message.new.now (answered result out.new.items) }
+        ensures step { Signs (S.most self.old.store) (LacksMemory (binding_of (S.list self.old.store) name.now) (signature_size self.old.key.pair) (vec_capacity out.old) self.old.spare) (state_of (S.list self.old.store) self.old.is_open) (state_of (S.list self.new.store) self.new.is_open) (R.told self.old.random) (R.told self.new.random) name.now message.old.now message.new.now (answered result out.new.items) }
         ensures empty { OnErr result (out.new.items ≡ []) }
         ensures leaves { Leaves result self.old self.new }
         ensures repeat { IsSome (binding_of (S.list self.old.store) name.now) → self.new ≡ self.old }
@@ -134,7 +134,7 @@ impl<S: Store, R: Source> Signer<S, R> {
         message: &mut &[u8],
         out: &mut Vec<u8>,
     ) -> Result<(), SignFault>
-        ensures step { Signs (S.most self.old.store) (state_of (S.list self.old.store) self.old.is_open) (state_of (S.list self.new.store) self.new.is_open) (R.told self.old.random) (R.told self.new.random) name.now message.old.now message.new.now (answered result out.new.items) }
+        ensures step { Signs (S.most self.old.store) (LacksMemory (binding_of (S.list self.old.store) name.now) (signature_size self.old.key.pair) (vec_capacity out.old) self.old.spare) (state_of (S.list self.old.store) self.old.is_open) (state_of (S.list self.new.store) self.new.is_open) (R.told self.old.random) (R.told self.new.random) name.now message.old.now message.new.now (answered result out.new.items) }
         ensures leaves { Leaves result self.old self.new }
         ensures repeat { IsSome (binding_of (S.list self.old.store) name.now) → self.new ≡ self.old }
         // A repeat wants memory only where there is no room for the signature yet.
@@ -159,7 +159,7 @@ impl<S: Store, R: Source> Signer<S, R> {
     fn bind(&mut self, name: &Name, message: &mut &[u8], out: &mut Vec<u8>) -> Result<(), SignFault>
         requires open { self.old.is_open ≡ true }
         requires unbound { binding_of (S.list self.old.store) name.now ≡ None }
-        ensures step { Signs (S.most self.old.store) (state_of (S.list self.old.store) true) (state_of (S.list self.new.store) self.new.is_open) (R.told self.old.random) (R.told self.new.random) name.now message.old.now message.new.now (answered result out.new.items) }
+        ensures step { Signs (S.most self.old.store) (LacksMemory (binding_of (S.list self.old.store) name.now) (signature_size self.old.key.pair) (vec_capacity out.old) self.old.spare) (state_of (S.list self.old.store) true) (state_of (S.list self.new.store) self.new.is_open) (R.told self.old.random) (R.told self.new.random) name.now message.old.now message.new.now (answered result out.new.items) }
         ensures leaves { Leaves result self.old self.new }
         ensures random { RandomCount result (R.failures self.old.random) (R.failures self.new.random) }
         ensures store { StoreCount result (S.failures self.old.store) (S.failures self.new.store) }

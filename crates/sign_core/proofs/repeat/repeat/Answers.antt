@@ -10,4 +10,4 @@ returns-then-not-sound_path-clause-answer c =
     let bound = c.args.bound.now in
     let same : not (same_bytes (message_digest_of key.identifier bound.leaf bound.randomizer c.args.message.now.now) bound.digest) ≡ false = cc in
     let unsound : is_sound key ≡ false = cc in
-    (true, repeated_unsound key bound _ same unsound)
+    (true, repeated_unsound key bound _ same unsound, λ e. absurd (cc))
