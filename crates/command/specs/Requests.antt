@@ -1,7 +1,6 @@
 -- What a line asks for.
 use Rattle.std.specs.Prelude.{List, [], ◌∷◌, Option, codes, option_map}
 use Rattle.clap.specs.Words.{Row, Text, first_of}
-use Rattle.command.specs.Commands.{verify_line}
 use Rattle.command.specs.declared.verify.Verify.{Verify as VerifyFiles}
 use Rattle.command.specs.declared.line.Request.{Request}
 use Rattle.command.specs.declared.line.Request.TheVariants.{Verify}
@@ -10,9 +9,9 @@ use Rattle.command.specs.declared.line.Request.TheVariants.{Verify}
 abbrev pub paths_of : VerifyFiles → List Text
 paths_of files = files.public.now ∷ files.message.now ∷ files.signature.now ∷ []
 
--- the line that asks for it
-abbrev pub line_of : Request → List Text
-line_of (Verify files) = verify_line files.public.now files.message.now files.signature.now
+-- the files of a request
+abbrev pub request_paths : Request → List Text
+request_paths (Verify files) = paths_of files
 
 -- the command's name
 abbrev pub command_of : Request → Text

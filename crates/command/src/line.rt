@@ -2,8 +2,8 @@
 
 ghost use Rattle.std.specs.Prelude.{◌≡◌, ℕ, List, ◌∷◌, [], IfErr, IfOk, IfSome, IsSomeAnd, MatchResult, Some, codes, map};
 ghost use Rattle.clap.specs.Words.{HasKind, app_of, fault_of, kind_of, subcommand_name_of, subcommand_rows_of};
-ghost use Rattle.command.specs.Commands.{IsFileWord, hbsign_app, verify_line};
-ghost use Rattle.command.specs.Requests.{command_of, line_of, named_files};
+ghost use Rattle.command.specs.Commands.{IsVerifyLine, hbsign_app};
+ghost use Rattle.command.specs.Requests.{command_of, named_files, paths_of, request_paths};
 
 use crate::verify::Verify;
 use clap::error::ErrorKind;
@@ -21,7 +21,7 @@ pub enum Request<'a> {
 impl<'a> Request<'a> {
     /// The files of a request to verify.
     pub fn files(&self) -> Verify<'a>
-        ensures { line_of self.now ≡ verify_line result.public.now result.message.now result.signature.now }
+        ensures { paths_of result ≡ request_paths self.now }
     {
         match self {
             Request::Verify(files) => *files,
@@ -36,7 +36,9 @@ pub const VERSION: &str = "0.1.0";
 ///
 /// An error has one of the kinds that `clap` gives for these words, or there is no memory.
 pub fn read<'a, S: AsStr>(alloc: Global, words: &'a [S]) -> Result<Request<'a>, Error>
-    ensures plain { (p m s : List ℕ) → map S.text words.now ≡ verify_line p m s → IsFileWord p → IsFileWord m → IsFileWord s → MatchResult result (λ request. line_of request ≡ verify_line p m s) (λ error. kind_of error ≡ ErrorKind.OutOfMemory) }
+    ensures verifies { (p m s : List ℕ) → IsVerifyLine (map S.text words.now) p m s
+        → MatchResult result (λ request. request_paths request ≡ p ∷ m ∷ s ∷ [])
+            (λ error. kind_of error ≡ ErrorKind.OutOfMemory) }
     ensures ok { IfOk result (λ _. fault_of hbsign_app (map S.text words.now) ≡ []) }
     ensures err { IfErr result (HasKind (ErrorKind.MissingSubcommand ∷ fault_of hbsign_app (map S.text words.now))) }
 {
@@ -65,7 +67,9 @@ fn hbsign<'a>(alloc: Global) -> Result<Command<'a>, AllocError>
 // What is asked for: the subcommand that was used, with its words.
 fn asked<'a>(matches: &ArgMatches<'a>) -> Option<Request<'a>>
     ensures named { IfSome result (λ request. subcommand_name_of matches.now ≡ Some (command_of request)) }
-    ensures files { (p m s : List ℕ) → named_files (subcommand_rows_of matches.now) ≡ Some (codes "verify", (Some p, Some m, Some s)) → IsSomeAnd result (λ request. line_of request ≡ verify_line p m s) }
+    ensures files { (p m s : List ℕ)
+        → named_files (subcommand_rows_of matches.now) ≡ Some (codes "verify", (Some p, Some m, Some s))
+        → IsSomeAnd result (λ request. request_paths request ≡ p ∷ m ∷ s ∷ []) }
 {
     let (name, words) = matches.subcommand()?;
     match name {

@@ -2,7 +2,7 @@
 
 ghost use Rattle.std.specs.Prelude.{◌≡◌, ◌≢◌, ◌++◌, ◌∷◌, ◌<◌, ◌⊎◌, ℕ, List, [], length, map};
 ghost use Rattle.clap.specs.Words.{fault_of, kind_of};
-ghost use Rattle.command.specs.Commands.{IsFileWord, hbsign_app, verify_line};
+ghost use Rattle.command.specs.Commands.{IsVerifyLine, hbsign_app};
 ghost use Rattle.command.specs.Lines.{Explains, Helps, Refuses, Runs, TellsOf};
 ghost use Rattle.command.specs.Opening.{OpensInTurn};
 ghost use Rattle.command.specs.Outputs.{Fails, Writes};
@@ -47,9 +47,13 @@ where
     O: Output,
     E: Output,
     ensures runs { Runs (map S.text words.now) (O.taken output.old) (O.taken output.new) result }
-    ensures verifies { (p m s : List ℕ) → map S.text words.now ≡ verify_line p m s → IsFileWord p → IsFileWord m → IsFileWord s → TellsOf (D.content folder.old p) (D.content folder.old m) (D.content folder.old s) (O.taken output.old) (O.taken output.new) result }
-    ensures opens { (p m s : List ℕ) → map S.text words.now ≡ verify_line p m s → IsFileWord p → IsFileWord m → IsFileWord s → OpensInTurn (p ∷ m ∷ s ∷ []) (D.opened folder.old) (D.opened folder.new) }
-    ensures opens_all { (p m s : List ℕ) → map S.text words.now ≡ verify_line p m s → IsFileWord p → IsFileWord m → IsFileWord s → result ≢ 3 → D.opened folder.new ≡ D.opened folder.old ++ p ∷ m ∷ s ∷ [] }
+    ensures verifies { (p m s : List ℕ) → IsVerifyLine (map S.text words.now) p m s
+        → TellsOf (D.content folder.old p) (D.content folder.old m) (D.content folder.old s)
+            (O.taken output.old) (O.taken output.new) result }
+    ensures opens { (p m s : List ℕ) → IsVerifyLine (map S.text words.now) p m s
+        → OpensInTurn (p ∷ m ∷ s ∷ []) (D.opened folder.old) (D.opened folder.new) }
+    ensures opens_all { (p m s : List ℕ) → IsVerifyLine (map S.text words.now) p m s → result ≢ 3
+        → D.opened folder.new ≡ D.opened folder.old ++ p ∷ m ∷ s ∷ [] }
     ensures opens_none { fault_of hbsign_app (map S.text words.now) ≢ [] → D.opened folder.new ≡ D.opened folder.old }
     ensures refuses { result ≡ 2 → Refuses (O.taken output.old) (O.taken output.new) (E.taken errors.old) (E.taken errors.new) }
     ensures silent { result ≢ 2 → E.taken errors.new ≡ E.taken errors.old }

@@ -6,24 +6,24 @@ use Rattle.command.proofs.Turns.{opens_of_line}
 use Rattle.command.proofs.program.run.Goals as goal
 
 pub returns-in-Ok-clause-verifies : goal.returns-in-Ok-clause-verifies
-returns-in-Ok-clause-verifies g c p m s line public message signature =
+returns-in-Ok-clause-verifies g c p m s line =
     let files = c.files.result in
-    let same = sym c.files.ensures ∙ c.in-Ok.ensures.plain p m s line public message signature in
+    let same = sym c.files.ensures ∙ c.in-Ok.ensures.verifies p m s line in
     tells_of_line (g.D.Folder.content c.args.folder.now) files.public.now files.message.now files.signature.now p m s
     (g.O.Output.taken c.args.output.now) (g.O.Output.taken c.perform.new.output) c.perform.result same c.perform.ensures.tells
 
 pub returns-in-Ok-clause-opens_all : goal.returns-in-Ok-clause-opens_all
-returns-in-Ok-clause-opens_all g c p m s line public message signature told =
+returns-in-Ok-clause-opens_all g c p m s line told =
     let files = c.files.result in
-    let same = sym c.files.ensures ∙ c.in-Ok.ensures.plain p m s line public message signature in
+    let same = sym c.files.ensures ∙ c.in-Ok.ensures.verifies p m s line in
     opens_of_line files.public.now files.message.now files.signature.now p m s
     (g.D.Folder.opened c.args.folder.now) (g.D.Folder.opened c.perform.new.folder) same (c.perform.ensures.opens_all told)
 
 pub returns-in-Err-clause-verifies : goal.returns-in-Err-clause-verifies
-returns-in-Err-clause-verifies g c p m s line public message signature =
+returns-in-Err-clause-verifies g c p m s line =
     let content = g.D.Folder.content c.args.folder.now in
     let old = g.O.Output.taken c.args.output.now in
     let new = g.O.Output.taken c.explain.new.output in
-    let memory = c.in-Err.ensures.plain p m s line public message signature in
+    let memory = c.in-Err.ensures.verifies p m s line in
     tells_failure (content p) (content m) (content s) old new c.explain.result OutOfMemory (inl refl)
     (subst (λ k. Explains k old new c.explain.result) memory c.explain.ensures.explains)
