@@ -1,4 +1,4 @@
-//! A tree whose nodes tell their place, so that each value can be worked out by hand.
+//! A tree whose nodes show their place, so that each value can be worked out by hand.
 
 ghost use Rattle.std.specs.Prelude.{◌+◌, ◌%◌, replicate, slice_index, slice_set};
 
@@ -24,7 +24,9 @@ impl Sums {
 }
 
 impl NodeHash for Sums {
-    ghost join_of = { λ _ height index left right. slice_set (slice_set (slice_set (replicate 32 0) 0 ((slice_index left 0 + slice_index right 0) % 256)) 1 height) 2 (index % 256) };
+    ghost join_of = { λ _ height index left right.
+        slice_set (slice_set (slice_set (replicate 32 0) 0 ((slice_index left 0 + slice_index right 0) % 256)) 1 height)
+        2 (index % 256) };
 
     fn join(&self, height: u8, index: u32, left: &[u8; 32], right: &[u8; 32]) -> [u8; 32] {
         let mut node = [0; 32];
