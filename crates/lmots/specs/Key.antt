@@ -6,7 +6,7 @@ use Rattle.sha2.specs.Sha256.{sha256}
 use Rattle.typecodes.specs.Types.{chains_of, width_of}
 use Rattle.typecodes.specs.declared.types.OtsType.{OtsType}
 use Rattle.winternitz.specs.Digest.{digits_of}
-use Rattle.winternitz.specs.Chain.{AreEnds, Steps, walk}
+use Rattle.winternitz.specs.Chain.{AreEnds, ends_of, Steps, walk}
 use Rattle.lmots.specs.Hashes.{message_separator, public_separator, u8str, u16str, u32str}
 
 -- H(I || u32str(q) || u16str(i) || u8str(j) || tmp): step j of chain i (4.3)
@@ -48,3 +48,8 @@ signed_values identifier q ots seed digest =
 abbrev pub ClimbTo : List ℕ → ℕ → OtsType → List ℕ → List (List ℕ) → List (List ℕ) → Type 0
 ClimbTo identifier q ots digest values ends =
     AreEnds (step_of identifier q) (width_of ots) (digits_of (width_of ots) digest) values ends
+
+-- the ends to which they climb
+abbrev pub ends_of_signature : List ℕ → ℕ → OtsType → List ℕ → List (List ℕ) → List (List ℕ)
+ends_of_signature identifier q ots digest values =
+    ends_of (step_of identifier q) (width_of ots) (digits_of (width_of ots) digest) values

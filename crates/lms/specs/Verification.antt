@@ -1,4 +1,5 @@
--- Which signatures are valid (RFC 8554 5.4.2 and 4.6), and what verification answers, with the refusal that comes first.
+-- Which signatures are valid (RFC 8554 5.4.2 and 4.6), and what verification answers, with the refusal that comes
+-- first.
 use Rattle.std.specs.Prelude.{◌≡◌, ◌≢◌, ℕ, ◌<◌, ◌^◌, List, [], length, Result, Ok, Err}
 use Rattle.typecodes.specs.declared.refusal.Refusal.{Refusal}
 use Rattle.typecodes.specs.declared.refusal.Refusal.TheVariants.{Unreadable, TypeMismatch, LevelMismatch, RootMismatch}

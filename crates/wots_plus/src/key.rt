@@ -3,11 +3,9 @@
 ghost use Rattle.std.specs.Prelude.{◌≡◌, ℕ, ◌*◌, List, length};
 ghost use Rattle.std.specs.List.{concat};
 ghost use Rattle.typecodes.specs.Fields.{values_in};
-ghost use Rattle.winternitz.specs.Digest.{digits_of};
-ghost use Rattle.winternitz.specs.Chain.{AreEnds, ends_of};
 ghost use Rattle.wots_plus.specs.Address.{one_time};
 ghost use Rattle.wots_plus.specs.Key as spec;
-ghost use Rattle.wots_plus.specs.Key.{ends_of_secret, public_value, signed_values, step_of};
+ghost use Rattle.wots_plus.specs.Key.{ClimbTo, ends_of_secret, ends_of_signature, signed_values, step_of};
 
 use crate::address::Address;
 use crate::hashes::{Prf, hash_f, keyed, xor};
@@ -56,14 +54,24 @@ impl Wots<'_> {
         hasher.finalize()
     }
 
-    /// Writes the values of a digest's signature, one behind the other: each chain climbed from its
+    /// The public hash of the key whose private values are made of a secret: the root of the L-tree
+    /// over the ends of its chains (RFC 8391 3.1.4 and 4.1.6).
+    pub fn public_hash(&self, secret: &[u8; 32]) -> [u8; 32]
+        ensures { result ≡ spec.public_hash self.now.seed.now.key self.now.leaf
+            (ends_of_secret self.now.seed.now.key self.now.leaf secret.now) }
+    {
+        let mut ends = self.ends_from_secret(secret);
+        self.l_tree(&mut ends)
+    }
+
+    /// Writes the values of a digest's signature, one after the other: each chain climbed from its
     /// private value to its digit of the digest (RFC 8391 3.1.5). The caller gives 32 bytes for each
     /// of the 67 chains.
     pub fn sign_digest(&self, secret: &[u8; 32], digest: &[u8; 32], into: &mut [u8])
         requires { length into.old ≡ 32 * 67 }
         ensures value { into.new ≡ concat (signed_values self.now.seed.now.key self.now.leaf secret.now digest.now) }
         // They climb to the ends of the key's chains.
-        ensures climbs { AreEnds (step_of self.now.seed.now.key self.now.leaf) 4 (digits_of 4 digest.now)
+        ensures climbs { ClimbTo self.now.seed.now.key self.now.leaf digest.now
             (values_in 67 into.new) (ends_of_secret self.now.seed.now.key self.now.leaf secret.now) }
     {
         let digits = digits(WIDTH, digest);
@@ -74,38 +82,29 @@ impl Wots<'_> {
         }
     }
 
-    /// The public value to which the values of a signature lead: the root of the L-tree over the ends
+    /// The public hash to which the values of a signature lead: the root of the L-tree over the ends
     /// of the chains, each climbed from its digit of the digest (RFC 8391 3.1.6 and 4.1.10). The caller
     /// gives 67 values.
-    pub fn public_from_signature(&self, digest: &[u8; 32], values: &[[u8; 32]]) -> [u8; 32]
+    pub fn hash_from_signature(&self, digest: &[u8; 32], values: &[[u8; 32]]) -> [u8; 32]
         requires { length values.now ≡ 67 }
-        ensures value { result ≡ spec.public_value self.now.seed.now.key self.now.leaf
-            (ends_of (step_of self.now.seed.now.key self.now.leaf) 4 (digits_of 4 digest.now) values.now) }
+        ensures value { result ≡ spec.public_hash self.now.seed.now.key self.now.leaf
+            (ends_of_signature self.now.seed.now.key self.now.leaf digest.now values.now) }
         // The same of any list of ends, and that there is one.
         ensures only { (ends : List (List ℕ)) →
-            AreEnds (step_of self.now.seed.now.key self.now.leaf) 4 (digits_of 4 digest.now) values.now ends →
-            result ≡ spec.public_value self.now.seed.now.key self.now.leaf ends }
+            ClimbTo self.now.seed.now.key self.now.leaf digest.now values.now ends →
+            result ≡ spec.public_hash self.now.seed.now.key self.now.leaf ends }
         ensures some { (ends : List (List ℕ)) ×
-            AreEnds (step_of self.now.seed.now.key self.now.leaf) 4 (digits_of 4 digest.now) values.now ends ×
-            (result ≡ spec.public_value self.now.seed.now.key self.now.leaf ends) }
+            ClimbTo self.now.seed.now.key self.now.leaf digest.now values.now ends ×
+            (result ≡ spec.public_hash self.now.seed.now.key self.now.leaf ends) }
     {
         let mut ends = self.ends_from_signature(digest, values);
-        self.l_tree(&mut ends)
-    }
-
-    /// The public value of the key whose private values are made of a secret: the root of the L-tree
-    /// over the ends of its chains (RFC 8391 3.1.4 and 4.1.6).
-    pub fn public_value(&self, secret: &[u8; 32]) -> [u8; 32]
-        ensures { result ≡ spec.public_value self.now.seed.now.key self.now.leaf (ends_of_secret self.now.seed.now.key self.now.leaf secret.now) }
-    {
-        let mut ends = self.ends_from_secret(secret);
         self.l_tree(&mut ends)
     }
 
     // The ends of the chains that a signature's values are climbed to.
     fn ends_from_signature(&self, digest: &[u8; 32], values: &[[u8; 32]]) -> [[u8; 32]; CHAINS]
         requires { length values.now ≡ 67 }
-        ensures { result ≡ ends_of (step_of self.now.seed.now.key self.now.leaf) 4 (digits_of 4 digest.now) values.now }
+        ensures { result ≡ ends_of_signature self.now.seed.now.key self.now.leaf digest.now values.now }
     {
         let mut ends = [[0; 32]; CHAINS];
         for (chain, digit) in digits(WIDTH, digest).iter().enumerate() {

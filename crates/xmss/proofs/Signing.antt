@@ -30,6 +30,7 @@ path_ends secret i inside =
 textbook_valid : (secret : XmssSecret) (i : ℕ) (message : List ℕ) → i < 2 ^ xmss_height_of secret.tree
     → IsValid (public_of secret) message (textbook secret i (digest_in secret (root_in secret) i message))
 textbook_valid secret i message inside = record {
+  chains = refl;
   leaf = inside;
   height = path_long secret i;
   leads = record {

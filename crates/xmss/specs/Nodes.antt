@@ -3,12 +3,12 @@ use Rattle.std.specs.Prelude.{ℕ, List}
 use Rattle.merkle.specs.Tree.{Joins}
 use Rattle.wots_plus.specs.Address.{hash_tree}
 use Rattle.wots_plus.specs.Hashes.{rand_hash}
-use Rattle.wots_plus.specs.Key.{public_value}
+use Rattle.wots_plus.specs.Key.{public_hash}
 
 -- leaf i, of the ends of its one-time key's chains: the root of the L-tree over them, under the OTS
 -- address and the L-tree address i (4.1.6)
 abbrev pub leaf_of : List ℕ → ℕ → List (List ℕ) → List ℕ
-leaf_of seed i ends = public_value seed i ends
+leaf_of seed i ends = public_hash seed i ends
 
 -- RAND_HASH of two nodes of height k under a hash tree address with that height and the index j of
 -- the node above them (4.1.6)

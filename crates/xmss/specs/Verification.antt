@@ -1,14 +1,12 @@
--- Which signatures are valid (RFC 8391 4.1.10, 3.1.6 and 4.1.5), and what verification answers, with the refusal that comes
--- first.
+-- Which signatures are valid (RFC 8391 4.1.10, 3.1.6 and 4.1.5), and what verification answers, with the refusal that
+-- comes first.
 use Rattle.std.specs.Prelude.{◌≡◌, ℕ, ◌<◌, ◌^◌, List, [], length, Result, Ok, Err}
 use Rattle.typecodes.specs.declared.refusal.Refusal.{Refusal}
 use Rattle.typecodes.specs.declared.refusal.Refusal.TheVariants.{Unreadable, TypeMismatch, LevelMismatch, RootMismatch}
 use Rattle.typecodes.specs.Layout.{Spells, HasFault}
 use Rattle.typecodes.specs.Types.{xmss_height_of}
-use Rattle.winternitz.specs.Digest.{digits_of}
-use Rattle.winternitz.specs.Chain.{AreEnds}
 use Rattle.merkle.specs.Ascent.{IsAscent, at}
-use Rattle.wots_plus.specs.Key.{step_of}
+use Rattle.wots_plus.specs.Key.{ClimbTo}
 use Rattle.xmss.specs.declared.key.XmssPublic.{XmssPublic}
 use Rattle.xmss.specs.Digest.{message_digest_of}
 use Rattle.xmss.specs.Nodes.{join_of, leaf_of}
@@ -19,15 +17,15 @@ use Rattle.xmss.specs.Signature.{Signature, signature}
 -- and from this leaf the path leads, node by node, to a node of the path's height.
 pub record LeadsTo (key : XmssPublic) (message : List ℕ) (s : Signature) (node : List ℕ) : Type 0 where
   pub ends : List (List ℕ)
-  pub climbed : AreEnds (step_of key.seed s.index) 4
-      (digits_of 4 (message_digest_of s.randomizer key.root s.index message)) s.chains ends
+  pub climbed : ClimbTo key.seed s.index (message_digest_of s.randomizer key.root s.index message) s.chains ends
   pub nodes : List (List ℕ)
   pub ascent : IsAscent (join_of key.seed) s.index (leaf_of key.seed s.index ends) s.path nodes
   pub last : at nodes (length s.path) ≡ node
 
--- The index is one of a leaf of the key's tree, the path is as long as the tree is high, and the
--- signature leads to the key's root.
+-- The signature has a value for each chain (3.1.1); its index is one of a leaf of the key's tree, and the path is
+-- as long as the tree is high; and it leads to the key's root.
 pub record IsValid (key : XmssPublic) (message : List ℕ) (s : Signature) : Type 0 where
+  pub chains : length s.chains ≡ 67
   pub leaf : s.index < 2 ^ xmss_height_of key.tree
   pub height : length s.path ≡ xmss_height_of key.tree
   pub leads : LeadsTo key message s key.root

@@ -90,6 +90,6 @@ impl TreeHash for XmssTree {
             seed: &self.seed,
             leaf: i,
         };
-        key.public_value(&self.secret.secret_seed)
+        key.public_hash(&self.secret.secret_seed)
     }
 }

@@ -49,7 +49,7 @@ fn candidate(public: &XmssPublic, message: &[u8], view: &XmssSigView<'_>) -> [u8
         seed: &seed,
         leaf: view.index,
     };
-    let leaf = key.public_from_signature(&digest, view.chains);
+    let leaf = key.hash_from_signature(&digest, view.chains);
     let nodes = Nodes { seed: &seed };
     root_from_path(&nodes, view.index, &leaf, view.path)
 }
