@@ -3,7 +3,7 @@ use Rattle.std.specs.Prelude.{◌≡◌, ℕ, ◌<◌, ◌⊎◌, List, [], ◌+
 use Rattle.typecodes.specs.Fault.{cause_number}
 use Rattle.typecodes.specs.declared.fault.Cause.{Cause}
 use Rattle.typecodes.specs.declared.fault.Cause.TheVariants.{Truncated, UnknownType, LevelCount, LeafOutOfRange, Trailing}
-use Rattle.typecodes.specs.Refusals.{refusal_number}
+use Rattle.typecodes.specs.Refusal.{refusal_number}
 use Rattle.typecodes.specs.declared.refusal.Refusal.TheVariants.{Unreadable, TypeMismatch, LevelMismatch, RootMismatch}
 use Rattle.sign_core.specs.declared.public.KeyFault.TheVariants.{Length as KeyLength, Unreadable as UnreadableKey}
 use Rattle.clap.specs.Words.{IsAmong, fault_of}

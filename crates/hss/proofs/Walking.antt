@@ -12,7 +12,7 @@ use Rattle.typecodes.specs.declared.fault.ReadFault.{ReadFault}
 use Rattle.typecodes.specs.Types.{lms_code, lms_signature_len_of, lms_types, ots_code, ots_types}
 use Rattle.typecodes.specs.Layout.{Layout, done, refuse, ◌>>=◌, Spells}
 use Rattle.typecodes.specs.Fields.{block, lms_type, number, ots_type}
-use Rattle.typecodes.specs.Reading.{and_then, read}
+use Rattle.typecodes.specs.Cursor.{and_then, read}
 use Rattle.typecodes.proofs.Read.{read-bind, read-cut, read-fits, read-stands}
 use Rattle.typecodes.proofs.Sizes.{HasSize, size-bind, size-block, size-done, size-typed}
 use Rattle.typecodes.proofs.Steps.{ends-spelled}

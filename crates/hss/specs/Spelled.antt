@@ -3,7 +3,7 @@ use Rattle.std.specs.Prelude.{ℕ, List, [], Result, Ok, Err}
 use Rattle.typecodes.specs.declared.fault.ReadFault.{ReadFault}
 use Rattle.typecodes.specs.declared.types.LmsType.TheVariants.{H5}
 use Rattle.typecodes.specs.declared.types.OtsType.TheVariants.{W8}
-use Rattle.typecodes.specs.Reading.{read}
+use Rattle.typecodes.specs.Cursor.{read}
 use Rattle.lms.specs.Signature.{signature_with}
 use Rattle.hss.specs.Layouts.{Signature, signature}
 

@@ -1,7 +1,7 @@
 //! Public keys.
 
 ghost use Rattle.std.specs.Prelude.{◌≡◌, ◌≤◌, IfOk};
-ghost use Rattle.typecodes.specs.Reading.{Reads};
+ghost use Rattle.typecodes.specs.Cursor.{Reads};
 
 use crate::levels::level_count_at;
 use lms::LmsPublic;

@@ -1,7 +1,7 @@
 //! Numbers of levels.
 
 ghost use Rattle.std.specs.Prelude.{◌≡◌, ◌+◌, ◌<◌, ◌≤◌, ◌^◌, IfOk, OnOk};
-ghost use Rattle.typecodes.specs.Reading.{Gives, read};
+ghost use Rattle.typecodes.specs.Cursor.{Gives, read};
 ghost use Rattle.hss.specs.Layouts.{level_number};
 
 use typecodes::{Cause, Cursor, LevelCount, ReadFault};

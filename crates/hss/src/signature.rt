@@ -3,7 +3,7 @@
 ghost use Rattle.std.specs.Prelude.{◌≡◌, ◌+◌, ◌-◌, ◌*◌, ◌<◌, ◌≤◌, ◌^◌, Ok, OnOk, IfOk, length, map, take, drop};
 ghost use Rattle.byteorder.specs.Endian.{big_number};
 ghost use Rattle.typecodes.specs.Layout.{Spells};
-ghost use Rattle.typecodes.specs.Reading.{Gives, Reads, read};
+ghost use Rattle.typecodes.specs.Cursor.{Gives, Reads, read};
 ghost use Rattle.typecodes.specs.Types.{lms_signature_len_of};
 ghost use Rattle.lms.specs.declared.key.LmsPublic.{LmsPublic};
 ghost use Rattle.lms.specs.Key.{public_key as lms_public_key};

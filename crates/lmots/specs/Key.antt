@@ -5,9 +5,8 @@ use Rattle.std.specs.List.{concat, range_with_len}
 use Rattle.sha2.specs.Sha256.{sha256}
 use Rattle.typecodes.specs.Types.{chains_of, width_of}
 use Rattle.typecodes.specs.declared.types.OtsType.{OtsType}
-use Rattle.winternitz.specs.Digits.{digits_of}
-use Rattle.winternitz.specs.Ends.{AreEnds, ends_of}
-use Rattle.winternitz.specs.Walk.{Steps, walk}
+use Rattle.winternitz.specs.Digest.{digits_of}
+use Rattle.winternitz.specs.Chain.{AreEnds, ends_of, Steps, walk}
 use Rattle.lmots.specs.Hashes.{message_separator, public_separator, u8str, u16str, u32str}
 
 -- H(I || u32str(q) || u16str(i) || u8str(j) || tmp): step j of chain i (4.3)

@@ -2,8 +2,7 @@
 //! every key and every signature.
 
 ghost use Rattle.std.specs.Prelude.{◌≡◌, List, [], ◌++◌, ℕ, Result, Err, IsOk};
-ghost use Rattle.typecodes.specs.Layout.{Spells};
-ghost use Rattle.typecodes.specs.Reading.{OneSpelling};
+ghost use Rattle.typecodes.specs.Layout.{Spells, OneSpelling};
 ghost use Rattle.lms.specs.declared.key.LmsPublic.{LmsPublic};
 ghost use Rattle.typecodes.specs.declared.refusal.Refusal.{Refusal};
 ghost use Rattle.lms.specs.Signature.{Signature, signature};

@@ -2,8 +2,8 @@
 use Rattle.std.specs.Prelude.{◌≡◌, ◌≢◌, ℕ, ◌<◌, ◌^◌, true, false, List, [], ◌∷◌, ◌++◌, Contains, Option, Some, None, Ok, Err, length, if◌then◌else◌}
 use Rattle.std.specs.List.{AllByRecursion}
 use Rattle.typecodes.specs.declared.types.LmsPair.{LmsPair}
-use Rattle.typecodes.specs.Names.{IsName}
-use Rattle.typecodes.specs.Reading.{AreBytes}
+use Rattle.typecodes.specs.Name.{IsName}
+use Rattle.typecodes.specs.Layout.{AreBytes}
 use Rattle.typecodes.specs.Types.{height_of}
 use Rattle.lmots.specs.Key.{message_digest_of}
 use Rattle.state_file.specs.declared.record.Bound.{Bound}

@@ -2,8 +2,7 @@
 //! list of bytes or of records.
 
 ghost use Rattle.std.specs.Prelude.{◌≡◌, ◌⊎◌, ◌<◌, ◌≤◌, ◌↔◌, ℕ, List, ◌++◌, length};
-ghost use Rattle.typecodes.specs.Layout.{Spells};
-ghost use Rattle.typecodes.specs.Reading.{OneSpelling};
+ghost use Rattle.typecodes.specs.Layout.{Spells, OneSpelling};
 ghost use Rattle.state_file.specs.declared.record.Record.{Record};
 ghost use Rattle.state_file.specs.Contents.{HasNoKey, Opening, Opens, no_key, spelled};
 ghost use Rattle.state_file.specs.Legal.{CanSign, IsCurrent, IsLegal};

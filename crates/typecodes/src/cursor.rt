@@ -3,11 +3,10 @@
 ghost use Rattle.std.specs.Prelude.{◌≡◌, ◌<◌, ◌≤◌, ◌+◌, ◌*◌, ◌/◌, ◌^◌, length, IfOk, OnOk, OnErr, MatchResult};
 
 use crate::fault::{Cause, ReadFault};
-use crate::types::{LmsType, OtsType};
-use crate::xmss::XmssType;
+use crate::types::{LmsType, OtsType, XmssType};
 use byteorder::{BigEndian, ByteOrder};
 
-/// Hands out the fields of its bytes one after the other, without copying.
+/// Reads the fields of its bytes one after the other, without copying.
 #[derive(Clone, Copy, Debug)]
 pub struct Cursor<'a> {
     /// The bytes, whole.
@@ -20,7 +19,7 @@ pub struct Cursor<'a> {
 impl<'a> Cursor<'a> {
     ghost use Rattle.std.specs.Simd.{first_chunks};
     ghost use Rattle.typecodes.specs.Fields.{number, block, values, ots_type, lms_type, xmss_type};
-    ghost use Rattle.typecodes.specs.Reading.{read, Gives};
+    ghost use Rattle.typecodes.specs.Cursor.{read, Gives};
     ghost use Rattle.typecodes.specs.Fault.{fault_at};
 
     /// A cursor before the first field.
@@ -83,10 +82,10 @@ impl<'a> Cursor<'a> {
         ensures bytes { self.new.bytes ≡ self.old.bytes }
         ensures err { OnErr result (self.new.place ≡ self.old.place) }
     {
-        let mut behind = *self;
-        let code = behind.number()?;
+        let mut after = *self;
+        let code = after.number()?;
         let named = OtsType::from_code(code).ok_or(self.fault(Cause::UnknownType))?;
-        *self = behind;
+        *self = after;
         Ok(named)
     }
 
@@ -100,10 +99,10 @@ impl<'a> Cursor<'a> {
         ensures bytes { self.new.bytes ≡ self.old.bytes }
         ensures err { OnErr result (self.new.place ≡ self.old.place) }
     {
-        let mut behind = *self;
-        let code = behind.number()?;
+        let mut after = *self;
+        let code = after.number()?;
         let named = LmsType::from_code(code).ok_or(self.fault(Cause::UnknownType))?;
-        *self = behind;
+        *self = after;
         Ok(named)
     }
 
@@ -117,10 +116,10 @@ impl<'a> Cursor<'a> {
         ensures bytes { self.new.bytes ≡ self.old.bytes }
         ensures err { OnErr result (self.new.place ≡ self.old.place) }
     {
-        let mut behind = *self;
-        let code = behind.number()?;
+        let mut after = *self;
+        let code = after.number()?;
         let named = XmssType::from_code(code).ok_or(self.fault(Cause::UnknownType))?;
-        *self = behind;
+        *self = after;
         Ok(named)
     }
 
@@ -133,12 +132,12 @@ impl<'a> Cursor<'a> {
         ensures bytes { self.new.bytes ≡ self.old.bytes }
         ensures err { OnErr result (self.new.place ≡ self.old.place) }
     {
-        let taken = self.values_joined(count)?;
+        let taken = self.values_bytes(count)?;
         Ok(taken.as_chunks().0)
     }
 
     // The bytes of the next count values.
-    fn values_joined(&mut self, count: u32) -> Result<&'a [u8], ReadFault>
+    fn values_bytes(&mut self, count: u32) -> Result<&'a [u8], ReadFault>
         requires { self.old.place + 32 * count < 2 ^ 32 }
         ensures read { Gives (λ taken. (first_chunks 32 (length taken.now / 32) taken.now, self.new.place)) result (read (values count) self.old.bytes.now self.old.place) }
         ensures count { IfOk result (λ taken. length taken.now / 32 ≡ count) }
@@ -176,3 +175,6 @@ impl<'a> Cursor<'a> {
         }
     }
 }
+
+#[cfg(test)]
+mod tests;

@@ -1,7 +1,7 @@
 //! Chains of any step.
 
 ghost use Rattle.std.specs.Prelude.{◌≡◌, ◌≤◌, ℕ, List};
-ghost use Rattle.winternitz.specs.Walk.{walk};
+ghost use Rattle.winternitz.specs.Chain.{walk};
 
 /// One step along a chain, as a standard's hash takes it.
 pub trait Step {

@@ -2,9 +2,8 @@
 -- w is 16, so digits have 4 bits and chains 15 steps, and there are 67 of them (3.1.1).
 use Rattle.std.specs.Prelude.{ℕ, List, map, slice_index}
 use Rattle.std.specs.List.{range_with_len}
-use Rattle.winternitz.specs.Walk.{Steps, walk}
-use Rattle.winternitz.specs.Digits.{digits_of}
-use Rattle.winternitz.specs.Ends.{AreEnds, ends_of}
+use Rattle.winternitz.specs.Chain.{Steps, walk, AreEnds, ends_of}
+use Rattle.winternitz.specs.Digest.{digits_of}
 use Rattle.wots_plus.specs.Address.{one_time}
 use Rattle.wots_plus.specs.Hashes.{private_value_at, step_at}
 use Rattle.wots_plus.specs.LTree.{l_tree_join, l_tree_root}

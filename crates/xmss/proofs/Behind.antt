@@ -1,8 +1,8 @@
 -- What stands behind each field of a public key and of a signature.
 use Rattle.std.proofs.Common.{ℕ, ◌^◌, List, nat_lt, if◌then◌else◌}
 use Rattle.typecodes.specs.declared.fault.Cause.TheVariants.{LeafOutOfRange}
-use Rattle.typecodes.specs.declared.xmss.XmssType.{XmssType}
-use Rattle.typecodes.specs.XmssTypes.{xmss_height_of}
+use Rattle.typecodes.specs.declared.types.XmssType.{XmssType}
+use Rattle.typecodes.specs.Types.{xmss_height_of}
 use Rattle.typecodes.specs.Layout.{Layout, done, refuse, ◌>>=◌}
 use Rattle.typecodes.specs.Fields.{block, values}
 use Rattle.xmss.specs.declared.key.XmssPublic.{XmssPublic}

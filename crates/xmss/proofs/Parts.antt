@@ -4,7 +4,7 @@ use Rattle.std.proofs.lemmas.Bool.{cases_lt}
 use Rattle.std.proofs.lemmas.List.{drop-take}
 use Rattle.byteorder.specs.Endian.{big_number}
 use Rattle.typecodes.specs.Fields.{block, number, values, values_in}
-use Rattle.typecodes.specs.Reading.{read}
+use Rattle.typecodes.specs.Cursor.{read}
 use Rattle.typecodes.proofs.Read.{read-cut, read-fits}
 use Rattle.typecodes.proofs.Values.{values-cut, values-fit}
 use Rattle.typecodes.specs.Layout.{done}

@@ -1,7 +1,7 @@
 -- The textbook signature is valid.
 use Rattle.std.proofs.Common.{◌≡◌, ◌∙◌, refl, ap, ℕ, ◌<◌, ◌^◌, List, length, arith, subst, sym}
 use Rattle.std.proofs.lemmas.List.FromFn.{length-map-range_with_len}
-use Rattle.typecodes.specs.XmssTypes.{xmss_height_of}
+use Rattle.typecodes.specs.Types.{xmss_height_of}
 use Rattle.merkle.specs.Ascent.{at}
 use Rattle.merkle.proofs.Climb.{climbed_is_ascent, climbed_nodes, climbed_nodes_at}
 use Rattle.merkle.proofs.Leading.{climbed_to_root}

@@ -2,9 +2,9 @@
 use Rattle.std.proofs.Common.{◌≡◌, ◌<◌, ◌^◌, ℕ, List, Result, Ok, Err, length, ap, subst, ◌∙◌}
 use Rattle.std.specs.Prelude.{IfOk, MatchResult}
 use Rattle.typecodes.specs.declared.fault.ReadFault.{ReadFault}
-use Rattle.typecodes.specs.XmssTypes.{xmss_height_of}
+use Rattle.typecodes.specs.Types.{xmss_height_of}
 use Rattle.typecodes.specs.Layout.{Spells}
-use Rattle.typecodes.specs.Reading.{Reads}
+use Rattle.typecodes.specs.Cursor.{Reads}
 use Rattle.xmss.specs.declared.key.XmssPublic.{XmssPublic}
 use Rattle.xmss.specs.declared.signature.XmssSigView.{XmssSigView}
 use Rattle.xmss.specs.Signature.{signature}

@@ -1,7 +1,7 @@
 -- What a secret makes: the leaves of its tree, the nodes above them, its public key, the authentication paths, the
 -- randomizers and the digests (RFC 8391 3.1.3, 3.1.4, 4.1.6, 4.1.7 and 4.1.9); and what callers see of its tree.
 use Rattle.std.specs.Prelude.{ℕ, List}
-use Rattle.typecodes.specs.XmssTypes.{xmss_height_of}
+use Rattle.typecodes.specs.Types.{xmss_height_of}
 use Rattle.merkle.specs.Tree.{Joins, Leaves, path_of, root_of}
 use Rattle.wots_plus.specs.Hashes.{prf}
 use Rattle.wots_plus.specs.Key.{ends_of_secret}

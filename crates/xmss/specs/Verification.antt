@@ -4,7 +4,7 @@ use Rattle.std.specs.Prelude.{◌≡◌, ℕ, ◌<◌, ◌^◌, List, [], length
 use Rattle.typecodes.specs.declared.refusal.Refusal.{Refusal}
 use Rattle.typecodes.specs.declared.refusal.Refusal.TheVariants.{Unreadable, TypeMismatch, LevelMismatch, RootMismatch}
 use Rattle.typecodes.specs.Layout.{Spells, HasFault}
-use Rattle.typecodes.specs.XmssTypes.{xmss_height_of}
+use Rattle.typecodes.specs.Types.{xmss_height_of}
 use Rattle.merkle.specs.Ascent.{IsAscent, at}
 use Rattle.wots_plus.specs.Key.{ClimbTo}
 use Rattle.xmss.specs.declared.key.XmssPublic.{XmssPublic}

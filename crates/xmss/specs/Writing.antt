@@ -1,7 +1,7 @@
 -- The signatures that a secret makes (RFC 8391 3.1.5 and 4.1.9), and the bytes of keys and signatures.
 use Rattle.std.specs.Prelude.{ℕ, List, ◌++◌}
 use Rattle.std.specs.List.{concat}
-use Rattle.typecodes.specs.XmssTypes.{xmss_code}
+use Rattle.typecodes.specs.Types.{xmss_code}
 use Rattle.wots_plus.specs.Hashes.{to_byte}
 use Rattle.wots_plus.specs.Key.{signed_values}
 use Rattle.xmss.specs.declared.key.XmssPublic.{XmssPublic}

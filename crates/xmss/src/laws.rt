@@ -2,10 +2,9 @@
 //! every key and every signature.
 
 ghost use Rattle.std.specs.Prelude.{◌≡◌, List, [], ◌++◌, ℕ, Result, Err, IsOk};
-ghost use Rattle.typecodes.specs.Layout.{Spells};
-ghost use Rattle.typecodes.specs.Reading.{OneSpelling};
+ghost use Rattle.typecodes.specs.Layout.{Spells, OneSpelling};
 ghost use Rattle.typecodes.specs.declared.refusal.Refusal.{Refusal};
-ghost use Rattle.typecodes.specs.declared.xmss.XmssType.{XmssType};
+ghost use Rattle.typecodes.specs.declared.types.XmssType.{XmssType};
 ghost use Rattle.xmss.specs.declared.key.XmssPublic.{XmssPublic};
 ghost use Rattle.xmss.specs.Signature.{Signature, signature};
 ghost use Rattle.xmss.specs.Key.{public_key};

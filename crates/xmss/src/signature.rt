@@ -4,8 +4,8 @@ ghost use Rattle.std.specs.Prelude.{◌≡◌, ◌+◌, ◌*◌, ◌<◌, ◌^�
 ghost use Rattle.byteorder.specs.Endian.{big_number};
 ghost use Rattle.typecodes.specs.Layout.{Spells};
 ghost use Rattle.typecodes.specs.Fields.{values_in};
-ghost use Rattle.typecodes.specs.Reading.{Gives, Reads, read};
-ghost use Rattle.typecodes.specs.XmssTypes.{xmss_height_of, xmss_signature_len_of};
+ghost use Rattle.typecodes.specs.Cursor.{Gives, Reads, read};
+ghost use Rattle.typecodes.specs.Types.{xmss_height_of, xmss_signature_len_of};
 ghost use Rattle.xmss.specs.Signature as spec;
 ghost use Rattle.xmss.specs.Signature.{chains_in, signature, signature_with};
 

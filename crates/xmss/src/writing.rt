@@ -2,7 +2,7 @@
 
 ghost use Rattle.std.specs.Prelude.{◌≡◌, ◌+◌, ◌<◌, ◌≤◌, ◌^◌, ℕ, List, ◌++◌, length, take};
 ghost use Rattle.typecodes.specs.Layout.{Spells};
-ghost use Rattle.typecodes.specs.XmssTypes.{xmss_height_of, xmss_signature_len_of};
+ghost use Rattle.typecodes.specs.Types.{xmss_height_of, xmss_signature_len_of};
 ghost use Rattle.xmss.specs.Key.{public_key};
 ghost use Rattle.xmss.specs.Signature.{signature};
 ghost use Rattle.xmss.specs.Secret.{digest_in, path_in, public_of, root_in};

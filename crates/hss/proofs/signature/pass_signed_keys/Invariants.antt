@@ -1,5 +1,5 @@
 use Rattle.std.proofs.Common.{◌≡◌, ◌+◌, ◌-◌, ◌*◌, ◌≤◌}
-use Rattle.typecodes.specs.Reading.{read}
+use Rattle.typecodes.specs.Cursor.{read}
 use Rattle.hss.specs.Ends.{end_of}
 use Rattle.hss.specs.Layouts.{signed_keys}
 use Rattle.hss.proofs.signature.pass_signed_keys.Given as goal

@@ -1,6 +1,6 @@
 use Rattle.std.proofs.Common.{◌≡◌, ◌-◌, ℕ, [], sym, ap, ◌∙◌, Ok, subst, take, drop}
 use Rattle.typecodes.specs.Layout.{Spells}
-use Rattle.typecodes.specs.Reading.{read}
+use Rattle.typecodes.specs.Cursor.{read}
 use Rattle.lms.specs.declared.key.LmsPublic.{LmsPublic}
 use Rattle.lms.specs.Key.{public_key as lms_public_key}
 use Rattle.hss.specs.Levels.{key_at, start_of}

@@ -1,5 +1,5 @@
 use Rattle.std.proofs.Common.{◌≡◌, ◌+◌, ◌<◌, length, sym, ap, ◌∙◌, Ok, rules}
-use Rattle.typecodes.specs.Reading.{read}
+use Rattle.typecodes.specs.Cursor.{read}
 use Rattle.typecodes.proofs.Steps.{ends-trailing}
 use Rattle.lms.specs.Signature.{signature as lms_signature}
 use Rattle.lms.specs.View.{signature_of as lms_signature_of}

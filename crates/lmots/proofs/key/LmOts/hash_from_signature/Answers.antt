@@ -1,7 +1,7 @@
 use Rattle.std.proofs.Common.{◌≡◌, ◌∙◌, refl, sym, ap, subst, arith, length, get_or, ◌<◌, ◌^◌}
 use Rattle.sha2.specs.Hashers.{Holds256}
 use Rattle.sha2.specs.Sha256.{sha256}
-use Rattle.winternitz.specs.Digits.{digit_count, digits_of}
+use Rattle.winternitz.specs.Digest.{digit_count, digits_of}
 use Rattle.lmots.specs.Key.{ends_of_signature, public_hash}
 use Rattle.winternitz.proofs.Ends.{are_ends, same_ends}
 use Rattle.lmots.proofs.Ends.{fed_none, fed_more, fed_all_ends}

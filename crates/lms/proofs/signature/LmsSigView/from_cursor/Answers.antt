@@ -1,5 +1,5 @@
 use Rattle.std.proofs.Common.{◌≡◌, ◌-◌, Ok, arith, rules, take, drop}
-use Rattle.typecodes.specs.Reading.{read}
+use Rattle.typecodes.specs.Cursor.{read}
 use Rattle.lms.specs.Signature.{Signature, signature, signature_with}
 use Rattle.lms.proofs.Fields.{fields}
 use Rattle.lms.proofs.Parts.{laid_out, part_read}

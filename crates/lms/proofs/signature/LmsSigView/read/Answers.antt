@@ -1,5 +1,5 @@
 use Rattle.std.proofs.Common.{◌≡◌, ◌<◌, length, Ok, rules}
-use Rattle.typecodes.specs.Reading.{read}
+use Rattle.typecodes.specs.Cursor.{read}
 use Rattle.typecodes.proofs.Steps.{ends-trailing}
 use Rattle.lms.specs.Signature.{signature}
 use Rattle.lms.specs.View.{signature_of}
