@@ -106,3 +106,8 @@ tells_of_line content a b d p m s old new status same told =
     subst (λ x. TellsOf (content p) (content m) (content x) old new status) third
     (subst (λ x. TellsOf (content p) (content x) (content d) old new status) second
     (subst (λ x. TellsOf (content x) (content b) (content d) old new status) first told))
+
+-- the status of the answer that there is no memory
+pub memory_status : (old new : Taken) (status : ℕ) → Tells (Err OutOfMemory) old new status → status ≡ 3
+memory_status old new status (inl (is, written)) = is
+memory_status old new status (inr (is, failed)) = is

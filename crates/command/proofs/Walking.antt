@@ -1,9 +1,10 @@
 -- What `clap` makes of the words of a line.
-use Rattle.std.proofs.Common.{◌≡◌, ◌≢◌, ◌==◌, ◌∙◌, ℕ, ⊤, Bool, List, [], ◌∷◌, ◌++◌, Some, None, true, false, refl, codes, nat_eq, fold, ap, subst, sym, inl, inr}
+use Rattle.std.proofs.Common.{◌≡◌, ◌≢◌, ◌==◌, ◌∙◌, ℕ, Bool, List, [], ◌∷◌, ◌++◌, Some, None, true, false, refl, codes, nat_eq, fold, is_some, ap, subst, sym, inl, inr, append-nil, append_assoc}
+use Rattle.std.specs.Prelude.{⊤}
 use Rattle.std.proofs.lemmas.Bool.{cases_eq, ne_eqb}
-use Rattle.clap.specs.Simple.{Shape, built_leaf, inherited, with_leaf_noted, marked_built}
-use Rattle.clap.specs.Walk.{Held, Walk, idle, walked, word_met, value, to_positional, arg_by_index, rows_after, nothing_held, walk_from, finished, settled, walk}
-use Rattle.clap.specs.Faults.{turn_fault, step_fault, word_fault, walk_fault, settle_fault, defaults_fault, check_fault, level_fault}
+use Rattle.clap.specs.Simple.{App, Shape, built, built_leaf, entered, names_of, inherited, with_leaf_noted, marked_built}
+use Rattle.clap.specs.Walk.{Held, Names, Walk, idle, walked, word_met, value, to_positional, arg_by_index, rows_after, nothing_held, walk_from, finished, settled, walk}
+use Rattle.clap.specs.Faults.{turn_fault, step_fault, word_fault, walk_fault, settle_fault, defaults_fault, check_fault, entered_fault, level_fault}
 use Rattle.clap.specs.Kinds.{Kinds, or_else}
 use Rattle.clap.specs.Words.{Rule, is_simple, subcommand_of, fault_of, is_simple_and_free}
 use Rattle.clap.proofs.OnLiterals.{clap_on_literals}
@@ -85,7 +86,7 @@ unfolding walk_fault
 goes from next to word words step well (ends, passes) = (
   ap (λ w. fold (walked leaf.rules []) w words) step ∙ ends,
   ap (λ k. or_else k (walk_fault leaf [] (walked leaf.rules [] from word) words)) well
-  ∙ ap (λ w. walk_fault leaf [] w words) step ∙ passes,
+      ∙ ap (λ w. walk_fault leaf [] w words) step ∙ passes,
 )
 
 -- what is held after the first file,
@@ -109,18 +110,24 @@ over_hyphens h position words to rest = goes _ (at true h position) to (codes "-
 -- and over each file
 over_1 : (b : Bool) (p : List ℕ) (words : List (List ℕ)) (to : Walk) → IsTaken b p → Goes (at b (held_1 p) 2) words to
     → Goes (at b nothing_held 1) (p ∷ words) to
-over_1 b p words to taken rest =
-    goes _ _ to p words (word_walks leaf.rules b 1 p nothing_held taken) (turn_passes leaf b 1 p nothing_held taken) rest
+over_1 true p words to taken rest =
+    goes _ _ to p words (word_walks leaf.rules true 1 p nothing_held taken) (turn_passes leaf true 1 p nothing_held taken) rest
+over_1 false p words to taken rest =
+    goes _ _ to p words (word_walks leaf.rules false 1 p nothing_held taken) (turn_passes leaf false 1 p nothing_held taken) rest
 
 over_2 : (b : Bool) (p m : List ℕ) (words : List (List ℕ)) (to : Walk) → IsTaken b m → Goes (at b (held_2 p m) 3) words to
     → Goes (at b (held_1 p) 2) (m ∷ words) to
-over_2 b p m words to taken rest =
-    goes _ _ to m words (word_walks leaf.rules b 2 m (held_1 p) taken) (turn_passes leaf b 2 m (held_1 p) taken) rest
+over_2 true p m words to taken rest =
+    goes _ _ to m words (word_walks leaf.rules true 2 m (held_1 p) taken) (turn_passes leaf true 2 m (held_1 p) taken) rest
+over_2 false p m words to taken rest =
+    goes _ _ to m words (word_walks leaf.rules false 2 m (held_1 p) taken) (turn_passes leaf false 2 m (held_1 p) taken) rest
 
 over_3 : (b : Bool) (p m s : List ℕ) (words : List (List ℕ)) (to : Walk) → IsTaken b s → Goes (at b (held_3 p m s) 4) words to
     → Goes (at b (held_2 p m) 3) (s ∷ words) to
-over_3 b p m s words to taken rest =
-    goes _ _ to s words (word_walks leaf.rules b 3 s (held_2 p m) taken) (turn_passes leaf b 3 s (held_2 p m) taken) rest
+over_3 true p m s words to taken rest =
+    goes _ _ to s words (word_walks leaf.rules true 3 s (held_2 p m) taken) (turn_passes leaf true 3 s (held_2 p m) taken) rest
+over_3 false p m s words to taken rest =
+    goes _ _ to s words (word_walks leaf.rules false 3 s (held_2 p m) taken) (turn_passes leaf false 3 s (held_2 p m) taken) rest
 
 -- The walk over words that name three files ends with the three.
 abbrev Takes : List (List ℕ) → List ℕ → List ℕ → List ℕ → Type 0
@@ -137,7 +144,7 @@ takes_with_hyphens p m s (a ∷ []) after same (first, none) =
     subst (λ x. Takes (x ∷ codes "--" ∷ after) p m s) (sym head)
     (subst (λ l. Takes (p ∷ codes "--" ∷ l) p m s) rest
     (true, over_1 false p _ _ (subst IsFileWord head first) (over_hyphens _ _ _ _ (over_2 true p m _ _ tt (over_3 true p m s _ _ tt (stays _))))))
-takes_with_hyphens p m s (a ∷ b ∷ []) after same (first, second, none) =
+takes_with_hyphens p m s (a ∷ b ∷ []) after same (first, (second, none)) =
     let head : a ≡ p = cc in
     let next : b ≡ m = cc in
     let rest : ◌≡◌ {A = List (List ℕ)} (s ∷ []) after = cc in
@@ -145,7 +152,7 @@ takes_with_hyphens p m s (a ∷ b ∷ []) after same (first, second, none) =
     (subst (λ x. Takes (p ∷ x ∷ codes "--" ∷ after) p m s) (sym next)
     (subst (λ l. Takes (p ∷ m ∷ codes "--" ∷ l) p m s) rest
     (true, over_1 false p _ _ (subst IsFileWord head first) (over_2 false p m _ _ (subst IsFileWord next second) (over_hyphens _ _ _ _ (over_3 true p m s _ _ tt (stays _)))))))
-takes_with_hyphens p m s (a ∷ b ∷ d ∷ []) after same (first, second, third, none) =
+takes_with_hyphens p m s (a ∷ b ∷ d ∷ []) after same (first, (second, (third, none))) =
     let head : a ≡ p = cc in
     let next : b ≡ m = cc in
     let last : d ≡ s = cc in
@@ -158,7 +165,7 @@ takes_with_hyphens p m s (a ∷ b ∷ d ∷ []) after same (first, second, third
 takes_with_hyphens p m s (a ∷ b ∷ d ∷ e ∷ more) after same files = cc
 
 takes_all : (names : List (List ℕ)) (p m s : List ℕ) → NamesFiles names (p ∷ m ∷ s ∷ []) → Takes names p m s
-takes_all names p m s (inl (same, (first, second, third, none))) =
+takes_all names p m s (inl (same, (first, (second, (third, none))))) =
     subst (λ l. Takes l p m s) (sym same)
     (false, over_1 false p _ _ first (over_2 false p m _ _ second (over_3 false p m s _ _ third (stays _))))
 takes_all names p m s (inr (before, after, same, files, plain)) =
@@ -168,10 +175,52 @@ takes_all names p m s (inr (before, after, same, files, plain)) =
 finds_all : (p m s : List ℕ) → files_of (finished leaf.rules (held_3 p m s)) ≡ (Some p, Some m, Some s)
 finds_all p m s = refl
 
--- the line enters `verify` with the words after it
-entered_leaf : (names : List (List ℕ)) → subcommand_of hbsign_app (codes "verify" ∷ names) ≡ Some (codes "verify", rows_after leaf.rules [] names)
+-- where the walk over the line stops: at the word `verify`, with these words after it
+abbrev stopped_at : List (List ℕ) → Walk
+stopped_at words = record (walk_from nothing_held) { stopped = Some (codes "verify", words) }
+
+-- more words are added to those,
+stops : (c : List Rule) (subcommands : Names) (words more : List (List ℕ))
+    → fold (walked c subcommands) (stopped_at words) more ≡ stopped_at (words ++ more)
+unfolding walked
+stops c subcommands words [] = ap stopped_at (sym (append-nil words))
+stops c subcommands words (word ∷ more) =
+    stops c subcommands (words ++ word ∷ []) more ∙ ap stopped_at (append_assoc words (word ∷ []) more)
+
+-- without a fault
+stops_well : (s : Shape) (subcommands : Names) (words more : List (List ℕ)) → walk_fault s subcommands (stopped_at words) more ≡ []
+unfolding walked walk_fault
+stops_well s subcommands words [] = refl
+stops_well s subcommands words (word ∷ more) = stops_well s subcommands (words ++ word ∷ []) more
+
+-- the built program
+abbrev whole : App
+whole = built hbsign_app
+
+first_step : walked whole.top.rules (names_of whole) (walk_from nothing_held) (codes "verify") ≡ stopped_at []
 unfolding clap_on_literals
-entered_leaf names = refl
+first_step = refl
+
+first_well : turn_fault whole.top (names_of whole) (walk_from nothing_held) (codes "verify") ≡ []
+unfolding clap_on_literals
+first_well = refl
+
+line_walk : (names : List (List ℕ)) → walk whole.top.rules (names_of whole) nothing_held (codes "verify" ∷ names) ≡ stopped_at names
+line_walk names = ap (λ w. fold (walked whole.top.rules (names_of whole)) w names) first_step ∙ stops whole.top.rules (names_of whole) [] names
+
+line_well : (names : List (List ℕ)) → walk_fault whole.top (names_of whole) (walk_from nothing_held) (codes "verify" ∷ names) ≡ []
+unfolding walk_fault
+line_well names =
+    ap (λ k. or_else k (walk_fault whole.top (names_of whole) (walked whole.top.rules (names_of whole) (walk_from nothing_held) (codes "verify")) names)) first_well
+    ∙ ap (λ w. walk_fault whole.top (names_of whole) w names) first_step ∙ stops_well whole.top (names_of whole) [] names
+
+-- so the line enters `verify` with the words after it
+found_leaf : (names : List (List ℕ)) → entered whole (Some (codes "verify", names)) ≡ Some (codes "verify", rows_after leaf.rules [] names)
+unfolding clap_on_literals
+found_leaf names = refl
+
+entered_leaf : (names : List (List ℕ)) → subcommand_of hbsign_app (codes "verify" ∷ names) ≡ Some (codes "verify", rows_after leaf.rules [] names)
+entered_leaf names = ap (λ (w : Walk). entered whole w.stopped) (line_walk names) ∙ found_leaf names
 
 -- the faults at the end of a walk that enters no subcommand
 abbrev end_fault : Walk → Kinds
@@ -189,10 +238,24 @@ verifies_well names p m s (b, (ends, passes)) =
     ap (λ k. or_else k (end_fault (walk leaf.rules [] nothing_held names))) passes
     ∙ ap end_fault ends ∙ ends_well b p m s
 
+-- the faults of the line, from those of its walk and what the walk comes to
+abbrev whole_fault : Walk → Kinds → Kinds
+whole_fault w walking = or_else walking (or_else (entered_fault whole w.stopped)
+    (or_else (settle_fault whole.top.rules whole.top.args_override_self w.held)
+    (or_else (defaults_fault (settled whole.top.rules w.held).rows whole.top.rules)
+    (check_fault whole.top (finished whole.top.rules w.held) (is_some (entered whole w.stopped))))))
+
+-- they are those of `verify`
+leaf_fault : (names : List (List ℕ)) → whole_fault (stopped_at names) [] ≡ or_else (level_fault leaf [] nothing_held names false []) []
+unfolding clap_on_literals
+leaf_fault names = refl
+
 -- and no fault is in the line
 verifies_name : (names : List (List ℕ)) (p m s : List ℕ) → Takes names p m s → fault_of hbsign_app (codes "verify" ∷ names) ≡ []
-unfolding clap_on_literals
-verifies_name names p m s takes = ap (λ k. or_else k []) (verifies_well names p m s takes)
+verifies_name names p m s takes =
+    ap (λ w. whole_fault w (walk_fault whole.top (names_of whole) (walk_from nothing_held) (codes "verify" ∷ names))) (line_walk names)
+    ∙ ap (whole_fault (stopped_at names)) (line_well names) ∙ leaf_fault names
+    ∙ ap (λ k. or_else k []) (verifies_well names p m s takes)
 
 pub no_fault : (words : List (List ℕ)) (p m s : List ℕ) → IsVerifyLine words p m s → fault_of hbsign_app words ≡ []
 no_fault words p m s (names, same, files) = ap (fault_of hbsign_app) same ∙ verifies_name names p m s (takes_all names p m s files)

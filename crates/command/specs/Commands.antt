@@ -36,7 +36,7 @@ abbrev pub NamesFiles : List (List ℕ) → List (List ℕ) → Type 0
 NamesFiles words files =
     ((words ≡ files) × AreFileWords files)
     ⊎ ((before : List (List ℕ)) × (after : List (List ℕ)) × (words ≡ before ++ codes "--" ∷ after)
-        × (files ≡ before ++ after) × AreFileWords before)
+    × (files ≡ before ++ after) × AreFileWords before)
 
 -- a line `verify public message signature`, with or without `--`
 abbrev pub IsVerifyLine : List (List ℕ) → List ℕ → List ℕ → List ℕ → Type 0
