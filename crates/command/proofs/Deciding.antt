@@ -23,9 +23,9 @@ use Rattle.hss.specs.Verdict.{Verdict as HssVerdict}
 use Rattle.xmss.specs.declared.key.XmssPublic.{XmssPublic}
 use Rattle.xmss.specs.Layouts.{leaf_index, signature as xmss_signature}
 use Rattle.xmss.specs.Verdict.{Verdict as XmssVerdict}
-use Rattle.sign_core.specs.declared.public.AnyPublic.{AnyPublic}
-use Rattle.sign_core.specs.declared.public.AnyPublic.TheVariants.{Lms, Hss, Xmss}
-use Rattle.sign_core.specs.AnyKey.{KeyVerdict}
+use Rattle.sign_core.specs.declared.key.AnyPublic.{AnyPublic}
+use Rattle.sign_core.specs.declared.key.AnyPublic.TheVariants.{Lms, Hss, Xmss}
+use Rattle.sign_core.specs.Key.{KeyVerdict}
 use Rattle.command.specs.Judgement.{Judgement, decisive}
 use Rattle.command.specs.declared.refusal.Refusal.{Refusal}
 use Rattle.command.specs.declared.refusal.Refusal.TheVariants.{Key, Signature, OutOfMemory, FileFailed}

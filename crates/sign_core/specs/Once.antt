@@ -7,7 +7,7 @@ use Rattle.typecodes.specs.Reading.{AreBytes}
 use Rattle.typecodes.specs.Types.{height_of}
 use Rattle.lmots.specs.Formulas.{message_digest_of}
 use Rattle.state_file.specs.declared.record.Bound.{Bound}
-use Rattle.sign_core.specs.declared.key.LmsKey.{LmsKey}
+use Rattle.sign_core.specs.declared.ledger.LmsKey.{LmsKey}
 use Rattle.state_file.specs.declared.record.Record.{Record}
 use Rattle.state_file.specs.declared.record.Record.TheVariants.{Bound as BoundRecord}
 use Rattle.sign_core.specs.declared.fault.SignFault.TheVariants.{Changed, Damaged, OutOfMemory, Stopped, StoreFailed}
@@ -99,7 +99,7 @@ pub record IsOnce (limit : ℕ) (world : World) : Type 0 where
       ≡ record { state = record { records = world.state.records ++ BoundRecord new ∷ []; is_open = true }; answer = Ok (signature_of key new) })
   -- the recorded root is that of the recorded secret
   pub sound : (key : LmsKey) → key_of world.state.records ≡ Some key → is_sound key ≡ true
-  -- so no request is told that a record is damaged
+  -- so no request is upcoming that a record is damaged
   pub undamaged : (name message : List ℕ) (chance : Chance) (slot : ℕ) → (requested limit world.state name message chance).answer ≢ Err (Damaged slot)
   -- a request whose append the store fails closes the signer
   pub stops : (name message : List ℕ) (chance : Chance) → (requested limit world.state name message chance).answer ≡ Err StoreFailed

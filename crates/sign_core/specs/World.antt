@@ -4,7 +4,7 @@ use Rattle.std.specs.Prelude.{ℕ, ◌+◌, ◌^◌, Bool, true, false, not, Lis
 use Rattle.typecodes.specs.declared.types.LmsPair.{LmsPair}
 use Rattle.typecodes.specs.Types.{height_of}
 use Rattle.state_file.specs.declared.record.Bound.{Bound}
-use Rattle.sign_core.specs.declared.key.LmsKey.{LmsKey}
+use Rattle.sign_core.specs.declared.ledger.LmsKey.{LmsKey}
 use Rattle.state_file.specs.declared.record.Record.{Record}
 use Rattle.state_file.specs.declared.record.Record.TheVariants.{Bound as BoundRecord}
 use Rattle.lmots.specs.Formulas.{message_digest_of}

@@ -1,7 +1,7 @@
 use Rattle.std.proofs.Common.{◌≡◌, true, false, None, Some, ap, subst, sym, ◌∙◌, refl, find, IsSome, true≢false}
 use Rattle.sign_core.specs.Ledger.{binding_of, same_bytes}
-use Rattle.sign_core.specs.Calls.{state_of}
-use Rattle.sign_core.proofs.Steps.{closed_signs, lacks_along, kept_key, kept_along, kept_binding, found_inside, leaves_same, repeat_signs, signs_along}
+use Rattle.sign_core.specs.Signer.{state_of}
+use Rattle.sign_core.proofs.SignSteps.{closed_signs, lacks_along, kept_key, kept_along, kept_binding, found_inside, leaves_same, repeat_signs, signs_along}
 use Rattle.sign_core.proofs.signer.Signer.answer.Goals as goal
 
 pub returns-then-not-self-clause-step : goal.returns-then-not-self-clause-step
@@ -35,7 +35,7 @@ returns-in-Some-clause-step g c =
     let found = kept_binding _ _ i.ledger.key i.ledger.bounds.items i.ledger.next c.args.name.now (Some c.in-Some.bound.now) kept
     (ap (find (λ bound. same_bytes bound.name c.args.name.now)) (sym c.deref.ensures.value) ∙ c.in-Some.ensures) in
     let answer = c.repeat.ensures.answer in
-    signs_along (repeat_signs (g.S.Store.most v.store) _ (g.S.Store.list v.store) i.ledger.key c.in-Some.bound.now (g.R.Source.told v.random) c.args.name.now c.args.message.now.now answer.0 _ (kept_key _ _ _ _ _ kept) found answer.1 (λ e. lacks_along {bound = Some c.in-Some.bound.now} _ (answer.2 e) (sym found) (ap (λ w. w.key) c.self.view_is) refl))
+    signs_along (repeat_signs (g.S.Store.most v.store) _ (g.S.Store.list v.store) i.ledger.key c.in-Some.bound.now (g.R.Source.upcoming v.random) c.args.name.now c.args.message.now.now answer.0 _ (kept_key _ _ _ _ _ kept) found answer.1 (λ e. lacks_along {bound = Some c.in-Some.bound.now} _ (answer.2 e) (sym found) (ap (λ w. w.key) c.self.view_is) refl))
     refl (ap (state_of _) (sym is_open)) (ap (state_of _) (sym is_open)) refl refl (sym c.repeat.ensures.read) refl
 
 pub returns-in-Some-clause-leaves : goal.returns-in-Some-clause-leaves

@@ -5,7 +5,7 @@ use Rattle.typecodes.specs.Types.{height_of}
 use Rattle.lmots.specs.Formulas.{message_digest_of}
 use Rattle.lms.specs.Textbook.{signature_size}
 use Rattle.state_file.specs.declared.record.Bound.{Bound}
-use Rattle.sign_core.specs.declared.key.LmsKey.{LmsKey}
+use Rattle.sign_core.specs.declared.ledger.LmsKey.{LmsKey}
 use Rattle.state_file.specs.declared.record.Record.{Record}
 use Rattle.state_file.specs.declared.record.Record.TheVariants.{Key as KeyRecord, Extend as ExtendRecord, Bound as BoundRecord, Retire, Moved}
 use Rattle.state_file.specs.Store.{is_key}
@@ -13,10 +13,13 @@ use Rattle.sign_core.specs.declared.fault.SignFault.{SignFault}
 use Rattle.sign_core.specs.declared.fault.SignFault.TheVariants.{Changed, Exhausted, RandomFailed, StoreFailed, Stopped, Damaged, OutOfMemory, LedgerFull, Unreadable, KeyThere}
 use Rattle.sign_core.specs.Ledger.{above_of, binding_of, bounds_of, is_sound, key_of, key_record, next_leaf, same_bytes, signature_of}
 use Rattle.sign_core.specs.World.{Chance, Fate, Outcome, State, acked, cut_old, cut_new, no_memory, appended, bound_anew, bound_to, new_bound, refused, repeated, requested, requested_of, requested_under}
-use Rattle.sign_core.specs.Calls.{LacksMemory, Leaves, Signs, View, is_read, state_of}
+use Rattle.sign_core.specs.Ledger.{LacksMemory}
+use Rattle.sign_core.specs.Signer.{Leaves, Signs, View, is_read, state_of}
 use Rattle.sign_core.specs.Once.{IsDrawn}
 use Rattle.sign_core.specs.Source.{Gives}
-use Rattle.sign_core.specs.Keeping.{DrawsBytes, IsKept, Stores, closes, hindrance, records_of}
+use Rattle.sign_core.specs.Signing.{DrawsBytes, Stores}
+use Rattle.sign_core.specs.Ledger.{IsKept, hindrance, records_of}
+use Rattle.sign_core.specs.Fault.{closes}
 
 -- the bindings of bindings' records
 pub bounds_of-map : (bounds : List Bound) → bounds_of (map BoundRecord bounds) ≡ bounds
@@ -151,14 +154,14 @@ read_anew list name message drawn none =
     ap (λ (bound : Option Bound). if (true && is_some bound) || is_some drawn then [] else message) none
 
 -- to a signer that is closed
-pub closed_signs : (limit : ℕ) (lacking : Type 0) (list : List Record) (told : Option (List ℕ)) (name message : List ℕ) → Signs limit lacking (state_of list false) (state_of list false) told told name message message (Err Stopped)
-closed_signs limit lacking list told name message =
+pub closed_signs : (limit : ℕ) (lacking : Type 0) (list : List Record) (upcoming : Option (List ℕ)) (name message : List ℕ) → Signs limit lacking (state_of list false) (state_of list false) upcoming upcoming name message message (Err Stopped)
+closed_signs limit lacking list upcoming name message =
     let chance : Chance = record { drawn = None; has_room = true; fate = acked } in
     record { chance = chance; step = closed_step limit list name message chance; drawn = refl; possible = tt; memory = λ e. absurd (cc); early = λ e. refl; read = refl }
 
 -- under a name that is bound
-pub repeat_signs : (limit : ℕ) (lacking : Type 0) (list : List Record) (key : LmsKey) (bound : Bound) (told : Option (List ℕ)) (name message : List ℕ) (has_room : Bool) (answer : Result (List ℕ) SignFault) → key_of list ≡ Some key → binding_of list name ≡ Some bound → answer ≡ repeated key bound message (record { drawn = None; has_room = has_room; fate = acked }) → (has_room ≡ false → lacking) → Signs limit lacking (state_of list true) (state_of list true) told told name message [] answer
-repeat_signs limit lacking list key bound told name message has_room answer is found made lacks =
+pub repeat_signs : (limit : ℕ) (lacking : Type 0) (list : List Record) (key : LmsKey) (bound : Bound) (upcoming : Option (List ℕ)) (name message : List ℕ) (has_room : Bool) (answer : Result (List ℕ) SignFault) → key_of list ≡ Some key → binding_of list name ≡ Some bound → answer ≡ repeated key bound message (record { drawn = None; has_room = has_room; fate = acked }) → (has_room ≡ false → lacking) → Signs limit lacking (state_of list true) (state_of list true) upcoming upcoming name message [] answer
+repeat_signs limit lacking list key bound upcoming name message has_room answer is found made lacks =
     let chance : Chance = record { drawn = None; has_room = has_room; fate = acked } in
     let nothing : Option (List ℕ) = None in
     let step = repeated_step limit list key bound name message chance is found in record {
@@ -172,8 +175,8 @@ repeat_signs limit lacking list key bound told name message has_room answer is f
     }
 
 -- under a new name, where something hinders
-pub hindered_signs : (limit : ℕ) (lacking : Type 0) (list : List Record) (stopped : Bool) (key : LmsKey) (bounds : List Bound) (leaf : ℕ) (told : Option (List ℕ)) (name message : List ℕ) (has_room : Bool) (fault : SignFault) → IsKept list stopped key bounds leaf → binding_of list name ≡ None → Some fault ≡ hindrance limit (height_of key.pair.tree) leaf (length bounds + 1) has_room (is_sound key) → (has_room ≡ false → lacking) → Signs limit lacking (state_of list true) (state_of list true) told told name message message (Err fault)
-hindered_signs limit lacking list stopped key bounds leaf told name message has_room fault kept none is lacks =
+pub hindered_signs : (limit : ℕ) (lacking : Type 0) (list : List Record) (stopped : Bool) (key : LmsKey) (bounds : List Bound) (leaf : ℕ) (upcoming : Option (List ℕ)) (name message : List ℕ) (has_room : Bool) (fault : SignFault) → IsKept list stopped key bounds leaf → binding_of list name ≡ None → Some fault ≡ hindrance limit (height_of key.pair.tree) leaf (length bounds + 1) has_room (is_sound key) → (has_room ≡ false → lacking) → Signs limit lacking (state_of list true) (state_of list true) upcoming upcoming name message message (Err fault)
+hindered_signs limit lacking list stopped key bounds leaf upcoming name message has_room fault kept none is lacks =
     let chance : Chance = record { drawn = None; has_room = has_room; fate = acked } in record {
       chance = chance;
       step = anew_kept limit list stopped key bounds leaf name message chance (Some fault) kept none is;
@@ -185,8 +188,8 @@ hindered_signs limit lacking list stopped key bounds leaf told name message has_
     }
 
 -- under a new name, where the source fails
-pub undrawn_signs : (limit : ℕ) (lacking : Type 0) (list : List Record) (stopped : Bool) (key : LmsKey) (bounds : List Bound) (leaf : ℕ) (told left : Option (List ℕ)) (name message : List ℕ) (has_room : Bool) → IsKept list stopped key bounds leaf → binding_of list name ≡ None → None ≡ hindrance limit (height_of key.pair.tree) leaf (length bounds + 1) has_room (is_sound key) → left ≡ told → (has_room ≡ false → lacking) → Signs limit lacking (state_of list true) (state_of list true) told left name message message (Err RandomFailed)
-undrawn_signs limit lacking list stopped key bounds leaf told left name message has_room kept none is same lacks =
+pub undrawn_signs : (limit : ℕ) (lacking : Type 0) (list : List Record) (stopped : Bool) (key : LmsKey) (bounds : List Bound) (leaf : ℕ) (upcoming left : Option (List ℕ)) (name message : List ℕ) (has_room : Bool) → IsKept list stopped key bounds leaf → binding_of list name ≡ None → None ≡ hindrance limit (height_of key.pair.tree) leaf (length bounds + 1) has_room (is_sound key) → left ≡ upcoming → (has_room ≡ false → lacking) → Signs limit lacking (state_of list true) (state_of list true) upcoming left name message message (Err RandomFailed)
+undrawn_signs limit lacking list stopped key bounds leaf upcoming left name message has_room kept none is same lacks =
     let chance : Chance = record { drawn = None; has_room = has_room; fate = acked } in record {
       chance = chance;
       step = anew_kept limit list stopped key bounds leaf name message chance None kept none is;
@@ -197,9 +200,9 @@ undrawn_signs limit lacking list stopped key bounds leaf told left name message 
       read = sym (read_anew list name message None none);
     }
 
--- under a new name that the store is told of
-pub appended_signs : (limit : ℕ) (lacking : Type 0) (list new : List Record) (is_open stopped : Bool) (key : LmsKey) (bounds : List Bound) (leaf : ℕ) (told left : Option (List ℕ)) (name message randomizer : List ℕ) (has_room : Bool) (fate : Fate) (answer : Result (List ℕ) SignFault) → IsKept list stopped key bounds leaf → binding_of list name ≡ None → None ≡ hindrance limit (height_of key.pair.tree) leaf (length bounds + 1) has_room (is_sound key) → IsDrawn (Some randomizer) → Gives told randomizer left → (let bound = new_bound key leaf name message randomizer in appended (state_of list true) (BoundRecord bound) (signature_of key bound) fate ≡ record { state = state_of new is_open; answer = answer }) → (has_room ≡ false → lacking) → Signs limit lacking (state_of list true) (state_of new is_open) told left name message [] answer
-appended_signs limit lacking list new is_open stopped key bounds leaf told left name message randomizer has_room fate answer kept none is drawn gave made lacks =
+-- under a new name that the store is upcoming of
+pub appended_signs : (limit : ℕ) (lacking : Type 0) (list new : List Record) (is_open stopped : Bool) (key : LmsKey) (bounds : List Bound) (leaf : ℕ) (upcoming left : Option (List ℕ)) (name message randomizer : List ℕ) (has_room : Bool) (fate : Fate) (answer : Result (List ℕ) SignFault) → IsKept list stopped key bounds leaf → binding_of list name ≡ None → None ≡ hindrance limit (height_of key.pair.tree) leaf (length bounds + 1) has_room (is_sound key) → IsDrawn (Some randomizer) → Gives upcoming randomizer left → (let bound = new_bound key leaf name message randomizer in appended (state_of list true) (BoundRecord bound) (signature_of key bound) fate ≡ record { state = state_of new is_open; answer = answer }) → (has_room ≡ false → lacking) → Signs limit lacking (state_of list true) (state_of new is_open) upcoming left name message [] answer
+appended_signs limit lacking list new is_open stopped key bounds leaf upcoming left name message randomizer has_room fate answer kept none is drawn gave made lacks =
     let chance : Chance = record { drawn = Some randomizer; has_room = has_room; fate = fate } in
     let state = state_of list true in record {
       chance = chance;
@@ -213,8 +216,8 @@ appended_signs limit lacking list new is_open stopped key bounds leaf told left 
       read = sym (read_anew list name message (Some randomizer) none);
     }
 
--- the same call, told by equal things
-pub signs_along : {limit limit' : ℕ} {lacking : Type 0} {old old' new new' : State} {told told' left left' : Option (List ℕ)} {name message rest rest' : List ℕ} {answer answer' : Result (List ℕ) SignFault} → Signs limit lacking old new told left name message rest answer → limit ≡ limit' → old ≡ old' → new ≡ new' → told ≡ told' → left ≡ left' → rest ≡ rest' → answer ≡ answer' → Signs limit' lacking old' new' told' left' name message rest' answer'
+-- the same call, upcoming by equal things
+pub signs_along : {limit limit' : ℕ} {lacking : Type 0} {old old' new new' : State} {upcoming upcoming' left left' : Option (List ℕ)} {name message rest rest' : List ℕ} {answer answer' : Result (List ℕ) SignFault} → Signs limit lacking old new upcoming left name message rest answer → limit ≡ limit' → old ≡ old' → new ≡ new' → upcoming ≡ upcoming' → left ≡ left' → rest ≡ rest' → answer ≡ answer' → Signs limit' lacking old' new' upcoming' left' name message rest' answer'
 signs_along {lacking = lacking} {name = name} {message = message} signs a b c d e f g =
     subst (λ (t : ℕ × State × State × Option (List ℕ) × Option (List ℕ) × List ℕ × Result (List ℕ) SignFault). Signs t.0 lacking t.1 t.2 t.3 t.4 name message t.5 t.6)
     (λ i. (a i, b i, c i, d i, e i, f i, g i)) signs
@@ -236,7 +239,7 @@ repeated_unsound key bound message same unsound =
 
 -- ---- from a signer's fields
 
--- the same kept, told by equal things
+-- the same kept, upcoming by equal things
 pub kept_along : {list list' : List Record} {stopped stopped' : Bool} {key key' : LmsKey} {bounds bounds' : List Bound} {leaf leaf' : ℕ} → IsKept list stopped key bounds leaf → list ≡ list' → stopped ≡ stopped' → key ≡ key' → bounds ≡ bounds' → leaf ≡ leaf' → IsKept list' stopped' key' bounds' leaf'
 kept_along kept a b c d e =
     subst (λ (t : List Record × Bool × LmsKey × List Bound × ℕ). IsKept t.0 t.1 t.2 t.3 t.4) (λ i. (a i, b i, c i, d i, e i)) kept
@@ -337,14 +340,14 @@ leaves_grown {A = A} result fault old view key spare failed seen same =
     (all_but_memory A fault old (record view { key = key; spare = spare }) (λ i. record (seen i) { key = key_is i; spare = spare }))
 
 -- what a draw that fails says
-pub draw_fails : (before after : ℕ) (told left : Option (List ℕ)) (fault : SignFault) → DrawsBytes before after told left (Err fault) → (fault ≡ RandomFailed) × (left ≡ told)
-draw_fails before after told left RandomFailed (_, same) = (refl, same)
-draw_fails before after told left Changed h = absurd h
-draw_fails before after told left Exhausted h = absurd h
-draw_fails before after told left StoreFailed h = absurd h
-draw_fails before after told left Stopped h = absurd h
-draw_fails before after told left (Damaged k) h = absurd h
-draw_fails before after told left OutOfMemory h = absurd h
-draw_fails before after told left LedgerFull h = absurd h
-draw_fails before after told left (Unreadable k) h = absurd h
-draw_fails before after told left KeyThere h = absurd h
+pub draw_fails : (before after : ℕ) (upcoming left : Option (List ℕ)) (fault : SignFault) → DrawsBytes before after upcoming left (Err fault) → (fault ≡ RandomFailed) × (left ≡ upcoming)
+draw_fails before after upcoming left RandomFailed (_, same) = (refl, same)
+draw_fails before after upcoming left Changed h = absurd h
+draw_fails before after upcoming left Exhausted h = absurd h
+draw_fails before after upcoming left StoreFailed h = absurd h
+draw_fails before after upcoming left Stopped h = absurd h
+draw_fails before after upcoming left (Damaged k) h = absurd h
+draw_fails before after upcoming left OutOfMemory h = absurd h
+draw_fails before after upcoming left LedgerFull h = absurd h
+draw_fails before after upcoming left (Unreadable k) h = absurd h
+draw_fails before after upcoming left KeyThere h = absurd h

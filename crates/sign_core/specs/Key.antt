@@ -8,10 +8,10 @@ use Rattle.hss.specs.Layouts.{public_key as hss_public_key}
 use Rattle.hss.specs.Verdict.{Verdict as HssVerdict, LeavesMessage as HssLeavesMessage}
 use Rattle.xmss.specs.Layouts.{public_key as xmss_public_key}
 use Rattle.xmss.specs.Verdict.{Verdict as XmssVerdict, LeavesMessage as XmssLeavesMessage}
-use Rattle.sign_core.specs.declared.public.AnyPublic.{AnyPublic}
-use Rattle.sign_core.specs.declared.public.AnyPublic.TheVariants.{Lms, Hss, Xmss}
-use Rattle.sign_core.specs.declared.public.KeyFault.{KeyFault}
-use Rattle.sign_core.specs.declared.public.KeyFault.TheVariants.{Length, Unreadable}
+use Rattle.sign_core.specs.declared.key.AnyPublic.{AnyPublic}
+use Rattle.sign_core.specs.declared.key.AnyPublic.TheVariants.{Lms, Hss, Xmss}
+use Rattle.sign_core.specs.declared.key.KeyFault.{KeyFault}
+use Rattle.sign_core.specs.declared.key.KeyFault.TheVariants.{Length, Unreadable}
 
 -- A key is spelled as its scheme says (RFC 8554 5.3 and 6.1, RFC 8391 4.1.7).
 abbrev pub SpellsKey : AnyPublic → List ℕ → Type 0
