@@ -59,7 +59,7 @@ undrawn_creates pair stopped honest list upcoming left load none drawn =
     let chance : Creation = record { failed_load = None; drawn = None; has_room = true; fate = acked } in
     record { chance = chance; step = empty_step pair list chance refl none; load = load; drawn = drawn; possible = tt; memory = refl }
 
--- a create whose key's record the store is upcoming of
+-- a create whose key's record is appended
 pub appended_creates : (pair : LmsPair) (stopped honest : Bool) (list new : List Record) (is_open : Bool) (upcoming left : Option (List ℕ)) (identifier seed : List ℕ) (fate : Fate) (answer : Result LmsPublic SignFault) → stopped ≡ false → length list ≡ 0 → AreDrawn (Some (identifier, seed)) → Gives upcoming (identifier ++ seed) left → (let key = new_key pair identifier seed in appended (state_of list false) (key_record key) (public_key_of key) fate ≡ record { state = state_of new is_open; answer = answer }) → Creates pair stopped honest (state_of list false) (state_of new is_open) upcoming left answer
 appended_creates pair stopped honest list new is_open upcoming left identifier seed fate answer load none drawn gave step =
     let chance : Creation = record { failed_load = None; drawn = Some (identifier, seed); has_room = true; fate = fate } in
@@ -73,7 +73,7 @@ gives_both (Some upcoming) a None b left h k = absurd h
 gives_both (Some upcoming) a (Some rest) b None h k = absurd k
 gives_both (Some upcoming) a (Some rest) b (Some last) h k = h ∙ ap (λ l. a ++ l) k ∙ sym (append_assoc a b last)
 
--- the same call, upcoming by equal things
+-- the same call, of equal arguments
 pub creates_along : {pair : LmsPair} {stopped honest : Bool} {old new new' : State} {upcoming left left' : Option (List ℕ)} {answer answer' : Result LmsPublic SignFault} → Creates pair stopped honest old new upcoming left answer → new ≡ new' → left ≡ left' → answer ≡ answer' → Creates pair stopped honest old new' upcoming left' answer'
 creates_along {pair = pair} {stopped = stopped} {honest = honest} {old = old} {upcoming = upcoming} creates a b c =
     subst (λ (t : State × Option (List ℕ) × Result LmsPublic SignFault). Creates pair stopped honest old t.0 upcoming t.1 t.2) (λ i. (a i, b i, c i)) creates

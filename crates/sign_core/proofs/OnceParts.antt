@@ -157,7 +157,7 @@ failed_request limit state name message chance =
           ];
     })
 
--- a request under sound keys alone is never upcoming of a damaged slot
+-- a request under sound keys alone is never answered that a slot is damaged
 never_damaged : (limit : ℕ) (state : State) (name message : List ℕ) (chance : Chance) (slot : ℕ) → ((key : LmsKey) → key_of state.records ≡ Some key → is_sound key ≡ true)
     → (requested limit state name message chance).answer ≢ Err (Damaged slot)
 never_damaged limit state name message chance slot sound =

@@ -89,3 +89,12 @@ RandomCount _ before after = after ≡ before
 abbrev pub StoreCount : {A : Type 0} → Result A SignFault → ℕ → ℕ → Type 0
 StoreCount (Err StoreFailed) before after = after ≡ before + 1
 StoreCount _ before after = after ≡ before
+
+-- What each request counts and keeps: the failures of the source and of the store, the key, and what the store is.
+pub record Counts {A S R : Type 0} (random_failures : R → ℕ) (store_failures most : S → ℕ) (honest : S → Bool)
+    (result : Result A SignFault) (old new : View S R) : Type 0 where
+  pub random : RandomCount result (random_failures old.random) (random_failures new.random)
+  pub store : StoreCount result (store_failures old.store) (store_failures new.store)
+  pub same_key : new.key ≡ old.key
+  pub same_honest : honest new.store ≡ honest old.store
+  pub same_most : most new.store ≡ most old.store

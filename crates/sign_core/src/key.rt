@@ -72,29 +72,29 @@ impl AnyPublic {
             AnyPublic::Lms(key) => {
                 let mut bytes = [0; 56];
                 lms::write_public(key, &mut bytes);
-                held(&bytes)
+                to_array_vec(&bytes)
             }
             AnyPublic::Hss(key) => {
                 let mut bytes = [0; 60];
                 hss::write_public(key, &mut bytes);
-                held(&bytes)
+                to_array_vec(&bytes)
             }
             AnyPublic::Xmss(key) => {
                 let mut bytes = [0; 68];
                 xmss::write_public(key, &mut bytes);
-                held(&bytes)
+                to_array_vec(&bytes)
             }
         }
     }
 }
 
 // The bytes, as a list of at most 68.
-fn held(bytes: &[u8]) -> ArrayVec<u8, 68>
+fn to_array_vec(bytes: &[u8]) -> ArrayVec<u8, 68>
     requires { length bytes.now ≤ 68 }
     ensures { result.items ≡ bytes.now }
 {
     match ArrayVec::try_from(bytes) {
-        Ok(held) => held,
+        Ok(list) => list,
         Err(_) => unreachable!(),
     }
 }

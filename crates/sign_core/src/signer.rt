@@ -50,7 +50,7 @@ impl<S: Store, R: Source> Signer<S, R> {
     ghost use Rattle.lms.specs.Textbook.{signature_size};
     ghost use Rattle.sign_core.specs.Create.{CreatesOver, LeavesSource, answer_of, random_after, store_after};
     ghost use Rattle.sign_core.specs.Ledger.{binding_of, key_of, public_key_of};
-    ghost use Rattle.sign_core.specs.Signer.{Leaves, RandomCount, SignsOver, StoreCount, answered};
+    ghost use Rattle.sign_core.specs.Signer.{Counts, Leaves, RandomCount, SignsOver, StoreCount, answered};
 
     /// Makes a key in a store that has none, and the signer of it: draws I and then SEED, makes the
     /// root, and appends the key's record. A refusal gives back the store and the source.
@@ -122,11 +122,7 @@ impl<S: Store, R: Source> Signer<S, R> {
         // A repeat wants memory only where there is no room for the signature yet.
         ensures full { IsSome (binding_of (S.list self.old.store) name.now) → result ≡ Err SignFault.OutOfMemory →
             vec_capacity out.old < signature_size self.old.key.pair }
-        ensures random { RandomCount result (R.failures self.old.random) (R.failures self.new.random) }
-        ensures store { StoreCount result (S.failures self.old.store) (S.failures self.new.store) }
-        ensures key { self.new.key ≡ self.old.key }
-        ensures honest { S.honest self.new.store ≡ S.honest self.old.store }
-        ensures most { S.most self.new.store ≡ S.most self.old.store }
+        ensures counts { Counts R.failures S.failures S.most S.honest result self.old self.new }
     {
         if let Err(fault) = self.answer(name, message, out) {
             out.clear();
@@ -149,11 +145,7 @@ impl<S: Store, R: Source> Signer<S, R> {
         // A repeat wants memory only where there is no room for the signature yet.
         ensures full { IsSome (binding_of (S.list self.old.store) name.now) → result ≡ Err SignFault.OutOfMemory →
             vec_capacity out.old < signature_size self.old.key.pair }
-        ensures random { RandomCount result (R.failures self.old.random) (R.failures self.new.random) }
-        ensures store { StoreCount result (S.failures self.old.store) (S.failures self.new.store) }
-        ensures key { self.new.key ≡ self.old.key }
-        ensures honest { S.honest self.new.store ≡ S.honest self.old.store }
-        ensures most { S.most self.new.store ≡ S.most self.old.store }
+        ensures counts { Counts R.failures S.failures S.most S.honest result self.old self.new }
     {
         if !self.is_open {
             return Err(SignFault::Stopped);
@@ -171,11 +163,7 @@ impl<S: Store, R: Source> Signer<S, R> {
         ensures step { SignsOver S.list S.most R.upcoming self.old self.new name.now message.old.now message.new.now
             (vec_capacity out.old) (answered result out.new.items) }
         ensures leaves { Leaves result self.old self.new }
-        ensures random { RandomCount result (R.failures self.old.random) (R.failures self.new.random) }
-        ensures store { StoreCount result (S.failures self.old.store) (S.failures self.new.store) }
-        ensures key { self.new.key ≡ self.old.key }
-        ensures honest { S.honest self.new.store ≡ S.honest self.old.store }
-        ensures most { S.most self.new.store ≡ S.most self.old.store }
+        ensures counts { Counts R.failures S.failures S.most S.honest result self.old self.new }
     {
         let mut nodes = [[0u8; 32]; 25];
         let path = &mut nodes[..usize::from(self.ledger.key.pair.tree.height())];
