@@ -45,7 +45,7 @@ impl AnyPublic {
         Self::read_by_length(bytes)
     }
 
-    // The same, by the answer alone.
+    // The same. That it is the key that the bytes spell follows from the two clauses.
     fn read_by_length(bytes: &[u8]) -> Result<Self, KeyFault>
         ensures ok { IfOk result (λ key. SpellsKey key bytes.now) }
         ensures err { IfErr result (KeyHasFault bytes.now) }
