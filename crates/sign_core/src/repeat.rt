@@ -3,11 +3,11 @@
 ghost use Rattle.std.specs.Prelude.{◌≡◌, ◌<◌, ◌^◌, ℕ, [], Err, vec_capacity};
 ghost use Rattle.typecodes.specs.Types.{height_of};
 ghost use Rattle.lms.specs.Writing.{signature_size};
-ghost use Rattle.sign_core.specs.Calls.{RandomCount, Repeats, StoreCount, answered};
+ghost use Rattle.sign_core.specs.Signer.{RandomCount, Repeats, StoreCount, answered};
 
 use crate::fault::SignFault;
-use crate::key::LmsKey;
-use crate::work::{digest, make_room, sound_path, take_all, write_bound};
+use crate::ledger::LmsKey;
+use crate::signing::{digest, make_room, sound_path, take_all, write_bound};
 use state_file::Bound;
 
 /// The recorded signature, where the message has the recorded digest.

@@ -1,7 +1,7 @@
 use Rattle.std.proofs.Common.{◌≡◌, true, false, not}
 use Rattle.sign_core.specs.Ledger.{same_bytes, is_sound}
 use Rattle.lmots.specs.Key.{message_digest_of}
-use Rattle.sign_core.proofs.Steps.{repeated_unsound}
+use Rattle.sign_core.proofs.SignSteps.{repeated_unsound}
 use Rattle.sign_core.proofs.repeat.repeat.Goals as goal
 
 pub returns-then-not-sound_path-clause-answer : goal.returns-then-not-sound_path-clause-answer

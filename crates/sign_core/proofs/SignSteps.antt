@@ -1,22 +1,25 @@
 -- What the records of a key and its bindings say, and the world's steps on them.
-use Rattle.std.proofs.Common.{◌≡◌, ℕ, suc, ◌+◌, ◌<◌, ◌≤◌, ◌^◌, Bool, true, false, not, List, [], ◌∷◌, ◌++◌, length, Option, Some, None, Result, Ok, Err, cond, drop, refl, sym, ap, ◌∙◌, subst, arith, find, map, ⊎_elim}
+use Rattle.std.proofs.Common.{◌≡◌, ℕ, suc, ◌+◌, ◌<◌, ◌≤◌, ◌^◌, Bool, true, false, not, List, [], ◌∷◌, ◌++◌, length, Option, Some, None, Result, Ok, Err, cond, drop, refl, sym, ap, ◌∙◌, subst, arith, find, map, ⊎_elim, IsSome, true≢false}
 use Rattle.std.specs.Prelude.{fold, max, nat_le, nat_lt, if◌then◌else◌, ◌&&◌, ◌||◌, is_some}
 use Rattle.typecodes.specs.Types.{height_of}
 use Rattle.lmots.specs.Key.{message_digest_of}
 use Rattle.lms.specs.Writing.{signature_size}
 use Rattle.state_file.specs.declared.record.Bound.{Bound}
-use Rattle.sign_core.specs.declared.key.LmsKey.{LmsKey}
+use Rattle.sign_core.specs.declared.ledger.LmsKey.{LmsKey}
 use Rattle.state_file.specs.declared.record.Record.{Record}
 use Rattle.state_file.specs.declared.record.Record.TheVariants.{Key as KeyRecord, Extend as ExtendRecord, Bound as BoundRecord, Retire, Moved}
 use Rattle.state_file.specs.Store.{is_key}
 use Rattle.sign_core.specs.declared.fault.SignFault.{SignFault}
 use Rattle.sign_core.specs.declared.fault.SignFault.TheVariants.{Changed, Exhausted, RandomFailed, StoreFailed, Stopped, Damaged, OutOfMemory, LedgerFull, Unreadable, KeyThere}
-use Rattle.sign_core.specs.Ledger.{above_of, binding_of, bounds_of, is_sound, key_of, key_record, next_leaf, same_bytes, signature_of}
+use Rattle.sign_core.specs.Ledger.{above_of, binding_of, bound_in, bounds_of, is_sound, key_of, key_record, next_leaf, same_bytes, signature_of}
 use Rattle.sign_core.specs.World.{Chance, Fate, Outcome, State, acked, cut_old, cut_new, no_memory, appended, bound_anew, bound_to, new_bound, refused, repeated, requested, requested_of, requested_under}
-use Rattle.sign_core.specs.Calls.{LacksMemory, Leaves, Signs, View, is_read, state_of}
+use Rattle.sign_core.specs.Ledger.{LacksMemory}
+use Rattle.sign_core.specs.Signer.{Leaves, Signs, View, is_read, state_of}
 use Rattle.sign_core.specs.Once.{IsDrawn}
 use Rattle.sign_core.specs.Source.{Gives}
-use Rattle.sign_core.specs.Keeping.{DrawsBytes, IsKept, Stores, closes, hindrance, records_of}
+use Rattle.sign_core.specs.Signing.{DrawsBytes, Stores}
+use Rattle.sign_core.specs.Ledger.{IsKept, hindrance, records_of, Hinders}
+use Rattle.sign_core.specs.Fault.{closes}
 
 -- the bindings of bindings' records
 pub bounds_of-map : (bounds : List Bound) → bounds_of (map BoundRecord bounds) ≡ bounds
@@ -151,14 +154,14 @@ read_anew list name message drawn none =
     ap (λ (bound : Option Bound). if (true && is_some bound) || is_some drawn then [] else message) none
 
 -- to a signer that is closed
-pub closed_signs : (limit : ℕ) (lacking : Type 0) (list : List Record) (told : Option (List ℕ)) (name message : List ℕ) → Signs limit lacking (state_of list false) (state_of list false) told told name message message (Err Stopped)
-closed_signs limit lacking list told name message =
+pub closed_signs : (limit : ℕ) (lacking : Type 0) (list : List Record) (upcoming : Option (List ℕ)) (name message : List ℕ) → Signs limit lacking (state_of list false) (state_of list false) upcoming upcoming name message message (Err Stopped)
+closed_signs limit lacking list upcoming name message =
     let chance : Chance = record { drawn = None; has_room = true; fate = acked } in
     record { chance = chance; step = closed_step limit list name message chance; drawn = refl; possible = tt; memory = λ e. absurd (cc); early = λ e. refl; read = refl }
 
 -- under a name that is bound
-pub repeat_signs : (limit : ℕ) (lacking : Type 0) (list : List Record) (key : LmsKey) (bound : Bound) (told : Option (List ℕ)) (name message : List ℕ) (has_room : Bool) (answer : Result (List ℕ) SignFault) → key_of list ≡ Some key → binding_of list name ≡ Some bound → answer ≡ repeated key bound message (record { drawn = None; has_room = has_room; fate = acked }) → (has_room ≡ false → lacking) → Signs limit lacking (state_of list true) (state_of list true) told told name message [] answer
-repeat_signs limit lacking list key bound told name message has_room answer is found made lacks =
+pub repeat_signs : (limit : ℕ) (lacking : Type 0) (list : List Record) (key : LmsKey) (bound : Bound) (upcoming : Option (List ℕ)) (name message : List ℕ) (has_room : Bool) (answer : Result (List ℕ) SignFault) → key_of list ≡ Some key → binding_of list name ≡ Some bound → answer ≡ repeated key bound message (record { drawn = None; has_room = has_room; fate = acked }) → (has_room ≡ false → lacking) → Signs limit lacking (state_of list true) (state_of list true) upcoming upcoming name message [] answer
+repeat_signs limit lacking list key bound upcoming name message has_room answer is found made lacks =
     let chance : Chance = record { drawn = None; has_room = has_room; fate = acked } in
     let nothing : Option (List ℕ) = None in
     let step = repeated_step limit list key bound name message chance is found in record {
@@ -171,58 +174,72 @@ repeat_signs limit lacking list key bound told name message has_room answer is f
       read = ap (λ (o : Option Bound). if (true && is_some o) || is_some nothing then [] else message) (sym found);
     }
 
+-- What a signer knows of a request under a name that isn't bound: what is kept, and what hinders, if anything does.
+pub record FreeName (limit : ℕ) (lacking : Type 0) (list : List Record) (stopped : Bool) (key : LmsKey) (bounds : List Bound) (leaf : ℕ) (name : List ℕ) (fault : Option SignFault) : Type 0 where
+  pub kept : IsKept list stopped key bounds leaf
+  pub unbound : binding_of list name ≡ None
+  pub hinders : Hinders limit (height_of key.pair.tree) leaf (length bounds + 1) lacking (is_sound key) fault
+
 -- under a new name, where something hinders
-pub hindered_signs : (limit : ℕ) (lacking : Type 0) (list : List Record) (stopped : Bool) (key : LmsKey) (bounds : List Bound) (leaf : ℕ) (told : Option (List ℕ)) (name message : List ℕ) (has_room : Bool) (fault : SignFault) → IsKept list stopped key bounds leaf → binding_of list name ≡ None → Some fault ≡ hindrance limit (height_of key.pair.tree) leaf (length bounds + 1) has_room (is_sound key) → (has_room ≡ false → lacking) → Signs limit lacking (state_of list true) (state_of list true) told told name message message (Err fault)
-hindered_signs limit lacking list stopped key bounds leaf told name message has_room fault kept none is lacks =
-    let chance : Chance = record { drawn = None; has_room = has_room; fate = acked } in record {
+pub hindered_signs : (limit : ℕ) (lacking : Type 0) (list : List Record) (stopped : Bool) (key : LmsKey) (bounds : List Bound) (leaf : ℕ) (upcoming : Option (List ℕ)) (name message : List ℕ) (fault : SignFault) → FreeName limit lacking list stopped key bounds leaf name (Some fault) → Signs limit lacking (state_of list true) (state_of list true) upcoming upcoming name message message (Err fault)
+hindered_signs limit lacking list stopped key bounds leaf upcoming name message fault free =
+    let chance : Chance = record { drawn = None; has_room = free.hinders.0; fate = acked } in record {
       chance = chance;
-      step = anew_kept limit list stopped key bounds leaf name message chance (Some fault) kept none is;
+      step = anew_kept limit list stopped key bounds leaf name message chance (Some fault) free.kept free.unbound free.hinders.1;
       drawn = refl;
       possible = tt;
-      memory = lacks;
+      memory = free.hinders.2;
       early = λ e. refl;
-      read = sym (read_anew list name message None none);
+      read = sym (read_anew list name message None free.unbound);
     }
 
 -- under a new name, where the source fails
-pub undrawn_signs : (limit : ℕ) (lacking : Type 0) (list : List Record) (stopped : Bool) (key : LmsKey) (bounds : List Bound) (leaf : ℕ) (told left : Option (List ℕ)) (name message : List ℕ) (has_room : Bool) → IsKept list stopped key bounds leaf → binding_of list name ≡ None → None ≡ hindrance limit (height_of key.pair.tree) leaf (length bounds + 1) has_room (is_sound key) → left ≡ told → (has_room ≡ false → lacking) → Signs limit lacking (state_of list true) (state_of list true) told left name message message (Err RandomFailed)
-undrawn_signs limit lacking list stopped key bounds leaf told left name message has_room kept none is same lacks =
-    let chance : Chance = record { drawn = None; has_room = has_room; fate = acked } in record {
+pub undrawn_signs : (limit : ℕ) (lacking : Type 0) (list : List Record) (stopped : Bool) (key : LmsKey) (bounds : List Bound) (leaf : ℕ) (upcoming left : Option (List ℕ)) (name message : List ℕ) → FreeName limit lacking list stopped key bounds leaf name None → left ≡ upcoming → Signs limit lacking (state_of list true) (state_of list true) upcoming left name message message (Err RandomFailed)
+undrawn_signs limit lacking list stopped key bounds leaf upcoming left name message free same =
+    let chance : Chance = record { drawn = None; has_room = free.hinders.0; fate = acked } in record {
       chance = chance;
-      step = anew_kept limit list stopped key bounds leaf name message chance None kept none is;
+      step = anew_kept limit list stopped key bounds leaf name message chance None free.kept free.unbound free.hinders.1;
       drawn = same;
       possible = tt;
-      memory = lacks;
+      memory = free.hinders.2;
       early = λ e. refl;
-      read = sym (read_anew list name message None none);
+      read = sym (read_anew list name message None free.unbound);
     }
 
--- under a new name that the store is told of
-pub appended_signs : (limit : ℕ) (lacking : Type 0) (list new : List Record) (is_open stopped : Bool) (key : LmsKey) (bounds : List Bound) (leaf : ℕ) (told left : Option (List ℕ)) (name message randomizer : List ℕ) (has_room : Bool) (fate : Fate) (answer : Result (List ℕ) SignFault) → IsKept list stopped key bounds leaf → binding_of list name ≡ None → None ≡ hindrance limit (height_of key.pair.tree) leaf (length bounds + 1) has_room (is_sound key) → IsDrawn (Some randomizer) → Gives told randomizer left → (let bound = new_bound key leaf name message randomizer in appended (state_of list true) (BoundRecord bound) (signature_of key bound) fate ≡ record { state = state_of new is_open; answer = answer }) → (has_room ≡ false → lacking) → Signs limit lacking (state_of list true) (state_of new is_open) told left name message [] answer
-appended_signs limit lacking list new is_open stopped key bounds leaf told left name message randomizer has_room fate answer kept none is drawn gave made lacks =
-    let chance : Chance = record { drawn = Some randomizer; has_room = has_room; fate = fate } in
+-- under a new name whose record is appended
+pub appended_signs : (limit : ℕ) (lacking : Type 0) (list new : List Record) (is_open stopped : Bool) (key : LmsKey) (bounds : List Bound) (leaf : ℕ) (upcoming left : Option (List ℕ)) (name message randomizer : List ℕ) (fate : Fate) (answer : Result (List ℕ) SignFault) → FreeName limit lacking list stopped key bounds leaf name None → IsDrawn (Some randomizer) → Gives upcoming randomizer left → (let bound = new_bound key leaf name message randomizer in appended (state_of list true) (BoundRecord bound) (signature_of key bound) fate ≡ record { state = state_of new is_open; answer = answer }) → Signs limit lacking (state_of list true) (state_of new is_open) upcoming left name message [] answer
+appended_signs limit lacking list new is_open stopped key bounds leaf upcoming left name message randomizer fate answer free drawn gave made =
+    let chance : Chance = record { drawn = Some randomizer; has_room = free.hinders.0; fate = fate } in
     let state = state_of list true in record {
       chance = chance;
-      step = anew_kept limit list stopped key bounds leaf name message chance None kept none is
-          ∙ ap (λ n. let bound = new_bound key n name message randomizer in appended state (BoundRecord bound) (signature_of key bound) fate) (sym kept.next)
+      step = anew_kept limit list stopped key bounds leaf name message chance None free.kept free.unbound free.hinders.1
+          ∙ ap (λ n. let bound = new_bound key n name message randomizer in appended state (BoundRecord bound) (signature_of key bound) fate) (sym free.kept.next)
           ∙ made;
       drawn = gave;
       possible = drawn;
-      memory = lacks;
-      early = λ e. let room = granted limit (height_of key.pair.tree) leaf (length bounds + 1) has_room (is_sound key) is in absurd (cc);
-      read = sym (read_anew list name message (Some randomizer) none);
+      memory = free.hinders.2;
+      early = λ e. let room = granted limit (height_of key.pair.tree) leaf (length bounds + 1) free.hinders.0 (is_sound key) free.hinders.1 in absurd (cc);
+      read = sym (read_anew list name message (Some randomizer) free.unbound);
     }
 
--- the same call, told by equal things
-pub signs_along : {limit limit' : ℕ} {lacking : Type 0} {old old' new new' : State} {told told' left left' : Option (List ℕ)} {name message rest rest' : List ℕ} {answer answer' : Result (List ℕ) SignFault} → Signs limit lacking old new told left name message rest answer → limit ≡ limit' → old ≡ old' → new ≡ new' → told ≡ told' → left ≡ left' → rest ≡ rest' → answer ≡ answer' → Signs limit' lacking old' new' told' left' name message rest' answer'
+-- the same call, of equal arguments
+pub signs_along : {limit limit' : ℕ} {lacking : Type 0} {old old' new new' : State} {upcoming upcoming' left left' : Option (List ℕ)} {name message rest rest' : List ℕ} {answer answer' : Result (List ℕ) SignFault} → Signs limit lacking old new upcoming left name message rest answer → limit ≡ limit' → old ≡ old' → new ≡ new' → upcoming ≡ upcoming' → left ≡ left' → rest ≡ rest' → answer ≡ answer' → Signs limit' lacking old' new' upcoming' left' name message rest' answer'
 signs_along {lacking = lacking} {name = name} {message = message} signs a b c d e f g =
     subst (λ (t : ℕ × State × State × Option (List ℕ) × Option (List ℕ) × List ℕ × Result (List ℕ) SignFault). Signs t.0 lacking t.1 t.2 t.3 t.4 name message t.5 t.6)
     (λ i. (a i, b i, c i, d i, e i, f i, g i)) signs
 
--- the same lack, of equal things
+-- the same lack, of equal arguments
 pub lacks_along : {bound bound' : Option Bound} {key key' : LmsKey} {spare spare' : ℕ} (capacity : ℕ) → LacksMemory bound (signature_size key.pair) capacity spare → bound ≡ bound' → key ≡ key' → spare ≡ spare' → LacksMemory bound' (signature_size key'.pair) capacity spare'
 lacks_along capacity lacks a b c =
     subst (λ (t : Option Bound × LmsKey × ℕ). LacksMemory t.0 (signature_size t.1.pair) capacity t.2) (λ i. (a i, b i, c i)) lacks
+
+-- what a signer knows of such a request, by its fields and by its view
+pub free_name : {limit : ℕ} {list list' : List Record} {stopped : Bool} {key key' : LmsKey} {bounds : List Bound} {leaf : ℕ} {name : List ℕ} (capacity : ℕ) {spare spare' : ℕ} {fault : Option SignFault} → IsKept list stopped key bounds leaf → Hinders limit (height_of key.pair.tree) leaf (length bounds + 1) (LacksMemory None (signature_size key.pair) capacity spare) (is_sound key) fault → list ≡ list' → key ≡ key' → spare ≡ spare' → binding_of list' name ≡ None → FreeName limit (LacksMemory (binding_of list' name) (signature_size key'.pair) capacity spare') list stopped key bounds leaf name fault
+free_name {name = name} capacity kept hinders a b c none = record {
+  kept = kept;
+  unbound = ap (λ l. binding_of l name) a ∙ none;
+  hinders = (hinders.0, hinders.1, λ e. lacks_along {bound = None} capacity (hinders.2 e) (sym none) b c);
+}
 
 -- a repeat where the record's root isn't the secret's
 pub repeated_unsound : (key : LmsKey) (bound : Bound) (message : List ℕ) → not (same_bytes (message_digest_of key.identifier bound.leaf bound.randomizer message) bound.digest) ≡ false → is_sound key ≡ false → Err (Damaged 0) ≡ repeated key bound message (record { drawn = None; has_room = true; fate = acked })
@@ -236,7 +253,7 @@ repeated_unsound key bound message same unsound =
 
 -- ---- from a signer's fields
 
--- the same kept, told by equal things
+-- the same kept, of equal arguments
 pub kept_along : {list list' : List Record} {stopped stopped' : Bool} {key key' : LmsKey} {bounds bounds' : List Bound} {leaf leaf' : ℕ} → IsKept list stopped key bounds leaf → list ≡ list' → stopped ≡ stopped' → key ≡ key' → bounds ≡ bounds' → leaf ≡ leaf' → IsKept list' stopped' key' bounds' leaf'
 kept_along kept a b c d e =
     subst (λ (t : List Record × Bool × LmsKey × List Bound × ℕ). IsKept t.0 t.1 t.2 t.3 t.4) (λ i. (a i, b i, c i, d i, e i)) kept
@@ -276,7 +293,7 @@ key_snoc (BoundRecord first ∷ rest) entry key is = absurd (cc)
 key_snoc (Retire upto ∷ rest) entry key is = absurd (cc)
 key_snoc (Moved ∷ rest) entry key is = absurd (cc)
 
--- any record may stand behind a key
+-- any record may stand after a key
 pub key_stays_first : (list : List Record) (entry : Record) (key : LmsKey) → key_of list ≡ Some key → length list ≡ 0 → is_key entry ≡ true
 key_stays_first [] entry key is none = absurd (cc)
 key_stays_first (first ∷ rest) entry key is none = absurd (omega arith)
@@ -289,9 +306,15 @@ key_appended was list entry key value cut_new is = key_snoc list entry key is
 key_appended was list entry key value no_memory is = is
 
 -- what is found among the bindings is the name's binding
-pub kept_binding : (list : List Record) (stopped : Bool) (key : LmsKey) (bounds : List Bound) (leaf : ℕ) (name : List ℕ) (found : Option Bound) → IsKept list stopped key bounds leaf → find (λ bound. same_bytes bound.name name) bounds ≡ found → binding_of list name ≡ found
-kept_binding list stopped key bounds leaf name found kept is =
-    ap (find (λ bound. same_bytes bound.name name)) (kept_bounds list stopped key bounds leaf kept) ∙ is
+pub found_binding : {list list' : List Record} {stopped : Bool} {key : LmsKey} {bounds searched : List Bound} {leaf : ℕ} (name : List ℕ) {found : Option Bound} → IsKept list stopped key bounds leaf → list ≡ list' → searched ≡ bounds → bound_in searched name ≡ found → binding_of list' name ≡ found
+found_binding {list = list} {stopped = stopped} {key = key} {bounds = bounds} {leaf = leaf} name kept a b is =
+    ap (λ l. binding_of l name) (sym a) ∙ ap (λ l. bound_in l name) (kept_bounds list stopped key bounds leaf kept ∙ sym b) ∙ is
+
+-- a name without a binding isn't bound
+pub not_bound : {A : Type 0} {found : Option Bound} → found ≡ None → IsSome found → A
+not_bound none some =
+    let never : false ≡ true = subst IsSome none some in
+    absurd (true≢false (sym never))
 
 -- and its leaf is one of the tree's
 pub found_inside : (list : List Record) (stopped : Bool) (key : LmsKey) (bounds : List Bound) (leaf : ℕ) (test : Bound → Bool) (found : Bound) → IsKept list stopped key bounds leaf → find test bounds ≡ Some found → found.leaf < 2 ^ height_of key.pair.tree
@@ -337,14 +360,14 @@ leaves_grown {A = A} result fault old view key spare failed seen same =
     (all_but_memory A fault old (record view { key = key; spare = spare }) (λ i. record (seen i) { key = key_is i; spare = spare }))
 
 -- what a draw that fails says
-pub draw_fails : (before after : ℕ) (told left : Option (List ℕ)) (fault : SignFault) → DrawsBytes before after told left (Err fault) → (fault ≡ RandomFailed) × (left ≡ told)
-draw_fails before after told left RandomFailed (_, same) = (refl, same)
-draw_fails before after told left Changed h = absurd h
-draw_fails before after told left Exhausted h = absurd h
-draw_fails before after told left StoreFailed h = absurd h
-draw_fails before after told left Stopped h = absurd h
-draw_fails before after told left (Damaged k) h = absurd h
-draw_fails before after told left OutOfMemory h = absurd h
-draw_fails before after told left LedgerFull h = absurd h
-draw_fails before after told left (Unreadable k) h = absurd h
-draw_fails before after told left KeyThere h = absurd h
+pub draw_fails : (before after : ℕ) (upcoming left : Option (List ℕ)) (fault : SignFault) → DrawsBytes before after upcoming left (Err fault) → (fault ≡ RandomFailed) × (left ≡ upcoming)
+draw_fails before after upcoming left RandomFailed (_, same) = (refl, same)
+draw_fails before after upcoming left Changed h = absurd h
+draw_fails before after upcoming left Exhausted h = absurd h
+draw_fails before after upcoming left StoreFailed h = absurd h
+draw_fails before after upcoming left Stopped h = absurd h
+draw_fails before after upcoming left (Damaged k) h = absurd h
+draw_fails before after upcoming left OutOfMemory h = absurd h
+draw_fails before after upcoming left LedgerFull h = absurd h
+draw_fails before after upcoming left (Unreadable k) h = absurd h
+draw_fails before after upcoming left KeyThere h = absurd h

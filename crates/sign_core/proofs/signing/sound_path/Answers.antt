@@ -5,7 +5,7 @@ use Rattle.typecodes.specs.Types.{height_of}
 use Rattle.lms.specs.Secret.{joins_of, leaves_of}
 use Rattle.merkle.specs.Tree.{Joins, Leaves, path_of, root_of}
 use Rattle.sign_core.specs.Ledger.{secret_of}
-use Rattle.sign_core.proofs.work.sound_path.Goals as goal
+use Rattle.sign_core.proofs.signing.sound_path.Goals as goal
 
 -- equal trees have equal paths and roots
 path_along : (leaves leaves' : Leaves) (join join' : Joins) (h h' q : ℕ) → leaves ≡ leaves' → join ≡ join' → h ≡ h' → path_of leaves join h q ≡ path_of leaves' join' h' q

@@ -5,13 +5,13 @@ use Rattle.typecodes.specs.Layout.{Spells, HasFault}
 use Rattle.lms.specs.Key.{public_key as lms_public_key}
 use Rattle.lms.specs.Verification.{Verdict as LmsVerdict, LeavesMessage as LmsLeavesMessage}
 use Rattle.hss.specs.Key.{public_key as hss_public_key}
-use Rattle.hss.specs.Verification.{LeavesMessage as HssLeavesMessage, Verdict as HssVerdict}
+use Rattle.hss.specs.Verification.{Verdict as HssVerdict, LeavesMessage as HssLeavesMessage}
 use Rattle.xmss.specs.Key.{public_key as xmss_public_key}
 use Rattle.xmss.specs.Verification.{Verdict as XmssVerdict, LeavesMessage as XmssLeavesMessage}
-use Rattle.sign_core.specs.declared.public.AnyPublic.{AnyPublic}
-use Rattle.sign_core.specs.declared.public.AnyPublic.TheVariants.{Lms, Hss, Xmss}
-use Rattle.sign_core.specs.declared.public.KeyFault.{KeyFault}
-use Rattle.sign_core.specs.declared.public.KeyFault.TheVariants.{Length, Unreadable}
+use Rattle.sign_core.specs.declared.key.AnyPublic.{AnyPublic}
+use Rattle.sign_core.specs.declared.key.AnyPublic.TheVariants.{Lms, Hss, Xmss}
+use Rattle.sign_core.specs.declared.key.KeyFault.{KeyFault}
+use Rattle.sign_core.specs.declared.key.KeyFault.TheVariants.{Length, Unreadable}
 
 -- A key is spelled as its scheme says (RFC 8554 5.3 and 6.1, RFC 8391 4.1.7).
 abbrev pub SpellsKey : AnyPublic → List ℕ → Type 0

@@ -2,12 +2,13 @@ use Rattle.std.proofs.Common.{◌≡◌, true, false, is_ok, [], ◌∷◌, ◌+
 use Rattle.state_file.specs.declared.record.Record.{Record}
 use Rattle.state_file.specs.Store.{is_key}
 use Rattle.sign_core.specs.Ledger.{key_record, public_key_of}
-use Rattle.sign_core.specs.Keeping.{Stores}
+use Rattle.sign_core.specs.Signing.{Stores}
 use Rattle.sign_core.specs.World.{acked, new_key}
-use Rattle.sign_core.specs.Calls.{published, state_of}
-use Rattle.sign_core.proofs.Steps.{append_fails, draw_fails}
-use Rattle.sign_core.proofs.Beginning.{appended_creates, creates_along, found_creates, gives_both, undrawn_creates}
-use Rattle.sign_core.proofs.begin.begin.Goals as goal
+use Rattle.sign_core.specs.Create.{published}
+use Rattle.sign_core.specs.Signer.{state_of}
+use Rattle.sign_core.proofs.SignSteps.{append_fails, draw_fails}
+use Rattle.sign_core.proofs.CreateSteps.{appended_creates, creates_along, found_creates, gives_both, undrawn_creates}
+use Rattle.sign_core.proofs.create.create_key.Goals as goal
 
 pub append-requires-clause-key_first : goal.append-requires-clause-key_first
 append-requires-clause-key_first g c _ = λ i. is_key (c.record.ensures i)

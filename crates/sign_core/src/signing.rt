@@ -1,18 +1,19 @@
 //! What a signer does with one key and one binding.
 
-ghost use Rattle.std.specs.Prelude.{◌≡◌, Some, [], ◌<◌, ◌^◌, length, true, false, IfErr, IfOk, OnErr, OnOk, vec_capacity};
+ghost use Rattle.std.specs.Prelude.{◌≡◌, Some, [], ◌<◌, ◌^◌, length, true, false, IfErr, IfOk, OnErr, OnOk};
+ghost use Rattle.std.specs.Prelude.{vec_capacity};
 ghost use Rattle.typecodes.specs.Types.{height_of};
 ghost use Rattle.lmots.specs.Key.{message_digest_of};
 ghost use Rattle.lms.specs.Secret.{path_in};
 ghost use Rattle.lms.specs.Writing.{signature_size};
 ghost use Rattle.state_file.specs.Store.{CanFollow};
-ghost use Rattle.sign_core.specs.Keeping.{DrawsBytes, Stores};
+ghost use Rattle.sign_core.specs.Signing.{DrawsBytes, Stores};
 ghost use Rattle.sign_core.specs.Ledger.{is_sound, secret_of, signature_of};
 ghost use Rattle.sign_core.specs.Once.{AreDrawn};
 ghost use Rattle.sign_core.specs.World.{new_key};
 
 use crate::fault::SignFault;
-use crate::key::LmsKey;
+use crate::ledger::LmsKey;
 use crate::source::Source;
 use lmots::LmOts;
 use lms::{LmsSecret, LmsTree, write_signature};
@@ -49,7 +50,7 @@ pub(crate) fn key_from_seed(pair: LmsPair, identifier: &[u8; 16], seed: &[u8; 32
     }
 }
 
-/// Writes the path of leaf q, and tells whether the key's root is that of its secret. Each leaf is
+/// Writes the path of leaf q, and answers whether the key's root is that of its secret. Each leaf is
 /// made once: all but q for the path, and q for the root to which the path leads.
 pub(crate) fn sound_path(key: &LmsKey, q: u32, into: &mut [[u8; 32]]) -> bool
     requires inside { q < 2 ^ height_of key.now.pair.tree }
@@ -79,7 +80,7 @@ pub(crate) fn digest(key: &LmsKey, leaf: u32, randomizer: &[u8; 32], text: &[u8]
 pub(crate) fn make_room(pair: LmsPair, out: &mut Vec<u8>) -> Result<(), SignFault>
     ensures room { OnOk result (length out.new.items ≡ signature_size pair) }
     ensures refused { IfErr result (λ fault. fault ≡ SignFault.OutOfMemory) }
-    // Memory is asked for only where there is no room for it yet.
+    // Memory is requested only where there is no room for it yet.
     ensures full { OnErr result (vec_capacity out.old < signature_size pair) }
 {
     out.resize(pair.signature_len() as usize, 0)
@@ -119,7 +120,8 @@ pub(crate) fn append<S: Store>(store: &mut S, entry: &Record) -> Result<(), Sign
     requires running { S.stopped store.old ≡ false }
     requires room { length (S.list store.old) < S.most store.old }
     requires key_first { CanFollow (S.list store.old) entry.now }
-    ensures stored { Stores (S.list store.old) entry.now (S.list store.new) (S.stopped store.new) (S.failures store.old) (S.failures store.new) result }
+    ensures stored { Stores (S.list store.old) entry.now (S.list store.new) (S.stopped store.new)
+        (S.failures store.old) (S.failures store.new) result }
     ensures honest { S.honest store.new ≡ S.honest store.old }
     ensures most { S.most store.new ≡ S.most store.old }
 {
@@ -131,7 +133,8 @@ pub(crate) fn append<S: Store>(store: &mut S, entry: &Record) -> Result<(), Sign
 
 /// Draws the next bytes of a source.
 pub(crate) fn draw<R: Source, const N: usize>(random: &mut R) -> Result<[u8; N], SignFault>
-    ensures drawn { DrawsBytes (R.failures random.old) (R.failures random.new) (R.told random.old) (R.told random.new) result }
+    ensures drawn { DrawsBytes (R.failures random.old) (R.failures random.new)
+        (R.upcoming random.old) (R.upcoming random.new) result }
     ensures len { IfOk result (λ bytes. length bytes ≡ N) }
 {
     let mut bytes = [0u8; N];
