@@ -13,17 +13,18 @@ use Rattle.typecodes.specs.Types.{lms_signature_len_of}
 use Rattle.typecodes.specs.Layout.{Layout, Spells, done, refuse, ◌>>=◌}
 use Rattle.typecodes.specs.Fields.{number}
 use Rattle.typecodes.proofs.Spelling.{from_turn, in_turn}
-use Rattle.lmots.specs.Formulas.{u32str}
+use Rattle.lmots.specs.Hashes.{u32str}
 use Rattle.lms.specs.declared.key.LmsPublic.{LmsPublic}
-use Rattle.lms.specs.Layouts.{Signature as LmsSignature, public_key as lms_public_key, signature as lms_signature}
-use Rattle.lms.specs.Textbook.{public_bytes as lms_public_bytes, signature_bytes as lms_signature_bytes}
+use Rattle.lms.specs.Signature.{Signature as LmsSignature, signature as lms_signature}
+use Rattle.lms.specs.Key.{public_key as lms_public_key}
+use Rattle.lms.specs.Writing.{public_bytes as lms_public_bytes, signature_bytes as lms_signature_bytes}
 use Rattle.lms.proofs.SigningBytes.{last_field, number_spelled}
 use Rattle.hss.specs.declared.key.HssPublic.{HssPublic}
-use Rattle.hss.specs.declared.signing.Level.{Level}
-use Rattle.hss.specs.Bytes.{public_bytes, signature_bytes, signature_size, signed_key_bytes}
-use Rattle.hss.specs.Layouts.{Signature, SignedKey, level_number, public_key, signature, signed_key, signed_keys}
-use Rattle.hss.specs.Making.{key_of, pairs_of, part_size, signature_by, signed_by, signed_key_by}
-use Rattle.hss.specs.Textbook.{level_in, levels_in}
+use Rattle.hss.specs.declared.secret.Level.{Level}
+use Rattle.hss.specs.Key.{level_number, public_key}
+use Rattle.hss.specs.Signature.{Signature, SignedKey, signature, signature_size, signed_key, signed_keys}
+use Rattle.hss.specs.Secret.{key_of, signature_by}
+use Rattle.hss.specs.Writing.{level_in, levels_in, pairs_of, part_size, public_bytes, signature_bytes, signed_by, signed_key_by, signed_key_bytes}
 use Rattle.hss.proofs.Making.{signed-at, signed-count}
 
 -- a number of levels within its bounds is spelled by 4 bytes

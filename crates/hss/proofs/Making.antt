@@ -5,16 +5,16 @@ use Rattle.std.proofs.lemmas.List.{get_or-drop, get_or-map, get_or_append_left, 
 use Rattle.std.proofs.lemmas.Simd.{map-map}
 use Rattle.std.proofs.lemmas.Slice.Zip.{firsts-zip, get_or-zip, length-zip, seconds-zip}
 use Rattle.lms.specs.declared.key.LmsPublic.{LmsPublic}
-use Rattle.lms.specs.Layouts.{Signature as LmsSignature}
-use Rattle.lms.specs.Textbook.{path_in, public_of as lms_public_of, signed as lms_signed, textbook as lms_textbook}
-use Rattle.lms.specs.Valid.{IsValid as IsLmsValid}
+use Rattle.lms.specs.Signature.{Signature as LmsSignature}
+use Rattle.lms.specs.Secret.{path_in, public_of as lms_public_of}
+use Rattle.lms.specs.Writing.{signed as lms_signed, textbook as lms_textbook}
+use Rattle.lms.specs.Verification.{IsValid as IsLmsValid}
 use Rattle.lms.proofs.Signing.{signed_valid}
-use Rattle.hss.specs.Layouts.{Signature, SignedKey}
-use Rattle.hss.specs.Levels.{key_at, keys_of, message_at, signature_at, signatures_of}
-use Rattle.hss.specs.Textbook.{Signing, Signs, level_in, levels_in, public_of, signed_with, textbook}
-use Rattle.hss.specs.Valid.{IsValid}
-use Rattle.hss.specs.declared.signing.Level.{Level}
-use Rattle.hss.specs.Making.{AreDigests, FromSecrets, key_of, public_by, signature_by, signed_by, signing_of}
+use Rattle.hss.specs.Signature.{Signature, SignedKey, key_at, keys_of, message_at, signature_at, signatures_of}
+use Rattle.hss.specs.Verification.{IsValid}
+use Rattle.hss.specs.Secret.{Signing, key_of, signature_by, signing_of}
+use Rattle.hss.specs.Writing.{AreDigests, FromSecrets, Signs, level_in, levels_in, public_by, public_of, signed_by, signed_with, textbook}
+use Rattle.hss.specs.declared.secret.Level.{Level}
 
 module _ {L : Type 0} (signature : L → LmsSignature) (key : L → LmsPublic) (above : List L) (bottom : L) where
   -- each level above the bottom has a next one

@@ -8,10 +8,12 @@ use Rattle.typecodes.proofs.OneWay.{one_way-bind, one_way-done, one_way-number, 
 use Rattle.typecodes.proofs.Spelling.{in_turn}
 use Rattle.typecodes.proofs.Ways.{Way, one_way-if, way-bind, way-done}
 use Rattle.lms.specs.declared.key.LmsPublic.{LmsPublic}
-use Rattle.lms.specs.Layouts.{Signature as LmsSignature, public_key as lms_public_key, signature as lms_signature}
+use Rattle.lms.specs.Signature.{Signature as LmsSignature, signature as lms_signature}
+use Rattle.lms.specs.Key.{public_key as lms_public_key}
 use Rattle.lms.proofs.OneWay.{one_way-public_key as one_way-lms_public_key, one_way-signature as one_way-lms_signature}
 use Rattle.hss.specs.declared.key.HssPublic.{HssPublic}
-use Rattle.hss.specs.Layouts.{Signature, SignedKey, level_number, public_key, signature, signed_key, signed_keys}
+use Rattle.hss.specs.Key.{level_number, public_key}
+use Rattle.hss.specs.Signature.{Signature, SignedKey, signature, signed_key, signed_keys}
 
 -- a number of levels
 tested : ℕ → ℕ → ℕ → Layout ℕ

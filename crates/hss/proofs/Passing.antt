@@ -9,9 +9,9 @@ use Rattle.typecodes.specs.Types.{height_of, signature_len_of}
 use Rattle.typecodes.specs.Layout.{Layout, done, ◌>>=◌}
 use Rattle.typecodes.specs.Cursor.{and_then, read}
 use Rattle.typecodes.proofs.Read.{read-bind}
-use Rattle.lms.specs.Layouts.{Signature as LmsSignature, public_key as lms_public_key, signature as lms_signature}
-use Rattle.hss.specs.Ends.{end_of}
-use Rattle.hss.specs.Layouts.{SignedKey, signed_key, signed_keys}
+use Rattle.lms.specs.Signature.{Signature as LmsSignature, signature as lms_signature}
+use Rattle.lms.specs.Key.{public_key as lms_public_key}
+use Rattle.hss.specs.Signature.{SignedKey, end_of, signed_key, signed_keys}
 
 -- no one-time signature is longer than W1's, and no tree is higher than H25's
 pub ots_most : (ots : OtsType) → signature_len_of ots ≤ 8516

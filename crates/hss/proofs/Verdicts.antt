@@ -7,10 +7,8 @@ use Rattle.typecodes.specs.declared.refusal.Refusal.TheVariants.{Unreadable, Typ
 use Rattle.typecodes.specs.Layout.{Spells}
 use Rattle.typecodes.proofs.Spelling.{no_value, one_fault, one_value}
 use Rattle.hss.specs.declared.key.HssPublic.{HssPublic}
-use Rattle.hss.specs.Layouts.{Signature, signature}
-use Rattle.hss.specs.Levels.{key_at, level_count, signature_at}
-use Rattle.hss.specs.Valid.{IsValid, IsValidAt}
-use Rattle.hss.specs.Verdict.{Reaches, Verdict}
+use Rattle.hss.specs.Signature.{Signature, key_at, level_count, signature, signature_at}
+use Rattle.hss.specs.Verification.{IsValid, IsValidAt, Reaches, Verdict}
 
 -- the level that was come to isn't valid
 abbrev Fails : HssPublic → List ℕ → List ℕ → Signature → ℕ → Type 0

@@ -5,17 +5,13 @@ use Rattle.std.proofs.lemmas.List.{get_or-map, get_or_append_left, get_or_at, le
 use Rattle.typecodes.specs.declared.refusal.Refusal.{Refusal}
 use Rattle.typecodes.specs.declared.refusal.Refusal.TheVariants.{Unreadable, TypeMismatch, LevelMismatch, RootMismatch}
 use Rattle.lms.specs.declared.key.LmsPublic.{LmsPublic}
-use Rattle.lms.specs.Layouts.{Signature as LmsSignature}
-use Rattle.lms.specs.Textbook.{public_bytes}
-use Rattle.lms.specs.Valid.{IsValid as IsLmsValid}
-use Rattle.lms.specs.Verdict.{LeavesMessage as LmsLeavesMessage, LevelVerdict}
+use Rattle.lms.specs.Signature.{Signature as LmsSignature}
+use Rattle.lms.specs.Writing.{public_bytes}
+use Rattle.lms.specs.Verification.{IsValid as IsLmsValid, LeavesMessage as LmsLeavesMessage, LevelVerdict}
 use Rattle.typecodes.specs.Layout.{Spells}
 use Rattle.hss.specs.declared.key.HssPublic.{HssPublic}
-use Rattle.hss.specs.Layouts.{Signature, SignedKey, signature}
-use Rattle.hss.specs.Levels.{key_at, keys_of, level_count, message_at, signature_at}
-use Rattle.hss.specs.Steps.{AboveVerdict, AreValidAbove}
-use Rattle.hss.specs.Valid.{IsValid, IsValidAt}
-use Rattle.hss.specs.Verdict.{LeavesMessage, Reaches, Verdict}
+use Rattle.hss.specs.Signature.{Signature, SignedKey, key_at, keys_of, level_count, message_at, signature, signature_at}
+use Rattle.hss.specs.Verification.{AboveVerdict, AreValidAbove, IsValid, IsValidAt, LeavesMessage, Reaches, Verdict}
 
 -- above the bottom a level signs the bytes of the next level's key
 pub message_at-above : (top : LmsPublic) (message : List ℕ) (s : Signature) (i : ℕ) → i < length s.signed → public_bytes (key_at top s (i + 1)) ≡ message_at message s i

@@ -17,14 +17,12 @@ use Rattle.typecodes.proofs.Read.{read-bind, read-cut, read-fits, read-stands}
 use Rattle.typecodes.proofs.Sizes.{HasSize, size-bind, size-block, size-done, size-typed}
 use Rattle.typecodes.proofs.Steps.{ends-spelled}
 use Rattle.lms.specs.declared.key.LmsPublic.{LmsPublic}
-use Rattle.lms.specs.Layouts.{Signature as LmsSignature, public_key as lms_public_key, signature as lms_signature}
+use Rattle.lms.specs.Signature.{Signature as LmsSignature, signature as lms_signature}
+use Rattle.lms.specs.Key.{public_key as lms_public_key}
 use Rattle.lms.proofs.Parts.{in_turn, laid_out, part_read}
-use Rattle.hss.specs.Bytes.{signature_size}
-use Rattle.hss.specs.Ends.{end_of}
-use Rattle.hss.specs.Spelled.{read_value, spelled_by}
+use Rattle.hss.specs.Key.{level_number}
+use Rattle.hss.specs.Signature.{Signature, SignedKey, end_of, key_at, keys_of, level_count, read_value, signature, signature_at, signature_size, signatures_of, signed_key, signed_keys, spelled_by, start_of}
 use Rattle.hss.proofs.Passing.{read-behind}
-use Rattle.hss.specs.Layouts.{Signature, SignedKey, level_number, signature, signed_key, signed_keys}
-use Rattle.hss.specs.Levels.{key_at, keys_of, level_count, signature_at, signatures_of, start_of}
 
 -- ---- how long the parts are
 

@@ -1,11 +1,6 @@
-pub mod Layouts
-pub mod Levels
-pub mod Ends
-pub mod Spelled
+pub mod Key
+pub mod Signature
 pub mod View
-pub mod Valid
-pub mod Verdict
-pub mod Steps
-pub mod Textbook
-pub mod Bytes
-pub mod Making
+pub mod Verification
+pub mod Secret
+pub mod Writing

@@ -2,8 +2,7 @@
 use denote.Bor.{Bor}
 use Rattle.std.specs.Prelude.{ℕ, List}
 use Rattle.hss.specs.declared.signature.HssSigView.{HssSigView}
-use Rattle.hss.specs.Layouts.{Signature}
-use Rattle.hss.specs.Spelled.{spelled_by}
+use Rattle.hss.specs.Signature.{Signature, spelled_by}
 
 -- the signature
 abbrev pub signature_of : HssSigView → Signature

@@ -17,11 +17,11 @@ pub struct HssPublic {
 }
 
 impl HssPublic {
-    ghost use Rattle.hss.specs.Layouts.{public_key};
+    ghost use Rattle.hss.specs.Key.{public_key};
 
     /// The key that the bytes spell, 60 bytes and no more; it has 1 to 8 levels. Otherwise their first fault
     /// (1, 2, 3 or 5).
-    #[tactic(auto, using(typecodes::proofs::Steps::steps, typecodes::proofs::Steps::reading), unfolding(crate::specs::Layouts::public_key))]
+    #[tactic(auto, using(typecodes::proofs::Steps::steps, typecodes::proofs::Steps::reading), unfolding(crate::specs::Key::public_key))]
     pub fn read(bytes: &[u8]) -> Result<Self, ReadFault>
         ensures read { Reads public_key (λ key. key) bytes.now result }
         ensures least { IfOk result (λ key. 1 ≤ key.levels) }

@@ -5,13 +5,13 @@ ghost use Rattle.std.specs.Prelude.{◌≡◌, List, [], ◌∷◌, ◌++◌, �
 ghost use Rattle.typecodes.specs.declared.refusal.Refusal.{Refusal};
 ghost use Rattle.typecodes.specs.Layout.{Spells, OneSpelling};
 ghost use Rattle.hss.specs.declared.key.HssPublic.{HssPublic};
-ghost use Rattle.lmots.specs.Formulas.{u32str};
-ghost use Rattle.lms.specs.Layouts.{signature as lms_signature};
-ghost use Rattle.hss.specs.Bytes.{public_bytes, signature_bytes};
-ghost use Rattle.hss.specs.Layouts.{Signature, SignedKey, public_key, signature, signed_key, signed_keys};
-ghost use Rattle.hss.specs.Textbook.{IsSized, Signing, Signs, level_in, public_of, textbook};
-ghost use Rattle.hss.specs.Valid.{IsValid};
-ghost use Rattle.hss.specs.Verdict.{Verdict};
+ghost use Rattle.lmots.specs.Hashes.{u32str};
+ghost use Rattle.lms.specs.Signature.{signature as lms_signature};
+ghost use Rattle.hss.specs.Key.{public_key};
+ghost use Rattle.hss.specs.Signature.{Signature, SignedKey, signature, signed_key, signed_keys};
+ghost use Rattle.hss.specs.Verification.{IsValid, Verdict};
+ghost use Rattle.hss.specs.Secret.{Signing};
+ghost use Rattle.hss.specs.Writing.{IsSized, Signs, level_in, public_bytes, public_of, signature_bytes, textbook};
 
 /// What holds of the spellings of public keys and of signatures: no value has two, no bytes spell two
 /// values, and no spelling begins another.

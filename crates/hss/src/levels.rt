@@ -2,12 +2,12 @@
 
 ghost use Rattle.std.specs.Prelude.{◌≡◌, ◌+◌, ◌<◌, ◌≤◌, ◌^◌, IfOk, OnOk};
 ghost use Rattle.typecodes.specs.Cursor.{Gives, read};
-ghost use Rattle.hss.specs.Layouts.{level_number};
+ghost use Rattle.hss.specs.Key.{level_number};
 
 use typecodes::{Cause, Cursor, LevelCount, ReadFault};
 
 /// The number of levels at a cursor, a field of 4 bytes, from low to high.
-#[tactic(auto, using(crate::proofs::Numbers::numbers), unfolding(crate::specs::Layouts::level_number))]
+#[tactic(auto, using(crate::proofs::Numbers::numbers), unfolding(crate::specs::Key::level_number))]
 pub(crate) fn number_at(cursor: &mut Cursor<'_>, low: u8, high: u8) -> Result<u8, ReadFault>
     requires { cursor.old.place + 4 < 2 ^ 32 }
     ensures read { Gives (λ n. (n, cursor.new.place)) result (read (level_number low high) cursor.old.bytes.now cursor.old.place) }

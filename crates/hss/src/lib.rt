@@ -12,8 +12,8 @@
 mod key;
 mod laws;
 mod levels;
+mod secret;
 mod signature;
-mod signing;
 #[cfg(test)]
 mod tests;
 mod verification;
@@ -21,7 +21,7 @@ mod writing;
 
 pub use crate::key::HssPublic;
 pub use crate::laws::{joining_laws, spelling_laws, textbook_laws, verdict_laws};
+pub use crate::secret::Level;
 pub use crate::signature::HssSigView;
-pub use crate::signing::Level;
 pub use crate::verification::verify;
 pub use crate::writing::{signature_len, write_public, write_signature, write_signed_key};

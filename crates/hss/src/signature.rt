@@ -6,13 +6,10 @@ ghost use Rattle.typecodes.specs.Layout.{Spells};
 ghost use Rattle.typecodes.specs.Cursor.{Gives, Reads, read};
 ghost use Rattle.typecodes.specs.Types.{lms_signature_len_of};
 ghost use Rattle.lms.specs.declared.key.LmsPublic.{LmsPublic};
-ghost use Rattle.lms.specs.Layouts.{public_key as lms_public_key, signature as lms_signature};
+ghost use Rattle.lms.specs.Key.{public_key as lms_public_key};
+ghost use Rattle.lms.specs.Signature.{signature as lms_signature};
 ghost use Rattle.lms.specs.View.{bytes_of as lms_bytes_of, pair_of as lms_pair_of, signature_of as lms_signature_of};
-ghost use Rattle.hss.specs.Bytes.{signature_size};
-ghost use Rattle.hss.specs.Ends.{end_of};
-ghost use Rattle.hss.specs.Layouts.{signature, signed_key, signed_keys};
-ghost use Rattle.hss.specs.Levels.{key_at, level_count, signature_at, signatures_of, start_of};
-ghost use Rattle.hss.specs.Spelled.{spelled_by};
+ghost use Rattle.hss.specs.Signature.{end_of, key_at, level_count, signature, signature_at, signature_size, signatures_of, signed_key, signed_keys, spelled_by, start_of};
 
 use crate::levels::number_at;
 use lms::{LmsPublic, LmsSigView};
@@ -34,7 +31,7 @@ impl<'a> HssSigView<'a> {
 
     /// The signature that the bytes spell, and no more: 2644 bytes for two levels of H5/W8. Otherwise
     /// their first fault (1 to 5).
-    #[tactic(auto, using(typecodes::proofs::Steps::steps, typecodes::proofs::Steps::reading), unfolding(crate::specs::Layouts::signature))]
+    #[tactic(auto, using(typecodes::proofs::Steps::steps, typecodes::proofs::Steps::reading), unfolding(crate::specs::Signature::signature))]
     pub fn read(bytes: &'a [u8]) -> Result<Self, ReadFault>
         ensures reads { Reads signature signature_of bytes.entry.now result }
         ensures whole { IfOk result (λ view. lent_of view ≡ bytes.entry) }
@@ -137,7 +134,7 @@ fn pass_signed_keys(cursor: &mut Cursor<'_>, count: u8) -> Result<(), ReadFault>
 }
 
 // Passes the next signed key: a signature of at most 9324 bytes, and a key of 56.
-#[tactic(auto, using(crate::proofs::Passing::one, typecodes::proofs::Steps::reading), unfolding(crate::specs::Layouts::signed_key))]
+#[tactic(auto, using(crate::proofs::Passing::one, typecodes::proofs::Steps::reading), unfolding(crate::specs::Signature::signed_key))]
 fn pass_signed_key(cursor: &mut Cursor<'_>) -> Result<(), ReadFault>
     requires { cursor.old.place + 9380 < 2 ^ 32 }
     ensures read { Gives (λ _. cursor.new.place) result (end_of (read signed_key cursor.old.bytes.now cursor.old.place)) }

@@ -2,11 +2,10 @@
 
 ghost use Rattle.std.specs.Prelude.{◌≡◌, ◌+◌, ◌<◌, ℕ, List, IfOk};
 ghost use Rattle.lms.specs.declared.key.LmsPublic.{LmsPublic};
-ghost use Rattle.lms.specs.Verdict.{LevelVerdict};
-ghost use Rattle.hss.specs.Levels.{key_at, level_count, message_at, signature_at};
-ghost use Rattle.hss.specs.Steps.{AboveVerdict};
-ghost use Rattle.hss.specs.Verdict.{LeavesMessage, Verdict};
+ghost use Rattle.lms.specs.Verification.{LevelVerdict};
+ghost use Rattle.hss.specs.Signature.{key_at, level_count, message_at, signature_at};
 ghost use Rattle.hss.specs.View.{signature_of};
+ghost use Rattle.hss.specs.Verification.{AboveVerdict, LeavesMessage, Verdict};
 
 use crate::key::HssPublic;
 use crate::signature::HssSigView;

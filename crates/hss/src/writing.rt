@@ -4,15 +4,15 @@ ghost use Rattle.std.specs.Prelude.{◌≡◌, ◌+◌, ◌<◌, ◌≤◌, ℕ,
 ghost use Rattle.std.specs.List.{flat_map};
 ghost use Rattle.typecodes.specs.Layout.{Spells};
 ghost use Rattle.typecodes.specs.Types.{lms_signature_len_of};
-ghost use Rattle.lmots.specs.Formulas.{u32str};
-ghost use Rattle.hss.specs.Bytes.{public_bytes, signature_bytes, signature_size, signed_key_bytes};
-ghost use Rattle.hss.specs.Layouts.{public_key, signature, signed_key, signed_keys};
-ghost use Rattle.hss.specs.Making.{AreDigests, FromSecrets, key_of, pairs_of, part_size, public_by, signed_by, signed_key_by, signing_of};
-ghost use Rattle.hss.specs.Textbook.{level_in, textbook};
-ghost use Rattle.hss.specs.Valid.{IsValid};
+ghost use Rattle.lmots.specs.Hashes.{u32str};
+ghost use Rattle.hss.specs.Key.{public_key};
+ghost use Rattle.hss.specs.Signature.{signature, signature_size, signed_key, signed_keys};
+ghost use Rattle.hss.specs.Verification.{IsValid};
+ghost use Rattle.hss.specs.Secret.{key_of, signing_of};
+ghost use Rattle.hss.specs.Writing.{AreDigests, FromSecrets, level_in, pairs_of, part_size, public_by, public_bytes, signature_bytes, signed_by, signed_key_by, signed_key_bytes, textbook};
 
 use crate::key::HssPublic;
-use crate::signing::Level;
+use crate::secret::Level;
 use lms::LmsPublic;
 use typecodes::LmsPair;
 

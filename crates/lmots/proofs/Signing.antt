@@ -11,8 +11,7 @@ use Rattle.winternitz.specs.Digest.{digit_count, digits_of}
 use Rattle.winternitz.proofs.Concatenated.{chunks_of_concat}
 use Rattle.winternitz.proofs.Walks.{walk-walk}
 use Rattle.winternitz.proofs.Coefs.{digit_most}
-use Rattle.lmots.specs.Formulas.{chain_value, ends_of_seed, private_value, step_of}
-use Rattle.lmots.specs.Signed.{ClimbTo, signed_values}
+use Rattle.lmots.specs.Key.{chain_value, ends_of_seed, private_value, step_of, ClimbTo, signed_values}
 use Rattle.lmots.proofs.Counts.{digits_are_chains}
 
 -- the values of a signature climb to the ends of the key's chains

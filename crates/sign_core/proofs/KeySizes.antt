@@ -5,16 +5,16 @@ use Rattle.typecodes.specs.declared.fault.Cause.TheVariants.{LevelCount}
 use Rattle.typecodes.specs.Types.{lms_code, lms_types, ots_code, ots_types, xmss_code, xmss_types}
 use Rattle.typecodes.specs.declared.types.LmsType.{LmsType}
 use Rattle.typecodes.specs.declared.types.OtsType.{OtsType}
-use Rattle.typecodes.specs.declared.types.XmssType.{XmssType}
+use Rattle.typecodes.specs.declared.xmss.XmssType.{XmssType}
 use Rattle.typecodes.specs.Layout.{Layout, done, refuse, ◌>>=◌}
 use Rattle.typecodes.specs.Fields.{number, block, lms_type, ots_type, xmss_type}
 use Rattle.typecodes.proofs.Sizes.{HasSize, size-bind, size-block, size-done, size-if, size-number, size-refuse, size-typed}
 use Rattle.lms.specs.declared.key.LmsPublic.{LmsPublic}
 use Rattle.hss.specs.declared.key.HssPublic.{HssPublic}
 use Rattle.xmss.specs.declared.key.XmssPublic.{XmssPublic}
-use Rattle.lms.specs.Layouts.{public_key as lms_public_key}
-use Rattle.hss.specs.Layouts.{level_number, public_key as hss_public_key}
-use Rattle.xmss.specs.Layouts.{public_key as xmss_public_key}
+use Rattle.lms.specs.Key.{public_key as lms_public_key}
+use Rattle.hss.specs.Key.{level_number, public_key as hss_public_key}
+use Rattle.xmss.specs.Key.{public_key as xmss_public_key}
 
 size-lms_type : HasSize lms_type 4
 unfolding lms_type

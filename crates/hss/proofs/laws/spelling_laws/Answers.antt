@@ -1,5 +1,6 @@
 use Rattle.typecodes.proofs.Spelling.{no_longer, one_value}
-use Rattle.hss.specs.Layouts.{public_key, signature}
+use Rattle.hss.specs.Key.{public_key}
+use Rattle.hss.specs.Signature.{signature}
 use Rattle.hss.proofs.OneWay.{one_way-public_key, one_way-signature}
 use Rattle.hss.proofs.laws.spelling_laws.Goals as goal
 

@@ -1,6 +1,7 @@
 use Rattle.std.proofs.Common.{◌≡◌, Ok, Err, rules}
 use Rattle.typecodes.specs.Cursor.{read}
-use Rattle.lms.specs.Layouts.{public_key as lms_public_key, signature as lms_signature}
+use Rattle.lms.specs.Key.{public_key as lms_public_key}
+use Rattle.lms.specs.Signature.{signature as lms_signature}
 use Rattle.lms.specs.View.{signature_of as lms_signature_of}
 use Rattle.hss.proofs.Passing.{signed_key-faulty}
 use Rattle.hss.proofs.signature.pass_signed_key.Goals as goal

@@ -1,7 +1,6 @@
 use Rattle.std.proofs.Common.{◌≡◌, ◌+◌, ◌-◌, ◌*◌, ◌≤◌}
 use Rattle.typecodes.specs.Cursor.{read}
-use Rattle.hss.specs.Ends.{end_of}
-use Rattle.hss.specs.Layouts.{signed_keys}
+use Rattle.hss.specs.Signature.{end_of, signed_keys}
 use Rattle.hss.proofs.signature.pass_signed_keys.Given as goal
 
 -- what is left ends where all of them end

@@ -1,7 +1,7 @@
 use Rattle.std.proofs.Common.{◌≡◌, ap, ◌∙◌, sym, subst, length, Err, arith, rules}
-use Rattle.hss.specs.Levels.{key_at}
-use Rattle.hss.specs.Steps.{AboveVerdict, AreValidAbove}
+use Rattle.hss.specs.Signature.{key_at}
 use Rattle.hss.specs.View.{signature_of}
+use Rattle.hss.specs.Verification.{AboveVerdict, AreValidAbove}
 use Rattle.hss.proofs.Verifying.{above-more, above-refused}
 use Rattle.hss.proofs.verification.bottom_key.Goals as goal
 

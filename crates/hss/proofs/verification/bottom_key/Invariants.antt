@@ -1,7 +1,7 @@
 use Rattle.std.proofs.Common.{◌≡◌}
-use Rattle.hss.specs.Levels.{key_at}
-use Rattle.hss.specs.Steps.{AreValidAbove}
+use Rattle.hss.specs.Signature.{key_at}
 use Rattle.hss.specs.View.{signature_of}
+use Rattle.hss.specs.Verification.{AreValidAbove}
 use Rattle.hss.proofs.verification.bottom_key.Given as goal
 
 -- the levels above are valid, and this is the level's key

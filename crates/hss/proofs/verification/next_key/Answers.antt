@@ -1,8 +1,8 @@
 use Rattle.std.proofs.Common.{◌≡◌, ◌∙◌, ap, List, ℕ, Ok, Err, refl, arith, rules, sym, subst}
 use Rattle.lms.specs.declared.key.LmsPublic.{LmsPublic}
-use Rattle.lms.specs.Textbook.{public_bytes}
-use Rattle.lms.specs.Verdict.{LevelVerdict}
-use Rattle.hss.specs.Levels.{message_at, signature_at}
+use Rattle.lms.specs.Writing.{public_bytes}
+use Rattle.lms.specs.Verification.{LevelVerdict}
+use Rattle.hss.specs.Signature.{message_at, signature_at}
 use Rattle.hss.specs.View.{signature_of}
 use Rattle.hss.proofs.Verifying.{level-refused, level-same, message_at-above}
 use Rattle.hss.proofs.verification.next_key.Goals.{After-verify}

@@ -1,10 +1,9 @@
 use Rattle.std.proofs.Common.{◌≡◌, ◌-◌, sym, ◌∙◌, subst, Err, arith, rules}
 use Rattle.typecodes.specs.Layout.{Spells}
 use Rattle.lms.proofs.Comparing.{read_spells}
-use Rattle.hss.specs.Layouts.{signature}
-use Rattle.hss.specs.Levels.{level_count}
-use Rattle.hss.specs.Verdict.{Verdict}
+use Rattle.hss.specs.Signature.{level_count, signature}
 use Rattle.hss.specs.View.{signature_of}
+use Rattle.hss.specs.Verification.{Verdict}
 use Rattle.hss.proofs.Verifying.{above-verdict, bottom-leaves, bottom-read}
 use Rattle.hss.proofs.verification.verify.Goals.{After-levels-bottom}
 use Rattle.hss.proofs.verification.verify.Goals as goal

@@ -2,9 +2,9 @@ use Rattle.std.proofs.Common.{◌≡◌, refl, sym, ap, ◌∙◌, subst, subst�
 use Rattle.std.specs.List.{flat_map}
 use Rattle.std.proofs.lemmas.List.{take_all}
 use Rattle.typecodes.specs.Layout.{Spells}
-use Rattle.hss.specs.Bytes.{signed_key_bytes}
-use Rattle.hss.specs.Layouts.{signed_key, signed_keys}
-use Rattle.hss.specs.Making.{key_of, signature_by, signed_by, signed_key_by}
+use Rattle.hss.specs.Signature.{signed_key, signed_keys}
+use Rattle.hss.specs.Secret.{key_of, signature_by}
+use Rattle.hss.specs.Writing.{signed_by, signed_key_by, signed_key_bytes}
 use Rattle.hss.proofs.Bytes.{keys-none, part-more, spelled-more, written-more}
 use Rattle.hss.proofs.Making.{signed-count}
 use Rattle.hss.proofs.writing.write_above.Goals.{After-loop-i}

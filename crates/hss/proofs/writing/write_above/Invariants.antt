@@ -2,9 +2,8 @@ use Rattle.std.proofs.Common.{◌≡◌, ◌+◌, ◌++◌, take}
 use Rattle.std.specs.Prelude.{sum_by}
 use Rattle.std.specs.List.{flat_map}
 use Rattle.typecodes.specs.Layout.{Spells}
-use Rattle.hss.specs.Bytes.{signed_key_bytes}
-use Rattle.hss.specs.Layouts.{signed_keys}
-use Rattle.hss.specs.Making.{part_size, signed_by}
+use Rattle.hss.specs.Signature.{signed_keys}
+use Rattle.hss.specs.Writing.{part_size, signed_by, signed_key_bytes}
 use Rattle.hss.proofs.writing.write_above.Given as goal
 
 -- the signed keys so far were written, and spell themselves

@@ -2,8 +2,8 @@ use Rattle.std.proofs.Common.{◌≡◌, ◌≤◌, sym, subst, arith}
 use Rattle.std.proofs.lemmas.Grind.{common_steps}
 use borrow.Rule.Slice.PartMut.{put_mid}
 use Rattle.typecodes.specs.Layout.{Spells}
-use Rattle.hss.specs.Bytes.{public_bytes}
-use Rattle.hss.specs.Layouts.{public_key}
+use Rattle.hss.specs.Key.{public_key}
+use Rattle.hss.specs.Writing.{public_bytes}
 use Rattle.hss.proofs.Bytes.{key-spelled}
 use Rattle.hss.proofs.writing.write_public.Goals as goal
 

@@ -2,11 +2,11 @@ use Rattle.std.proofs.Common.{◌≡◌, ◌-◌, ◌++◌, sym, ap, ◌∙◌, 
 use Rattle.std.specs.List.{flat_map}
 use borrow.Rule.Slice.PartMut.{post_of}
 use Rattle.typecodes.specs.Layout.{Spells}
-use Rattle.lms.specs.Layouts.{signature as lms_signature}
-use Rattle.lms.specs.Textbook.{signature_bytes as lms_signature_bytes}
-use Rattle.hss.specs.Bytes.{signature_bytes, signed_key_bytes}
-use Rattle.hss.specs.Layouts.{signature, signed_keys}
-use Rattle.hss.specs.Making.{key_of, signature_by, signed_by}
+use Rattle.lms.specs.Signature.{signature as lms_signature}
+use Rattle.lms.specs.Writing.{signature_bytes as lms_signature_bytes}
+use Rattle.hss.specs.Signature.{signature, signed_keys}
+use Rattle.hss.specs.Secret.{key_of, signature_by}
+use Rattle.hss.specs.Writing.{signature_bytes, signed_by, signed_key_bytes}
 use Rattle.hss.proofs.Bytes.{size-parts, whole-spelled, whole-written}
 use Rattle.hss.proofs.Making.{made_textbook, made_valid, signed-count}
 use Rattle.hss.proofs.writing.write_signature.Goals.{After-write}

@@ -1,6 +1,6 @@
 use Rattle.std.proofs.Common.{refl}
 use Rattle.typecodes.proofs.Steps.{ends-spelled}
-use Rattle.hss.specs.Layouts.{signature}
+use Rattle.hss.specs.Signature.{signature}
 use Rattle.hss.specs.View.{signature_of}
 use Rattle.hss.proofs.Walking.{whole-size}
 use Rattle.hss.proofs.signature.HssSigView.bytes.Goals as goal

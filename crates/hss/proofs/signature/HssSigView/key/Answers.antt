@@ -2,8 +2,8 @@ use Rattle.std.proofs.Common.{◌≡◌, ◌-◌, ℕ, [], sym, ap, ◌∙◌, O
 use Rattle.typecodes.specs.Layout.{Spells}
 use Rattle.typecodes.specs.Cursor.{read}
 use Rattle.lms.specs.declared.key.LmsPublic.{LmsPublic}
-use Rattle.lms.specs.Layouts.{public_key as lms_public_key}
-use Rattle.hss.specs.Levels.{key_at, start_of}
+use Rattle.lms.specs.Key.{public_key as lms_public_key}
+use Rattle.hss.specs.Signature.{key_at, start_of}
 use Rattle.hss.specs.View.{signature_of}
 use Rattle.hss.proofs.Walking.{key_found, key_spelled}
 use Rattle.hss.proofs.signature.HssSigView.key.Goals.{In-Ok}

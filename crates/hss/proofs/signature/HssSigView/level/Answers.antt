@@ -1,9 +1,9 @@
 use Rattle.std.proofs.Common.{◌≡◌, ◌+◌, ◌-◌, ℕ, sym, ap, ◌∙◌, Ok, arith, take, drop}
 use Rattle.typecodes.specs.Types.{lms_signature_len_of}
 use Rattle.typecodes.specs.Cursor.{read}
-use Rattle.lms.specs.Layouts.{Signature as LmsSignature, signature as lms_signature}
+use Rattle.lms.specs.Signature.{Signature as LmsSignature, signature as lms_signature}
 use Rattle.lms.specs.View.{signature_of as lms_signature_of}
-use Rattle.hss.specs.Levels.{signature_at, start_of}
+use Rattle.hss.specs.Signature.{signature_at, start_of}
 use Rattle.hss.specs.View.{signature_of}
 use Rattle.hss.proofs.Walking.{level_found}
 use Rattle.hss.proofs.signature.HssSigView.level.Goals as goal

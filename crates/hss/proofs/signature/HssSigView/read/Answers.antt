@@ -1,12 +1,10 @@
 use Rattle.std.proofs.Common.{◌≡◌, ◌+◌, ◌<◌, length, sym, ap, ◌∙◌, Ok, rules}
 use Rattle.typecodes.specs.Cursor.{read}
 use Rattle.typecodes.proofs.Steps.{ends-trailing}
-use Rattle.lms.specs.Layouts.{signature as lms_signature}
+use Rattle.lms.specs.Signature.{signature as lms_signature}
 use Rattle.lms.specs.View.{signature_of as lms_signature_of}
-use Rattle.hss.specs.Ends.{end_of}
-use Rattle.hss.specs.Layouts.{level_number, signature, signed_keys}
-use Rattle.hss.specs.Levels.{level_count}
-use Rattle.hss.specs.Spelled.{spelled_by}
+use Rattle.hss.specs.Key.{level_number}
+use Rattle.hss.specs.Signature.{end_of, level_count, signature, signed_keys, spelled_by}
 use Rattle.hss.proofs.Walking.{whole_read}
 use Rattle.hss.proofs.signature.HssSigView.read.Goals.{After-end}
 use Rattle.hss.proofs.signature.HssSigView.read.Goals as goal

@@ -1,0 +1,26 @@
+-- What a level of a signature is made with.
+use Rattle.std.specs.Prelude.{ℕ, List}
+use Rattle.lms.specs.declared.key.LmsPublic.{LmsPublic}
+use Rattle.lms.specs.declared.secret.LmsSecret.{LmsSecret}
+use Rattle.lms.specs.Signature.{Signature as LmsSignature}
+use Rattle.lms.specs.Writing.{signed as lms_signed}
+use Rattle.hss.specs.declared.secret.Level.{Level}
+
+-- the tree's secret, a leaf, the randomizer C, and the digest Q of what the level signs
+pub record Signing : Type 0 where
+  pub secret : LmsSecret
+  pub leaf : ℕ
+  pub randomizer : List ℕ
+  pub digest : List ℕ
+
+-- those of a level
+abbrev pub signing_of : Level → Signing
+signing_of level =
+    record { secret = level.secret; leaf = level.leaf; randomizer = level.randomizer; digest = level.digest }
+
+-- a level's public key, and its signature
+abbrev pub key_of : Level → LmsPublic
+key_of level = record { pair = level.secret.pair; identifier = level.secret.identifier; root = level.root }
+
+abbrev pub signature_by : Level → LmsSignature
+signature_by level = lms_signed level.secret level.leaf level.randomizer level.digest level.path.now

@@ -1,0 +1,67 @@
+-- Which signatures are valid (RFC 8554 6.3), what verification answers, and which refusal comes first.
+use Rattle.std.specs.Prelude.{◌≡◌, ◌≢◌, ◌==◌, ℕ, ◌+◌, ◌<◌, List, [], length, Result, Ok, Err, if◌then◌else◌}
+use Rattle.typecodes.specs.declared.refusal.Refusal.{Refusal}
+use Rattle.typecodes.specs.declared.refusal.Refusal.TheVariants.{Unreadable, TypeMismatch, LevelMismatch, RootMismatch}
+use Rattle.typecodes.specs.Layout.{Spells, HasFault}
+use Rattle.lms.specs.declared.key.LmsPublic.{LmsPublic}
+use Rattle.lms.specs.Verification.{IsValid as IsLmsValid}
+use Rattle.hss.specs.declared.key.HssPublic.{HssPublic}
+use Rattle.hss.specs.Signature.{Signature, key_at, level_count, message_at, signature, signature_at}
+
+-- The signature of level i is valid for what the level signs, under the level's key.
+abbrev pub IsValidAt : LmsPublic → List ℕ → Signature → ℕ → Type 0
+IsValidAt top message s i = IsLmsValid (key_at top s i) (message_at message s i) (signature_at s i)
+
+-- A signature has as many levels as the key, and is valid at each.
+pub record IsValid (key : HssPublic) (message : List ℕ) (s : Signature) : Type 0 where
+  pub count : level_count s ≡ key.levels
+  pub levels : (i : ℕ) → i < key.levels → IsValidAt key.top message s i
+
+-- The bytes spell a signature with the key's levels, of which level i is one, and all above it are valid.
+pub record Reaches (key : HssPublic) (message bytes : List ℕ) (s : Signature) (i : ℕ) : Type 0 where
+  pub spelled : Spells signature s bytes
+  pub count : level_count s ≡ key.levels
+  pub inside : i < key.levels
+  pub above : (j : ℕ) → j < i → IsValidAt key.top message s j
+
+-- The types of level i are those of its key.
+abbrev pub HasKeyTypes : LmsPublic → Signature → ℕ → Type 0
+HasKeyTypes top s i = (signature_at s i).pair ≡ (key_at top s i).pair
+
+-- Ok: the bytes spell a valid signature. Else they spell none, and have this fault; or one of other
+-- levels than the key's; or this level is the first from the top that isn't valid, since its types
+-- aren't its key's, or though they are.
+abbrev pub Verdict : {A : Type 0} → HssPublic → List ℕ → List ℕ → Result A Refusal → Type 0
+Verdict key message bytes (Ok _) = (s : Signature) × Spells signature s bytes × IsValid key message s
+Verdict key message bytes (Err (Unreadable fault)) = HasFault signature bytes 0 fault
+Verdict key message bytes (Err LevelMismatch) = (s : Signature) × Spells signature s bytes × (level_count s ≢ key.levels)
+Verdict key message bytes (Err (TypeMismatch i)) =
+    (s : Signature) × Reaches key message bytes s i × (HasKeyTypes key.top s i → ⊥)
+Verdict key message bytes (Err (RootMismatch i)) =
+    (s : Signature) × Reaches key message bytes s i × HasKeyTypes key.top s i × (IsValidAt key.top message s i → ⊥)
+
+-- What is left of the message: nothing where it was read to its end, which only the bottom level does;
+-- all of it where a refusal came before.
+abbrev pub LeavesMessage : {A : Type 0} → HssPublic → List ℕ → List ℕ → Result A Refusal → Type 0
+LeavesMessage key old new (Ok _) = new ≡ []
+LeavesMessage key old new (Err (Unreadable fault)) = new ≡ old
+LeavesMessage key old new (Err LevelMismatch) = new ≡ old
+LeavesMessage key old new (Err (TypeMismatch i)) = new ≡ old
+LeavesMessage key old new (Err (RootMismatch i)) = new ≡ (if i + 1 == key.levels then [] else old)
+
+-- ---- the steps of verification
+
+-- all levels above level i are valid, whatever the message
+abbrev pub AreValidAbove : LmsPublic → Signature → ℕ → Type 0
+AreValidAbove top s i = (message : List ℕ) (j : ℕ) → j < i → IsValidAt top message s j
+
+-- above the bottom: all levels are valid, and this is the bottom's key; or one is the first that isn't
+abbrev pub AboveVerdict : LmsPublic → Signature → Result LmsPublic Refusal → Type 0
+AboveVerdict top s (Ok key) = (key ≡ key_at top s (length s.signed)) × AreValidAbove top s (length s.signed)
+AboveVerdict top s (Err (Unreadable fault)) = ⊥
+AboveVerdict top s (Err LevelMismatch) = ⊥
+AboveVerdict top s (Err (TypeMismatch i)) =
+    (i < length s.signed) × AreValidAbove top s i × (HasKeyTypes top s i → ⊥)
+AboveVerdict top s (Err (RootMismatch i)) =
+    (i < length s.signed) × AreValidAbove top s i × HasKeyTypes top s i
+    × ((message : List ℕ) → IsValidAt top message s i → ⊥)

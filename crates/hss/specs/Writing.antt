@@ -1,0 +1,111 @@
+-- The keys and signatures that trees' secrets make, and their bytes (RFC 8554 6.1 and 6.2).
+use Rattle.std.specs.Prelude.{◌≡◌, ℕ, ◌+◌, ◌<◌, ◌^◌, List, [], ◌∷◌, ◌++◌, length, map, drop, slice_index_or}
+use Rattle.std.specs.List.{flat_map, zip}
+use Rattle.typecodes.specs.declared.types.LmsPair.{LmsPair}
+use Rattle.typecodes.specs.Types.{height_of, lms_signature_len_of}
+use Rattle.lmots.specs.Key.{message_digest_of}
+use Rattle.lmots.specs.Hashes.{u32str}
+use Rattle.lms.specs.declared.key.LmsPublic.{LmsPublic}
+use Rattle.lms.specs.Signature.{Signature as LmsSignature}
+use Rattle.lms.specs.Secret.{path_in, public_of as lms_public_of}
+use Rattle.lms.specs.Writing.{public_bytes as lms_public_bytes, signature_bytes as lms_signature_bytes, textbook as lms_textbook}
+use Rattle.hss.specs.declared.key.HssPublic.{HssPublic}
+use Rattle.hss.specs.declared.secret.Level.{Level}
+use Rattle.hss.specs.Signature.{Signature, SignedKey, message_at}
+use Rattle.hss.specs.Secret.{Signing, key_of, signature_by}
+
+-- ---- the bytes
+
+-- u32str(L) || the top tree's public key
+abbrev pub public_bytes : HssPublic → List ℕ
+public_bytes key = u32str key.levels ++ lms_public_bytes key.top
+
+-- a level's signature || the next level's public key
+abbrev pub signed_key_bytes : SignedKey → List ℕ
+signed_key_bytes signed = lms_signature_bytes signed.signature ++ lms_public_bytes signed.key
+
+-- u32str(L - 1) || the signed keys || the bottom level's signature
+abbrev pub signature_bytes : Signature → List ℕ
+signature_bytes s =
+    u32str (length s.signed) ++ flat_map signed_key_bytes s.signed ++ lms_signature_bytes s.bottom
+
+-- ---- the textbook signature of levels, of those above the bottom, from the top down, and the bottom one
+
+-- the levels
+abbrev pub levels_in : {L : Type 0} → List L → L → List L
+levels_in above bottom = above ++ bottom ∷ []
+
+-- level i of them
+abbrev pub level_in : {L : Type 0} → List L → L → ℕ → L
+level_in above bottom i = slice_index_or (levels_in above bottom) i bottom
+
+-- The signature of levels: above the bottom each level's signature stands before the next level's key.
+abbrev pub signed_with : {L : Type 0} → (L → LmsSignature) → (L → LmsPublic) → List L → L → Signature
+signed_with signature key above bottom =
+    let nexts = drop 1 (levels_in above bottom) in record {
+      signed = map (λ pair. record { signature = signature pair.0; key = key pair.1 }) (zip above nexts);
+      bottom = signature bottom;
+    }
+
+-- the key of the levels' trees
+abbrev pub public_of : List Signing → Signing → HssPublic
+public_of above bottom = record {
+  levels = length above + 1;
+  top = lms_public_of (level_in above bottom 0).secret;
+}
+
+-- The textbook signature: each level's is the textbook signature of its tree, and stands before the key
+-- of the next level's tree.
+abbrev pub textbook : List Signing → Signing → Signature
+textbook above bottom = signed_with
+    (λ level. lms_textbook level.secret level.leaf level.randomizer level.digest) (λ level. lms_public_of level.secret)
+    above bottom
+
+-- the values have their sizes, and the leaf is one of the tree
+pub record IsSized (level : Signing) : Type 0 where
+  pub identifier : length level.secret.identifier ≡ 16
+  pub randomizer : length level.randomizer ≡ 32
+  pub inside : level.leaf < 2 ^ height_of level.secret.pair.tree
+
+-- each level's leaf is one of its tree, and its digest that of what it signs
+pub record Signs (above : List Signing) (bottom : Signing) (message : List ℕ) : Type 0 where
+  pub leaves : (i : ℕ) → i < length above + 1 → let level = level_in above bottom i in
+      level.leaf < 2 ^ height_of level.secret.pair.tree
+  pub digests : (i : ℕ) → i < length above + 1 → let level = level_in above bottom i in
+      level.digest ≡ message_digest_of level.secret.identifier level.leaf level.randomizer
+      (message_at message (textbook above bottom) i)
+
+-- ---- the signature that is made of levels with their roots and paths
+
+-- how many bytes a level's signature takes with the next level's key
+abbrev pub part_size : Level → ℕ
+part_size level = lms_signature_len_of level.secret.pair + 56
+
+-- a level's signature before a key
+abbrev pub signed_key_by : Level → LmsPublic → SignedKey
+signed_key_by level next = record { signature = signature_by level; key = next }
+
+-- the signature of levels, and the key under which it is
+abbrev pub signed_by : List Level → Level → Signature
+signed_by above bottom = signed_with signature_by key_of above bottom
+
+abbrev pub public_by : List Level → Level → HssPublic
+public_by above bottom = record { levels = length above + 1; top = key_of (level_in above bottom 0) }
+
+-- the types of the levels
+abbrev pub pairs_of : List Level → Level → List LmsPair
+pairs_of above bottom = map (λ level. level.secret.pair) (levels_in above bottom)
+
+-- each level's root is that of its secret's tree, and its path that of its leaf
+pub record FromSecrets (above : List Level) (bottom : Level) : Type 0 where
+  pub roots : (i : ℕ) → i < length above + 1 → let level = level_in above bottom i in
+      level.root ≡ (lms_public_of level.secret).root
+  pub paths : (i : ℕ) → i < length above + 1 → let level = level_in above bottom i in
+      level.path.now ≡ path_in level.secret level.leaf
+
+-- each level's digest is that of what it signs, where the bottom one signs the message
+abbrev pub AreDigests : List Level → Level → List ℕ → Type 0
+AreDigests above bottom message =
+    (i : ℕ) → i < length above + 1 → let level = level_in above bottom i in
+    level.digest ≡ message_digest_of level.secret.identifier level.leaf level.randomizer
+    (message_at message (signed_by above bottom) i)
