@@ -24,8 +24,8 @@ use Rattle.hss.specs.Verification.{Verdict as HssVerdict}
 use Rattle.xmss.specs.declared.key.XmssPublic.{XmssPublic}
 use Rattle.xmss.specs.Signature.{leaf_index, signature as xmss_signature}
 use Rattle.xmss.specs.Verification.{Verdict as XmssVerdict}
-use Rattle.sign_core.specs.declared.public.AnyPublic.{AnyPublic}
-use Rattle.sign_core.specs.declared.public.AnyPublic.TheVariants.{Lms, Hss, Xmss}
+use Rattle.sign_core.specs.declared.key.AnyPublic.{AnyPublic}
+use Rattle.sign_core.specs.declared.key.AnyPublic.TheVariants.{Lms, Hss, Xmss}
 use Rattle.sign_core.specs.Key.{KeyVerdict}
 use Rattle.command.specs.Judgement.{Judgement, decisive}
 use Rattle.command.specs.declared.refusal.Refusal.{Refusal}

@@ -5,7 +5,7 @@ use Rattle.typecodes.specs.declared.fault.Cause.{Cause}
 use Rattle.typecodes.specs.declared.fault.Cause.TheVariants.{Truncated, UnknownType, LevelCount, LeafOutOfRange, Trailing}
 use Rattle.typecodes.specs.Refusal.{refusal_number}
 use Rattle.typecodes.specs.declared.refusal.Refusal.TheVariants.{Unreadable, TypeMismatch, LevelMismatch, RootMismatch}
-use Rattle.sign_core.specs.declared.public.KeyFault.TheVariants.{Length as KeyLength, Unreadable as UnreadableKey}
+use Rattle.sign_core.specs.declared.key.KeyFault.TheVariants.{Length as KeyLength, Unreadable as UnreadableKey}
 use Rattle.clap.specs.Words.{IsAmong, Kinds, fault_of}
 use Rattle.clap.specs.declared.error.kind.ErrorKind.{ErrorKind}
 use Rattle.clap.specs.declared.error.kind.ErrorKind.TheVariants as kind

@@ -5,7 +5,7 @@ use Rattle.typecodes.specs.declared.fault.Cause.TheVariants.{LevelCount}
 use Rattle.typecodes.specs.Types.{lms_code, lms_types, ots_code, ots_types, xmss_code, xmss_types}
 use Rattle.typecodes.specs.declared.types.LmsType.{LmsType}
 use Rattle.typecodes.specs.declared.types.OtsType.{OtsType}
-use Rattle.typecodes.specs.declared.xmss.XmssType.{XmssType}
+use Rattle.typecodes.specs.declared.types.XmssType.{XmssType}
 use Rattle.typecodes.specs.Layout.{Layout, done, refuse, ◌>>=◌}
 use Rattle.typecodes.specs.Fields.{number, block, lms_type, ots_type, xmss_type}
 use Rattle.typecodes.proofs.Sizes.{HasSize, size-bind, size-block, size-done, size-if, size-number, size-refuse, size-typed}

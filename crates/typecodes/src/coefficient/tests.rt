@@ -4,11 +4,14 @@ use super::*;
 #[test]
 fn coefficients(rt: HostRuntime) {
     let bytes = [0x12, 0x34];
-    assert_eq!(rt; coef(&bytes, 7, 1), 0);
-    assert_eq!(rt; coef(&bytes, 0, 4), 1);
-    assert_eq!(rt; coef(&bytes, 1, 4), 2);
-    assert_eq!(rt; coef(&bytes, 2, 4), 3);
-    assert_eq!(rt; coef(&bytes, 3, 4), 4);
-    assert_eq!(rt; coef(&bytes, 5, 2), 3);
-    assert_eq!(rt; coef(&bytes, 1, 8), 0x34);
+    let found = [
+        coef(&bytes, 7, 1),
+        coef(&bytes, 0, 4),
+        coef(&bytes, 1, 4),
+        coef(&bytes, 2, 4),
+        coef(&bytes, 3, 4),
+        coef(&bytes, 5, 2),
+        coef(&bytes, 1, 8),
+    ];
+    assert_eq!(rt; found, [0, 1, 2, 3, 4, 3, 0x34]);
 }

@@ -1,6 +1,6 @@
 use crate::levels::{LevelCount, Levels};
 use crate::types::{LmsPair, LmsType, OtsType};
-use std::test::Fail;
+use std::process::Abort;
 
 const TOP: LmsPair = LmsPair {
     tree: LmsType::H10,
@@ -12,35 +12,51 @@ const BELOW: LmsPair = LmsPair {
     ots: OtsType::W1,
 };
 
+// The count that is made of a number, 0 where there is none.
+fn count_of(number: u8) -> u8 {
+    match LevelCount::new(number) {
+        Some(count) => count.get(),
+        None => 0,
+    }
+}
+
 // RFC 8554 6.1: L is from 1 to 8.
 #[test]
 fn counts_are_1_to_8(rt: HostRuntime) {
-    for number in 1..=8 {
-        assert_eq!(rt; LevelCount::new(number).map(LevelCount::get), Some(number));
-    }
-    for number in [0, 9, 255] {
-        assert_eq!(rt; LevelCount::new(number), None, "{number}");
+    for (number, count) in [
+        (0, 0),
+        (1, 1),
+        (2, 2),
+        (3, 3),
+        (4, 4),
+        (5, 5),
+        (6, 6),
+        (7, 7),
+        (8, 8),
+        (9, 0),
+        (255, 0),
+    ] {
+        assert_eq!(rt; count_of(number), count, "{number}");
     }
 }
 
+// The pairs are levels, which are copied whole.
+fn expect_levels(rt: &impl Abort, pairs: &[LmsPair]) {
+    let Some(levels) = Levels::new(pairs) else {
+        panic!(rt; "{} levels", pairs.len())
+    };
+    let count = usize::from(levels.count().get());
+    assert_eq!(rt; (levels.as_slice(), count), (pairs, pairs.len()));
+    assert_eq!(rt; levels.copied(), levels);
+}
+
 #[test]
-fn levels_of_each_count(rt: HostRuntime) -> Result<(), Fail> {
+fn levels_of_each_count(rt: HostRuntime) {
     let mut pairs = [BELOW; 8];
     pairs[0] = TOP;
     for count in 1..=8 {
-        let levels = Levels::new(&pairs[..count]).ok_or("levels")?;
-        assert_eq!(rt; levels.as_slice(), &pairs[..count]);
-        assert_eq!(rt; usize::from(levels.count().get()), count);
+        expect_levels(&rt, &pairs[..count]);
     }
-    Ok(())
-}
-
-#[test]
-fn levels_are_copied_whole(rt: HostRuntime) -> Result<(), Fail> {
-    let levels = Levels::new(&[TOP, BELOW]).ok_or("levels")?;
-    assert_eq!(rt; levels.copied().as_slice(), [TOP, BELOW].as_slice());
-    assert_eq!(rt; levels.copied(), levels);
-    Ok(())
 }
 
 #[test]

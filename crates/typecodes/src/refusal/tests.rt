@@ -1,18 +1,21 @@
 use crate::{Cause, ReadFault, Refusal};
 
+const fn unreadable(cause: Cause) -> Refusal {
+    Refusal::Unreadable(ReadFault { place: 8, cause })
+}
+
 #[test]
 fn refusals_have_numbers(rt: HostRuntime) {
-    for (cause, number) in [
-        (Cause::Truncated, 1),
-        (Cause::UnknownType, 2),
-        (Cause::LevelCount, 3),
-        (Cause::LeafOutOfRange, 4),
-        (Cause::Trailing, 5),
+    for (refusal, number) in [
+        (unreadable(Cause::Truncated), 1),
+        (unreadable(Cause::UnknownType), 2),
+        (unreadable(Cause::LevelCount), 3),
+        (unreadable(Cause::LeafOutOfRange), 4),
+        (unreadable(Cause::Trailing), 5),
+        (Refusal::TypeMismatch(0), 10),
+        (Refusal::LevelMismatch, 11),
+        (Refusal::RootMismatch(0), 12),
     ] {
-        let fault = ReadFault { place: 8, cause };
-        assert_eq!(rt; Refusal::Unreadable(fault).number(), number);
+        assert_eq!(rt; refusal.number(), number);
     }
-    assert_eq!(rt; Refusal::TypeMismatch(0).number(), 10);
-    assert_eq!(rt; Refusal::LevelMismatch.number(), 11);
-    assert_eq!(rt; Refusal::RootMismatch(0).number(), 12);
 }

@@ -9,11 +9,8 @@ fn one_time_types(rt: HostRuntime) {
         (OtsType::W4, 3, 4, 67, 2180),
         (OtsType::W8, 4, 8, 34, 1124),
     ] {
-        assert_eq!(rt; OtsType::from_code(code), Some(ots));
-        assert_eq!(rt;
-            (ots.code(), ots.width(), ots.chains(), ots.signature_len()),
-            (code, width, chains, len)
-        );
+        let row = (ots.code(), ots.width(), ots.chains(), ots.signature_len());
+        assert_eq!(rt; row, (code, width, chains, len));
     }
 }
 
@@ -27,8 +24,47 @@ fn tree_types(rt: HostRuntime) {
         (LmsType::H20, 8, 20),
         (LmsType::H25, 9, 25),
     ] {
-        assert_eq!(rt; LmsType::from_code(code), Some(tree));
         assert_eq!(rt; (tree.code(), tree.height()), (code, height));
+    }
+}
+
+// The codes of the standard's XDR formats, and the lengths of signatures by RFC 8391 4.1.8.
+#[test]
+fn xmss_types(rt: HostRuntime) {
+    for (xmss, code, height, len) in [
+        (XmssType::H10, 1, 10, 2500),
+        (XmssType::H16, 2, 16, 2692),
+        (XmssType::H20, 3, 20, 2820),
+    ] {
+        let row = (xmss.code(), xmss.height(), xmss.signature_len());
+        assert_eq!(rt; row, (code, height, len));
+    }
+}
+
+// Each code in each of the three tables.
+#[test]
+fn types_by_code(rt: HostRuntime) {
+    for (code, ots, tree, xmss) in [
+        (0, None, None, None),
+        (1, Some(OtsType::W1), None, Some(XmssType::H10)),
+        (2, Some(OtsType::W2), None, Some(XmssType::H16)),
+        (3, Some(OtsType::W4), None, Some(XmssType::H20)),
+        (4, Some(OtsType::W8), None, None),
+        (5, None, Some(LmsType::H5), None),
+        (6, None, Some(LmsType::H10), None),
+        (7, None, Some(LmsType::H15), None),
+        (8, None, Some(LmsType::H20), None),
+        (9, None, Some(LmsType::H25), None),
+        (10, None, None, None),
+        (0x0400_0000, None, None, None),
+        (0x0500_0000, None, None, None),
+    ] {
+        let named = (
+            OtsType::from_code(code),
+            LmsType::from_code(code),
+            XmssType::from_code(code),
+        );
+        assert_eq!(rt; named, (ots, tree, xmss), "code {code}");
     }
 }
 
@@ -41,34 +77,5 @@ fn signature_lengths(rt: HostRuntime) {
         (LmsType::H25, OtsType::W1, 9324),
     ] {
         assert_eq!(rt; LmsPair { tree, ots }.signature_len(), len);
-    }
-}
-
-// The codes of the standard's XDR formats, and the lengths of signatures by RFC 8391 4.1.8.
-#[test]
-fn xmss_types(rt: HostRuntime) {
-    for (xmss, code, height, len) in [
-        (XmssType::H10, 1, 10, 2500),
-        (XmssType::H16, 2, 16, 2692),
-        (XmssType::H20, 3, 20, 2820),
-    ] {
-        assert_eq!(rt; XmssType::from_code(code), Some(xmss));
-        assert_eq!(rt;
-            (xmss.code(), xmss.height(), xmss.signature_len()),
-            (code, height, len)
-        );
-    }
-}
-
-#[test]
-fn codes_that_name_no_type(rt: HostRuntime) {
-    for code in [0, 5, 9, 0x0400_0000] {
-        assert_eq!(rt; OtsType::from_code(code), None, "code {code}");
-    }
-    for code in [0, 4, 10, 0x0500_0000] {
-        assert_eq!(rt; LmsType::from_code(code), None, "code {code}");
-    }
-    for code in [0, 4] {
-        assert_eq!(rt; XmssType::from_code(code), None, "code {code}");
     }
 }
