@@ -19,7 +19,8 @@ use Rattle.lms.specs.Layouts.{Signature as LmsSignature, signature_with, type_en
 use Rattle.lms.specs.Verdict.{Verdict as LmsVerdict}
 use Rattle.hss.specs.declared.key.HssPublic.{HssPublic}
 use Rattle.hss.specs.Key.{level_number}
-use Rattle.hss.specs.Signature.{signature as hss_signature, signed_key, signed_keys}
+use Rattle.hss.specs.SignedKey.{signed_key, signed_keys}
+use Rattle.hss.specs.Signature.{signature as hss_signature}
 use Rattle.hss.specs.Verification.{Verdict as HssVerdict}
 use Rattle.xmss.specs.declared.key.XmssPublic.{XmssPublic}
 use Rattle.xmss.specs.Layouts.{leaf_index, signature as xmss_signature}

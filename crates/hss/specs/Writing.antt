@@ -9,7 +9,8 @@ use Rattle.lms.specs.Layouts.{Signature as LmsSignature}
 use Rattle.lms.specs.Textbook.{path_in, public_bytes as lms_public_bytes, public_of as lms_public_of, signature_bytes as lms_signature_bytes, textbook as lms_textbook}
 use Rattle.hss.specs.declared.key.HssPublic.{HssPublic}
 use Rattle.hss.specs.declared.secret.Level.{Level}
-use Rattle.hss.specs.Signature.{Signature, SignedKey, message_at}
+use Rattle.hss.specs.SignedKey.{SignedKey}
+use Rattle.hss.specs.Signature.{Signature, message_at}
 use Rattle.hss.specs.Secret.{Signing, key_of, signature_by}
 
 -- ---- the bytes

@@ -11,9 +11,10 @@
 
 mod key;
 mod laws;
-mod levels;
 mod secret;
 mod signature;
+mod signed_key;
+mod signed_keys;
 #[cfg(test)]
 mod tests;
 mod verification;
@@ -23,5 +24,6 @@ pub use crate::key::HssPublic;
 pub use crate::laws::{joining_laws, spelling_laws, textbook_laws, verdict_laws};
 pub use crate::secret::Level;
 pub use crate::signature::HssSigView;
+pub use crate::signed_key::SignedKeyView;
 pub use crate::verification::verify;
 pub use crate::writing::{signature_len, write_public, write_signature, write_signed_key};
