@@ -1,13 +1,12 @@
 -- What is told of contents, and which answers are right for it.
-use Rattle.std.proofs.Common.{◌≡◌, ◌∙◌, ℕ, ◌≤◌, ◌<◌, ◌⊎◌, List, [], ◌++◌, length, take, Option, Some, None, Result, Ok, Err, IfOk, IfErr, IsErrAnd, inl, inr, refl, sym, subst, ap, append-nil, arith, length-take-le, take_all, take_at}
+use Rattle.std.proofs.Common.{◌≡◌, ◌∙◌, ℕ, ◌≤◌, ◌<◌, ◌⊎◌, List, [], ◌∷◌, ◌++◌, length, take, Option, Some, None, Result, Ok, Err, IfOk, IfErr, IsErrAnd, inl, inr, refl, sym, subst, ap, append-nil, arith, length-take-le, take_all, take_at}
 use Rattle.std.proofs.lemmas.Bool.{cases_lt}
 use Rattle.std.specs.Io.KnownBytes.{Consumes, IsAtEnd}
 use Rattle.std.specs.declared.io.ErrorKind.{ErrorKind}
 use Rattle.std.specs.declared.io.ErrorKind.TheVariants as kind
 use Rattle.sign_core.specs.declared.public.AnyPublic.{AnyPublic}
 use Rattle.sign_core.specs.declared.public.KeyFault.{KeyFault}
-use Rattle.sign_core.specs.AnyKey.{KeyHasFault, SpellsKey}
-use Rattle.command.specs.Commands.{verify_line}
+use Rattle.sign_core.specs.Key.{KeyHasFault, SpellsKey}
 use Rattle.command.specs.Judgement.{Answers, AnswersOf, ReadsKey, refusal_of}
 use Rattle.command.specs.Lines.{Tells, TellsOf, TellsRightly}
 use Rattle.command.specs.Opening.{IsContent, Shows}
@@ -98,7 +97,7 @@ first_of count n (Some xs) (Some ys) buffer size within read end = elim (cases_l
 ]
 
 -- the answer on the files of a line is that on the paths of the same line
-pub tells_of_line : (content : List ℕ → Option (List ℕ)) (a b d p m s : List ℕ) (old new : Taken) (status : ℕ) → verify_line a b d ≡ verify_line p m s
+pub tells_of_line : (content : List ℕ → Option (List ℕ)) (a b d p m s : List ℕ) (old new : Taken) (status : ℕ) → ◌≡◌ {A = List (List ℕ)} (a ∷ b ∷ d ∷ []) (p ∷ m ∷ s ∷ [])
     → TellsOf (content a) (content b) (content d) old new status → TellsOf (content p) (content m) (content s) old new status
 tells_of_line content a b d p m s old new status same told =
     let first : a ≡ p = cc in
@@ -107,3 +106,8 @@ tells_of_line content a b d p m s old new status same told =
     subst (λ x. TellsOf (content p) (content m) (content x) old new status) third
     (subst (λ x. TellsOf (content p) (content x) (content d) old new status) second
     (subst (λ x. TellsOf (content x) (content b) (content d) old new status) first told))
+
+-- the status of the answer that there is no memory
+pub memory_status : (old new : Taken) (status : ℕ) → Tells (Err OutOfMemory) old new status → status ≡ 3
+memory_status old new status (inl (is, written)) = is
+memory_status old new status (inr (is, failed)) = is

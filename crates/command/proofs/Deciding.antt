@@ -6,28 +6,28 @@ use Rattle.typecodes.specs.declared.types.OtsType.{OtsType}
 use Rattle.typecodes.specs.declared.types.OtsType.TheVariants.{W1, W2, W4, W8}
 use Rattle.typecodes.specs.declared.types.LmsType.{LmsType}
 use Rattle.typecodes.specs.declared.types.LmsType.TheVariants.{H5, H10, H15, H20, H25}
-use Rattle.typecodes.specs.declared.xmss.XmssType.{XmssType}
-use Rattle.typecodes.specs.declared.xmss.XmssType.TheVariants.{H10 as X10, H16 as X16, H20 as X20}
+use Rattle.typecodes.specs.declared.types.XmssType.{XmssType}
+use Rattle.typecodes.specs.declared.types.XmssType.TheVariants.{H10 as X10, H16 as X16, H20 as X20}
 use Rattle.typecodes.specs.declared.refusal.Refusal.{Refusal as SignatureRefusal}
 use Rattle.typecodes.specs.declared.refusal.Refusal.TheVariants.{Unreadable, TypeMismatch, LevelMismatch, RootMismatch}
-use Rattle.typecodes.specs.Types.{chains_of, height_of, ots_code, ots_types, lms_code, lms_types}
-use Rattle.typecodes.specs.XmssTypes.{xmss_height_of}
+use Rattle.typecodes.specs.Types.{chains_of, height_of, ots_code, ots_types, lms_code, lms_types, xmss_height_of}
 use Rattle.typecodes.specs.Layout.{Layout, done, refuse, ◌>>=◌}
 use Rattle.typecodes.specs.Fields.{number, block, values, ots_type, lms_type}
 use Rattle.lms.specs.declared.key.LmsPublic.{LmsPublic}
-use Rattle.lms.specs.Layouts.{Signature as LmsSignature, signature_with, type_end, signature as lms_signature, public_key as lms_public_key}
-use Rattle.lms.specs.Verdict.{Verdict as LmsVerdict}
+use Rattle.lms.specs.Signature.{Signature as LmsSignature, signature_with, type_end, signature as lms_signature}
+use Rattle.lms.specs.Key.{public_key as lms_public_key}
+use Rattle.lms.specs.Verification.{Verdict as LmsVerdict}
 use Rattle.hss.specs.declared.key.HssPublic.{HssPublic}
 use Rattle.hss.specs.Key.{level_number}
 use Rattle.hss.specs.SignedKey.{signed_key, signed_keys}
 use Rattle.hss.specs.Signature.{signature as hss_signature}
 use Rattle.hss.specs.Verification.{Verdict as HssVerdict}
 use Rattle.xmss.specs.declared.key.XmssPublic.{XmssPublic}
-use Rattle.xmss.specs.Layouts.{leaf_index, signature as xmss_signature}
-use Rattle.xmss.specs.Verdict.{Verdict as XmssVerdict}
+use Rattle.xmss.specs.Signature.{leaf_index, signature as xmss_signature}
+use Rattle.xmss.specs.Verification.{Verdict as XmssVerdict}
 use Rattle.sign_core.specs.declared.public.AnyPublic.{AnyPublic}
 use Rattle.sign_core.specs.declared.public.AnyPublic.TheVariants.{Lms, Hss, Xmss}
-use Rattle.sign_core.specs.AnyKey.{KeyVerdict}
+use Rattle.sign_core.specs.Key.{KeyVerdict}
 use Rattle.command.specs.Judgement.{Judgement, decisive}
 use Rattle.command.specs.declared.refusal.Refusal.{Refusal}
 use Rattle.command.specs.declared.refusal.Refusal.TheVariants.{Key, Signature, OutOfMemory, FileFailed}

@@ -4,7 +4,6 @@ use Rattle.clap.specs.Words.{HasKind, Kinds, Row, Text, kind_of}
 use Rattle.clap.specs.declared.error.Error.{Error}
 use Rattle.clap.specs.declared.error.kind.ErrorKind.{ErrorKind}
 use Rattle.clap.specs.declared.error.kind.ErrorKind.TheVariants.{OutOfMemory}
-use Rattle.command.specs.Commands.{verify_line}
 use Rattle.command.specs.Requests.{Files, files_of, named_files}
 
 -- the rows of the subcommand that was met have its files
@@ -14,11 +13,11 @@ rows_have None rows name files same named = cc
 rows_have (Some met) rows name files same named =
     ap (λ (o : Option (List Row)). files_of (unwrap_or o rows)) same ∙ ap (λ (o : Option (Text × Files)). (unwrap_or o (name, files)).1) named
 
--- three files that are the line's make the line
-pub same_line : (p m s p' m' s' : Text) (files : Files) → files ≡ (Some p, Some m, Some s) → files ≡ (Some p', Some m', Some s')
-    → verify_line p m s ≡ verify_line p' m' s'
-same_line p m s p' m' s' files these those =
-    ap (λ (f : Files). verify_line (unwrap_or f.0 []) (unwrap_or f.1 []) (unwrap_or f.2 [])) (sym these ∙ those)
+-- three files that are the line's are those that were found
+pub same_files : (p m s p' m' s' : Text) (files : Files) → files ≡ (Some p, Some m, Some s) → files ≡ (Some p', Some m', Some s')
+    → p ∷ m ∷ s ∷ [] ≡ p' ∷ m' ∷ s' ∷ []
+same_files p m s p' m' s' files these those =
+    ap (λ (f : Files). unwrap_or f.0 [] ∷ unwrap_or f.1 [] ∷ unwrap_or f.2 [] ∷ []) (sym these ∙ those)
 
 -- an error that is handed on keeps what holds of it, where a value has a clause of its own
 pub handed_on : {T : Type 0} (r : Result T Error) (e : Error) (P : T → Type 0) (Q : Error → Type 0)

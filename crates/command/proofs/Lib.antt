@@ -1,5 +1,6 @@
 pub mod Contents
 pub mod Deciding
+pub mod Explaining
 pub mod Finding
 pub mod Judging
 pub mod Taking

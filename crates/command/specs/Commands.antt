@@ -1,5 +1,5 @@
 -- The program's commands, as `clap` knows them.
-use Rattle.std.specs.Prelude.{◌≢◌, ⊤, ℕ, true, List, [], ◌∷◌, codes}
+use Rattle.std.specs.Prelude.{◌≡◌, ◌≢◌, ◌⊎◌, ⊤, ℕ, true, List, [], ◌∷◌, ◌++◌, codes}
 use Rattle.clap.specs.Words.{App, Rule, new_app, new_rule, with_rule, with_subcommand}
 
 -- a file that has to be named
@@ -20,11 +20,25 @@ bare_app = record (new_app (codes "hbsign")) {
 abbrev pub hbsign_app : App
 hbsign_app = with_subcommand bare_app verify_app.top
 
--- a word that doesn't begin with a hyphen (45)
+-- a word that isn't read as an option: it doesn't begin with a hyphen (45), or is the hyphen alone
 abbrev pub IsFileWord : List ℕ → Type 0
 IsFileWord [] = ⊤
-IsFileWord (byte ∷ bytes) = byte ≢ 45
+IsFileWord (byte ∷ []) = ⊤
+IsFileWord (byte ∷ next ∷ bytes) = byte ≢ 45
 
--- the line `verify public message signature`
-abbrev pub verify_line : List ℕ → List ℕ → List ℕ → List (List ℕ)
-verify_line public message signature = codes "verify" ∷ public ∷ message ∷ signature ∷ []
+abbrev pub AreFileWords : List (List ℕ) → Type 0
+AreFileWords [] = ⊤
+AreFileWords (word ∷ words) = IsFileWord word × AreFileWords words
+
+-- The words name these files: they are the files' words, and none looks like an option; or `--` stands before some of
+-- them or behind all, and none before it looks like an option.
+abbrev pub NamesFiles : List (List ℕ) → List (List ℕ) → Type 0
+NamesFiles words files =
+    ((words ≡ files) × AreFileWords files)
+    ⊎ ((before : List (List ℕ)) × (after : List (List ℕ)) × (words ≡ before ++ codes "--" ∷ after)
+    × (files ≡ before ++ after) × AreFileWords before)
+
+-- a line `verify public message signature`, with or without `--`
+abbrev pub IsVerifyLine : List (List ℕ) → List ℕ → List ℕ → List ℕ → Type 0
+IsVerifyLine words public message signature =
+    (names : List (List ℕ)) × (words ≡ codes "verify" ∷ names) × NamesFiles names (public ∷ message ∷ signature ∷ [])

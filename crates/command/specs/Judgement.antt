@@ -2,9 +2,9 @@
 use Rattle.std.specs.Prelude.{ℕ, ⊤, List, Option, Result, Ok, Err}
 use Rattle.std.specs.declared.io.ErrorKind.{ErrorKind}
 use Rattle.std.specs.declared.io.ErrorKind.TheVariants as kind
-use Rattle.sign_core.specs.declared.public.AnyPublic.{AnyPublic}
-use Rattle.sign_core.specs.declared.public.KeyFault.{KeyFault}
-use Rattle.sign_core.specs.AnyKey.{KeyHasFault, KeyVerdict, SpellsKey}
+use Rattle.sign_core.specs.declared.key.AnyPublic.{AnyPublic}
+use Rattle.sign_core.specs.declared.key.KeyFault.{KeyFault}
+use Rattle.sign_core.specs.Key.{KeyHasFault, KeyVerdict, SpellsKey}
 use Rattle.command.specs.Opening.{IsContent}
 use Rattle.command.specs.declared.refusal.Refusal.{Refusal}
 use Rattle.command.specs.declared.refusal.Refusal.TheVariants.{Key, Signature, OutOfMemory, FileFailed}

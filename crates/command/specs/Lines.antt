@@ -1,12 +1,12 @@
 -- The line that tells each answer, and the exit status.
-use Rattle.std.specs.Prelude.{◌≡◌, ℕ, ◌<◌, ◌⊎◌, List, [], ◌++◌, Option, None, Result, Ok, Err, length, codes, decimal}
+use Rattle.std.specs.Prelude.{◌≡◌, ℕ, ◌<◌, ◌⊎◌, List, [], ◌∷◌, ◌++◌, Option, None, Result, Ok, Err, length, codes, decimal}
 use Rattle.typecodes.specs.Fault.{cause_number}
 use Rattle.typecodes.specs.declared.fault.Cause.{Cause}
 use Rattle.typecodes.specs.declared.fault.Cause.TheVariants.{Truncated, UnknownType, LevelCount, LeafOutOfRange, Trailing}
-use Rattle.typecodes.specs.Refusals.{refusal_number}
+use Rattle.typecodes.specs.Refusal.{refusal_number}
 use Rattle.typecodes.specs.declared.refusal.Refusal.TheVariants.{Unreadable, TypeMismatch, LevelMismatch, RootMismatch}
 use Rattle.sign_core.specs.declared.public.KeyFault.TheVariants.{Length as KeyLength, Unreadable as UnreadableKey}
-use Rattle.clap.specs.Words.{IsAmong, fault_of}
+use Rattle.clap.specs.Words.{IsAmong, Kinds, fault_of}
 use Rattle.clap.specs.declared.error.kind.ErrorKind.{ErrorKind}
 use Rattle.clap.specs.declared.error.kind.ErrorKind.TheVariants as kind
 use Rattle.command.specs.Commands.{hbsign_app}
@@ -93,6 +93,18 @@ TellsRightly old new status = TellsOf None None None old new status
 abbrev pub Helps : List ℕ → Taken → Taken → ℕ → Type 0
 Helps text old new status = ((status ≡ 0) × Writes text old new) ⊎ ((status ≡ 3) × Fails old new)
 
+-- how the program is called
+abbrev pub help_text : List ℕ
+help_text =
+    codes "Verifies hash-based signatures: LMS and HSS of RFC 8554, XMSS of RFC 8391.\n\n"
+    ++ codes "Usage: hbsign verify [--] PUBLIC MESSAGE SIGNATURE\n"
+    ++ codes "       hbsign --help | --version\n\n"
+    ++ codes "Commands:\n"
+    ++ codes "  verify  Tells whether SIGNATURE is the signature of MESSAGE under the key PUBLIC\n\n"
+    ++ codes "Options:\n"
+    ++ codes "  -h, --help     Print this text\n"
+    ++ codes "  -V, --version  Print the version\n"
+
 -- the line of the program's name and version
 abbrev pub version_line : List ℕ
 version_line = codes "hbsign 0.1.0\n"
@@ -102,21 +114,23 @@ abbrev pub Refuses : Taken → Taken → Taken → Taken → Type 0
 Refuses old new errors_old errors_new =
     (new ≡ old) × (((text : List ℕ) × (0 < length text) × Writes text errors_old errors_new) ⊎ Fails errors_old errors_new)
 
--- What is left of a line for which `clap` gives an error of this kind: the answer that there is no
--- memory; help, or no memory for it; the version; or nothing on the output.
+-- What comes of a line for which `clap` gives an error of this kind: the answer that there is no memory; help; the
+-- version; or nothing on the output, and status 2.
 abbrev pub Explains : ErrorKind → Taken → Taken → ℕ → Type 0
 Explains kind.OutOfMemory old new status = Tells (Err OutOfMemory) old new status
-Explains kind.DisplayHelp old new status = ((text : List ℕ) × Helps text old new status) ⊎ Tells (Err OutOfMemory) old new status
+Explains kind.DisplayHelp old new status = Helps help_text old new status
 Explains kind.DisplayVersion old new status = Helps version_line old new status
 Explains other old new status = (status ≡ 2) × (new ≡ old)
 
--- What a run of the program on these words leaves on the output: of words without a fault an answer
--- that was told, right for some contents of the files; help or the version, where it may be asked for;
--- the answer that there is no memory; or, of a line that was refused, nothing.
-abbrev pub Runs : List (List ℕ) → Taken → Taken → ℕ → Type 0
-Runs words old new status =
+-- the kinds of error that a line may have
+abbrev pub line_faults : List (List ℕ) → Kinds
+line_faults words = kind.MissingSubcommand ∷ fault_of hbsign_app words
+
+-- What a run of the program on these words leaves on the output: of words without a fault an answer that is right for
+-- some contents of the files; of others what their fault asks for; or, where memory was refused to the reader of the
+-- line, the answer that there is none.
+abbrev pub Runs : List (List ℕ) → Type 0 → Taken → Taken → ℕ → Type 0
+Runs words refused old new status =
     ((fault_of hbsign_app words ≡ []) × TellsRightly old new status)
-    ⊎ (IsAmong kind.DisplayHelp (fault_of hbsign_app words) × ((text : List ℕ) × Helps text old new status))
-    ⊎ (IsAmong kind.DisplayVersion (fault_of hbsign_app words) × Helps version_line old new status)
-    ⊎ Tells (Err OutOfMemory) old new status
-    ⊎ ((status ≡ 2) × (new ≡ old))
+    ⊎ ((fault : ErrorKind) × IsAmong fault (line_faults words) × Explains fault old new status)
+    ⊎ (refused × Tells (Err OutOfMemory) old new status)

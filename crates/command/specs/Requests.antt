@@ -1,7 +1,9 @@
 -- What a line asks for.
-use Rattle.std.specs.Prelude.{List, [], ◌∷◌, Option, codes, option_map}
-use Rattle.clap.specs.Words.{Row, Text, first_of}
-use Rattle.command.specs.Commands.{verify_line}
+use Rattle.std.specs.Prelude.{◌≡◌, ◌+◌, ℕ, List, [], ◌∷◌, Option, Result, Ok, Err, codes, option_map}
+use Rattle.clap.specs.Words.{Row, Text, first_of, kind_of}
+use Rattle.clap.specs.declared.error.Error.{Error}
+use Rattle.clap.specs.declared.error.kind.ErrorKind.{ErrorKind}
+use Rattle.clap.specs.declared.error.kind.ErrorKind.TheVariants.{OutOfMemory}
 use Rattle.command.specs.declared.verify.Verify.{Verify as VerifyFiles}
 use Rattle.command.specs.declared.line.Request.{Request}
 use Rattle.command.specs.declared.line.Request.TheVariants.{Verify}
@@ -10,9 +12,9 @@ use Rattle.command.specs.declared.line.Request.TheVariants.{Verify}
 abbrev pub paths_of : VerifyFiles → List Text
 paths_of files = files.public.now ∷ files.message.now ∷ files.signature.now ∷ []
 
--- the line that asks for it
-abbrev pub line_of : Request → List Text
-line_of (Verify files) = verify_line files.public.now files.message.now files.signature.now
+-- the files of a request
+abbrev pub request_paths : Request → List Text
+request_paths (Verify files) = paths_of files
 
 -- the command's name
 abbrev pub command_of : Request → Text
@@ -28,3 +30,12 @@ files_of rows = (first_of (codes "PUBLIC") rows, first_of (codes "MESSAGE") rows
 -- a subcommand's name and its files
 abbrev pub named_files : Option (Text × List Row) → Option (Text × Files)
 named_files = option_map (λ entered. (entered.0, files_of entered.1))
+
+-- One more refusal of memory is counted exactly where the error is one.
+abbrev pub CountsKind : ErrorKind → ℕ → ℕ → Type 0
+CountsKind OutOfMemory old new = new ≡ old + 1
+CountsKind other old new = new ≡ old
+
+abbrev pub CountsRefusals : {A : Type 0} → Result A Error → ℕ → ℕ → Type 0
+CountsRefusals (Ok request) old new = new ≡ old
+CountsRefusals (Err error) old new = CountsKind (kind_of error) old new

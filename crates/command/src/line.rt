@@ -2,14 +2,16 @@
 
 ghost use Rattle.std.specs.Prelude.{◌≡◌, ℕ, List, ◌∷◌, [], IfErr, IfOk, IfSome, IsSomeAnd, MatchResult, Some, codes, map};
 ghost use Rattle.clap.specs.Words.{HasKind, app_of, fault_of, kind_of, subcommand_name_of, subcommand_rows_of};
-ghost use Rattle.command.specs.Commands.{IsFileWord, hbsign_app, verify_line};
-ghost use Rattle.command.specs.Requests.{command_of, line_of, named_files};
+ghost use Rattle.command.specs.Commands.{IsVerifyLine, hbsign_app};
+ghost use Rattle.command.specs.Lines.{line_faults};
+ghost use Rattle.command.specs.Requests.{CountsRefusals, command_of, named_files, paths_of, request_paths};
 
 use crate::verify::Verify;
 use clap::error::ErrorKind;
 use clap::{ArgMatches, Command, Error};
 use std::alloc::{AllocError, Global};
 use std::convert::AsStr;
+use typecodes::Count;
 
 /// What a line asks for.
 #[derive(Clone, Copy, Debug)]
@@ -21,7 +23,7 @@ pub enum Request<'a> {
 impl<'a> Request<'a> {
     /// The files of a request to verify.
     pub fn files(&self) -> Verify<'a>
-        ensures { line_of self.now ≡ verify_line result.public.now result.message.now result.signature.now }
+        ensures { paths_of result ≡ request_paths self.now }
     {
         match self {
             Request::Verify(files) => *files,
@@ -32,13 +34,60 @@ impl<'a> Request<'a> {
 /// The program's version, as its package has it.
 pub const VERSION: &str = "0.1.0";
 
-/// Reads the words of a line, without the program's name.
-///
-/// An error has one of the kinds that `clap` gives for these words, or there is no memory.
-pub fn read<'a, S: AsStr>(alloc: Global, words: &'a [S]) -> Result<Request<'a>, Error>
-    ensures plain { (p m s : List ℕ) → map S.text words.now ≡ verify_line p m s → IsFileWord p → IsFileWord m → IsFileWord s → MatchResult result (λ request. line_of request ≡ verify_line p m s) (λ error. kind_of error ≡ ErrorKind.OutOfMemory) }
+/// What reads lines, and counts how often it is refused memory.
+pub trait LineReader {
+    // how often memory was refused
+    ghost refusals: { Self → ℕ };
+
+    /// Reads the words of a line, without the program's name. An error has one of the kinds that `clap` gives for
+    /// these words, or there is no memory.
+    fn read<'a, S: AsStr>(&mut self, words: &'a [S]) -> Result<Request<'a>, Error>
+        ensures verifies { (p m s : List ℕ) → IsVerifyLine (map S.text words.now) p m s
+            → MatchResult result (λ request. request_paths request ≡ p ∷ m ∷ s ∷ [])
+            (λ error. kind_of error ≡ ErrorKind.OutOfMemory) }
+        ensures ok { IfOk result (λ _. fault_of hbsign_app (map S.text words.now) ≡ []) }
+        ensures err { IfErr result (HasKind (line_faults (map S.text words.now))) }
+        ensures counts { CountsRefusals result (refusals self.old) (refusals self.new) };
+}
+
+/// Reads lines as `clap` does.
+#[derive(Drop)]
+pub struct ClapReader {
+    alloc: Global,
+    refusals: Count,
+}
+
+impl ClapReader {
+    /// A reader that was refused no memory yet.
+    pub fn new(alloc: Global) -> Self {
+        ClapReader {
+            alloc,
+            refusals: Count::new(),
+        }
+    }
+}
+
+impl LineReader for ClapReader {
+    ghost refusals = { λ reader. reader.refusals };
+
+    fn read<'a, S: AsStr>(&mut self, words: &'a [S]) -> Result<Request<'a>, Error> {
+        let request = read(self.alloc, words);
+        if let Err(error) = &request {
+            if error.kind() == ErrorKind::OutOfMemory {
+                self.refusals.add_one();
+            }
+        }
+        request
+    }
+}
+
+// Reads the words of a line.
+fn read<'a, S: AsStr>(alloc: Global, words: &'a [S]) -> Result<Request<'a>, Error>
+    ensures verifies { (p m s : List ℕ) → IsVerifyLine (map S.text words.now) p m s
+        → MatchResult result (λ request. request_paths request ≡ p ∷ m ∷ s ∷ [])
+        (λ error. kind_of error ≡ ErrorKind.OutOfMemory) }
     ensures ok { IfOk result (λ _. fault_of hbsign_app (map S.text words.now) ≡ []) }
-    ensures err { IfErr result (HasKind (ErrorKind.MissingSubcommand ∷ fault_of hbsign_app (map S.text words.now))) }
+    ensures err { IfErr result (HasKind (line_faults (map S.text words.now))) }
 {
     let mut command = hbsign(alloc)?;
     let matches = command.try_get_matches_from_mut(words)?;
@@ -65,7 +114,9 @@ fn hbsign<'a>(alloc: Global) -> Result<Command<'a>, AllocError>
 // What is asked for: the subcommand that was used, with its words.
 fn asked<'a>(matches: &ArgMatches<'a>) -> Option<Request<'a>>
     ensures named { IfSome result (λ request. subcommand_name_of matches.now ≡ Some (command_of request)) }
-    ensures files { (p m s : List ℕ) → named_files (subcommand_rows_of matches.now) ≡ Some (codes "verify", (Some p, Some m, Some s)) → IsSomeAnd result (λ request. line_of request ≡ verify_line p m s) }
+    ensures files { (p m s : List ℕ)
+        → named_files (subcommand_rows_of matches.now) ≡ Some (codes "verify", (Some p, Some m, Some s))
+        → IsSomeAnd result (λ request. request_paths request ≡ p ∷ m ∷ s ∷ []) }
 {
     let (name, words) = matches.subcommand()?;
     match name {

@@ -17,6 +17,7 @@ mod tests;
 mod verify;
 
 use files::Machine;
+use line::ClapReader;
 use output::{Output, Printer};
 use refusal::Refusal;
 use std::process::ExitCode;
@@ -29,6 +30,7 @@ fn main(rt: HostRuntime) -> ExitCode {
     ExitCode::from(match words(&rt) {
         Ok(words) => program::run(
             rt.alloc(),
+            &mut ClapReader::new(rt.alloc()),
             &mut Machine::new(&rt),
             words.as_slice(),
             &mut rt.reader(),

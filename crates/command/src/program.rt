@@ -1,8 +1,8 @@
 //! The whole program.
 
-ghost use Rattle.std.specs.Prelude.{◌≡◌, ◌≢◌, ◌++◌, ◌∷◌, ◌<◌, ◌⊎◌, ℕ, List, [], length, map};
+ghost use Rattle.std.specs.Prelude.{◌≡◌, ◌≢◌, ◌+◌, ◌++◌, ◌∷◌, ◌<◌, ◌⊎◌, ℕ, List, [], length, map};
 ghost use Rattle.clap.specs.Words.{fault_of, kind_of};
-ghost use Rattle.command.specs.Commands.{IsFileWord, hbsign_app, verify_line};
+ghost use Rattle.command.specs.Commands.{IsVerifyLine, hbsign_app};
 ghost use Rattle.command.specs.Lines.{Explains, Helps, Refuses, Runs, TellsOf};
 ghost use Rattle.command.specs.Opening.{OpensInTurn};
 ghost use Rattle.command.specs.Outputs.{Fails, Writes};
@@ -10,7 +10,7 @@ ghost use Rattle.command.specs.Requests.{paths_of};
 
 use crate::answer::{OUTPUT_FAILED, tell};
 use crate::files::Folder;
-use crate::line;
+use crate::line::LineReader;
 use crate::output::Output;
 use crate::refusal::Refusal;
 use crate::verify::Verify;
@@ -25,6 +25,21 @@ pub const LINE_REFUSED: u8 = 2;
 // What is told of a refused line where there is no memory for more.
 const REFUSED_LINE: &str = "error: this line can't be read\n";
 
+// How the program is called.
+const HELP: &str = "\
+Verifies hash-based signatures: LMS and HSS of RFC 8554, XMSS of RFC 8391.
+
+Usage: hbsign verify [--] PUBLIC MESSAGE SIGNATURE
+       hbsign --help | --version
+
+Commands:
+  verify  Tells whether SIGNATURE is the signature of MESSAGE under the key PUBLIC
+
+Options:
+  -h, --help     Print this text
+  -V, --version  Print the version
+";
+
 // The program's name and version.
 const VERSION_LINE: &str = "hbsign 0.1.0\n";
 
@@ -32,8 +47,9 @@ const VERSION_LINE: &str = "hbsign 0.1.0\n";
 ///
 /// A line on the output tells what came of it. A line that is refused is explained on `errors`
 /// alone.
-pub fn run<D, S, I, O, E>(
+pub fn run<L, D, S, I, O, E>(
     alloc: Global,
+    lines: &mut L,
     folder: &mut D,
     words: &[S],
     _input: &mut I,
@@ -41,20 +57,27 @@ pub fn run<D, S, I, O, E>(
     errors: &mut E,
 ) -> u8
 where
+    L: LineReader,
     D: Folder,
     S: AsStr,
     I: Read,
     O: Output,
     E: Output,
-    ensures runs { Runs (map S.text words.now) (O.taken output.old) (O.taken output.new) result }
-    ensures verifies { (p m s : List ℕ) → map S.text words.now ≡ verify_line p m s → IsFileWord p → IsFileWord m → IsFileWord s → TellsOf (D.content folder.old p) (D.content folder.old m) (D.content folder.old s) (O.taken output.old) (O.taken output.new) result }
-    ensures opens { (p m s : List ℕ) → map S.text words.now ≡ verify_line p m s → IsFileWord p → IsFileWord m → IsFileWord s → OpensInTurn (p ∷ m ∷ s ∷ []) (D.opened folder.old) (D.opened folder.new) }
-    ensures opens_all { (p m s : List ℕ) → map S.text words.now ≡ verify_line p m s → IsFileWord p → IsFileWord m → IsFileWord s → result ≢ 3 → D.opened folder.new ≡ D.opened folder.old ++ p ∷ m ∷ s ∷ [] }
+    ensures runs { Runs (map S.text words.now) (L.refusals lines.new ≡ L.refusals lines.old + 1)
+        (O.taken output.old) (O.taken output.new) result }
+    ensures input { _input.new ≡ _input.old }
+    ensures verifies { (p m s : List ℕ) → IsVerifyLine (map S.text words.now) p m s
+        → TellsOf (D.content folder.old p) (D.content folder.old m) (D.content folder.old s)
+        (O.taken output.old) (O.taken output.new) result }
+    ensures opens { (p m s : List ℕ) → IsVerifyLine (map S.text words.now) p m s
+        → OpensInTurn (p ∷ m ∷ s ∷ []) (D.opened folder.old) (D.opened folder.new) }
+    ensures opens_all { (p m s : List ℕ) → IsVerifyLine (map S.text words.now) p m s → result ≢ 3
+        → D.opened folder.new ≡ D.opened folder.old ++ p ∷ m ∷ s ∷ [] }
     ensures opens_none { fault_of hbsign_app (map S.text words.now) ≢ [] → D.opened folder.new ≡ D.opened folder.old }
     ensures refuses { result ≡ 2 → Refuses (O.taken output.old) (O.taken output.new) (E.taken errors.old) (E.taken errors.new) }
     ensures silent { result ≢ 2 → E.taken errors.new ≡ E.taken errors.old }
 {
-    match line::read(alloc, words) {
+    match lines.read(words) {
         Ok(request) => perform(alloc, folder, &request.files(), output),
         Err(error) => explain(alloc, &error, output, errors),
     }
@@ -91,10 +114,7 @@ fn explain<O: Output, E: Output>(
 {
     match error.kind() {
         ErrorKind::OutOfMemory => tell(&Err(Refusal::OutOfMemory), output),
-        ErrorKind::DisplayHelp => match format!(in alloc; "{error}") {
-            Ok(text) => print(&text, output),
-            Err(_) => tell(&Err(Refusal::OutOfMemory), output),
-        },
+        ErrorKind::DisplayHelp => print(HELP, output),
         ErrorKind::DisplayVersion => print(VERSION_LINE, output),
         _ => {
             refuse(alloc, error, errors);

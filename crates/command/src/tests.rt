@@ -3,6 +3,7 @@ ghost use Rattle.std.specs.Prelude.{None};
 mod sample;
 
 use crate::files::{Folder, Machine};
+use crate::line::ClapReader;
 use crate::output::Printer;
 use crate::paths::{Entry, PathLog};
 use crate::program::run;
@@ -95,6 +96,7 @@ fn run_in<D: Folder>(rt: &HostRuntime, folder: &mut D, words: &[&str]) -> Told {
     let mut input: &[u8] = &[];
     let status = run(
         rt.alloc(),
+        &mut ClapReader::new(rt.alloc()),
         folder,
         words,
         &mut input,
@@ -568,6 +570,7 @@ fn tells_of_failing_writers(rt: HostRuntime) -> Result<(), Fail> {
         let mut input: &[u8] = &[];
         let told = run(
             rt.alloc(),
+            &mut ClapReader::new(rt.alloc()),
             &mut Machine::new(&rt),
             words,
             &mut input,

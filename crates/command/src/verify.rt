@@ -149,7 +149,9 @@ pub fn judge(
     message: &[u8],
     signature: &[u8],
 ) -> Result<(), Refusal>
-    ensures { (p s : List ℕ) → ReadsKey p key → signature.now ≡ take decisive s → Judgement p message.now s result }
+    ensures judges { (p : List ℕ) → ReadsKey p key → Judgement p message.now signature.now result }
+    ensures first_decide { (p s : List ℕ) → ReadsKey p key → signature.now ≡ take decisive s
+        → Judgement p message.now s result }
 {
     let key = key.map_err(Refusal::Key)?;
     let mut message = message;

@@ -13,10 +13,11 @@ use Rattle.typecodes.specs.Types.{lms_signature_len_of}
 use Rattle.typecodes.specs.Layout.{Layout, Spells, done, refuse, ◌>>=◌}
 use Rattle.typecodes.specs.Fields.{number}
 use Rattle.typecodes.proofs.Spelling.{from_turn, in_turn}
-use Rattle.lmots.specs.Formulas.{u32str}
+use Rattle.lmots.specs.Hashes.{u32str}
 use Rattle.lms.specs.declared.key.LmsPublic.{LmsPublic}
-use Rattle.lms.specs.Layouts.{Signature as LmsSignature, public_key as lms_public_key, signature as lms_signature}
-use Rattle.lms.specs.Textbook.{public_bytes as lms_public_bytes, signature_bytes as lms_signature_bytes}
+use Rattle.lms.specs.Signature.{Signature as LmsSignature, signature as lms_signature}
+use Rattle.lms.specs.Key.{public_key as lms_public_key}
+use Rattle.lms.specs.Writing.{public_bytes as lms_public_bytes, signature_bytes as lms_signature_bytes}
 use Rattle.lms.proofs.SigningBytes.{last_field, number_spelled}
 use Rattle.hss.specs.declared.key.HssPublic.{HssPublic}
 use Rattle.hss.specs.declared.secret.Level.{Level}

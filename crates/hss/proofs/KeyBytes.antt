@@ -6,18 +6,18 @@ use Rattle.typecodes.specs.declared.types.LmsType.TheVariants.{H5, H10, H15, H20
 use Rattle.typecodes.specs.declared.types.OtsType.{OtsType}
 use Rattle.typecodes.specs.declared.types.OtsType.TheVariants.{W1, W2, W4, W8}
 use Rattle.typecodes.specs.Types.{lms_code, lms_types, named, ots_code, ots_types}
-use Rattle.typecodes.specs.Layout.{Layout, Spells, done, ◌>>=◌}
+use Rattle.typecodes.specs.Layout.{Layout, Spells, done, ◌>>=◌, AreBytes}
 use Rattle.typecodes.specs.Fields.{block, known, lms_type, number, ots_type, typed}
-use Rattle.typecodes.specs.Reading.{AreBytes, read}
+use Rattle.typecodes.specs.Cursor.{read}
 use Rattle.typecodes.proofs.Bytes.{AreBytes-front, AreBytes-rest}
 use Rattle.typecodes.proofs.Codes.{named-has}
 use Rattle.typecodes.proofs.OneWay.{one_way-number}
 use Rattle.typecodes.proofs.Read.{read-stands}
 use Rattle.typecodes.proofs.Spelling.{in_turn}
-use Rattle.lmots.specs.Formulas.{u32str}
+use Rattle.lmots.specs.Hashes.{u32str}
 use Rattle.lms.specs.declared.key.LmsPublic.{LmsPublic}
-use Rattle.lms.specs.Layouts.{public_key as lms_public_key}
-use Rattle.lms.specs.Textbook.{public_bytes as lms_public_bytes}
+use Rattle.lms.specs.Key.{public_key as lms_public_key}
+use Rattle.lms.specs.Writing.{public_bytes as lms_public_bytes}
 use Rattle.lms.proofs.SigningBytes.{number_spelled}
 
 -- a number's digits are bytes

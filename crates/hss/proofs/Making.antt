@@ -5,9 +5,10 @@ use Rattle.std.proofs.lemmas.List.{get_or-drop, get_or-map, get_or_append_left, 
 use Rattle.std.proofs.lemmas.Simd.{map-map}
 use Rattle.std.proofs.lemmas.Slice.Zip.{firsts-zip, get_or-zip, length-zip, seconds-zip}
 use Rattle.lms.specs.declared.key.LmsPublic.{LmsPublic}
-use Rattle.lms.specs.Layouts.{Signature as LmsSignature}
-use Rattle.lms.specs.Textbook.{path_in, public_of as lms_public_of, signed as lms_signed, textbook as lms_textbook}
-use Rattle.lms.specs.Valid.{IsValid as IsLmsValid}
+use Rattle.lms.specs.Signature.{Signature as LmsSignature}
+use Rattle.lms.specs.Secret.{path_in, public_of as lms_public_of}
+use Rattle.lms.specs.Writing.{signed as lms_signed, textbook as lms_textbook}
+use Rattle.lms.specs.Verification.{IsValid as IsLmsValid}
 use Rattle.lms.proofs.Signing.{signed_valid}
 use Rattle.hss.specs.SignedKey.{SignedKey}
 use Rattle.hss.specs.Signature.{Signature, key_at, keys_of, message_at, signature_at, signatures_of}

@@ -2,14 +2,14 @@
 use Rattle.std.proofs.Common.{◌≡◌, ◌∙◌, refl, sym, ap, ℕ, zero, suc, true, false, cond, nat_le, List, [], ◌∷◌, length, drop, get_or}
 use Rattle.std.specs.Prelude.{◌&&◌}
 use Rattle.typecodes.specs.declared.fault.Cause.TheVariants.{LevelCount}
-use Rattle.typecodes.specs.Layout.{Layout, done, refuse, ◌>>=◌, Spells}
+use Rattle.typecodes.specs.Layout.{Layout, done, refuse, ◌>>=◌, Spells, OneSpelling, Shows}
 use Rattle.typecodes.specs.Fields.{number}
-use Rattle.typecodes.specs.Reading.{OneSpelling, Shows}
 use Rattle.typecodes.proofs.OneWay.{one_way-bind, one_way-done, one_way-number, one_way-refuse, shows-bind, shows-done}
 use Rattle.typecodes.proofs.Spelling.{in_turn}
 use Rattle.typecodes.proofs.Ways.{Way, one_way-if, way-bind, way-done}
 use Rattle.lms.specs.declared.key.LmsPublic.{LmsPublic}
-use Rattle.lms.specs.Layouts.{Signature as LmsSignature, public_key as lms_public_key, signature as lms_signature}
+use Rattle.lms.specs.Signature.{Signature as LmsSignature, signature as lms_signature}
+use Rattle.lms.specs.Key.{public_key as lms_public_key}
 use Rattle.lms.proofs.OneWay.{one_way-public_key as one_way-lms_public_key, one_way-signature as one_way-lms_signature}
 use Rattle.hss.specs.declared.key.HssPublic.{HssPublic}
 use Rattle.hss.specs.Key.{level_number, public_key}

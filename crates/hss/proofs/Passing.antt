@@ -7,9 +7,10 @@ use Rattle.typecodes.specs.declared.types.LmsType.TheVariants.{H5, H10, H15, H20
 use Rattle.typecodes.specs.declared.types.OtsType.TheVariants.{W1, W2, W4, W8}
 use Rattle.typecodes.specs.Types.{height_of, signature_len_of}
 use Rattle.typecodes.specs.Layout.{Layout, done, ◌>>=◌}
-use Rattle.typecodes.specs.Reading.{and_then, read}
+use Rattle.typecodes.specs.Cursor.{and_then, read}
 use Rattle.typecodes.proofs.Read.{read-bind}
-use Rattle.lms.specs.Layouts.{Signature as LmsSignature, public_key as lms_public_key, signature as lms_signature}
+use Rattle.lms.specs.Signature.{Signature as LmsSignature, signature as lms_signature}
+use Rattle.lms.specs.Key.{public_key as lms_public_key}
 use Rattle.lms.proofs.Parts.{in_turn}
 use Rattle.hss.specs.SignedKey.{SignedKey, signed_key, signed_keys}
 

@@ -3,11 +3,11 @@ use Rattle.std.proofs.Common.{◌≡◌, ◌∙◌, refl, sym, ap, ap₂, ℕ, s
 use Rattle.std.specs.Prelude.{IfSome, IsSome, ◌↔◌}
 use Rattle.std.proofs.lemmas.Bool.{cases_lt}
 use Rattle.typecodes.specs.Layout.{Spells}
-use Rattle.typecodes.specs.Reading.{read}
+use Rattle.typecodes.specs.Cursor.{read}
 use Rattle.typecodes.specs.Types.{lms_signature_len_of}
 use Rattle.lms.specs.declared.key.LmsPublic.{LmsPublic}
 use Rattle.lms.specs.declared.signature.LmsSigView.{LmsSigView}
-use Rattle.lms.specs.Layouts.{public_key as lms_public_key}
+use Rattle.lms.specs.Key.{public_key as lms_public_key}
 use Rattle.lms.specs.View.{bytes_of as lms_bytes_of, pair_of as lms_pair_of, signature_of as lms_signature_of}
 use Rattle.hss.specs.declared.signed_key.SignedKeyView.{SignedKeyView}
 use Rattle.hss.specs.SignedKey.{AreFirst, SignedKey, StandInTurn, StandsAt, signed_in, signed_key_of, slot, taken_by}

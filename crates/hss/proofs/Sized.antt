@@ -10,8 +10,10 @@ use Rattle.typecodes.specs.Layout.{Spells}
 use Rattle.merkle.specs.Tree.{node}
 use Rattle.lms.specs.declared.key.LmsPublic.{LmsPublic}
 use Rattle.lms.specs.declared.secret.LmsSecret.{LmsSecret}
-use Rattle.lms.specs.Layouts.{Signature as LmsSignature, public_key as lms_public_key, signature as lms_signature}
-use Rattle.lms.specs.Textbook.{joins_of, leaves_of, path_in, public_bytes as lms_public_bytes, public_of as lms_public_of, signature_bytes as lms_signature_bytes, textbook as lms_textbook}
+use Rattle.lms.specs.Signature.{Signature as LmsSignature, signature as lms_signature}
+use Rattle.lms.specs.Key.{public_key as lms_public_key}
+use Rattle.lms.specs.Secret.{joins_of, leaves_of, path_in, public_of as lms_public_of}
+use Rattle.lms.specs.Writing.{public_bytes as lms_public_bytes, signature_bytes as lms_signature_bytes, textbook as lms_textbook}
 use Rattle.lms.proofs.SigningBytes.{public_spelled, signed_spelled}
 use Rattle.hss.specs.Key.{public_key}
 use Rattle.hss.specs.SignedKey.{SignedKey, signed_keys}

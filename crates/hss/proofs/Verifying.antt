@@ -5,10 +5,9 @@ use Rattle.std.proofs.lemmas.List.{get_or-map, get_or_append_left, get_or_at, le
 use Rattle.typecodes.specs.declared.refusal.Refusal.{Refusal}
 use Rattle.typecodes.specs.declared.refusal.Refusal.TheVariants.{Unreadable, TypeMismatch, LevelMismatch, RootMismatch}
 use Rattle.lms.specs.declared.key.LmsPublic.{LmsPublic}
-use Rattle.lms.specs.Layouts.{Signature as LmsSignature}
-use Rattle.lms.specs.Textbook.{public_bytes}
-use Rattle.lms.specs.Valid.{IsValid as IsLmsValid}
-use Rattle.lms.specs.Verdict.{LeavesMessage as LmsLeavesMessage, LevelVerdict}
+use Rattle.lms.specs.Signature.{Signature as LmsSignature}
+use Rattle.lms.specs.Writing.{public_bytes}
+use Rattle.lms.specs.Verification.{IsValid as IsLmsValid, LeavesMessage as LmsLeavesMessage, LevelVerdict}
 use Rattle.typecodes.specs.Layout.{Spells}
 use Rattle.hss.specs.declared.key.HssPublic.{HssPublic}
 use Rattle.hss.specs.SignedKey.{SignedKey}

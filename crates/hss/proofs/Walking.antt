@@ -12,12 +12,13 @@ use Rattle.typecodes.specs.declared.fault.ReadFault.{ReadFault}
 use Rattle.typecodes.specs.Types.{lms_code, lms_signature_len_of, lms_types, ots_code, ots_types}
 use Rattle.typecodes.specs.Layout.{Layout, done, refuse, ◌>>=◌, Spells}
 use Rattle.typecodes.specs.Fields.{block, lms_type, number, ots_type}
-use Rattle.typecodes.specs.Reading.{and_then, read}
+use Rattle.typecodes.specs.Cursor.{and_then, read}
 use Rattle.typecodes.proofs.Read.{read-bind, read-cut, read-fits, read-stands}
 use Rattle.typecodes.proofs.Sizes.{HasSize, size-bind, size-block, size-done, size-typed}
 use Rattle.typecodes.proofs.Steps.{ends-spelled}
 use Rattle.lms.specs.declared.key.LmsPublic.{LmsPublic}
-use Rattle.lms.specs.Layouts.{Signature as LmsSignature, public_key as lms_public_key, signature as lms_signature}
+use Rattle.lms.specs.Signature.{Signature as LmsSignature, signature as lms_signature}
+use Rattle.lms.specs.Key.{public_key as lms_public_key}
 use Rattle.lms.proofs.Parts.{in_turn, laid_out, part_read}
 use Rattle.hss.specs.Key.{level_number}
 use Rattle.hss.specs.SignedKey.{SignedKey, signed_key, signed_keys, taken}

@@ -3,7 +3,7 @@ use Rattle.std.specs.Prelude.{ℕ, nat_le, ◌&&◌, if◌then◌else◌}
 use Rattle.typecodes.specs.declared.fault.Cause.TheVariants.{LevelCount}
 use Rattle.typecodes.specs.Layout.{Layout, done, refuse, ◌>>=◌}
 use Rattle.typecodes.specs.Fields.{number}
-use Rattle.lms.specs.Layouts.{public_key as lms_public_key}
+use Rattle.lms.specs.Key.{public_key as lms_public_key}
 use Rattle.hss.specs.declared.key.HssPublic.{HssPublic}
 
 -- a number of levels, from low to high

@@ -2,8 +2,8 @@
 use Rattle.std.specs.Prelude.{ℕ, List}
 use Rattle.lms.specs.declared.key.LmsPublic.{LmsPublic}
 use Rattle.lms.specs.declared.secret.LmsSecret.{LmsSecret}
-use Rattle.lms.specs.Layouts.{Signature as LmsSignature}
-use Rattle.lms.specs.Textbook.{signed as lms_signed}
+use Rattle.lms.specs.Signature.{Signature as LmsSignature}
+use Rattle.lms.specs.Writing.{signed as lms_signed}
 use Rattle.hss.specs.declared.secret.Level.{Level}
 
 -- the tree's secret, a leaf, the randomizer C, and the digest Q of what the level signs

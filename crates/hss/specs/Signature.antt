@@ -4,8 +4,8 @@ use Rattle.typecodes.specs.declared.types.LmsPair.{LmsPair}
 use Rattle.typecodes.specs.Types.{lms_signature_len_of}
 use Rattle.typecodes.specs.Layout.{Layout, done, ◌>>=◌}
 use Rattle.lms.specs.declared.key.LmsPublic.{LmsPublic}
-use Rattle.lms.specs.Layouts.{Signature as LmsSignature, signature as lms_signature}
-use Rattle.lms.specs.Textbook.{public_bytes}
+use Rattle.lms.specs.Signature.{Signature as LmsSignature, signature as lms_signature}
+use Rattle.lms.specs.Writing.{public_bytes}
 use Rattle.lms.specs.View.{signature_of as lms_signature_of}
 use Rattle.lms.specs.declared.signature.LmsSigView.{LmsSigView}
 use Rattle.hss.specs.Key.{level_number}

@@ -4,7 +4,7 @@ use Rattle.typecodes.specs.declared.refusal.Refusal.{Refusal}
 use Rattle.typecodes.specs.declared.refusal.Refusal.TheVariants.{Unreadable, TypeMismatch, LevelMismatch, RootMismatch}
 use Rattle.typecodes.specs.Layout.{Spells, HasFault}
 use Rattle.lms.specs.declared.key.LmsPublic.{LmsPublic}
-use Rattle.lms.specs.Valid.{IsValid as IsLmsValid}
+use Rattle.lms.specs.Verification.{IsValid as IsLmsValid}
 use Rattle.hss.specs.declared.key.HssPublic.{HssPublic}
 use Rattle.hss.specs.Signature.{Signature, key_at, level_count, message_at, signature, signature_at}
 

@@ -1,7 +1,7 @@
 //! Public keys.
 
 ghost use Rattle.std.specs.Prelude.{◌≡◌, ◌+◌, ◌<◌, ◌≤◌, ◌^◌, IfOk, OnOk};
-ghost use Rattle.typecodes.specs.Reading.{Gives, Reads, read};
+ghost use Rattle.typecodes.specs.Cursor.{Gives, Reads, read};
 
 use lms::LmsPublic;
 use typecodes::{Cause, Cursor, LevelCount, ReadFault};

@@ -3,11 +3,10 @@
 
 ghost use Rattle.std.specs.Prelude.{◌≡◌, List, [], ◌∷◌, ◌++◌, ℕ, ◌+◌, ◌<◌, ◌≤◌, length, Result, Err, IsOk};
 ghost use Rattle.typecodes.specs.declared.refusal.Refusal.{Refusal};
-ghost use Rattle.typecodes.specs.Layout.{Spells};
-ghost use Rattle.typecodes.specs.Reading.{OneSpelling};
+ghost use Rattle.typecodes.specs.Layout.{Spells, OneSpelling};
 ghost use Rattle.hss.specs.declared.key.HssPublic.{HssPublic};
-ghost use Rattle.lmots.specs.Formulas.{u32str};
-ghost use Rattle.lms.specs.Layouts.{signature as lms_signature};
+ghost use Rattle.lmots.specs.Hashes.{u32str};
+ghost use Rattle.lms.specs.Signature.{signature as lms_signature};
 ghost use Rattle.hss.specs.Key.{public_key};
 ghost use Rattle.hss.specs.SignedKey.{SignedKey, signed_key, signed_keys};
 ghost use Rattle.hss.specs.Signature.{Signature, signature};

@@ -3,8 +3,8 @@
 ghost use Rattle.std.specs.Prelude.{◌≡◌, ◌<◌, ◌^◌, length};
 ghost use Rattle.typecodes.specs.Layout.{Spells};
 ghost use Rattle.typecodes.specs.Types.{height_of, lms_signature_len_of};
-ghost use Rattle.lms.specs.Layouts.{signature as lms_signature};
-ghost use Rattle.lms.specs.Textbook.{signature_bytes as lms_signature_bytes};
+ghost use Rattle.lms.specs.Signature.{signature as lms_signature};
+ghost use Rattle.lms.specs.Writing.{signature_bytes as lms_signature_bytes};
 
 use lms::{LmsPublic, LmsSecret};
 

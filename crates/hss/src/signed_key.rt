@@ -1,10 +1,10 @@
 //! The signature of a level above the bottom with the key that it signs, as a view of their bytes.
 
 ghost use Rattle.std.specs.Prelude.{◌≡◌, ◌+◌, ◌<◌, ◌≤◌, ◌^◌, Ok, IfOk, OnErr, OnOk, drop, length, take};
-ghost use Rattle.lms.specs.Layouts.{public_key as lms_public_key};
-ghost use Rattle.typecodes.specs.Reading.{Gives, read};
-ghost use Rattle.lms.specs.Textbook.{public_bytes};
-ghost use Rattle.lms.specs.Verdict.{LevelVerdict};
+ghost use Rattle.lms.specs.Key.{public_key as lms_public_key};
+ghost use Rattle.typecodes.specs.Cursor.{Gives, read};
+ghost use Rattle.lms.specs.Writing.{public_bytes};
+ghost use Rattle.lms.specs.Verification.{LevelVerdict};
 ghost use Rattle.lms.specs.View.{signature_of as lms_signature_of};
 
 use lms::{LmsPublic, LmsSigView};

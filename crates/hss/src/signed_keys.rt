@@ -1,7 +1,7 @@
 //! The signed keys of a signature, as views of their bytes.
 
 ghost use Rattle.std.specs.Prelude.{◌≡◌, ◌+◌, ◌*◌, ◌<◌, ◌≤◌, ◌^◌, IfOk, OnOk};
-ghost use Rattle.typecodes.specs.Reading.{Gives, read};
+ghost use Rattle.typecodes.specs.Cursor.{Gives, read};
 ghost use Rattle.hss.specs.SignedKey.{AreFirst, StandInTurn, signed_in, signed_keys, slot};
 
 use crate::signed_key::SignedKeyView;

@@ -4,7 +4,7 @@ ghost use Rattle.std.specs.Prelude.{◌≡◌, ◌+◌, ◌<◌, ◌≤◌, ℕ,
 ghost use Rattle.std.specs.List.{flat_map};
 ghost use Rattle.typecodes.specs.Layout.{Spells};
 ghost use Rattle.typecodes.specs.Types.{lms_signature_len_of};
-ghost use Rattle.lmots.specs.Formulas.{u32str};
+ghost use Rattle.lmots.specs.Hashes.{u32str};
 ghost use Rattle.hss.specs.Key.{public_key};
 ghost use Rattle.hss.specs.SignedKey.{signed_key, signed_keys};
 ghost use Rattle.hss.specs.Signature.{signature, signature_size};

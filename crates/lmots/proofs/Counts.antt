@@ -3,7 +3,7 @@ use Rattle.std.proofs.Common.{◌≡◌, refl}
 use Rattle.typecodes.specs.declared.types.OtsType.{OtsType}
 use Rattle.typecodes.specs.declared.types.OtsType.TheVariants.{W1, W2, W4, W8}
 use Rattle.typecodes.specs.Types.{chains_of, width_of}
-use Rattle.winternitz.specs.Digits.{digit_count}
+use Rattle.winternitz.specs.Digest.{digit_count}
 
 -- a digest has as many digits as its type has chains
 pub digits_are_chains : (ots : OtsType) → digit_count (width_of ots) ≡ chains_of ots

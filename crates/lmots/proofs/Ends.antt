@@ -3,8 +3,7 @@ use Rattle.std.proofs.Common.{◌≡◌, ◌∙◌, sym, ℕ, ◌+◌, List, [],
 use Rattle.std.specs.List.{concat, range_with_len}
 use Rattle.std.proofs.lemmas.List.{append-nil}
 use Rattle.std.proofs.lemmas.List.FromFn.{map-range_with_len_more}
-use Rattle.winternitz.specs.Ends.{end_of, ends_of}
-use Rattle.winternitz.specs.Walk.{Steps}
+use Rattle.winternitz.specs.Chain.{end_of, ends_of, Steps}
 
 -- what a hasher holds, once it has taken n ends behind the head
 pub fed : List ℕ → (ℕ → List ℕ) → ℕ → List ℕ

@@ -6,13 +6,12 @@ use Rattle.sha2.proofs.Facts256.{length-sha256}
 use Rattle.typecodes.specs.Fields.{values_in}
 use Rattle.typecodes.specs.Types.{chains_of, width_of}
 use Rattle.typecodes.specs.declared.types.OtsType.{OtsType}
-use Rattle.winternitz.specs.Walk.{walk, walk_on}
-use Rattle.winternitz.specs.Digits.{digit_count, digits_of}
-use Rattle.winternitz.proofs.Joined.{chunks_of_joined}
-use Rattle.winternitz.proofs.Walks.{walk_joined}
+use Rattle.winternitz.specs.Chain.{walk, walk_on}
+use Rattle.winternitz.specs.Digest.{digit_count, digits_of}
+use Rattle.winternitz.proofs.Concatenated.{chunks_of_concat}
+use Rattle.winternitz.proofs.Walks.{walk-walk}
 use Rattle.winternitz.proofs.Coefs.{digit_most}
-use Rattle.lmots.specs.Formulas.{chain_value, ends_of_seed, private_value, step_of}
-use Rattle.lmots.specs.Signed.{ClimbTo, signed_values}
+use Rattle.lmots.specs.Key.{chain_value, ends_of_seed, private_value, step_of, ClimbTo, signed_values}
 use Rattle.lmots.proofs.Counts.{digits_are_chains}
 
 -- the values of a signature climb to the ends of the key's chains
@@ -32,7 +31,7 @@ signed_climbs identifier q ots seed digest =
       each = λ i within.
           let inside : i < chains_of ots = omega arith in
           get_or-map-range_with_len end 0 (chains_of ots) i i [] inside (omega arith)
-          ∙ sym (walk_joined step i 0 (get_or digits i 0) (2 ^ w - 1) (start i) (omega arith) (digit_most w digest i (omega arith)))
+          ∙ sym (walk-walk step i 0 (get_or digits i 0) (2 ^ w - 1) (start i) (omega arith) (digit_most w digest i (omega arith)))
           ∙ ap (walk step i (get_or digits i 0) (2 ^ w - 1)) (sym (get_or-map-range_with_len signed 0 (chains_of ots) i i [] inside (omega arith)));
     }
 
@@ -56,5 +55,5 @@ bytes_climb identifier q ots seed digest bytes are =
     let values = signed_values identifier q ots seed digest in
     let held : values_in (chains_of ots) bytes ≡ values =
     ap (values_in (chains_of ots)) are
-    ∙ chunks_of_joined (chains_of ots) values (length-map-range_with_len _ 0 (chains_of ots)) (signed_sizes identifier q ots seed digest) in
+    ∙ chunks_of_concat (chains_of ots) values (length-map-range_with_len _ 0 (chains_of ots)) (signed_sizes identifier q ots seed digest) in
     subst (λ held. ClimbTo identifier q ots digest held (ends_of_seed identifier q ots seed)) (sym held) (signed_climbs identifier q ots seed digest)

@@ -1,2 +1,2 @@
-pub mod Formulas
-pub mod Signed
+pub mod Hashes
+pub mod Key

@@ -1,16 +1,14 @@
 //! The one-time key of a leaf.
 
-ghost use Rattle.std.specs.Prelude.{◌≡◌, ℕ, ◌-◌, ◌*◌, ◌^◌, List, ◌++◌, length};
+ghost use Rattle.std.specs.Prelude.{◌≡◌, ℕ, ◌-◌, ◌*◌, ◌^◌, List, length};
 ghost use Rattle.std.specs.List.{concat};
-ghost use Rattle.sha2.specs.Hashers.{Holds256};
-ghost use Rattle.lmots.specs.Formulas.{ends_of_seed, message_digest_of, private_value, public_hash, step_of, u16str, u32str};
-ghost use Rattle.lmots.specs.Signed.{ClimbTo, signed_values};
+ghost use Rattle.lmots.specs.Key as spec;
+ghost use Rattle.lmots.specs.Key.{ClimbTo, ends_of_seed, ends_of_signature, message_digest_of, signed_values, step_of};
 ghost use Rattle.typecodes.specs.Fields.{values_in};
 ghost use Rattle.typecodes.specs.Types.{chains_of, width_of};
-ghost use Rattle.winternitz.specs.Digits.{digits_of};
-ghost use Rattle.winternitz.specs.Ends.{ends_of};
 
-use sha2::{Digest, Sha256};
+use crate::hashes::{MESSAGE, PUBLIC};
+use sha2::Digest;
 use typecodes::OtsType;
 use winternitz::{Step, climb, digits};
 
@@ -46,37 +44,9 @@ impl LmOts {
         hasher.finalize()
     }
 
-    /// The public hash to which the values of a signature lead: each chain climbed from its digit of
-    /// the digest to its end (RFC 8554 4.6, algorithm 4b, step 3). The caller gives as many values as
-    /// the type has chains.
-    pub fn hash_from_signature(
-        &self,
-        ots: OtsType,
-        digest: &[u8; 32],
-        values: &[[u8; 32]],
-    ) -> [u8; 32]
-        requires { length values.now ≡ chains_of ots }
-        ensures value { result ≡ public_hash self.now.identifier self.now.leaf
-            (ends_of (step_of self.now.identifier self.now.leaf) (width_of ots) (digits_of (width_of ots) digest.now) values.now) }
-        // The same of any list of ends, and that there is one.
-        ensures only { (ends : List (List ℕ)) →
-            ClimbTo self.now.identifier self.now.leaf ots digest.now values.now ends →
-            result ≡ public_hash self.now.identifier self.now.leaf ends }
-        ensures some { (ends : List (List ℕ)) ×
-            ClimbTo self.now.identifier self.now.leaf ots digest.now values.now ends ×
-            (result ≡ public_hash self.now.identifier self.now.leaf ends) }
-    {
-        let greatest = greatest_digit(ots);
-        let mut hasher = self.hasher(PUBLIC);
-        for (chain, digit) in digits(ots.width(), digest).iter().enumerate() {
-            hasher.update(climb(self, chain as u16, *digit, greatest, &values[chain]));
-        }
-        hasher.finalize()
-    }
-
     /// The private value of a chain, made of the key's seed (RFC 8554, Appendix A).
     pub fn private_value(&self, seed: &[u8; 32], chain: u16) -> [u8; 32]
-        ensures { result ≡ private_value self.now.identifier self.now.leaf seed.now chain }
+        ensures { result ≡ spec.private_value self.now.identifier self.now.leaf seed.now chain }
     {
         let mut hasher = self.hasher(chain);
         hasher.update([0xff]);
@@ -87,7 +57,8 @@ impl LmOts {
     /// The public hash of the key whose private values are made of a seed: each chain climbed from
     /// its private value to its end (RFC 8554 4.3).
     pub fn public_hash(&self, ots: OtsType, seed: &[u8; 32]) -> [u8; 32]
-        ensures { result ≡ public_hash self.now.identifier self.now.leaf (ends_of_seed self.now.identifier self.now.leaf ots seed.now) }
+        ensures { result ≡ spec.public_hash self.now.identifier self.now.leaf
+            (ends_of_seed self.now.identifier self.now.leaf ots seed.now) }
     {
         let greatest = greatest_digit(ots);
         let mut hasher = self.hasher(PUBLIC);
@@ -98,7 +69,7 @@ impl LmOts {
         hasher.finalize()
     }
 
-    /// Writes the values of a digest's signature, one behind the other: each chain climbed from its
+    /// Writes the values of a digest's signature, one after the other: each chain climbed from its
     /// private value to its digit of the digest (RFC 8554 4.5). The caller gives 32 bytes for each
     /// of the type's chains.
     pub fn sign_digest(&self, ots: OtsType, seed: &[u8; 32], digest: &[u8; 32], into: &mut [u8])
@@ -116,15 +87,32 @@ impl LmOts {
         }
     }
 
-    // A hasher that holds I, q and a chain's number or a separator in its place.
-    fn hasher(&self, separator: u16) -> Sha256
-        ensures { Holds256 result (self.now.identifier ++ u32str self.now.leaf ++ u16str separator) }
+    /// The public hash to which the values of a signature lead: each chain climbed from its digit of
+    /// the digest to its end (RFC 8554 4.6, algorithm 4b, step 3). The caller gives as many values as
+    /// the type has chains.
+    pub fn hash_from_signature(
+        &self,
+        ots: OtsType,
+        digest: &[u8; 32],
+        values: &[[u8; 32]],
+    ) -> [u8; 32]
+        requires { length values.now ≡ chains_of ots }
+        ensures value { result ≡ spec.public_hash self.now.identifier self.now.leaf
+            (ends_of_signature self.now.identifier self.now.leaf ots digest.now values.now) }
+        // The same of any list of ends, and that there is one.
+        ensures only { (ends : List (List ℕ)) →
+            ClimbTo self.now.identifier self.now.leaf ots digest.now values.now ends →
+            result ≡ spec.public_hash self.now.identifier self.now.leaf ends }
+        ensures some { (ends : List (List ℕ)) ×
+            ClimbTo self.now.identifier self.now.leaf ots digest.now values.now ends ×
+            (result ≡ spec.public_hash self.now.identifier self.now.leaf ends) }
     {
-        let mut hasher = Sha256::new();
-        hasher.update(self.identifier);
-        hasher.update(self.leaf.to_be_bytes());
-        hasher.update(separator.to_be_bytes());
-        hasher
+        let greatest = greatest_digit(ots);
+        let mut hasher = self.hasher(PUBLIC);
+        for (chain, digit) in digits(ots.width(), digest).iter().enumerate() {
+            hasher.update(climb(self, chain as u16, *digit, greatest, &values[chain]));
+        }
+        hasher.finalize()
     }
 }
 
@@ -134,8 +122,3 @@ fn greatest_digit(ots: OtsType) -> u8
 {
     ((1u16 << ots.width()) - 1) as u8
 }
-
-// D_PBLC (RFC 8554 4.3) and D_MESG (4.5).
-const PUBLIC: u16 = 0x8080;
-
-const MESSAGE: u16 = 0x8181;

@@ -1,11 +1,12 @@
 //! LM-OTS, the one-time signatures of RFC 8554, section 4, for SHA-256 with n = 32.
 //!
-//! Its model is `specs/Formulas.antt`: the standard's hashes, each as a formula over SHA-256. Its
+//! Its model is `specs/Key.antt`: the standard's hashes, each as a formula over SHA-256. Its
 //! contract for the crates above: `hash_from_signature` gives the public hash of the chain ends to
 //! which a signature's values lead, and `public_hash` that of the ends to which a seed's do.
 //! `sign_digest` writes the values of a seed's signature, which climb to the seed's ends.
 #![tactic(auto)]
 
+mod hashes;
 mod key;
 #[cfg(test)]
 mod tests;

@@ -7,7 +7,7 @@ use Rattle.typecodes.specs.declared.types.LmsType.{LmsType}
 use Rattle.typecodes.specs.Types.{chains_of, height_of}
 use Rattle.typecodes.specs.Layout.{Layout, done, refuse, ◌>>=◌}
 use Rattle.typecodes.specs.Fields.{block, lms_type, ots_type, values}
-use Rattle.lms.specs.Layouts.{Signature, type_end}
+use Rattle.lms.specs.Signature.{Signature, type_end}
 
 abbrev pub behind_tree : ℕ → OtsType → List ℕ → List (List ℕ) → LmsType → Layout Signature
 behind_tree index ots randomizer chains tree = do

@@ -9,7 +9,7 @@ use Rattle.typecodes.specs.declared.types.LmsType.{LmsType}
 use Rattle.typecodes.specs.declared.types.OtsType.{OtsType}
 use Rattle.typecodes.specs.declared.fault.ReadFault.{ReadFault}
 use Rattle.typecodes.specs.Layout.{Layout, Spells}
-use Rattle.typecodes.specs.Reading.{Reads}
+use Rattle.typecodes.specs.Cursor.{Reads}
 
 -- the bytes from which a value was read spell it, whatever was made of the reader's faults
 pub read_spells : {V X : Type 0} (E : Type 0) (layout : Layout V) (view : X → V) (bytes : List ℕ) (result : Result X ReadFault) (x : X) (Q : ReadFault → Type 0)

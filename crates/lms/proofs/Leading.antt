@@ -2,11 +2,10 @@
 use Rattle.std.proofs.Common.{◌≡◌, ℕ, List, length, sym, ap, ◌∙◌}
 use Rattle.typecodes.specs.Types.{height_of}
 use Rattle.merkle.specs.Ascent.{IsAscent, at}
-use Rattle.lmots.specs.Formulas.{message_digest_of, public_hash}
-use Rattle.lmots.specs.Signed.{ClimbTo}
-use Rattle.lms.specs.Layouts.{Signature}
-use Rattle.lms.specs.Formulas.{join_of, leaf_hash}
-use Rattle.lms.specs.Valid.{LeadsTo}
+use Rattle.lmots.specs.Key.{message_digest_of, public_hash, ClimbTo}
+use Rattle.lms.specs.Signature.{Signature}
+use Rattle.lms.specs.Nodes.{join_of, leaf_hash}
+use Rattle.lms.specs.Verification.{LeadsTo}
 
 -- the digest, the leaf and the height by which a node was computed
 pub record Steps (identifier message : List ℕ) (s : Signature) (digest key leaf : List ℕ) (h : ℕ) : Type 0 where

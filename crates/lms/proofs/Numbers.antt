@@ -3,7 +3,7 @@ use Rattle.std.proofs.Common.{◌≡◌, ℕ, ◌+◌, ◌-◌, ◌*◌, ◌/◌
 use Rattle.std.specs.Option.{SomeIff, unwrap_or}
 use Rattle.std.proofs.Math.Nat.{mul-mod_left}
 use Rattle.std.proofs.lemmas.Nat.{pow-add}
-use Rattle.lmots.specs.Formulas.{u32str}
+use Rattle.lmots.specs.Hashes.{u32str}
 
 -- the lowest 32 bits of a number have its bytes
 u32str-low : (x : ℕ) → u32str (x % 2 ^ 32) ≡ u32str x

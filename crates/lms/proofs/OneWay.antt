@@ -4,12 +4,12 @@ use Rattle.typecodes.specs.declared.fault.Cause.TheVariants.{LeafOutOfRange}
 use Rattle.typecodes.specs.declared.types.OtsType.{OtsType}
 use Rattle.typecodes.specs.declared.types.LmsType.{LmsType}
 use Rattle.typecodes.specs.Types.{chains_of, height_of}
-use Rattle.typecodes.specs.Layout.{Layout, done, refuse, ◌>>=◌}
+use Rattle.typecodes.specs.Layout.{Layout, done, refuse, ◌>>=◌, OneSpelling}
 use Rattle.typecodes.specs.Fields.{number, block, values, ots_type, lms_type}
-use Rattle.typecodes.specs.Reading.{OneSpelling}
 use Rattle.typecodes.proofs.OneWay.{one_way-block, one_way-number, one_way-ots_type, one_way-lms_type, one_way-refuse, one_way-values}
 use Rattle.lms.specs.declared.key.LmsPublic.{LmsPublic}
-use Rattle.lms.specs.Layouts.{Signature, public_key, signature, type_end}
+use Rattle.lms.specs.Signature.{Signature, signature, type_end}
+use Rattle.lms.specs.Key.{public_key}
 use Rattle.typecodes.proofs.Ways.{Way, way-bind, way-done, one_way-if}
 
 -- what follows each field of a public key

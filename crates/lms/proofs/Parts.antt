@@ -11,10 +11,10 @@ use Rattle.typecodes.specs.declared.types.LmsPair.{LmsPair}
 use Rattle.typecodes.specs.Types.{chains_of, height_of, lms_code, lms_signature_len_of, lms_types, named, ots_code, ots_types, signature_len_of}
 use Rattle.typecodes.specs.Layout.{Layout, field, done, refuse, ◌>>=◌}
 use Rattle.typecodes.specs.Fields.{known, lms_type, number, ots_type, typed, values, values_in}
-use Rattle.typecodes.specs.Reading.{and_then, read}
+use Rattle.typecodes.specs.Cursor.{and_then, read}
 use Rattle.typecodes.proofs.Read.{read-bind, read-cut, read-fits, read-stands, spelled-read}
 use Rattle.typecodes.proofs.Values.{values-cut, values-fit}
-use Rattle.lms.specs.Layouts.{Signature, signature, signature_with, type_end}
+use Rattle.lms.specs.Signature.{Signature, signature, signature_with, type_end}
 use Rattle.lms.proofs.Behind.{behind_chains, behind_index, behind_ots, behind_randomizer, behind_tree}
 
 -- what two layouts read, one after the other, is read in turn

@@ -6,11 +6,12 @@ use Rattle.merkle.specs.Ascent.{at}
 use Rattle.merkle.specs.Tree.{root_of}
 use Rattle.merkle.proofs.Climb.{climbed_is_ascent, climbed_nodes, climbed_nodes_at}
 use Rattle.merkle.proofs.Leading.{climbed_to_root}
-use Rattle.lmots.specs.Formulas.{ends_of_seed, message_digest_of}
+use Rattle.lmots.specs.Key.{ends_of_seed, message_digest_of}
 use Rattle.lmots.proofs.Signing.{signed_climbs}
 use Rattle.lms.specs.declared.secret.LmsSecret.{LmsSecret}
-use Rattle.lms.specs.Textbook.{joins_of, leaves_of, path_in, public_of, signed, textbook}
-use Rattle.lms.specs.Valid.{IsValid}
+use Rattle.lms.specs.Secret.{joins_of, leaves_of, path_in, public_of}
+use Rattle.lms.specs.Writing.{signed, textbook}
+use Rattle.lms.specs.Verification.{IsValid}
 
 -- the nodes above leaf q along its path end at the root
 path_ends : (secret : LmsSecret) (q : ℕ) → q < 2 ^ height_of secret.pair.tree

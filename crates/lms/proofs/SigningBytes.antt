@@ -17,13 +17,14 @@ use Rattle.typecodes.specs.Types.{chains_of, height_of, lms_code, lms_of_code, l
 use Rattle.typecodes.specs.Layout.{Layout, Spells, done, ◌>>=◌}
 use Rattle.typecodes.specs.Fields.{block, known, lms_type, number, ots_type, typed, values}
 use Rattle.typecodes.proofs.Spelling.{from_turn}
-use Rattle.lmots.specs.Formulas.{u32str}
+use Rattle.lmots.specs.Hashes.{u32str}
 use Rattle.lmots.proofs.Signing.{signed_sizes}
 use Rattle.lms.specs.declared.key.LmsPublic.{LmsPublic}
 use Rattle.lms.specs.declared.secret.LmsSecret.{LmsSecret}
-use Rattle.lms.specs.Layouts.{Signature, public_key, signature}
+use Rattle.lms.specs.Signature.{Signature, signature}
+use Rattle.lms.specs.Key.{public_key}
 use Rattle.lms.proofs.Behind.{behind_chains, behind_index, behind_ots, behind_randomizer, behind_tree}
-use Rattle.lms.specs.Textbook.{public_bytes, signature_bytes, signed}
+use Rattle.lms.specs.Writing.{public_bytes, signature_bytes, signed}
 
 -- the last field of a layout ends its bytes
 pub last_field : {V W : Type 0} (first : Layout V) (next : V → Layout W) (v : V) (w : W) (bytes : List ℕ) → Spells first v bytes → Spells (next v) w [] → Spells (first >>= next) w bytes

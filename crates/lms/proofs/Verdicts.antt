@@ -6,9 +6,8 @@ use Rattle.typecodes.proofs.Spelling.{no_value, one_fault, one_value}
 use Rattle.lms.specs.declared.key.LmsPublic.{LmsPublic}
 use Rattle.typecodes.specs.declared.refusal.Refusal.{Refusal}
 use Rattle.typecodes.specs.declared.refusal.Refusal.TheVariants.{Unreadable, TypeMismatch, LevelMismatch, RootMismatch}
-use Rattle.lms.specs.Layouts.{Signature, signature}
-use Rattle.lms.specs.Valid.{IsValid}
-use Rattle.lms.specs.Verdict.{LevelVerdict, Verdict}
+use Rattle.lms.specs.Signature.{Signature, signature}
+use Rattle.lms.specs.Verification.{IsValid, LevelVerdict, Verdict}
 
 -- the answer of the signature that bytes spell is that of the bytes
 pub whole_verdict : {A : Type 0} (key : LmsPublic) (message bytes : List ℕ) (s : Signature) (result : Result A Refusal) → Spells signature s bytes → LevelVerdict key message s 0 result

@@ -1,7 +1,7 @@
-pub mod Layouts
+pub mod Key
+pub mod Signature
 pub mod View
+pub mod Nodes
+pub mod Verification
 pub mod Secret
-pub mod Formulas
-pub mod Valid
-pub mod Verdict
-pub mod Textbook
+pub mod Writing

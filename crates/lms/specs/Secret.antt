@@ -1,7 +1,35 @@
--- What callers see of the tree of a secret.
-use Rattle.std.specs.Prelude.{ℕ}
+-- What a secret makes: the leaves of its tree, the nodes above them, its public key and the authentication paths
+-- (RFC 8554 4.3, 5.2, 5.3 and Appendix A); and what callers see of its tree.
+use Rattle.std.specs.Prelude.{ℕ, List}
+use Rattle.typecodes.specs.Types.{height_of}
+use Rattle.merkle.specs.Tree.{Joins, Leaves, path_of, root_of}
+use Rattle.lmots.specs.Key.{ends_of_seed, public_hash}
+use Rattle.lms.specs.declared.key.LmsPublic.{LmsPublic}
+use Rattle.lms.specs.declared.secret.LmsSecret.{LmsSecret}
 use Rattle.lms.specs.declared.secret.LmsTree.{LmsTree}
+use Rattle.lms.specs.Nodes.{join_of, leaf_hash}
 
--- how many leaves were made
+-- the leaves of a secret's tree: each of the ends of all chains, walked from their private values
+abbrev pub leaves_of : LmsSecret → Leaves
+leaves_of secret q = leaf_hash secret.identifier (height_of secret.pair.tree) q
+    (public_hash secret.identifier q (ends_of_seed secret.identifier q secret.pair.ots secret.seed))
+
+-- and the nodes above them
+abbrev pub joins_of : LmsSecret → Joins
+joins_of secret = join_of secret.identifier (height_of secret.pair.tree)
+
+-- the public key
+abbrev pub public_of : LmsSecret → LmsPublic
+public_of secret = record {
+  pair = secret.pair;
+  identifier = secret.identifier;
+  root = root_of (leaves_of secret) (joins_of secret) (height_of secret.pair.tree);
+}
+
+-- the authentication path of leaf q
+abbrev pub path_in : LmsSecret → ℕ → List (List ℕ)
+path_in secret q = path_of (leaves_of secret) (joins_of secret) (height_of secret.pair.tree) q
+
+-- how many leaves of a tree were made
 abbrev pub leaves_made : LmsTree → ℕ
 leaves_made tree = tree.made

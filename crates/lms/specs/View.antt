@@ -3,7 +3,7 @@ use Rattle.lms.specs.declared.signature.LmsSigView.{LmsSigView}
 use denote.Bor.{Bor}
 use Rattle.std.specs.Prelude.{ℕ, List}
 use Rattle.typecodes.specs.declared.types.LmsPair.{LmsPair}
-use Rattle.lms.specs.Layouts.{Signature}
+use Rattle.lms.specs.Signature.{Signature}
 
 -- the signature
 abbrev pub signature_of : LmsSigView → Signature

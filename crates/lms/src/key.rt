@@ -1,7 +1,7 @@
 //! Public keys.
 
 ghost use Rattle.std.specs.Prelude.{◌≡◌, ◌+◌, ◌<◌, ◌^◌, OnErr, OnOk};
-ghost use Rattle.typecodes.specs.Reading.{Gives, Reads, read};
+ghost use Rattle.typecodes.specs.Cursor.{Gives, Reads, read};
 
 use typecodes::{Cursor, LmsPair, ReadFault};
 
@@ -17,11 +17,11 @@ pub struct LmsPublic {
 }
 
 impl LmsPublic {
-    ghost use Rattle.lms.specs.Layouts.{public_key};
+    ghost use Rattle.lms.specs.Key.{public_key};
 
     /// The key at a cursor, 56 bytes: the tree's type, the one-time type, I and the root. The caller
     /// keeps its end below `2^32`. A fault leaves the cursor where it is.
-    #[tactic(auto, using(typecodes::proofs::Steps::reading), unfolding(crate::specs::Layouts::public_key))]
+    #[tactic(auto, using(typecodes::proofs::Steps::reading), unfolding(crate::specs::Key::public_key))]
     pub fn from_cursor(cursor: &mut Cursor<'_>) -> Result<Self, ReadFault>
         requires { cursor.old.place + 56 < 2 ^ 32 }
         ensures read { Gives (λ key. (key, cursor.new.place)) result (read public_key cursor.old.bytes.now cursor.old.place) }

@@ -2,13 +2,12 @@
 //! every key and every signature.
 
 ghost use Rattle.std.specs.Prelude.{◌≡◌, List, [], ◌++◌, ℕ, Result, Err, IsOk};
-ghost use Rattle.typecodes.specs.Layout.{Spells};
-ghost use Rattle.typecodes.specs.Reading.{OneSpelling};
+ghost use Rattle.typecodes.specs.Layout.{Spells, OneSpelling};
 ghost use Rattle.lms.specs.declared.key.LmsPublic.{LmsPublic};
 ghost use Rattle.typecodes.specs.declared.refusal.Refusal.{Refusal};
-ghost use Rattle.lms.specs.Layouts.{Signature, public_key, signature};
-ghost use Rattle.lms.specs.Valid.{IsValid};
-ghost use Rattle.lms.specs.Verdict.{Verdict};
+ghost use Rattle.lms.specs.Signature.{Signature, signature};
+ghost use Rattle.lms.specs.Key.{public_key};
+ghost use Rattle.lms.specs.Verification.{IsValid, Verdict};
 
 /// What holds of the spellings of public keys and of signatures: no value has two, no bytes spell two
 /// values, and no spelling begins another.

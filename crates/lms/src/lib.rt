@@ -1,7 +1,7 @@
 //! LMS keys, signatures and their verification (RFC 8554, section 5), for SHA-256 with m = 32.
 //!
-//! Its model is `specs/Layouts.antt`, how keys and signatures are spelled, and `specs/Valid.antt`,
-//! which signatures are valid. Its contract for the crates above: `verify` is Ok exactly on the
+//! Its model is `specs/Key.antt` and `specs/Signature.antt`, how keys and signatures are spelled, and
+//! `specs/Verification.antt`, which signatures are valid. Its contract for the crates above: `verify` is Ok exactly on the
 //! spellings of valid signatures, and else tells the first refusal; `LmsSigView::verify` does the same
 //! for a signature that was read, as that of a level of HSS. That keys and signatures are spelled in one
 //! way, and that an answer of `verify` is the only one, stands on `spelling_laws` and `verdict_laws`.

@@ -2,8 +2,8 @@
 
 ghost use Rattle.std.specs.Prelude.{◌≡◌, ◌++◌};
 ghost use Rattle.sha2.specs.Hashers.{Holds256};
-ghost use Rattle.lms.specs.Formulas.{join_of, leaf_hash, node_number};
-ghost use Rattle.lmots.specs.Formulas.{u16str, u32str};
+ghost use Rattle.lms.specs.Nodes.{join_of, leaf_hash, node_number};
+ghost use Rattle.lmots.specs.Hashes.{u16str, u32str};
 
 use merkle::NodeHash;
 use sha2::{Digest, Sha256};

@@ -2,7 +2,6 @@
 
 ghost use Rattle.std.specs.Prelude.{◌≡◌};
 ghost use Rattle.typecodes.specs.Types.{height_of};
-ghost use Rattle.lms.specs.Textbook.{joins_of, leaves_of};
 
 use crate::nodes::Nodes;
 use lmots::LmOts;
@@ -57,6 +56,8 @@ impl LmsTree {
 }
 
 impl NodeHash for LmsTree {
+    ghost use Rattle.lms.specs.Secret.{joins_of};
+
     ghost join_of = { λ tree. joins_of tree.secret };
 
     fn join(&self, height: u8, index: u32, left: &[u8; 32], right: &[u8; 32]) -> [u8; 32] {
@@ -65,7 +66,7 @@ impl NodeHash for LmsTree {
 }
 
 impl TreeHash for LmsTree {
-    ghost use Rattle.lms.specs.Secret.{leaves_made};
+    ghost use Rattle.lms.specs.Secret.{leaves_made, leaves_of};
 
     ghost leaf_of = { λ tree. leaves_of tree.secret };
 

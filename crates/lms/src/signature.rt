@@ -4,9 +4,9 @@ ghost use Rattle.std.specs.Prelude.{◌≡◌, ◌+◌, ◌-◌, ◌*◌, ◌<�
 ghost use Rattle.byteorder.specs.Endian.{big_number};
 ghost use Rattle.typecodes.specs.Layout.{Spells};
 ghost use Rattle.typecodes.specs.Fields.{values_in};
-ghost use Rattle.typecodes.specs.Reading.{Gives, Reads, read};
+ghost use Rattle.typecodes.specs.Cursor.{Gives, Reads, read};
 ghost use Rattle.typecodes.specs.Types.{chains_of, height_of, lms_signature_len_of, signature_len_of};
-ghost use Rattle.lms.specs.Layouts.{signature, signature_with};
+ghost use Rattle.lms.specs.Signature.{signature, signature_with};
 
 use typecodes::{Cause, Cursor, LmsPair, ReadFault};
 
@@ -37,7 +37,7 @@ impl<'a> LmsSigView<'a> {
     /// the path. An index that is no leaf of the tree is told when the tree's type is read, at the
     /// index. The caller keeps the place so low that the longest signature, 9324 bytes, ends below
     /// `2^32`. A fault leaves the cursor where it is.
-    #[tactic(auto, using(crate::proofs::Fields::fields), unfolding(crate::specs::Layouts::signature))]
+    #[tactic(auto, using(crate::proofs::Fields::fields), unfolding(crate::specs::Signature::signature))]
     pub fn from_cursor(cursor: &mut Cursor<'a>) -> Result<Self, ReadFault>
         requires { cursor.old.place + 9324 < 2 ^ 32 }
         ensures read { Gives (λ view. (signature_of view, cursor.new.place)) result (read signature cursor.old.bytes.now cursor.old.place) }

@@ -2,8 +2,7 @@
 
 ghost use Rattle.std.specs.Prelude.{◌≡◌, ◌↔◌, List, ℕ, IsTrue};
 ghost use Rattle.lms.specs.View.{signature_of};
-ghost use Rattle.lms.specs.Valid.{LeadsTo};
-ghost use Rattle.lms.specs.Verdict.{LeavesMessage, LevelVerdict, Verdict};
+ghost use Rattle.lms.specs.Verification.{LeadsTo, LeavesMessage, LevelVerdict, Verdict};
 
 use crate::key::LmsPublic;
 use crate::nodes::Nodes;

@@ -3,10 +3,12 @@
 ghost use Rattle.std.specs.Prelude.{◌≡◌, ◌+◌, ◌<◌, ◌≤◌, ◌^◌, ℕ, List, ◌++◌, Some, length, take};
 ghost use Rattle.typecodes.specs.Layout.{Spells};
 ghost use Rattle.typecodes.specs.Types.{height_of, lms_code, lms_of_code, ots_code, ots_of_code};
-ghost use Rattle.lmots.specs.Formulas.{message_digest_of};
-ghost use Rattle.lms.specs.Layouts.{public_key, signature};
-ghost use Rattle.lms.specs.Textbook.{path_in, public_bytes, public_of, signature_bytes, signature_size, signed};
-ghost use Rattle.lms.specs.Valid.{IsValid};
+ghost use Rattle.lmots.specs.Key.{message_digest_of};
+ghost use Rattle.lms.specs.Key.{public_key};
+ghost use Rattle.lms.specs.Signature.{signature};
+ghost use Rattle.lms.specs.Secret.{path_in, public_of};
+ghost use Rattle.lms.specs.Writing.{public_bytes, signature_bytes, signature_size, signed};
+ghost use Rattle.lms.specs.Verification.{IsValid};
 
 use crate::key::LmsPublic;
 use crate::secret::LmsSecret;

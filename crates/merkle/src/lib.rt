@@ -1,16 +1,25 @@
 //! Binary hash trees, over any leaves and any join (RFC 8554 5.3 and 5.4; RFC 8391 4.1.6 and 4.1.9).
 //!
-//! Its model is `specs/Tree.antt`: nodes, roots and authentication paths by recursion over whole
-//! trees, and the list of nodes that a path leads through. Its contract for the crates above:
-//! `root` and `path` are those of the model, from as many leaves as they need; `root_from_path` gives the last
-//! node of that list, and the path of leaf q leads from it to the root.
+//! Its model is `specs/Tree.antt`, nodes, roots and authentication paths by recursion over whole
+//! trees, and `specs/Ascent.antt`, the nodes through which a path leads. Its contract for the
+//! crates above: `root` and `path` are those of the model, from as many leaves as they need;
+//! `root_from_path` gives the last node of the ascent, and the path of leaf q leads from it to the
+//! root.
+//!
+//! ```rust
+//! use merkle::{path, root, root_from_path};
+//!
+//! // a tree of height 2, whose leaves and joins are those of a `TreeHash`
+//! let top = root(&mut tree, 2);
+//! let mut nodes = [[0; 32]; 2];
+//! path(&mut tree, 2, 3, &mut nodes);
+//! let leaf = tree.leaf(3);
+//! assert_eq!(rt; root_from_path(&tree, 3, &leaf, &nodes), top);
+//! ```
 #![tactic(auto)]
 
-mod nodes;
+mod ascent;
 mod tree;
 
-pub use crate::nodes::{path, root};
-pub use crate::tree::{NodeHash, TreeHash, root_from_path};
-
-#[cfg(test)]
-mod tests;
+pub use crate::ascent::root_from_path;
+pub use crate::tree::{NodeHash, TreeHash, path, root};

@@ -1,8 +1,7 @@
-//! Trees by their leaves and their join.
+//! Trees by their leaves and their join: their roots and authentication paths.
 
-ghost use Rattle.std.specs.Prelude.{◌≡◌, ◌≤◌, ◌<◌, ◌+◌, ◌^◌, ℕ, List, length};
-ghost use Rattle.merkle.specs.Ascent.{IsAscent, at};
-ghost use Rattle.merkle.specs.Tree.{path_of, root_of};
+ghost use Rattle.std.specs.Prelude.{◌≡◌, ◌≤◌, ◌<◌, ◌+◌, ◌-◌, ◌^◌, ℕ, List, length};
+ghost use Rattle.merkle.specs.Tree.{node, root_of, path_of, sibling};
 
 /// How a hash tree's nodes are made from those below them.
 pub trait NodeHash {
@@ -30,27 +29,63 @@ pub trait TreeHash: NodeHash {
         ensures joins { Self.join_of self.new ≡ Self.join_of self.old };
 }
 
-/// The node to which an authentication path leads leaf q (RFC 8554 5.4.2, RFC 8391 4.1.10): the root, where the path is q's in its
-/// tree. The caller keeps the path at most 25 long and q below `2^(path.len())`.
-pub fn root_from_path<T: NodeHash>(tree: &T, q: u32, leaf: &[u8; 32], path: &[[u8; 32]]) -> [u8; 32]
-    requires height { length path.now ≤ 25 }
-    requires inside { q < 2 ^ length path.now }
-    // The last of the nodes above the leaf.
-    ensures last { (nodes : List (List ℕ)) × IsAscent (T.join_of tree.now) q leaf.now path.now nodes × (result ≡ at nodes (length path.now)) }
-    ensures only { (nodes : List (List ℕ)) → IsAscent (T.join_of tree.now) q leaf.now path.now nodes → result ≡ at nodes (length path.now) }
-    // The path of leaf q leads from it to the root.
-    ensures leads { (leaves : ℕ → List ℕ) → path.now ≡ path_of leaves (T.join_of tree.now) (length path.now) q → leaf.now ≡ leaves q → result ≡ root_of leaves (T.join_of tree.now) (length path.now) }
+/// Node `index` of a height, from the leaves below it.
+fn node_at<T: TreeHash>(tree: &mut T, height: u8, index: u32) -> [u8; 32]
+    requires height { height ≤ 25 }
+    requires inside { index < 2 ^ (25 - height) }
+    ensures value { result ≡ node (T.leaf_of tree.old) (T.join_of tree.old) height index }
+    // As many leaves are made as stand below it.
+    ensures counted { T.made tree.new ≡ T.made tree.old + 2 ^ height }
+    ensures leaves { T.leaf_of tree.new ≡ T.leaf_of tree.old }
+    ensures joins { T.join_of tree.new ≡ T.join_of tree.old }
 {
-    let mut node = *leaf;
-    let mut index = q;
-    for (k, sibling) in path.iter().enumerate() {
-        let right = index % 2 == 1;
-        index /= 2;
-        node = if right {
-            tree.join(k as u8, index, sibling, &node)
-        } else {
-            tree.join(k as u8, index, &node, sibling)
-        };
+    if height == 0 {
+        return tree.leaf(index);
     }
-    node
+    let below = height - 1;
+    let left = node_at(tree, below, 2 * index);
+    let right = node_at(tree, below, 2 * index + 1);
+    tree.join(below, index, &left, &right)
 }
+
+/// The index with its last bit turned.
+fn sibling_of(index: u32) -> u32
+    requires { index < 2 ^ 25 }
+    ensures { result ≡ sibling index }
+{
+    if index % 2 == 0 { index + 1 } else { index - 1 }
+}
+
+/// The root of a tree (RFC 8554 5.3, RFC 8391 4.1.6). The caller keeps its height at most 25.
+pub fn root<T: TreeHash>(tree: &mut T, height: u8) -> [u8; 32]
+    requires { height ≤ 25 }
+    ensures value { result ≡ root_of (T.leaf_of tree.old) (T.join_of tree.old) height }
+    // As many leaves are made as the tree has.
+    ensures counted { T.made tree.new ≡ T.made tree.old + 2 ^ height }
+    ensures leaves { T.leaf_of tree.new ≡ T.leaf_of tree.old }
+    ensures joins { T.join_of tree.new ≡ T.join_of tree.old }
+{
+    node_at(tree, height, 0)
+}
+
+/// The authentication path of leaf q of a tree (RFC 8554 5.4, RFC 8391 4.1.9), the leaf's sibling first. The caller
+/// keeps the tree's height at most 25, q below `2^height`, and `into` as long as the tree is high.
+pub fn path<T: TreeHash>(tree: &mut T, height: u8, q: u32, into: &mut [[u8; 32]])
+    requires height { height ≤ 25 }
+    requires inside { q < 2 ^ height }
+    requires room { length into.old ≡ height }
+    ensures value { into.new ≡ path_of (T.leaf_of tree.old) (T.join_of tree.old) height q }
+    // One leaf less is made than the tree has.
+    ensures counted { T.made tree.new ≡ T.made tree.old + (2 ^ height - 1) }
+    ensures leaves { T.leaf_of tree.new ≡ T.leaf_of tree.old }
+    ensures joins { T.join_of tree.new ≡ T.join_of tree.old }
+{
+    let mut over = q;
+    for (k, node) in into.iter_mut().enumerate() {
+        *node = node_at(tree, k as u8, sibling_of(over));
+        over /= 2;
+    }
+}
+
+#[cfg(test)]
+mod tests;

@@ -1,14 +1,14 @@
 -- A key that bytes spell is the one that is read.
 use Rattle.std.proofs.Common.{◌≡◌, ◌∙◌, sym, ap, arith, ℕ, inl, inr, List, length, Result, Ok, Err, IfErr, IfOk}
 use Rattle.typecodes.proofs.Spelling.{no_value, one_value}
-use Rattle.lms.specs.Layouts.{public_key as lms_public_key}
+use Rattle.lms.specs.Key.{public_key as lms_public_key}
 use Rattle.hss.specs.Key.{public_key as hss_public_key}
-use Rattle.xmss.specs.Layouts.{public_key as xmss_public_key}
-use Rattle.sign_core.specs.declared.public.AnyPublic.{AnyPublic}
-use Rattle.sign_core.specs.declared.public.AnyPublic.TheVariants.{Lms, Hss, Xmss}
-use Rattle.sign_core.specs.declared.public.KeyFault.{KeyFault}
-use Rattle.sign_core.specs.declared.public.KeyFault.TheVariants.{Length, Unreadable}
-use Rattle.sign_core.specs.AnyKey.{KeyHasFault, SpellsKey}
+use Rattle.xmss.specs.Key.{public_key as xmss_public_key}
+use Rattle.sign_core.specs.declared.key.AnyPublic.{AnyPublic}
+use Rattle.sign_core.specs.declared.key.AnyPublic.TheVariants.{Lms, Hss, Xmss}
+use Rattle.sign_core.specs.declared.key.KeyFault.{KeyFault}
+use Rattle.sign_core.specs.declared.key.KeyFault.TheVariants.{Length, Unreadable}
+use Rattle.sign_core.specs.Key.{KeyHasFault, SpellsKey}
 use Rattle.sign_core.proofs.KeySizes.{size-lms_key, size-hss_key, size-xmss_key}
 
 -- lengths of two schemes are two

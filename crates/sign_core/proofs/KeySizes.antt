@@ -2,8 +2,7 @@
 use Rattle.std.proofs.Common.{ℕ, List, cond, nat_le}
 use Rattle.std.specs.Prelude.{◌&&◌}
 use Rattle.typecodes.specs.declared.fault.Cause.TheVariants.{LevelCount}
-use Rattle.typecodes.specs.Types.{lms_code, lms_types, ots_code, ots_types}
-use Rattle.typecodes.specs.XmssTypes.{xmss_code, xmss_types}
+use Rattle.typecodes.specs.Types.{lms_code, lms_types, ots_code, ots_types, xmss_code, xmss_types}
 use Rattle.typecodes.specs.declared.types.LmsType.{LmsType}
 use Rattle.typecodes.specs.declared.types.OtsType.{OtsType}
 use Rattle.typecodes.specs.declared.xmss.XmssType.{XmssType}
@@ -13,9 +12,9 @@ use Rattle.typecodes.proofs.Sizes.{HasSize, size-bind, size-block, size-done, si
 use Rattle.lms.specs.declared.key.LmsPublic.{LmsPublic}
 use Rattle.hss.specs.declared.key.HssPublic.{HssPublic}
 use Rattle.xmss.specs.declared.key.XmssPublic.{XmssPublic}
-use Rattle.lms.specs.Layouts.{public_key as lms_public_key}
+use Rattle.lms.specs.Key.{public_key as lms_public_key}
 use Rattle.hss.specs.Key.{level_number, public_key as hss_public_key}
-use Rattle.xmss.specs.Layouts.{public_key as xmss_public_key}
+use Rattle.xmss.specs.Key.{public_key as xmss_public_key}
 
 size-lms_type : HasSize lms_type 4
 unfolding lms_type

@@ -1,10 +1,10 @@
-pub mod Lower
+pub mod TextbookSpelling
 pub mod OnceRecords
 pub mod OnceSteps
 pub mod OnceRuns
 pub mod OnceParts
 pub mod OnceLasting
-pub mod Steps
-pub mod Beginning
+pub mod SignSteps
+pub mod CreateSteps
 pub mod KeySizes
 pub mod KeyReading

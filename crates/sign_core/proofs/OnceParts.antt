@@ -8,13 +8,14 @@ use Rattle.typecodes.specs.declared.types.LmsPair.{LmsPair}
 use Rattle.typecodes.specs.Layout.{Spells}
 use Rattle.typecodes.specs.Types.{height_of}
 use Rattle.typecodes.proofs.Spelling.{one_value}
-use Rattle.lmots.specs.Formulas.{message_digest_of}
+use Rattle.lmots.specs.Key.{message_digest_of}
 use Rattle.lms.specs.declared.key.LmsPublic.{LmsPublic}
-use Rattle.lms.specs.Layouts.{Signature, signature}
-use Rattle.lms.specs.Textbook.{public_of, textbook}
-use Rattle.lms.specs.Valid.{IsValid}
+use Rattle.lms.specs.Signature.{Signature, signature}
+use Rattle.lms.specs.Secret.{public_of}
+use Rattle.lms.specs.Writing.{textbook}
+use Rattle.lms.specs.Verification.{IsValid}
 use Rattle.state_file.specs.declared.record.Bound.{Bound}
-use Rattle.sign_core.specs.declared.key.LmsKey.{LmsKey}
+use Rattle.sign_core.specs.declared.ledger.LmsKey.{LmsKey}
 use Rattle.state_file.specs.declared.record.Record.{Record}
 use Rattle.state_file.specs.declared.record.Record.TheVariants.{Bound as BoundRecord}
 use Rattle.sign_core.specs.declared.fault.SignFault.{SignFault}
@@ -24,7 +25,7 @@ use Rattle.sign_core.specs.Uses.{LeafUse, Uses, Verifies}
 use Rattle.sign_core.specs.World.{Chance, Creation, Handed, Outcome, State, World, acked, after, appended, created, cut_new, cut_old, handed_with, new_bound, new_key, no_memory, refused, repeated, request, requested, requested_of, requested_under}
 use Rattle.sign_core.specs.Once.{IsOnce, IsRecorded, ShareLeaf}
 use Rattle.lms.proofs.Signing.{textbook_valid}
-use Rattle.sign_core.proofs.Lower.{textbook_spelled}
+use Rattle.sign_core.proofs.TextbookSpelling.{textbook_spelled}
 use Rattle.sign_core.proofs.OnceRecords.{binding_named, binding_stands}
 use Rattle.sign_core.proofs.OnceSteps.{for_request}
 use Rattle.sign_core.proofs.OnceRuns.{IsBinding, IsKept}
@@ -157,21 +158,21 @@ failed_request limit state name message chance =
           ];
     })
 
--- a request under sound keys alone is never told of a damaged slot
+-- a request under sound keys alone is never answered that a slot is damaged
 never_damaged : (limit : ℕ) (state : State) (name message : List ℕ) (chance : Chance) (slot : ℕ) → ((key : LmsKey) → key_of state.records ≡ Some key → is_sound key ≡ true)
     → (requested limit state name message chance).answer ≢ Err (Damaged slot)
 never_damaged limit state name message chance slot sound =
     for_request (λ outcome. outcome.answer ≢ Err (Damaged slot)) limit state name message chance (record {
-      refused_for = λ fault other whole told. whole slot (cc);
-      damaged = λ key keyed unsound told. absurd (let is = sound key keyed in cc);
-      recorded = λ key bound keyed named digest told. absurd (cc);
+      refused_for = λ fault other whole upcoming. whole slot (cc);
+      damaged = λ key keyed unsound upcoming. absurd (let is = sound key keyed in cc);
+      recorded = λ key bound keyed named digest upcoming. absurd (cc);
       bound = λ key randomizer keyed free inside drawn.
           let new = new_bound key (next_leaf state.records) name message randomizer in
           elim chance.fate as (λ f. (appended state (BoundRecord new) (signature_of key new) f).answer ≢ Err (Damaged slot)) [
-            | acked ↦ λ told. absurd (cc)
-            | cut_old ↦ λ told. absurd (cc)
-            | cut_new ↦ λ told. absurd (cc)
-            | no_memory ↦ λ told. absurd (cc)
+            | acked ↦ λ upcoming. absurd (cc)
+            | cut_old ↦ λ upcoming. absurd (cc)
+            | cut_new ↦ λ upcoming. absurd (cc)
+            | no_memory ↦ λ upcoming. absurd (cc)
           ];
     })
 

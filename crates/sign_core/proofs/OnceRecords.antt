@@ -5,7 +5,7 @@ use Rattle.std.specs.Cmp.Lexicographic.{bytes_decides}
 use Rattle.std.proofs.lemmas.List.Folds.{find-append}
 use Rattle.std.proofs.Math.Nat.{le-max_left, le-max_right}
 use Rattle.state_file.specs.declared.record.Bound.{Bound}
-use Rattle.sign_core.specs.declared.key.LmsKey.{LmsKey}
+use Rattle.sign_core.specs.declared.ledger.LmsKey.{LmsKey}
 use Rattle.state_file.specs.declared.record.Record.{Record}
 use Rattle.state_file.specs.declared.record.Record.TheVariants.{Key as KeyRecord, Extend as ExtendRecord, Bound as BoundRecord, Retire, Moved}
 use Rattle.sign_core.specs.Ledger.{above_of, binding_of, bounds_of, key_of, next_leaf, same_bytes}
@@ -19,7 +19,7 @@ key_stays (BoundRecord bound ∷ rest) entry key is = absurd (cc)
 key_stays (Retire upto ∷ rest) entry key is = absurd (cc)
 key_stays (Moved ∷ rest) entry key is = absurd (cc)
 
--- the binding comes behind the others
+-- the binding comes after the others
 pub bounds_and_one : (records : List Record) (bound : Bound) → bounds_of (records ++ BoundRecord bound ∷ []) ≡ bounds_of records ++ bound ∷ []
 bounds_and_one [] bound = refl
 bounds_and_one (KeyRecord key ∷ rest) bound = bounds_and_one rest bound
@@ -42,9 +42,9 @@ binding_added records new free =
 -- what is found stands in the list
 found_first : (passes : Bool) (first : Bound) (rest : List Bound) (found : Option Bound) (bound : Bound) → (found ≡ Some bound → Contains rest bound)
     → cond passes (Some first) found ≡ Some bound → Contains (first ∷ rest) bound
-found_first true first rest found bound behind is = (0, omega arith, cc)
-found_first false first rest found bound behind is =
-    let (k, within, at) = behind is in
+found_first true first rest found bound later is = (0, omega arith, cc)
+found_first false first rest found bound later is =
+    let (k, within, at) = later is in
     (suc k, omega arith, at)
 
 found_stands : (test : Bound → Bool) (bounds : List Bound) (bound : Bound) → find test bounds ≡ Some bound → Contains bounds bound
@@ -57,8 +57,8 @@ binding_stands records name bound is = found_stands (λ b. same_bytes b.name nam
 -- and passes the test
 passes_first : (passes : Bool) (first bound : Bound) (found : Option Bound) (test : Bound → Bool) → test first ≡ passes → (found ≡ Some bound → test bound ≡ true)
     → cond passes (Some first) found ≡ Some bound → test bound ≡ true
-passes_first true first bound found test is behind there = let same : first ≡ bound = cc in ap test (sym same) ∙ is
-passes_first false first bound found test is behind there = behind there
+passes_first true first bound found test is later there = let same : first ≡ bound = cc in ap test (sym same) ∙ is
+passes_first false first bound found test is later there = later there
 
 found_passes : (test : Bound → Bool) (bounds : List Bound) (bound : Bound) → find test bounds ≡ Some bound → test bound ≡ true
 found_passes test [] bound is = absurd (cc)

@@ -6,7 +6,7 @@ use Rattle.std.proofs.lemmas.List.Elements.{Contains-push_cases}
 use Rattle.typecodes.specs.declared.types.LmsPair.{LmsPair}
 use Rattle.typecodes.specs.Types.{height_of}
 use Rattle.state_file.specs.declared.record.Bound.{Bound}
-use Rattle.sign_core.specs.declared.key.LmsKey.{LmsKey}
+use Rattle.sign_core.specs.declared.ledger.LmsKey.{LmsKey}
 use Rattle.state_file.specs.declared.record.Record.{Record}
 use Rattle.state_file.specs.declared.record.Record.TheVariants.{Bound as BoundRecord}
 use Rattle.sign_core.specs.Ledger.{binding_of, bounds_of, is_sound, key_of, key_record, next_leaf, public_key_of, signature_of}

@@ -3,7 +3,8 @@ pub mod Uses
 pub mod World
 pub mod Once
 pub mod Source
-pub mod TapeSource
-pub mod Calls
-pub mod Keeping
-pub mod AnyKey
+pub mod Fault
+pub mod Signing
+pub mod Signer
+pub mod Create
+pub mod Key

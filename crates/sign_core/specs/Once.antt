@@ -1,19 +1,21 @@
 -- The law over all runs: no leaf signs twice.
-use Rattle.std.specs.Prelude.{◌≡◌, ◌≢◌, ℕ, ◌<◌, ◌^◌, true, false, List, [], ◌∷◌, ◌++◌, Contains, Option, Some, None, Ok, Err, length, if◌then◌else◌}
+use Rattle.std.specs.Prelude.{◌≡◌, ◌≢◌, ℕ, ◌<◌, ◌^◌, true, false, List, [], ◌∷◌, ◌++◌, Contains, length}
+use Rattle.std.specs.Prelude.{Option, Some, None, Ok, Err, if◌then◌else◌}
 use Rattle.std.specs.List.{AllByRecursion}
 use Rattle.typecodes.specs.declared.types.LmsPair.{LmsPair}
-use Rattle.typecodes.specs.Names.{IsName}
-use Rattle.typecodes.specs.Reading.{AreBytes}
+use Rattle.typecodes.specs.Name.{IsName}
+use Rattle.typecodes.specs.Layout.{AreBytes}
 use Rattle.typecodes.specs.Types.{height_of}
-use Rattle.lmots.specs.Formulas.{message_digest_of}
+use Rattle.lmots.specs.Key.{message_digest_of}
 use Rattle.state_file.specs.declared.record.Bound.{Bound}
-use Rattle.sign_core.specs.declared.key.LmsKey.{LmsKey}
+use Rattle.sign_core.specs.declared.ledger.LmsKey.{LmsKey}
 use Rattle.state_file.specs.declared.record.Record.{Record}
 use Rattle.state_file.specs.declared.record.Record.TheVariants.{Bound as BoundRecord}
 use Rattle.sign_core.specs.declared.fault.SignFault.TheVariants.{Changed, Damaged, OutOfMemory, Stopped, StoreFailed}
 use Rattle.sign_core.specs.Ledger.{binding_of, is_sound, key_of, key_record, next_leaf, public_key_of, signature_of}
 use Rattle.sign_core.specs.Uses.{LeafUse, Uses, Verifies}
-use Rattle.sign_core.specs.World.{Chance, Creation, Event, create, request, Handed, World, acked, after, beginning, created, new_bound, new_key, refused, requested, run}
+use Rattle.sign_core.specs.World.{Chance, Creation, Event, create, request, Handed, World, acked, after, beginning}
+use Rattle.sign_core.specs.World.{created, new_bound, new_key, refused, requested, run}
 
 -- what is drawn has its length: I 16 bytes, SEED and C 32
 abbrev pub IsDrawn : Option (List ℕ) → Type 0
@@ -64,20 +66,27 @@ pub record IsOnce (limit : ℕ) (world : World) : Type 0 where
   -- no leaf signs under two names
   pub one_name : (x y : Handed) (u v : LeafUse) → ShareLeaf world x y u v → x.name ≡ y.name
   -- one name has one signature
-  pub one_signature : (x y : Handed) → Contains world.handed x → Contains world.handed y → x.name ≡ y.name → x.signature ≡ y.signature
+  pub one_signature : (x y : Handed) → Contains world.handed x → Contains world.handed y → x.name ≡ y.name
+      → x.signature ≡ y.signature
   -- every signature that was handed out is recorded
   pub recorded : (x : Handed) → Contains world.handed x → IsRecorded world.state.records x
   -- and is valid for its message under the key
   pub valid : (x : Handed) → Contains world.handed x
       → (key : LmsKey) × (key_of world.state.records ≡ Some key) × Verifies (public_key_of key) x.message x.signature
   -- what a request answers is handed out
-  pub counted : (name message signature : List ℕ) (chance : Chance) → (requested limit world.state name message chance).answer ≡ Ok signature
-      → Contains (after limit world (request name message chance)).handed (record { name = name; message = message; signature = signature })
+  pub counted : (name message signature : List ℕ) (chance : Chance)
+      → (requested limit world.state name message chance).answer ≡ Ok signature
+      → Contains (after limit world (request name message chance)).handed
+      (record { name = name; message = message; signature = signature })
   -- a create where no record stands begins a key, where nothing fails
   pub begins : (pair : LmsPair) (identifier seed : List ℕ) (chance : Creation) → world.state.records ≡ []
-      → chance.failed_load ≡ None → chance.drawn ≡ Some (identifier, seed) → chance.has_room ≡ true → chance.fate ≡ acked
+      → chance.failed_load ≡ None → chance.drawn ≡ Some (identifier, seed)
+      → chance.has_room ≡ true → chance.fate ≡ acked
       → (let key = new_key pair identifier seed in
-      created world.state pair chance ≡ record { state = record { records = key_record key ∷ []; is_open = true }; answer = Ok (public_key_of key) })
+      created world.state pair chance ≡ record {
+        state = record { records = key_record key ∷ []; is_open = true };
+        answer = Ok (public_key_of key);
+      })
   -- a request to an open signer whose name is bound to another digest is refused as changed, and changes nothing
   pub changed : (key : LmsKey) (bound : Bound) (name message : List ℕ) (chance : Chance) → world.state.is_open ≡ true
       → key_of world.state.records ≡ Some key → binding_of world.state.records name ≡ Some bound
@@ -88,7 +97,10 @@ pub record IsOnce (limit : ℕ) (world : World) : Type 0 where
       → key_of world.state.records ≡ Some key → binding_of world.state.records name ≡ Some bound
       → message_digest_of key.identifier bound.leaf bound.randomizer message ≡ bound.digest
       → requested limit world.state name message chance
-      ≡ record { state = world.state; answer = if chance.has_room then Ok (signature_of key bound) else Err OutOfMemory }
+      ≡ record {
+        state = world.state;
+        answer = if chance.has_room then Ok (signature_of key bound) else Err OutOfMemory;
+      }
   -- a new name gets the next leaf, where one is left, the store takes one more record and nothing fails
   pub fresh : (key : LmsKey) (name message randomizer : List ℕ) (chance : Chance) → world.state.is_open ≡ true
       → key_of world.state.records ≡ Some key → binding_of world.state.records name ≡ None
@@ -96,13 +108,18 @@ pub record IsOnce (limit : ℕ) (world : World) : Type 0 where
       → chance.has_room ≡ true → chance.drawn ≡ Some randomizer → chance.fate ≡ acked
       → (let new = new_bound key (next_leaf world.state.records) name message randomizer in
       requested limit world.state name message chance
-      ≡ record { state = record { records = world.state.records ++ BoundRecord new ∷ []; is_open = true }; answer = Ok (signature_of key new) })
+      ≡ record {
+        state = record { records = world.state.records ++ BoundRecord new ∷ []; is_open = true };
+        answer = Ok (signature_of key new);
+      })
   -- the recorded root is that of the recorded secret
   pub sound : (key : LmsKey) → key_of world.state.records ≡ Some key → is_sound key ≡ true
-  -- so no request is told that a record is damaged
-  pub undamaged : (name message : List ℕ) (chance : Chance) (slot : ℕ) → (requested limit world.state name message chance).answer ≢ Err (Damaged slot)
+  -- so no request is answered that a record is damaged
+  pub undamaged : (name message : List ℕ) (chance : Chance) (slot : ℕ)
+      → (requested limit world.state name message chance).answer ≢ Err (Damaged slot)
   -- a request whose append the store fails closes the signer
-  pub stops : (name message : List ℕ) (chance : Chance) → (requested limit world.state name message chance).answer ≡ Err StoreFailed
+  pub stops : (name message : List ℕ) (chance : Chance)
+      → (requested limit world.state name message chance).answer ≡ Err StoreFailed
       → (requested limit world.state name message chance).state.is_open ≡ false
   -- and a closed one hands nothing out and changes nothing
   pub closed : (name message : List ℕ) (chance : Chance) → world.state.is_open ≡ false
@@ -114,7 +131,7 @@ OnceLaw = (limit : ℕ) (events : List Event) → AllEvents events → IsOnce li
 
 -- ---- what lasts
 
--- A later world has the records and the signatures of an earlier one, and perhaps more behind them.
+-- A later world has the records and the signatures of an earlier one, and perhaps more after them.
 pub record Extends (earlier later : World) : Type 0 where
   pub records : List Record
   pub handed : List Handed

@@ -1,14 +1,26 @@
--- What a source of random bytes does.
+-- What a source of random bytes does, and what callers see of one of given bytes.
 use Rattle.std.specs.Prelude.{◌≡◌, ℕ, ◌+◌, List, ◌++◌, Option, Some, None, Result, Ok, Err}
+use Rattle.sign_core.specs.declared.source.TapeSource.{TapeSource}
 
--- What a source tells of the bytes that it will give, before and after it gives these: these come first.
--- One that tells nothing tells nothing afterwards.
+-- What a source has still to give, where that is known, before and after it gives these bytes: these come first.
+-- Where it isn't known, it isn't afterwards.
 abbrev pub Gives : Option (List ℕ) → List ℕ → Option (List ℕ) → Type 0
 Gives None bytes left = left ≡ None
-Gives (Some told) bytes None = ⊥
-Gives (Some told) bytes (Some left) = told ≡ bytes ++ left
+Gives (Some upcoming) bytes None = ⊥
+Gives (Some upcoming) bytes (Some left) = upcoming ≡ bytes ++ left
 
--- What a fill does, by its answer: to the count of failures, and to what is told.
-abbrev pub Fills : {A E : Type 0} (failures_before failures_after : ℕ) (told left : Option (List ℕ)) (bytes : List ℕ) → Result A E → Type 0
-Fills before after told left bytes (Ok _) = (after ≡ before) × Gives told bytes left
-Fills before after told left bytes (Err _) = (after ≡ before + 1) × (left ≡ told)
+-- What a fill does, by its answer: to the count of failures, and to what the source has still to give.
+abbrev pub Fills : {A E : Type 0} (failures_before failures_after : ℕ) (upcoming left : Option (List ℕ))
+    (bytes : List ℕ) → Result A E → Type 0
+Fills before after upcoming left bytes (Ok _) = (after ≡ before) × Gives upcoming bytes left
+Fills before after upcoming left bytes (Err _) = (after ≡ before + 1) × (left ≡ upcoming)
+
+-- ---- a source of given bytes
+
+-- the bytes that are left
+abbrev pub left_in : TapeSource → List ℕ
+left_in source = source.bytes.now
+
+-- how often it has failed
+abbrev pub failures_of : TapeSource → ℕ
+failures_of source = source.failures

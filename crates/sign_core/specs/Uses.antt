@@ -2,10 +2,10 @@
 -- key alone.
 use Rattle.std.specs.Prelude.{◌≡◌, ℕ, List}
 use Rattle.typecodes.specs.Layout.{Spells}
-use Rattle.lmots.specs.Formulas.{message_digest_of}
+use Rattle.lmots.specs.Key.{message_digest_of}
 use Rattle.lms.specs.declared.key.LmsPublic.{LmsPublic}
-use Rattle.lms.specs.Layouts.{Signature, signature}
-use Rattle.lms.specs.Valid.{IsValid}
+use Rattle.lms.specs.Signature.{Signature, signature}
+use Rattle.lms.specs.Verification.{IsValid}
 
 -- a leaf of the tree with this identifier signs this digest
 pub record LeafUse : Type 0 where

@@ -1,18 +1,21 @@
 -- The world of one key: its records, whether a signer is open on them, and what was handed out; and what
 -- each event does to it.
-use Rattle.std.specs.Prelude.{ℕ, ◌+◌, ◌^◌, Bool, true, false, not, List, [], ◌∷◌, ◌++◌, length, Option, Some, None, Result, Ok, Err, nat_le, nat_lt, if◌then◌else◌}
+use Rattle.std.specs.Prelude.{ℕ, ◌+◌, ◌^◌, Bool, true, false, not, List, [], ◌∷◌, ◌++◌, length}
+use Rattle.std.specs.Prelude.{Option, Some, None, Result, Ok, Err, nat_le, nat_lt, if◌then◌else◌}
 use Rattle.typecodes.specs.declared.types.LmsPair.{LmsPair}
 use Rattle.typecodes.specs.Types.{height_of}
 use Rattle.state_file.specs.declared.record.Bound.{Bound}
-use Rattle.sign_core.specs.declared.key.LmsKey.{LmsKey}
+use Rattle.sign_core.specs.declared.ledger.LmsKey.{LmsKey}
 use Rattle.state_file.specs.declared.record.Record.{Record}
 use Rattle.state_file.specs.declared.record.Record.TheVariants.{Bound as BoundRecord}
-use Rattle.lmots.specs.Formulas.{message_digest_of}
+use Rattle.lmots.specs.Key.{message_digest_of}
 use Rattle.lms.specs.declared.key.LmsPublic.{LmsPublic}
-use Rattle.lms.specs.Textbook.{public_of}
+use Rattle.lms.specs.Secret.{public_of}
 use Rattle.sign_core.specs.declared.fault.SignFault.{SignFault}
-use Rattle.sign_core.specs.declared.fault.SignFault.TheVariants.{Changed, Exhausted, RandomFailed, StoreFailed, Stopped, Damaged, OutOfMemory, LedgerFull, KeyThere}
-use Rattle.sign_core.specs.Ledger.{binding_of, is_sound, key_of, key_record, next_leaf, public_key_of, same_bytes, signature_of}
+use Rattle.sign_core.specs.declared.fault.SignFault.TheVariants.{Changed, Exhausted, RandomFailed, StoreFailed}
+use Rattle.sign_core.specs.declared.fault.SignFault.TheVariants.{Stopped, Damaged, OutOfMemory, LedgerFull, KeyThere}
+use Rattle.sign_core.specs.Ledger.{binding_of, is_sound, key_of, key_record, next_leaf, public_key_of, same_bytes}
+use Rattle.sign_core.specs.Ledger.{signature_of}
 
 -- ---- appends
 
@@ -39,9 +42,12 @@ refused state fault = record { state = state; answer = Err fault }
 
 -- a record appended with this fate; where it is acknowledged, the signer is open and answers a
 abbrev pub appended : {A : Type 0} → State → Record → A → Fate → Outcome A
-appended state entry a acked = record { state = record { records = state.records ++ entry ∷ []; is_open = true }; answer = Ok a }
-appended state entry a cut_old = refused (record { records = state.records; is_open = false }) StoreFailed
-appended state entry a cut_new = refused (record { records = state.records ++ entry ∷ []; is_open = false }) StoreFailed
+appended state entry a acked =
+    record { state = record { records = state.records ++ entry ∷ []; is_open = true }; answer = Ok a }
+appended state entry a cut_old =
+    refused (record { records = state.records; is_open = false }) StoreFailed
+appended state entry a cut_new =
+    refused (record { records = state.records ++ entry ∷ []; is_open = false }) StoreFailed
 appended state entry a no_memory = refused state OutOfMemory
 
 -- ---- create
@@ -72,7 +78,9 @@ made state pair chance (Some drawn) =
 
 abbrev pub created_after : Option SignFault → State → LmsPair → Creation → Outcome LmsPublic
 created_after (Some fault) state pair chance = refused state fault
-created_after None state pair chance = if nat_le 1 (length state.records) then refused state KeyThere else made state pair chance chance.drawn
+created_after None state pair chance =
+    if nat_le 1 (length state.records) then refused state KeyThere
+    else made state pair chance chance.drawn
 
 -- a create: it begins a key where no record stands
 abbrev pub created : State → LmsPair → Creation → Outcome LmsPublic
@@ -91,7 +99,8 @@ pub record Chance : Type 0 where
 -- leaf and C.
 abbrev pub repeated : LmsKey → Bound → List ℕ → Chance → Result (List ℕ) SignFault
 repeated key bound message chance =
-    if not (same_bytes (message_digest_of key.identifier bound.leaf bound.randomizer message) bound.digest) then Err Changed
+    if not (same_bytes (message_digest_of key.identifier bound.leaf bound.randomizer message) bound.digest)
+    then Err Changed
     else (if not chance.has_room then Err OutOfMemory
     else (if not (is_sound key) then Err (Damaged 0)
     else Ok (signature_of key bound)))
@@ -121,12 +130,15 @@ bound_anew limit state key name message chance =
     else bound_to state key name message chance chance.drawn)))
 
 abbrev pub requested_of : ℕ → State → LmsKey → List ℕ → List ℕ → Chance → Option Bound → Outcome (List ℕ)
-requested_of limit state key name message chance (Some bound) = record { state = state; answer = repeated key bound message chance }
-requested_of limit state key name message chance None = bound_anew limit state key name message chance
+requested_of limit state key name message chance (Some bound) =
+    record { state = state; answer = repeated key bound message chance }
+requested_of limit state key name message chance None =
+    bound_anew limit state key name message chance
 
 abbrev pub requested_under : ℕ → State → List ℕ → List ℕ → Chance → Option LmsKey → Outcome (List ℕ)
 requested_under limit state name message chance (Some key) =
-    if state.is_open then requested_of limit state key name message chance (binding_of state.records name) else refused state Stopped
+    if state.is_open then requested_of limit state key name message chance (binding_of state.records name)
+    else refused state Stopped
 requested_under limit state name message chance None = refused state Stopped
 
 -- a request to sign a message under a name
@@ -160,7 +172,8 @@ handed_with name message (Err fault) = []
 
 -- an event in a world whose store takes so many records
 abbrev pub after : ℕ → World → Event → World
-after limit world (create pair chance) = record { state = (created world.state pair chance).state; handed = world.handed }
+after limit world (create pair chance) =
+    record { state = (created world.state pair chance).state; handed = world.handed }
 after limit world (request name message chance) =
     let outcome = requested limit world.state name message chance in
     record { state = outcome.state; handed = world.handed ++ handed_with name message outcome.answer }

@@ -40,7 +40,7 @@ pub enum SignFault {
 }
 
 impl SignFault {
-    ghost use Rattle.sign_core.specs.Keeping.{closes};
+    ghost use Rattle.sign_core.specs.Fault.{closes};
 
     // Whether a signer that answers it is closed from then on.
     pub(crate) fn closes(self) -> bool

@@ -1,37 +1,117 @@
-//! The key of one LMS tree.
+//! Public keys of every scheme.
 
-ghost use Rattle.std.specs.Prelude.{◌≡◌};
-ghost use Rattle.sign_core.specs.Ledger.{key_record};
+ghost use Rattle.std.specs.Prelude.{◌≡◌, ◌≤◌, length, IfErr, IfOk, Ok};
+ghost use Rattle.sign_core.specs.Key.{KeyHasFault, KeyLeavesMessage, KeyVerdict, SpellsKey};
 
-use state_file::{Key, Record, Secret, Version};
-use typecodes::LmsPair;
+use arrayvec::ArrayVec;
+use hss::HssPublic;
+use lms::LmsPublic;
+use thiserror::Error;
+use typecodes::{ReadFault, Refusal};
+use xmss::XmssPublic;
 
-/// An LMS key as its record tells it: its types, the secret that its leaves are made from, and its
-/// root.
-#[derive(Clone, Copy)]
-pub(crate) struct LmsKey {
-    pub(crate) pair: LmsPair,
-    /// I, 16 bytes.
-    pub(crate) identifier: [u8; 16],
-    /// SEED, 32 bytes.
-    pub(crate) seed: [u8; 32],
-    /// T[1], 32 bytes.
-    pub(crate) root: [u8; 32],
+/// A public key of one of the schemes. Its length in bytes names the scheme.
+#[derive(Clone, Copy, Debug, PartialEq, Eq)]
+pub enum AnyPublic {
+    /// LMS, 56 bytes (RFC 8554 5.3).
+    Lms(LmsPublic),
+    /// HSS, 60 bytes (RFC 8554 6.1).
+    Hss(HssPublic),
+    /// XMSS, 68 bytes (RFC 8391 4.1.7).
+    Xmss(XmssPublic),
 }
 
-impl LmsKey {
-    /// The record of the key.
-    pub(crate) fn record(&self) -> Record
-        ensures { result ≡ key_record self.now }
+/// Why bytes spell no public key.
+#[derive(Clone, Copy, Debug, PartialEq, Eq, Error)]
+pub enum KeyFault {
+    /// 6: no public key has so many bytes.
+    #[error("no public key has {0} bytes")]
+    Length(usize),
+    /// 2 or 3: what is wrong with the bytes as a key of their length.
+    #[error("the public key can't be read: {0}")]
+    Unreadable(ReadFault),
+}
+
+impl AnyPublic {
+    ghost use Rattle.sign_core.specs.declared.key.AnyPublic.{AnyPublic as Key};
+
+    /// The key that the bytes spell, of the scheme that their length names. Otherwise what is wrong: the
+    /// length (6), or else the first fault (2 or 3) in the layout of the scheme's keys.
+    pub fn read(bytes: &[u8]) -> Result<Self, KeyFault>
+        ensures ok { IfOk result (λ key. SpellsKey key bytes.now) }
+        ensures err { IfErr result (KeyHasFault bytes.now) }
+        ensures spelled { (key : Key) → SpellsKey key bytes.now → result ≡ Ok key }
     {
-        Record::Key(Key {
-            version: Version::One,
-            secret: Secret::Lms {
-                pair: self.pair,
-                identifier: self.identifier,
-                seed: self.seed,
-            },
-            root: self.root,
-        })
+        Self::read_by_length(bytes)
+    }
+
+    // The same. That it is the key that the bytes spell follows from the two clauses.
+    fn read_by_length(bytes: &[u8]) -> Result<Self, KeyFault>
+        ensures ok { IfOk result (λ key. SpellsKey key bytes.now) }
+        ensures err { IfErr result (KeyHasFault bytes.now) }
+    {
+        match bytes.len() {
+            56 => LmsPublic::read(bytes)
+                .map(AnyPublic::Lms)
+                .map_err(KeyFault::Unreadable),
+            60 => HssPublic::read(bytes)
+                .map(AnyPublic::Hss)
+                .map_err(KeyFault::Unreadable),
+            68 => XmssPublic::read(bytes)
+                .map(AnyPublic::Xmss)
+                .map_err(KeyFault::Unreadable),
+            length => Err(KeyFault::Length(length)),
+        }
+    }
+
+    /// The bytes that spell the key: 56, 60 or 68.
+    pub fn write(&self) -> ArrayVec<u8, 68>
+        ensures { SpellsKey self.now result.items }
+    {
+        match self {
+            AnyPublic::Lms(key) => {
+                let mut bytes = [0; 56];
+                lms::write_public(key, &mut bytes);
+                to_array_vec(&bytes)
+            }
+            AnyPublic::Hss(key) => {
+                let mut bytes = [0; 60];
+                hss::write_public(key, &mut bytes);
+                to_array_vec(&bytes)
+            }
+            AnyPublic::Xmss(key) => {
+                let mut bytes = [0; 68];
+                xmss::write_public(key, &mut bytes);
+                to_array_vec(&bytes)
+            }
+        }
     }
 }
+
+// The bytes, as a list of at most 68.
+fn to_array_vec(bytes: &[u8]) -> ArrayVec<u8, 68>
+    requires { length bytes.now ≤ 68 }
+    ensures { result.items ≡ bytes.now }
+{
+    match ArrayVec::try_from(bytes) {
+        Ok(list) => list,
+        Err(_) => unreachable!(),
+    }
+}
+
+/// Verifies that the bytes of a signature sign the message under the key, by the key's scheme (RFC 8554
+/// 5.4.2 and 6.3, RFC 8391 4.1.10). The refusals, their order, and what is left of the message are the
+/// scheme's: see `lms::verify`, `hss::verify` and `xmss::verify`.
+pub fn verify_any(public: &AnyPublic, message: &mut &[u8], signature: &[u8]) -> Result<(), Refusal>
+    ensures verdict { KeyVerdict public.now message.old.now signature.now result }
+    ensures message { KeyLeavesMessage public.now message.old.now message.new.now result }
+{
+    match public {
+        AnyPublic::Lms(key) => lms::verify(key, message, signature),
+        AnyPublic::Hss(key) => hss::verify(key, message, signature),
+        AnyPublic::Xmss(key) => xmss::verify(key, message, signature),
+    }
+}
+
+#[cfg(test)]
+mod tests;

@@ -1,15 +1,46 @@
 //! The records of a key, kept in memory.
 
-ghost use Rattle.std.specs.Prelude.{◌≡◌, ◌^◌, true, ◌<◌, ◌+◌, ◌∷◌, [], ◌++◌, Bool, Some, None, MatchOption, IfErr, OnOk, find, vec_len, vec_capacity, length};
+ghost use Rattle.std.specs.Prelude.{◌≡◌, ◌^◌, true, ◌<◌, ◌+◌, ◌-◌, ◌∷◌, [], ◌++◌, Some, None, MatchOption, IfErr};
+ghost use Rattle.std.specs.Prelude.{OnErr, OnOk, vec_len, vec_capacity, length};
 ghost use Rattle.typecodes.specs.Types.{height_of};
-ghost use Rattle.lms.specs.Textbook.{path_in, signature_size};
-ghost use Rattle.sign_core.specs.Ledger.{same_bytes};
+ghost use Rattle.lms.specs.Secret.{path_in};
+ghost use Rattle.lms.specs.Writing.{signature_size};
+ghost use Rattle.sign_core.specs.Ledger.{bound_in, key_record};
 
 use crate::fault::SignFault;
-use crate::key::LmsKey;
-use crate::work::{digest, make_room, sound_path};
-use state_file::Bound;
-use typecodes::Name;
+use crate::signing::{digest, make_room, sound_path};
+use state_file::{Bound, Key, Record, Secret, Version};
+use typecodes::{LmsPair, Name};
+
+/// An LMS key as its record says it: its types, the secret that its leaves are made from, and its
+/// root.
+#[derive(Clone, Copy)]
+pub(crate) struct LmsKey {
+    pub(crate) pair: LmsPair,
+    /// I, 16 bytes.
+    pub(crate) identifier: [u8; 16],
+    /// SEED, 32 bytes.
+    pub(crate) seed: [u8; 32],
+    /// T[1], 32 bytes.
+    pub(crate) root: [u8; 32],
+}
+
+impl LmsKey {
+    /// The record of the key.
+    pub(crate) fn record(&self) -> Record
+        ensures { result ≡ key_record self.now }
+    {
+        Record::Key(Key {
+            version: Version::One,
+            secret: Secret::Lms {
+                pair: self.pair,
+                identifier: self.identifier,
+                seed: self.seed,
+            },
+            root: self.root,
+        })
+    }
+}
 
 /// The key, its bindings, and the next leaf.
 #[derive(Drop)]
@@ -21,7 +52,8 @@ pub(crate) struct Ledger {
 
 /// The binding of a name.
 pub(crate) fn find_bound<'a>(bounds: &'a [Bound], name: &Name) -> Option<&'a Bound>
-    ensures { MatchOption result (find (λ bound. same_bytes bound.name name.now) bounds.entry.now ≡ None) (λ found. find (λ bound. same_bytes bound.name name.now) bounds.entry.now ≡ Some found.now) }
+    ensures { MatchOption result (bound_in bounds.entry.now name.now ≡ None)
+        (λ found. bound_in bounds.entry.now name.now ≡ Some found.now) }
 {
     for bound in bounds {
         if bound.name == *name {
@@ -32,14 +64,16 @@ pub(crate) fn find_bound<'a>(bounds: &'a [Bound], name: &Name) -> Option<&'a Bou
 }
 
 impl Ledger {
-    ghost use Rattle.sign_core.specs.Keeping.{fault_of, hindrance};
-    ghost use Rattle.sign_core.specs.Ledger.{is_sound, secret_of};
+    ghost use Rattle.sign_core.specs.Fault.{fault_of};
+    ghost use Rattle.sign_core.specs.Ledger.{Hinders, LacksMemory, hindrance, is_sound, secret_of};
     ghost use Rattle.sign_core.specs.Once.{IsDrawn};
     ghost use Rattle.sign_core.specs.World.{new_bound};
 
     // Refuses where no leaf is free, or where the store takes no further record.
     fn check_free(&self, limit: u32) -> Result<(), SignFault>
-        ensures { fault_of result ≡ hindrance limit (height_of self.now.key.pair.tree) self.now.next (length self.now.bounds.items + 1) true true }
+        ensures { fault_of result ≡
+            hindrance limit (height_of self.now.key.pair.tree) self.now.next (length self.now.bounds.items + 1)
+            true true }
     {
         if self.next >= 1 << self.key.pair.tree.height() {
             return Err(SignFault::Exhausted);
@@ -55,6 +89,9 @@ impl Ledger {
         ensures room { OnOk result (length out.new.items ≡ signature_size self.old.key.pair) }
         ensures reserved { OnOk result (vec_len self.new.bounds < vec_capacity self.new.bounds) }
         ensures refused { IfErr result (λ fault. fault ≡ SignFault.OutOfMemory) }
+        // Memory is requested only where there isn't room for both yet.
+        ensures full { OnErr result (LacksMemory None (signature_size self.old.key.pair) (vec_capacity out.old)
+            (vec_capacity self.old.bounds - vec_len self.old.bounds)) }
         ensures key { self.new.key ≡ self.old.key }
         ensures bounds { self.new.bounds.items ≡ self.old.bounds.items }
         ensures next { self.new.next ≡ self.old.next }
@@ -73,7 +110,11 @@ impl Ledger {
         out: &mut Vec<u8>,
     ) -> Result<(), SignFault>
         requires { length path.old ≡ height_of self.old.key.pair.tree }
-        ensures hindrance { (has_room : Bool) × (fault_of result ≡ hindrance limit (height_of self.old.key.pair.tree) self.old.next (length self.old.bounds.items + 1) has_room (is_sound self.old.key)) }
+        ensures hindrance { Hinders limit (height_of self.old.key.pair.tree) self.old.next
+            (length self.old.bounds.items + 1)
+            (LacksMemory None (signature_size self.old.key.pair) (vec_capacity out.old)
+            (vec_capacity self.old.bounds - vec_len self.old.bounds))
+            (is_sound self.old.key) (fault_of result) }
         ensures free { OnOk result (self.old.next < 2 ^ height_of self.old.key.pair.tree) }
         ensures takes { OnOk result (length self.old.bounds.items + 1 < limit) }
         ensures path { OnOk result (path.new ≡ path_in (secret_of self.old.key) self.old.next) }

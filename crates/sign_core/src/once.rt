@@ -20,7 +20,8 @@ ghost use Rattle.sign_core.specs.Once.{LastingLaw, OnceLaw};
 /// - Of an open signer, a request for a bound name and another digest is refused as changed, and one for
 ///   the bound digest gets the recorded signature, unless memory is refused. Neither changes anything.
 /// - A request for a new name gets the next leaf, if one is left, the store isn't full and nothing fails.
-/// - The recorded root is that of the recorded secret, so no request is told that a record is damaged.
+/// - The recorded root is that of the recorded secret, so no request is answered that a record is
+/// damaged.
 /// - A request whose append the device failed closes the signer, and a closed one hands nothing out.
 ///
 /// The events are those of `specs/World.antt`; opening a signer again is none of them. And the law speaks

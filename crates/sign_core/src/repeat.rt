@@ -1,15 +1,13 @@
 //! A request under a name that is bound.
 
-ghost use Rattle.std.specs.Prelude.{◌≡◌, ◌<◌, ◌^◌, Bool, ℕ, [], None, Err, vec_capacity};
+ghost use Rattle.std.specs.Prelude.{◌≡◌, ◌<◌, ◌^◌, ℕ, [], Err, vec_capacity};
 ghost use Rattle.typecodes.specs.Types.{height_of};
-ghost use Rattle.lms.specs.Textbook.{signature_size};
-ghost use Rattle.sign_core.specs.Calls.{RandomCount, StoreCount, answered};
-ghost use Rattle.sign_core.specs.World.{repeated};
-ghost use Rattle.sign_core.specs.World.Fate.{acked};
+ghost use Rattle.lms.specs.Writing.{signature_size};
+ghost use Rattle.sign_core.specs.Signer.{RandomCount, Repeats, StoreCount, answered};
 
 use crate::fault::SignFault;
-use crate::key::LmsKey;
-use crate::work::{digest, make_room, sound_path, take_all, write_bound};
+use crate::ledger::LmsKey;
+use crate::signing::{digest, make_room, sound_path, take_all, write_bound};
 use state_file::Bound;
 
 /// The recorded signature, where the message has the recorded digest.
@@ -20,12 +18,13 @@ pub(crate) fn repeat(
     out: &mut Vec<u8>,
 ) -> Result<(), SignFault>
     requires { bound.now.leaf < 2 ^ height_of key.now.pair.tree }
-    ensures answer { (has_room : Bool) × (answered result out.new.items ≡ repeated key.now bound.now message.old.now (record { drawn = None; has_room = has_room; fate = acked })) }
-    // It asks neither the source nor the store.
+    // Memory is requested only where there is no room for the signature yet.
+    ensures answer { Repeats key.now bound.now message.old.now (vec_capacity out.old < signature_size key.now.pair)
+        (answered result out.new.items) }
+    // It calls neither the source nor the store.
     ensures random { (n : ℕ) → RandomCount result n n }
     ensures store { (n : ℕ) → StoreCount result n n }
     ensures read { message.new.now ≡ [] }
-    // Memory is asked for only where there is no room for the signature yet.
     ensures full { result ≡ Err SignFault.OutOfMemory → vec_capacity out.old < signature_size key.now.pair }
 {
     let text = take_all(message);

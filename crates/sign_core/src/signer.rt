@@ -1,13 +1,14 @@
 //! The signer over a store.
 
-ghost use Rattle.std.specs.Prelude.{◌≡◌, ◌≤◌, ◌<◌, true, false, [], None, Some, OnErr, IfOk, IfErr, IsSome, MatchResult, Err, vec_capacity};
+ghost use Rattle.std.specs.Prelude.{◌≡◌, ◌≤◌, ◌<◌, true, false, [], None, Some, OnErr, IfErr, IsSome, Err};
+ghost use Rattle.std.specs.Prelude.{vec_capacity};
 
-use crate::begin::begin;
+use crate::create::create_key;
 use crate::fault::SignFault;
 use crate::ledger::{Ledger, find_bound};
 use crate::repeat::repeat;
+use crate::signing::{append, draw, take_all, write_bound};
 use crate::source::Source;
-use crate::work::{append, draw, take_all, write_bound};
 use lms::LmsPublic;
 use state_file::{Record, Refused, Store};
 use std::alloc::Global;
@@ -15,7 +16,7 @@ use std::marker::Model;
 use typecodes::{LmsPair, Name};
 
 /// Signs messages under names, each new name with a leaf of its own. What it signed stands in its
-/// store, and it asks its source for each new randomizer.
+/// store, and it draws each new randomizer from its source.
 #[derive(Drop)]
 pub struct Signer<S: Store, R: Source> {
     store: S,
@@ -25,24 +26,31 @@ pub struct Signer<S: Store, R: Source> {
 }
 
 impl<S: Store, R: Source> Model for Signer<S, R> {
-    ghost use Rattle.std.specs.Prelude.{◌≡◌, true, Some};
-    ghost use Rattle.sign_core.specs.Ledger.{key_of};
-    ghost use Rattle.sign_core.specs.Calls.{View};
-    ghost use Rattle.sign_core.specs.Keeping.{IsKept};
+    ghost use Rattle.std.specs.Prelude.{◌≡◌, ◌-◌, true, Some, vec_len, vec_capacity};
+    ghost use Rattle.sign_core.specs.Ledger.{IsKept, key_of};
+    ghost use Rattle.sign_core.specs.Signer.{View};
 
     ghost Value = { View S R };
 
-    ghost view = { λ s. record { store = s.store; random = s.random; key = s.ledger.key; is_open = s.is_open } };
+    ghost view = { λ s. record {
+      store = s.store;
+      random = s.random;
+      key = s.ledger.key;
+      is_open = s.is_open;
+      spare = vec_capacity s.ledger.bounds - vec_len s.ledger.bounds;
+    } };
 
     // The key is that of the store's records; while open, the ledger is what they say.
-    ghost invariant = { λ s. (key_of (S.list s.store) ≡ Some s.ledger.key) × (s.is_open ≡ true → IsKept (S.list s.store) (S.stopped s.store) s.ledger.key s.ledger.bounds.items s.ledger.next) };
+    ghost invariant = { λ s. (key_of (S.list s.store) ≡ Some s.ledger.key) ×
+        (s.is_open ≡ true →
+        IsKept (S.list s.store) (S.stopped s.store) s.ledger.key s.ledger.bounds.items s.ledger.next) };
 }
 
 impl<S: Store, R: Source> Signer<S, R> {
-    ghost use Rattle.sign_core.specs.Calls.{Creates, Leaves, LeavesSource, RandomCount, Signs, StoreCount, answered, state_of};
-    ghost use Rattle.lms.specs.Textbook.{signature_size};
+    ghost use Rattle.lms.specs.Writing.{signature_size};
+    ghost use Rattle.sign_core.specs.Create.{CreatesOver, LeavesSource, answer_of, random_after, store_after};
     ghost use Rattle.sign_core.specs.Ledger.{binding_of, key_of, public_key_of};
-    ghost use Rattle.sign_core.specs.declared.key.LmsKey.{LmsKey};
+    ghost use Rattle.sign_core.specs.Signer.{Counts, Leaves, RandomCount, SignsOver, StoreCount, answered};
 
     /// Makes a key in a store that has none, and the signer of it: draws I and then SEED, makes the
     /// root, and appends the key's record. A refusal gives back the store and the source.
@@ -55,17 +63,16 @@ impl<S: Store, R: Source> Signer<S, R> {
         random: R,
     ) -> Result<Self, Refused<(S, R), SignFault>>
         requires { 1 ≤ S.most store }
-        ensures created { IfOk result (λ signer. Creates pair (S.stopped store) (S.honest store) (state_of (S.list store) false) (state_of (S.list signer.store) signer.is_open) (R.told random) (R.told signer.random) (Ok (public_key_of signer.key))) }
-        ensures refused { IfErr result (λ refused. Creates pair (S.stopped store) (S.honest store) (state_of (S.list store) false) (state_of (S.list refused.given.0) false) (R.told random) (R.told refused.given.1) (Err refused.fault)) }
+        ensures step { CreatesOver S.list S.stopped S.honest R.upcoming pair store random result }
         ensures leaves { IfErr result (λ refused. LeavesSource refused.fault random refused.given.1) }
-        ensures random { MatchResult result (λ signer. R.failures signer.random ≡ R.failures random) (λ refused. RandomCount {A = LmsKey} (Err refused.fault) (R.failures random) (R.failures refused.given.1)) }
-        ensures store { MatchResult result (λ signer. S.failures signer.store ≡ S.failures store) (λ refused. StoreCount {A = LmsKey} (Err refused.fault) (S.failures store) (S.failures refused.given.0)) }
-        ensures honest { MatchResult result (λ signer. S.honest signer.store ≡ S.honest store) (λ refused. S.honest refused.given.0 ≡ S.honest store) }
-        ensures most { MatchResult result (λ signer. S.most signer.store ≡ S.most store) (λ refused. S.most refused.given.0 ≡ S.most store) }
+        ensures random { RandomCount (answer_of result) (R.failures random) (R.failures (random_after result)) }
+        ensures store { StoreCount (answer_of result) (S.failures store) (S.failures (store_after result)) }
+        ensures honest { S.honest (store_after result) ≡ S.honest store }
+        ensures most { S.most (store_after result) ≡ S.most store }
     {
         let mut store = store;
         let mut random = random;
-        match begin(pair, &mut store, &mut random) {
+        match create_key(pair, &mut store, &mut random) {
             Ok(key) => {
                 let ledger = Ledger {
                     key,
@@ -107,18 +114,15 @@ impl<S: Store, R: Source> Signer<S, R> {
         message: &mut &[u8],
         out: &mut Vec<u8>,
     ) -> Result<(), SignFault>
-        ensures step { Signs (S.most self.old.store) (state_of (S.list self.old.store) self.old.is_open) (state_of (S.list self.new.store) self.new.is_open) (R.told self.old.random) (R.told self.new.random) name.now message.old.now message.new.now (answered result out.new.items) }
+        ensures step { SignsOver S.list S.most R.upcoming self.old self.new name.now message.old.now message.new.now
+            (vec_capacity out.old) (answered result out.new.items) }
         ensures empty { OnErr result (out.new.items ≡ []) }
         ensures leaves { Leaves result self.old self.new }
         ensures repeat { IsSome (binding_of (S.list self.old.store) name.now) → self.new ≡ self.old }
         // A repeat wants memory only where there is no room for the signature yet.
         ensures full { IsSome (binding_of (S.list self.old.store) name.now) → result ≡ Err SignFault.OutOfMemory →
             vec_capacity out.old < signature_size self.old.key.pair }
-        ensures random { RandomCount result (R.failures self.old.random) (R.failures self.new.random) }
-        ensures store { StoreCount result (S.failures self.old.store) (S.failures self.new.store) }
-        ensures key { self.new.key ≡ self.old.key }
-        ensures honest { S.honest self.new.store ≡ S.honest self.old.store }
-        ensures most { S.most self.new.store ≡ S.most self.old.store }
+        ensures counts { Counts R.failures S.failures S.most S.honest result self.old self.new }
     {
         if let Err(fault) = self.answer(name, message, out) {
             out.clear();
@@ -134,17 +138,14 @@ impl<S: Store, R: Source> Signer<S, R> {
         message: &mut &[u8],
         out: &mut Vec<u8>,
     ) -> Result<(), SignFault>
-        ensures step { Signs (S.most self.old.store) (state_of (S.list self.old.store) self.old.is_open) (state_of (S.list self.new.store) self.new.is_open) (R.told self.old.random) (R.told self.new.random) name.now message.old.now message.new.now (answered result out.new.items) }
+        ensures step { SignsOver S.list S.most R.upcoming self.old self.new name.now message.old.now message.new.now
+            (vec_capacity out.old) (answered result out.new.items) }
         ensures leaves { Leaves result self.old self.new }
         ensures repeat { IsSome (binding_of (S.list self.old.store) name.now) → self.new ≡ self.old }
         // A repeat wants memory only where there is no room for the signature yet.
         ensures full { IsSome (binding_of (S.list self.old.store) name.now) → result ≡ Err SignFault.OutOfMemory →
             vec_capacity out.old < signature_size self.old.key.pair }
-        ensures random { RandomCount result (R.failures self.old.random) (R.failures self.new.random) }
-        ensures store { StoreCount result (S.failures self.old.store) (S.failures self.new.store) }
-        ensures key { self.new.key ≡ self.old.key }
-        ensures honest { S.honest self.new.store ≡ S.honest self.old.store }
-        ensures most { S.most self.new.store ≡ S.most self.old.store }
+        ensures counts { Counts R.failures S.failures S.most S.honest result self.old self.new }
     {
         if !self.is_open {
             return Err(SignFault::Stopped);
@@ -159,13 +160,10 @@ impl<S: Store, R: Source> Signer<S, R> {
     fn bind(&mut self, name: &Name, message: &mut &[u8], out: &mut Vec<u8>) -> Result<(), SignFault>
         requires open { self.old.is_open ≡ true }
         requires unbound { binding_of (S.list self.old.store) name.now ≡ None }
-        ensures step { Signs (S.most self.old.store) (state_of (S.list self.old.store) true) (state_of (S.list self.new.store) self.new.is_open) (R.told self.old.random) (R.told self.new.random) name.now message.old.now message.new.now (answered result out.new.items) }
+        ensures step { SignsOver S.list S.most R.upcoming self.old self.new name.now message.old.now message.new.now
+            (vec_capacity out.old) (answered result out.new.items) }
         ensures leaves { Leaves result self.old self.new }
-        ensures random { RandomCount result (R.failures self.old.random) (R.failures self.new.random) }
-        ensures store { StoreCount result (S.failures self.old.store) (S.failures self.new.store) }
-        ensures key { self.new.key ≡ self.old.key }
-        ensures honest { S.honest self.new.store ≡ S.honest self.old.store }
-        ensures most { S.most self.new.store ≡ S.most self.old.store }
+        ensures counts { Counts R.failures S.failures S.most S.honest result self.old self.new }
     {
         let mut nodes = [[0u8; 32]; 25];
         let path = &mut nodes[..usize::from(self.ledger.key.pair.tree.height())];

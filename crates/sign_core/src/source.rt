@@ -18,12 +18,13 @@ pub trait Source {
     // how often it has failed
     ghost failures: { Self → ℕ };
 
-    // the bytes that it will give, where that is told
-    ghost told: { Self → Option (List ℕ) };
+    // the bytes that it has still to give, where these are known
+    ghost upcoming: { Self → Option (List ℕ) };
 
     /// Fills `into` with the next bytes.
     fn fill(&mut self, into: &mut [u8]) -> Result<(), SourceFault>
-        ensures { Fills (failures self.old) (failures self.new) (told self.old) (told self.new) into.new result };
+        ensures { Fills (failures self.old) (failures self.new) (upcoming self.old) (upcoming self.new) into.new
+            result };
 }
 
 /// A source of given bytes in their order, for tests and known answers.
@@ -34,7 +35,7 @@ pub struct TapeSource<'a> {
 }
 
 impl<'a> TapeSource<'a> {
-    ghost use Rattle.sign_core.specs.TapeSource.{failures_of, left_in};
+    ghost use Rattle.sign_core.specs.Source.{failures_of, left_in};
 
     /// The source of these bytes.
     pub fn new(bytes: &'a [u8]) -> Self
@@ -49,15 +50,16 @@ impl<'a> TapeSource<'a> {
 }
 
 impl Source for TapeSource<'_> {
-    ghost use Rattle.sign_core.specs.TapeSource.{failures_of, left_in};
+    ghost use Rattle.sign_core.specs.Source.{failures_of, left_in};
 
     ghost failures = { failures_of };
 
-    ghost told = { λ source. Some (left_in source) };
+    ghost upcoming = { λ source. Some (left_in source) };
 
     /// Fills `into` with the next bytes, where as many are left.
     fn fill(&mut self, into: &mut [u8]) -> Result<(), SourceFault>
-        ensures gives { Fills (failures_of self.old) (failures_of self.new) (Some (left_in self.old)) (Some (left_in self.new)) into.new result }
+        ensures gives { Fills (failures_of self.old) (failures_of self.new)
+            (Some (left_in self.old)) (Some (left_in self.new)) into.new result }
         ensures refuses { IsErr result ↔ length (left_in self.old) < length into.old }
     {
         if self.bytes.len() < into.len() {

@@ -61,6 +61,28 @@ fn refusal(
     Ok(answer.err())
 }
 
+// The example of the crate's documentation.
+#[test]
+fn what_is_signed_verifies(rt: HostRuntime) -> Result<(), Fail> {
+    let random = counting(rt.alloc(), 80)?;
+    let store = MemoryStore::with_limit(rt.alloc(), 100);
+    let made = Signer::create(rt.alloc(), PAIR, store, TapeSource::new(&random));
+    let mut signer = made.map_err(|refused| refused.fault)?;
+    let mut signature = Vec::new(rt.alloc());
+    signer.sign(
+        &Name::new(b"fw-1")?,
+        &mut b"firmware".as_slice(),
+        &mut signature,
+    )?;
+    let public = AnyPublic::Lms(signer.public_key());
+    assert_eq!(rt; AnyPublic::read(public.write().as_slice()), Ok(public));
+    assert_eq!(rt;
+        verify_any(&public, &mut b"firmware".as_slice(), &signature),
+        Ok(())
+    );
+    Ok(())
+}
+
 #[test]
 fn one_signature_for_a_name(rt: HostRuntime) -> Result<(), Fail> {
     let tape = counting(rt.alloc(), 200)?;
@@ -78,7 +100,7 @@ fn one_signature_for_a_name(rt: HostRuntime) -> Result<(), Fail> {
     Ok(())
 }
 
-// An LMS signature behind the number 0 of levels above is one of HSS with one level.
+// An LMS signature after the number 0 of levels above is one of HSS with one level.
 #[test]
 fn a_signature_verifies_by_its_scheme(rt: HostRuntime) -> Result<(), Fail> {
     let message = [1];

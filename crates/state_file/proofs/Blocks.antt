@@ -6,7 +6,7 @@ use Rattle.std.proofs.lemmas.Bool.{cases_lt}
 use Rattle.typecodes.specs.declared.fault.ReadFault.{ReadFault}
 use Rattle.typecodes.specs.Layout.{Layout, done, Spells}
 use Rattle.typecodes.specs.Fields.{block}
-use Rattle.typecodes.specs.Reading.{read, Reads}
+use Rattle.typecodes.specs.Cursor.{read, Reads}
 use Rattle.typecodes.proofs.Read.{read-cut, read-fits}
 use Rattle.typecodes.proofs.Spelling.{no_value}
 

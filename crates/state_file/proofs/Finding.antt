@@ -177,12 +177,6 @@ found_kept records tag content after same found = subst (IsKept records tag) (sy
   last = found.last;
 })
 
--- and left by a stop
-pub found_left : (records : List Record) (tag content c : List ℕ) (after : State) → after ≡ settled content → IsFound content records tag → MayLeave after c → SpellsRecords c records
-found_left records tag content c after same found left =
-    let is : c ≡ content = synced_leaves content c (subst (λ (s : State). MayLeave s c) same left) in
-    subst (λ l. SpellsRecords l records) (sym is) found.spelled
-
 -- ---- a step of the loop, by the states of the disk
 
 pub fault_told : {A : Type 0} (P : OpenFault → Type 0) (result : Result A OpenFault) (fault : OpenFault) → result ≡ Err fault → P fault → IfErr result P

@@ -6,7 +6,7 @@ use Rattle.std.proofs.lemmas.Bool.{cases_lt}
 use Rattle.typecodes.proofs.Read.{spelled-read}
 use Rattle.typecodes.proofs.Steps.{ends-spelled}
 use Rattle.typecodes.specs.Layout.{Spells}
-use Rattle.typecodes.specs.Reading.{read}
+use Rattle.typecodes.specs.Cursor.{read}
 use Rattle.state_file.specs.Contents.{Holds, fields_at, tag_at, previous_tag, tag_of, most_records}
 use Rattle.state_file.specs.Files.{StandsFor, IsFileOf, IsKept}
 use Rattle.state_file.specs.FileLaws.{fields_length, file_stands}

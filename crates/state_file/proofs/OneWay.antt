@@ -8,11 +8,10 @@ use Rattle.typecodes.specs.declared.fault.Cause.TheVariants.{UnknownType}
 use Rattle.typecodes.specs.declared.types.LmsPair.{LmsPair}
 use Rattle.typecodes.specs.declared.types.LmsType.TheVariants.{H5}
 use Rattle.typecodes.specs.declared.types.OtsType.TheVariants.{W1}
-use Rattle.typecodes.specs.declared.xmss.XmssType.{XmssType}
-use Rattle.typecodes.specs.declared.xmss.XmssType.TheVariants.{H10 as X10}
-use Rattle.typecodes.specs.Layout.{Layout, done, ◌>>=◌, Spells}
+use Rattle.typecodes.specs.declared.types.XmssType.{XmssType}
+use Rattle.typecodes.specs.declared.types.XmssType.TheVariants.{H10 as X10}
+use Rattle.typecodes.specs.Layout.{Layout, done, ◌>>=◌, Spells, OneSpelling, Shows}
 use Rattle.typecodes.specs.Fields.{block, lms_type, number, ots_type, xmss_type}
-use Rattle.typecodes.specs.Reading.{OneSpelling, Shows}
 use Rattle.typecodes.proofs.Codes.{named-has}
 use Rattle.typecodes.proofs.OneWay.{one_way-bind, one_way-block, one_way-done, one_way-lms_type, one_way-number, one_way-ots_type, one_way-refuse, one_way-xmss_type, same_number, shows-bind, shows-done}
 use Rattle.typecodes.proofs.Spelling.{in_turn}

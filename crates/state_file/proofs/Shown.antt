@@ -4,9 +4,8 @@ use Rattle.std.specs.Prelude.{◌==◌, ◌&&◌, if◌then◌else◌}
 use Rattle.std.specs.Cmp.Lexicographic.{bytes_decides, pointwise}
 use Rattle.std.proofs.lemmas.Bool.{and_parts}
 use Rattle.byteorder.specs.Endian.{big_number}
-use Rattle.typecodes.specs.Layout.{Layout, done, field, ◌>>=◌, Spells}
+use Rattle.typecodes.specs.Layout.{Layout, done, field, ◌>>=◌, Spells, Shows}
 use Rattle.typecodes.specs.Fields.{xmss_type, block}
-use Rattle.typecodes.specs.Reading.{Shows}
 use Rattle.typecodes.specs.Types.{named}
 use Rattle.typecodes.proofs.OneWay.{shows-bind}
 use Rattle.typecodes.proofs.Spelling.{in_turn}

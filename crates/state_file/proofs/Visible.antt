@@ -4,7 +4,7 @@ use Rattle.std.specs.Prelude.{◌↔◌, IfOk, IsOk, MatchOption}
 use Rattle.std.specs.Result.{result_ok}
 use Rattle.std.proofs.lemmas.Bool.{and_from, and_parts}
 use Rattle.std.proofs.lemmas.List.Sums.{AllPass-from_list_all, list_all-from_AllPass}
-use Rattle.typecodes.specs.Names.{IsName}
+use Rattle.typecodes.specs.Name.{IsName}
 use Rattle.state_file.specs.Slots.{are_visible}
 
 visible_test : ℕ → Bool

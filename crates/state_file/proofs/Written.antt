@@ -10,17 +10,16 @@ use Rattle.typecodes.specs.declared.types.LmsType.{LmsType}
 use Rattle.typecodes.specs.declared.types.LmsType.TheVariants.{H5, H10, H15, H20, H25}
 use Rattle.typecodes.specs.declared.types.OtsType.{OtsType}
 use Rattle.typecodes.specs.declared.types.OtsType.TheVariants.{W1, W2, W4, W8}
-use Rattle.typecodes.specs.declared.xmss.XmssType.{XmssType}
-use Rattle.typecodes.specs.declared.xmss.XmssType.TheVariants.{H10 as X10, H16 as X16, H20 as X20}
-use Rattle.typecodes.specs.XmssTypes.{xmss_code, xmss_of_code, xmss_types}
+use Rattle.typecodes.specs.declared.types.XmssType.{XmssType}
+use Rattle.typecodes.specs.declared.types.XmssType.TheVariants.{H10 as X10, H16 as X16, H20 as X20}
+use Rattle.typecodes.specs.Types.{xmss_code, xmss_of_code, xmss_types, lms_code, lms_of_code, lms_types, named, ots_code, ots_of_code, ots_types}
 use Rattle.state_file.specs.declared.record.Version.{Version}
 use Rattle.state_file.specs.declared.record.Version.TheVariants.{One}
 use Rattle.typecodes.specs.declared.types.LmsPair.{LmsPair}
 use Rattle.typecodes.specs.Layout.{Layout, done, ◌>>=◌, Spells}
 use Rattle.typecodes.specs.Fields.{block, known, lms_type, number, ots_type, typed, xmss_type}
-use Rattle.typecodes.specs.Types.{lms_code, lms_of_code, lms_types, named, ots_code, ots_of_code, ots_types}
 use Rattle.typecodes.proofs.Spelling.{from_turn, in_turn}
-use Rattle.typecodes.specs.Names.{IsName}
+use Rattle.typecodes.specs.Name.{IsName}
 use Rattle.state_file.proofs.Visible.{visible-name}
 use Rattle.state_file.specs.Slots.{are_visible, byte, byte_within, exactly, name_field, only_if, pair_field, pairs, version_code, version_field, zeros}
 use Rattle.state_file.specs.Writing.{Writes}

@@ -1,7 +1,7 @@
 -- What a store over a disk knows of its content.
 use Rattle.std.specs.Prelude.{◌≡◌, ◌⊎◌, ℕ, ◌*◌, ◌<◌, ◌≤◌, true, List, [], ◌∷◌, length, slice_get, slice_index, Some, Ok}
 use Rattle.std.proofs.Props.{props}
-use Rattle.typecodes.specs.Reading.{read}
+use Rattle.typecodes.specs.Cursor.{read}
 use Rattle.state_file.specs.Contents.{HasNoKey, IsClosed, SpellsRecords, fields_at, open_value, tag_at, previous_tag, tag_of, most_records}
 use Rattle.state_file.specs.Disk.{State}
 use Rattle.state_file.specs.Gates.{IsSynced}

@@ -1,7 +1,7 @@
 -- What preparing a place does.
 use Rattle.std.specs.Prelude.{◌≡◌, ◌⊎◌, ℕ, ◌+◌, ◌<◌, ◌≤◌, List, [], ◌∷◌, length, slice_index, slice_range, Result, Ok, Err}
 use Rattle.state_file.specs.Contents.{IsClosed, open_value}
-use Rattle.state_file.specs.Disk.{State, settled, ChangesOnly, range_of}
+use Rattle.state_file.specs.Disk.{State, MayLeave, settled, ChangesOnly, range_of}
 use Rattle.state_file.specs.Gates.{IsAtRest}
 use Rattle.state_file.specs.declared.gates.FormatFault.{FormatFault}
 use Rattle.state_file.specs.declared.gates.FormatFault.TheVariants.{NotKeyFile, DeviceFailed, KeyThere}
@@ -21,15 +21,10 @@ abbrev pub Formats : {A : Type 0} (content : List ℕ) (new : State) → Result 
 Formats content new (Ok _) = Prepares content new
 Formats content new (Err fault) = RefusesFormat content new fault
 
--- it was refused for what stands there
-abbrev pub IsOfContent : FormatFault → Type 0
-IsOfContent KeyThere = Unit {0}
-IsOfContent NotKeyFile = Unit {0}
-IsOfContent DeviceFailed = ⊥
-
-abbrev pub WritesNothing : {A : Type 0} → Result A FormatFault → Type 0
-WritesNothing (Ok _) = ⊥
-WritesNothing (Err fault) = IsOfContent fault
+-- What a stop in it may leave: what it might leave before, or, of a content of under 257 bytes, this one with any first
+-- byte. So of 257 bytes or more none is written.
+abbrev pub LeftByFormat : State → List ℕ → Type 0
+LeftByFormat old c = MayLeave old c ⊎ ((length old.content < 257) × ChangesOnly (range_of 0 (0 ∷ []) ∷ []) old.content c)
 
 -- 45 comes exactly where the device failed
 abbrev pub CountsRefusal : (before after : ℕ) → FormatFault → Type 0

@@ -2,8 +2,7 @@
 -- Key makes tree 0, an Extend at place k makes tree k.
 use Rattle.std.specs.Prelude.{◌≡◌, ◌≢◌, ℕ, zero, suc, ◌+◌, ◌-◌, ◌^◌, ◌<◌, ◌≤◌, List, [], ◌∷◌, length, replicate, slice_get, Option, Some, None}
 use Rattle.typecodes.specs.declared.types.LmsPair.{LmsPair}
-use Rattle.typecodes.specs.Types.{height_of}
-use Rattle.typecodes.specs.XmssTypes.{xmss_height_of}
+use Rattle.typecodes.specs.Types.{height_of, xmss_height_of}
 use Rattle.state_file.specs.Contents.{SpellsRecords}
 use Rattle.state_file.specs.declared.record.Bound.{Bound}
 use Rattle.state_file.specs.declared.record.Extend.{Extend}

@@ -1,5 +1,5 @@
 -- What callers see of a disk in memory.
-use Rattle.std.specs.Prelude.{◌≡◌, ℕ, List, Option, length}
+use Rattle.std.specs.Prelude.{◌≡◌, ◌↔◌, ℕ, Bool, true, List, Option, length}
 use Rattle.state_file.specs.Disk.{State}
 use Rattle.state_file.specs.MemoryDisk.{LeftSince, fate_of, state_of}
 use Rattle.state_file.specs.declared.memory_disk.Fate.{Fate}
@@ -37,8 +37,12 @@ failures_in disk = disk.failures
 abbrev pub past_ends_in : MemoryDisk → ℕ
 past_ends_in disk = disk.past_ends
 
--- what was written and synced is the same
-pub record SameHistory (old new : MemoryDisk) : Type 0 where
-  pub content : new.content ≡ old.content
-  pub first : new.first ≡ old.first
-  pub log : new.log ≡ old.log
+-- It keeps the promises of a disk.
+abbrev pub is_honest : MemoryDisk → Bool
+is_honest disk = true
+
+-- No call came in between: reads give the same, it is the same moment, and a stop since one leaves the same.
+pub record SameMoment (old new : MemoryDisk) : Type 0 where
+  pub state : state_in new ≡ state_in old
+  pub moment : moment_in new ≡ moment_in old
+  pub left : (t : ℕ) (c : List ℕ) → left_in new t c ↔ left_in old t c

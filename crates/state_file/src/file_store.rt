@@ -3,12 +3,12 @@
 ghost use Rattle.std.specs.Prelude.{◌≡◌, ◌≢◌, ◌⊎◌, ◌≤◌, ◌<◌, ◌+◌, ◌^◌, ◌∷◌, ℕ, List, [], ◌++◌, true, false, IsTrue, IfOk, IfErr, OnOk, OnErr, MatchResult, length, max, replicate};
 ghost use Rattle.typecodes.specs.Layout.{Spells};
 ghost use Rattle.state_file.specs.Moments.{Elapses, LeavesOnly};
-ghost use Rattle.state_file.specs.Disk.{State, settled, MayLeave, CountsFailure};
-ghost use Rattle.state_file.specs.Contents.{HasNoKey, SpellsRecords, fields_at, tag_at, tag_of};
+ghost use Rattle.state_file.specs.Disk.{State, settled, ChangesOnly, MayLeave, CountsFailure};
+ghost use Rattle.state_file.specs.Contents.{SpellsRecords, fields_at, tag_at, tag_of};
 ghost use Rattle.state_file.specs.Files.{StandsFor, LeftLists, IsKept, IsKept-prop};
 ghost use Rattle.state_file.specs.FileLaws.{kept_stands, kept_list};
-ghost use Rattle.state_file.specs.Gates.{AddsSlot};
-ghost use Rattle.state_file.specs.Format.{CountsDevice, Formats, WritesNothing};
+ghost use Rattle.state_file.specs.Gates.{AddsSlot, slot_and_gate};
+ghost use Rattle.state_file.specs.Format.{CountsDevice, Formats, LeftByFormat};
 ghost use Rattle.state_file.specs.Opened.{CountsOpening, OnlyReads, Settles, Tells};
 ghost use Rattle.std.proofs.Common.{inl};
 ghost use Rattle.state_file.specs.Slots.{slot_record};
@@ -64,11 +64,7 @@ impl<D: Disk + Drop> FileStore<D> {
         ensures len { IsTrue (D.honest disk) →
             OnOk result (length (D.state (disk_after result)).content ≡ max (length (D.state disk).content) 1) }
         ensures any_moment { IsTrue (D.honest disk) →
-            LeavesOnly D.moment D.left_since disk (disk_after result) (λ c. MayLeave (D.state disk) c ⊎ HasNoKey c) }
-        ensures long { IsTrue (D.honest disk) → 257 ≤ length (D.state disk).content →
-            LeavesOnly D.moment D.left_since disk (disk_after result) (MayLeave (D.state disk)) }
-        ensures nothing_written { IsTrue (D.honest disk) → WritesNothing (told_by result) →
-            LeavesOnly D.moment D.left_since disk (disk_after result) (MayLeave (D.state disk)) }
+            LeavesOnly D.moment D.left_since disk (disk_after result) (LeftByFormat (D.state disk)) }
         ensures failures { CountsDevice (D.failures disk) (D.failures (disk_after result)) (told_by result) }
         ensures past_ends { IsTrue (D.honest disk) → D.past_ends (disk_after result) ≡ D.past_ends disk }
         ensures honest { D.honest (disk_after result) ≡ D.honest disk }
@@ -94,9 +90,6 @@ impl<D: Disk + Drop> FileStore<D> {
             IfOk result (λ store. SpellsRecords (D.state disk).content (records_of store)) }
         ensures running { IfOk result (λ store. has_stopped store ≡ false) }
         ensures fault { IsTrue (D.honest disk) → IfErr result (λ refused. Tells (D.state disk).content refused.fault) }
-        ensures shown { IsTrue (D.honest disk) →
-            IfOk result
-            (λ store. (c : List ℕ) → MayLeave (D.state (disk_of store)) c → SpellsRecords c (records_of store)) }
         ensures any_moment { IsTrue (D.honest disk) →
             LeavesOnly D.moment D.left_since disk (disk_after result) (MayLeave (D.state disk)) }
         ensures settled { IsTrue (D.honest disk) →
@@ -118,48 +111,6 @@ impl<D: Disk + Drop> FileStore<D> {
                 })
             }
             Err(fault) => Err(Refused { fault, given: disk }),
-        }
-    }
-
-    // Adds a record. A stop at any moment of it leaves a content that spells the old records, or these and the
-    // new one.
-    fn add(&mut self, new: &Record) -> Result<(), StoreFault>
-        requires { CanFollow (records_of self.old) new.now }
-        ensures memory { result ≢ Err StoreFault.OutOfMemory }
-        ensures full { result ≡ Err StoreFault.Full → self.new ≡ self.old }
-        ensures answer { Appends (2 ^ 31) (records_of self.old) (has_stopped self.old) new.now (records_of self.new)
-            (has_stopped self.new) (D.failures (disk_of self.old)) (D.failures (disk_of self.new)) result }
-        ensures any_moment { IsTrue (D.honest (disk_of self.old)) → has_stopped self.old ≡ false →
-            LeavesOnly D.moment D.left_since (disk_of self.old) (disk_of self.new)
-            (λ c. StandsFor (records_of self.old) c ⊎ StandsFor (records_of self.old ++ new.now ∷ []) c) }
-        ensures adds { IsTrue (D.honest (disk_of self.old)) →
-            OnOk result
-            (AddsSlot (length (records_of self.old)) (D.state (disk_of self.old)).content
-            (D.state (disk_of self.new))) }
-        ensures past_ends { IsTrue (D.honest (disk_of self.old)) →
-            D.past_ends (disk_of self.new) ≡ D.past_ends (disk_of self.old) }
-        ensures honest { D.honest (disk_of self.new) ≡ D.honest (disk_of self.old) }
-        ensures stays { has_stopped self.old ≡ true → self.new ≡ self.old }
-    {
-        if self.stopped {
-            return Err(StoreFault::Stopped);
-        }
-        if self.count >= MOST {
-            return Err(StoreFault::Full);
-        }
-        let fields = record_bytes(new);
-        let next_tag = tag(&self.tag, &fields);
-        match add_slot(&mut self.disk, self.count, &joined(&fields, &next_tag)) {
-            Ok(()) => {
-                self.count += 1;
-                self.tag = next_tag;
-                self.records.push(new);
-                Ok(())
-            }
-            Err(_) => {
-                self.stopped = true;
-                Err(StoreFault::DeviceFailed)
-            }
         }
     }
 }
@@ -255,8 +206,9 @@ impl<D: Disk + Drop> Store for FileStore<D> {
         }
     }
 
-    /// Adds a record at the end. It takes no memory. Where the store is full nothing changes. On the disk the bytes of
-    /// the new slot and the gate after it change, and no other.
+    /// Adds a record at the end. It takes no memory. Where the store is full nothing changes. Whatever it answers, a stop
+    /// at any moment leaves a content that spells the old records, or these and the new one (`contents`), and that
+    /// differs from the old content at most in the new slot and the gate after it (`bytes`).
     fn append(&mut self, new: &Record) -> Result<(), StoreFault>
         requires { CanFollow (records_of self.old) new.now }
         ensures any_moment { IsTrue (D.honest (disk_of self.old)) → has_stopped self.old ≡ false →
@@ -264,6 +216,12 @@ impl<D: Disk + Drop> Store for FileStore<D> {
             self.old self.new
             (λ left. (left ≡ records_of self.old) ⊎ (left ≡ records_of self.old ++ new.now ∷ [])) }
         ensures stays { has_stopped self.old ≡ true → self.new ≡ self.old }
+        ensures contents { IsTrue (D.honest (disk_of self.old)) → has_stopped self.old ≡ false →
+            LeavesOnly D.moment D.left_since (disk_of self.old) (disk_of self.new)
+            (λ c. StandsFor (records_of self.old) c ⊎ StandsFor (records_of self.old ++ new.now ∷ []) c) }
+        ensures bytes { IsTrue (D.honest (disk_of self.old)) → has_stopped self.old ≡ false →
+            LeavesOnly D.moment D.left_since (disk_of self.old) (disk_of self.new)
+            (ChangesOnly (slot_and_gate (length (records_of self.old)) ∷ []) (D.state (disk_of self.old)).content) }
         ensures answer { Appends (2 ^ 31) (records_of self.old) (has_stopped self.old) new.now (records_of self.new)
             (has_stopped self.new) (D.failures (disk_of self.old)) (D.failures (disk_of self.new)) result }
         ensures memory { result ≢ Err StoreFault.OutOfMemory }
@@ -276,7 +234,26 @@ impl<D: Disk + Drop> Store for FileStore<D> {
             D.past_ends (disk_of self.new) ≡ D.past_ends (disk_of self.old) }
         ensures honest { D.honest (disk_of self.new) ≡ D.honest (disk_of self.old) }
     {
-        self.add(new)
+        if self.stopped {
+            return Err(StoreFault::Stopped);
+        }
+        if self.count >= MOST {
+            return Err(StoreFault::Full);
+        }
+        let fields = record_bytes(new);
+        let next_tag = tag(&self.tag, &fields);
+        match add_slot(&mut self.disk, self.count, &joined(&fields, &next_tag)) {
+            Ok(()) => {
+                self.count += 1;
+                self.tag = next_tag;
+                self.records.push(new);
+                Ok(())
+            }
+            Err(_) => {
+                self.stopped = true;
+                Err(StoreFault::DeviceFailed)
+            }
+        }
     }
 
     fn limit(&self) -> u32 {

@@ -1,11 +1,11 @@
 //! Slots on a disk, and how they are added so that a stop never leaves half a slot.
 
 ghost use Rattle.std.specs.Prelude.{◌≡◌, ◌≢◌, ◌⊎◌, ◌+◌, ◌*◌, ◌<◌, ◌≤◌, ◌∷◌, [], ◌++◌, ℕ, List, IsTrue, length, slice_range, slice_index, IfErr, IfOk, OnOk, OnErr};
-ghost use Rattle.state_file.specs.Contents.{HasNoKey, open_value};
-ghost use Rattle.state_file.specs.Format.{Formats, WritesNothing, CountsDevice};
+ghost use Rattle.state_file.specs.Contents.{open_value};
+ghost use Rattle.state_file.specs.Format.{Formats, LeftByFormat, CountsDevice};
 ghost use Rattle.state_file.specs.Disk.{settled, range_of, ChangesOnly, MayLeave, CountsFailure};
 ghost use Rattle.state_file.specs.Moments.{LeavesOnly};
-ghost use Rattle.state_file.specs.Gates.{AddsSlot, IsClosedAfter, IsSynced, IsAtRest};
+ghost use Rattle.state_file.specs.Gates.{AddsSlot, IsClosedAfter, IsSynced, IsAtRest, slot_and_gate};
 ghost use Rattle.state_file.specs.Opened.{OnlyReads};
 
 use crate::disk::{Disk, DiskFault};
@@ -53,6 +53,9 @@ pub(crate) fn add_slot<D: Disk>(disk: &mut D, slot: u32, body: &[u8; 255]) -> Re
         length front ≡ 256 * slot → OnOk result (IsAtRest (front ++ open_value ∷ body.now) (D.state disk.new)) }
     ensures adds { IsTrue (D.honest disk.old) →
         OnOk result (AddsSlot slot (D.state disk.old).content (D.state disk.new)) }
+    ensures bytes { IsTrue (D.honest disk.old) → IsSynced (D.state disk.old) →
+        LeavesOnly D.moment D.left_since disk.old disk.new
+        (ChangesOnly (slot_and_gate slot ∷ []) (D.state disk.old).content) }
     ensures any_moment { (front : List ℕ) → IsTrue (D.honest disk.old) → IsAtRest front (D.state disk.old) →
         length front ≡ 256 * slot →
         LeavesOnly D.moment D.left_since disk.old disk.new
@@ -120,11 +123,7 @@ impl From<DiskFault> for FormatFault {
 pub(crate) fn format<D: Disk>(disk: &mut D) -> Result<(), FormatFault>
     ensures answer { IsTrue (D.honest disk.old) → Formats (D.state disk.old).content (D.state disk.new) result }
     ensures any_moment { IsTrue (D.honest disk.old) →
-        LeavesOnly D.moment D.left_since disk.old disk.new (λ c. MayLeave (D.state disk.old) c ⊎ HasNoKey c) }
-    ensures long { IsTrue (D.honest disk.old) → 257 ≤ length (D.state disk.old).content →
-        LeavesOnly D.moment D.left_since disk.old disk.new (MayLeave (D.state disk.old)) }
-    ensures nothing_written { IsTrue (D.honest disk.old) → WritesNothing result →
-        LeavesOnly D.moment D.left_since disk.old disk.new (MayLeave (D.state disk.old)) }
+        LeavesOnly D.moment D.left_since disk.old disk.new (LeftByFormat (D.state disk.old)) }
     ensures failures { CountsDevice (D.failures disk.old) (D.failures disk.new) result }
     ensures past_ends { IsTrue (D.honest disk.old) → D.past_ends disk.new ≡ D.past_ends disk.old }
     ensures honest { D.honest disk.new ≡ D.honest disk.old }

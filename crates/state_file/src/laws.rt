@@ -1,12 +1,12 @@
 //! Laws of slots, of contents and of legal lists. The functions do nothing: what their contracts say is proved of every
 //! list of bytes or of records.
 
-ghost use Rattle.std.specs.Prelude.{◌≡◌, ◌⊎◌, ◌<◌, ◌≤◌, ◌↔◌, ℕ, List, ◌++◌, length};
-ghost use Rattle.typecodes.specs.Layout.{Spells};
-ghost use Rattle.typecodes.specs.Reading.{OneSpelling};
+ghost use Rattle.std.specs.Prelude.{◌≡◌, ◌⊎◌, ◌<◌, ◌≤◌, ◌↔◌, ℕ, List, [], ◌∷◌, ◌++◌, length};
+ghost use Rattle.typecodes.specs.Layout.{Spells, OneSpelling};
 ghost use Rattle.state_file.specs.declared.record.Record.{Record};
 ghost use Rattle.state_file.specs.Contents.{HasNoKey, Opening, Opens, no_key, spelled};
 ghost use Rattle.state_file.specs.Legal.{CanSign, IsCurrent, IsLegal};
+ghost use Rattle.state_file.specs.Disk.{ChangesOnly, range_of};
 ghost use Rattle.state_file.specs.Files.{StandsFor};
 ghost use Rattle.state_file.specs.Slots.{slot_record};
 
@@ -19,11 +19,13 @@ pub fn slot_laws()
 
 /// What holds of the contents of a disk: each spells the records of a key, or tells why there are none, and tells
 /// but one of these. One that stands for a list, as each does that a stop in an append leaves, spells it or has no
-/// key (`standing`): opening it tells none of 41 to 43.
+/// key (`standing`): opening it tells none of 41 to 43. Nor has one a key that a stop leaves while a place of under 257
+/// bytes is prepared (`prepared`).
 pub fn content_laws()
     ensures some { (content : List ℕ) → (opening : Opening) × Opens content opening }
     ensures once { (content : List ℕ) (opening other : Opening) → Opens content opening → Opens content other → opening ≡ other }
     ensures standing { (records : List Record) (content : List ℕ) (opening : Opening) → StandsFor records content → Opens content opening → (opening ≡ no_key) ⊎ (opening ≡ spelled records) }
+    ensures prepared { (content c : List ℕ) → length content < 257 → ChangesOnly (range_of 0 (0 ∷ []) ∷ []) content c → HasNoKey c }
 {}
 
 /// What holds of legal lists: which tree is current at a place depends on the records before it alone

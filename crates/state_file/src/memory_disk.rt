@@ -80,7 +80,7 @@ pub struct MemoryDisk {
 }
 
 impl MemoryDisk {
-    ghost use Rattle.state_file.specs.MemoryDiskWords.{SameHistory, state_in};
+    ghost use Rattle.state_file.specs.MemoryDiskWords.{SameMoment, state_in};
     ghost use Rattle.state_file.specs.MemoryDiskWords.{fail_in, failures_in, past_ends_in, stop_in};
 
     /// A disk with these bytes, all of them synced.
@@ -109,7 +109,7 @@ impl MemoryDisk {
     pub fn fail_at(&mut self, n: u32)
         ensures fail { fail_in self.new ≡ calls_before n }
         ensures stop { stop_in self.new ≡ stop_in self.old }
-        ensures history { SameHistory self.old self.new }
+        ensures moment { SameMoment self.old self.new }
         ensures failures { failures_in self.new ≡ failures_in self.old }
         ensures past_ends { past_ends_in self.new ≡ past_ends_in self.old }
     {
@@ -121,7 +121,7 @@ impl MemoryDisk {
     pub fn stop_at(&mut self, n: u32)
         ensures stop { stop_in self.new ≡ calls_before n }
         ensures fail { fail_in self.new ≡ fail_in self.old }
-        ensures history { SameHistory self.old self.new }
+        ensures moment { SameMoment self.old self.new }
         ensures failures { failures_in self.new ≡ failures_in self.old }
         ensures past_ends { past_ends_in self.new ≡ past_ends_in self.old }
     {
@@ -143,7 +143,7 @@ impl MemoryDisk {
 }
 
 impl Disk for MemoryDisk {
-    ghost use Rattle.state_file.specs.MemoryDiskWords.{left_in, moment_in, state_in};
+    ghost use Rattle.state_file.specs.MemoryDiskWords.{is_honest, left_in, moment_in, state_in};
     ghost use Rattle.state_file.specs.MemoryDiskWords.{fail_in, failures_in, next_fate, past_ends_in, stop_in};
 
     ghost state = { state_in };
@@ -156,7 +156,7 @@ impl Disk for MemoryDisk {
 
     ghost past_ends = { past_ends_in };
 
-    ghost honest = { λ _. true };
+    ghost honest = { is_honest };
 
     ghost shows = { λ disk _. disk.shows };
 
@@ -166,14 +166,14 @@ impl Disk for MemoryDisk {
 
     fn len(&mut self) -> Result<u64, DiskFault>
         ensures value { result ≡ answer_of (next_fate self.old) (Ok (length (state_in self.old).content)) }
-        ensures length { IsTrue true → IfOk result (λ n. n ≡ length (state_in self.old).content) }
-        ensures stays { IsTrue true → state_in self.new ≡ state_in self.old }
-        ensures time { IsTrue true →
+        ensures length { IsTrue (is_honest self.old) → IfOk result (λ n. n ≡ length (state_in self.old).content) }
+        ensures stays { IsTrue (is_honest self.old) → state_in self.new ≡ state_in self.old }
+        ensures time { IsTrue (is_honest self.old) →
             Elapses (moment_in self.old) (moment_in self.new) (left_in self.old) (left_in self.new)
             (MayLeave (state_in self.new)) }
         ensures failures { CountsFailure (failures_in self.old) (failures_in self.new) result }
         ensures past_ends { past_ends_in self.new ≡ past_ends_in self.old }
-        ensures honest { true ≡ true }
+        ensures honest { is_honest self.new ≡ is_honest self.old }
         ensures stop { stop_in self.new ≡ stop_after (stop_in self.old) }
         ensures fail { fail_in self.new ≡ fail_after (fail_in self.old) }
     {
@@ -187,18 +187,18 @@ impl Disk for MemoryDisk {
         ensures value { result ≡ answer_of (next_fate self.old)
             (if nat_le (at + length into.old) (length (state_in self.old).content) then Ok tt else Err
             DiskFault.PastEnd) }
-        ensures within { IsTrue true → OnOk result (at + length into.old ≤ length (state_in self.old).content) }
-        ensures bytes { IsTrue true →
+        ensures within { IsTrue (is_honest self.old) → OnOk result (at + length into.old ≤ length (state_in self.old).content) }
+        ensures bytes { IsTrue (is_honest self.old) →
             OnOk result (into.new ≡ slice_range (state_in self.old).content at (at + length into.old)) }
-        ensures past_end { IsTrue true → result ≡ Err DiskFault.PastEnd →
+        ensures past_end { IsTrue (is_honest self.old) → result ≡ Err DiskFault.PastEnd →
             length (state_in self.old).content < at + length into.old }
         ensures past_ends { CountsPastEnd (past_ends_in self.old) (past_ends_in self.new) result }
-        ensures stays { IsTrue true → state_in self.new ≡ state_in self.old }
-        ensures time { IsTrue true →
+        ensures stays { IsTrue (is_honest self.old) → state_in self.new ≡ state_in self.old }
+        ensures time { IsTrue (is_honest self.old) →
             Elapses (moment_in self.old) (moment_in self.new) (left_in self.old) (left_in self.new)
             (MayLeave (state_in self.new)) }
         ensures failures { CountsFailure (failures_in self.old) (failures_in self.new) result }
-        ensures honest { true ≡ true }
+        ensures honest { is_honest self.new ≡ is_honest self.old }
         ensures stop { stop_in self.new ≡ stop_after (stop_in self.old) }
         ensures fail { fail_in self.new ≡ fail_after (fail_in self.old) }
     {
@@ -219,13 +219,13 @@ impl Disk for MemoryDisk {
 
     fn write_at(&mut self, at: u64, bytes: &[u8]) -> Result<(), DiskFault>
         ensures stores { Stores at bytes.now (state_in self.old) (state_in self.new) (next_fate self.old) result }
-        ensures written { IsTrue true → Writes at bytes.now (state_in self.old) (state_in self.new) result }
-        ensures time { IsTrue true →
+        ensures written { IsTrue (is_honest self.old) → Writes at bytes.now (state_in self.old) (state_in self.new) result }
+        ensures time { IsTrue (is_honest self.old) →
             Elapses (moment_in self.old) (moment_in self.new) (left_in self.old) (left_in self.new)
             (MayLeave (state_in self.new)) }
         ensures failures { CountsFailure (failures_in self.old) (failures_in self.new) result }
         ensures past_ends { past_ends_in self.new ≡ past_ends_in self.old }
-        ensures honest { true ≡ true }
+        ensures honest { is_honest self.new ≡ is_honest self.old }
         ensures stop { stop_in self.new ≡ stop_after (stop_in self.old) }
         ensures fail { fail_in self.new ≡ fail_after (fail_in self.old) }
     {
@@ -250,13 +250,13 @@ impl Disk for MemoryDisk {
 
     fn sync(&mut self) -> Result<(), DiskFault>
         ensures flushes { Flushes (state_in self.old) (state_in self.new) (next_fate self.old) result }
-        ensures synced { IsTrue true → Syncs (state_in self.old) (state_in self.new) result }
-        ensures time { IsTrue true →
+        ensures synced { IsTrue (is_honest self.old) → Syncs (state_in self.old) (state_in self.new) result }
+        ensures time { IsTrue (is_honest self.old) →
             Elapses (moment_in self.old) (moment_in self.new) (left_in self.old) (left_in self.new)
             (MayLeave (state_in self.new)) }
         ensures failures { CountsFailure (failures_in self.old) (failures_in self.new) result }
         ensures past_ends { past_ends_in self.new ≡ past_ends_in self.old }
-        ensures honest { true ≡ true }
+        ensures honest { is_honest self.new ≡ is_honest self.old }
         ensures stop { stop_in self.new ≡ stop_after (stop_in self.old) }
         ensures fail { fail_in self.new ≡ fail_after (fail_in self.old) }
     {

@@ -6,15 +6,13 @@ use Rattle.byteorder.specs.Endian.{big_number}
 use Rattle.byteorder.specs.Numbers.{big_from-cons, big_from-lt}
 use Rattle.typecodes.specs.declared.fault.Cause.{Cause}
 use Rattle.typecodes.specs.declared.fault.Cause.TheVariants.{UnknownType}
-use Rattle.typecodes.specs.Types.{named, lms_code, lms_types, ots_code, ots_types}
-use Rattle.typecodes.specs.XmssTypes.{xmss_code, xmss_types}
-use Rattle.typecodes.specs.Layout.{Layout, done, refuse, ◌>>=◌, Spells}
+use Rattle.typecodes.specs.Types.{named, lms_code, lms_types, ots_code, ots_types, xmss_code, xmss_types}
+use Rattle.typecodes.specs.Layout.{Layout, done, refuse, ◌>>=◌, Spells, AreBytes, OneSpelling, Shows}
 use Rattle.typecodes.specs.Fields.{number, block, values, known, typed, lms_type, ots_type, xmss_type}
-use Rattle.typecodes.specs.Reading.{AreBytes, OneSpelling, Shows}
 use Rattle.typecodes.proofs.Bytes.{AreBytes-front, AreBytes-rest}
 use Rattle.typecodes.proofs.Codes.{named-has}
 use Rattle.typecodes.proofs.Spelling.{in_turn}
-use Rattle.typecodes.proofs.Values.{behind}
+use Rattle.typecodes.proofs.Values.{more_values}
 
 -- two numbers of two digits are alike in both
 same_digits : (base x y r s : ℕ) → r < base → s < base → x * base + r ≡ y * base + s → (x ≡ y) × (r ≡ s)
@@ -28,7 +26,7 @@ same_digits base x y r s r_in s_in same =
     ] in
     (digit, omega (arith, ap (λ d. d * base) digit))
 
--- bytes are told by their number
+-- bytes are known by their number
 pub same_number : (n : ℕ) (a b : List ℕ) → length a ≡ n → length b ≡ n → AreBytes a → AreBytes b → big_number n a ≡ big_number n b → a ≡ b
 same_number zero a b a_len b_len _ _ _ = nil_from_length a a_len ∙ sym (nil_from_length b b_len)
 same_number (suc n) [] b a_len b_len _ _ _ = absurd (omega arith)
@@ -77,10 +75,10 @@ one_way-bind first next of first_one next_one shows w a b a_bytes b_bytes a_spel
 pub shows-done : {V X : Type 0} (v : V) (of : V → X) → Shows (done v) of (of v)
 shows-done v of w bytes spelled = ap of (sym spelled.0)
 
--- also behind another layout
+-- also after another layout
 pub shows-bind : {V W X : Type 0} (first : Layout V) (next : V → Layout W) (of : W → X) (x : X) → ((v : V) → Shows (next v) of x) → Shows (first >>= next) of x
 shows-bind first next of x shows w bytes spelled =
-    let (v, a, b, _, _, behind) = in_turn first next w bytes spelled in shows v w b behind
+    let (v, a, b, _, _, after) = in_turn first next w bytes spelled in shows v w b after
 
 -- a type that is known already
 pub one_way-known : {T : Type 0} (type : Option T) → OneSpelling (known type)
@@ -118,4 +116,4 @@ one_way-values zero = one_way-done []
 one_way-values (suc n) =
     let head = λ (all : List (List ℕ)). get_or all 0 [] in
     let tail = λ (all : List (List ℕ)). drop 1 all in
-    one_way-bind (block 32) (behind n) head (one_way-block 32) (λ first. one_way-bind (values n) (λ rest. done (first ∷ rest)) tail (one_way-values n) (λ rest. one_way-done (first ∷ rest)) (λ rest. shows-done (first ∷ rest) tail)) (λ first. shows-bind (values n) (λ rest. done (first ∷ rest)) head first (λ rest. shows-done (first ∷ rest) head))
+    one_way-bind (block 32) (more_values n) head (one_way-block 32) (λ first. one_way-bind (values n) (λ rest. done (first ∷ rest)) tail (one_way-values n) (λ rest. one_way-done (first ∷ rest)) (λ rest. shows-done (first ∷ rest) tail)) (λ first. shows-bind (values n) (λ rest. done (first ∷ rest)) head first (λ rest. shows-done (first ∷ rest) head))

@@ -7,9 +7,9 @@ use Rattle.typecodes.specs.declared.fault.Cause.TheVariants.{Truncated}
 use Rattle.typecodes.specs.declared.fault.ReadFault.{ReadFault}
 use Rattle.typecodes.specs.Fault.{fault_at}
 use Rattle.typecodes.specs.Layout.{Layout, done, refuse, field, ◌>>=◌, Spells, HasFault}
-use Rattle.typecodes.specs.Reading.{and_then, read, whole}
+use Rattle.typecodes.specs.Cursor.{and_then, read, whole}
 
--- a field that fits is taken, and reading goes on behind it
+-- a field that fits is taken, and reading goes on after it
 pub read-fits : {V : Type 0} (n : ℕ) (next : List ℕ → Layout V) (bytes : List ℕ) (place : ℕ) → place + n ≤ length bytes → read (field n next) bytes place ≡ read (next (take n (drop place bytes))) bytes (place + n)
 read-fits n next bytes place h = rw (le-leb (place + n) (length bytes) h) refl
 
@@ -25,35 +25,35 @@ read-bind (field n rest) next bytes place =
     elim (nat_le (place + n) (length bytes)) as (λ fits. cond fits (read (rest (take n (drop place bytes)) >>= next) bytes (place + n)) (Err (fault_at place Truncated)) ≡ and_then (cond fits (read (rest (take n (drop place bytes))) bytes (place + n)) (Err (fault_at place Truncated))) (λ x. read (next x.0) bytes x.1)) [ true ↦ read-bind (rest (take n (drop place bytes))) next bytes (place + n) | false ↦ refl ]
 
 -- what bytes from a place on are: the value that they spell, or their first fault
-abbrev pub Tells : {V : Type 0} → Layout V → List ℕ → ℕ → Result V ReadFault → Type 0
-Tells layout bytes place (Ok v) = Spells layout v bytes
-Tells layout bytes place (Err fault) = HasFault layout bytes place fault
+abbrev pub HasOutcome : {V : Type 0} → Layout V → List ℕ → ℕ → Result V ReadFault → Type 0
+HasOutcome layout bytes place (Ok v) = Spells layout v bytes
+HasOutcome layout bytes place (Err fault) = HasFault layout bytes place fault
 
--- behind a field that fits
-tells-behind : {V : Type 0} (n : ℕ) (next : List ℕ → Layout V) (front rest bytes : List ℕ) (place : ℕ) (answer : Result V ReadFault) → bytes ≡ front ++ rest → length front ≡ n → Tells (next front) rest (place + n) answer → Tells (field n next) bytes place answer
-tells-behind n next front rest bytes place (Ok v) bytes_are len told = (front, rest, bytes_are, len, told)
-tells-behind n next front rest bytes place (Err fault) bytes_are len told = inr (front, rest, bytes_are, len, told)
+-- after a field that fits
+outcome-after : {V : Type 0} (n : ℕ) (next : List ℕ → Layout V) (front rest bytes : List ℕ) (place : ℕ) (answer : Result V ReadFault) → bytes ≡ front ++ rest → length front ≡ n → HasOutcome (next front) rest (place + n) answer → HasOutcome (field n next) bytes place answer
+outcome-after n next front rest bytes place (Ok v) bytes_are len outcome = (front, rest, bytes_are, len, outcome)
+outcome-after n next front rest bytes place (Err fault) bytes_are len outcome = inr (front, rest, bytes_are, len, outcome)
 
--- reading to the end tells what the bytes are
-pub read-tells : {V : Type 0} (layout : Layout V) (bytes : List ℕ) (place : ℕ) → place ≤ length bytes → Tells layout (drop place bytes) place (whole bytes (read layout bytes place))
-read-tells (done v) bytes place within =
+-- reading to the end gives what the bytes are
+pub read-outcome : {V : Type 0} (layout : Layout V) (bytes : List ℕ) (place : ℕ) → place ≤ length bytes → HasOutcome layout (drop place bytes) place (whole bytes (read layout bytes place))
+read-outcome (done v) bytes place within =
     elim (cases_eq (length bytes) place) [
       | inl same ↦ rw (eq-eqb (length bytes) place same) (refl, drop_all place bytes (omega arith))
       | inr other ↦ rw (ne_eqb (length bytes) place other) (omega (arith, length-drop place bytes), refl)
     ]
-read-tells (refuse back cause) bytes place within = refl
-read-tells (field n next) bytes place within =
+read-outcome (refuse back cause) bytes place within = refl
+read-outcome (field n next) bytes place within =
     let rest = drop place bytes in
     elim (cases_lt (length bytes) (place + n)) [
       | inl cut ↦ rw (read-cut n next bytes place cut) (inl (omega (arith, length-drop place bytes), refl))
       | inr fits ↦
           let enough : n ≤ length rest = omega (arith, length-drop place bytes) in
           let parts : rest ≡ take n rest ++ drop (place + n) bytes = sym (take-append-drop n rest) ∙ ap (λ x. take n rest ++ x) (drop-drop n place bytes) in
-          let told = read-tells (next (take n rest)) bytes (place + n) fits in
-          rw (read-fits n next bytes place fits) (tells-behind n next (take n rest) (drop (place + n) bytes) rest place _ parts (length-take-le n rest enough) told)
+          let outcome = read-outcome (next (take n rest)) bytes (place + n) fits in
+          rw (read-fits n next bytes place fits) (outcome-after n next (take n rest) (drop (place + n) bytes) rest place _ parts (length-take-le n rest enough) outcome)
     ]
 
--- a value that is spelled at a place, whatever stands behind it, is read there
+-- a value that is spelled at a place, whatever stands after it, is read there
 pub spelled-read : {V : Type 0} (layout : Layout V) (v : V) (a after bytes : List ℕ) (place : ℕ) → place ≤ length bytes → drop place bytes ≡ a ++ after → Spells layout v a → read layout bytes place ≡ Ok (v, place + length a)
 spelled-read (done u) v a after bytes place within rest_is spelled =
     let end : place ≡ place + length a = omega (arith, ap length spelled.1) in
@@ -63,11 +63,11 @@ spelled-read (field n next) v a after bytes place within rest_is (front, rest, a
     let parts : drop place bytes ≡ front ++ (rest ++ after) = rest_is ∙ ap (λ x. x ++ after) a_is ∙ append_assoc front rest after in
     let fits : place + n ≤ length bytes = omega (arith, length-drop place bytes, ap length parts, length-append front (rest ++ after)) in
     let front_is : take n (drop place bytes) ≡ front = ap (take n) parts ∙ take_at front (rest ++ after) n len in
-    let behind_is : drop (place + n) bytes ≡ rest ++ after = sym (drop-drop n place bytes) ∙ ap (drop n) parts ∙ drop_at front (rest ++ after) n len in
+    let after_is : drop (place + n) bytes ≡ rest ++ after = sym (drop-drop n place bytes) ∙ ap (drop n) parts ∙ drop_at front (rest ++ after) n len in
     let end : (place + n) + length rest ≡ place + length a = omega (arith, ap length a_is, length-append front rest) in
     read-fits n next bytes place fits
     ∙ ap (λ x. read (next x) bytes (place + n)) front_is
-    ∙ spelled-read (next front) v rest after bytes (place + n) fits behind_is spelled
+    ∙ spelled-read (next front) v rest after bytes (place + n) fits after_is spelled
     ∙ ap (λ at. Ok (v, at)) end
 
 -- a value that is read at a place stands there

@@ -11,28 +11,27 @@ use Rattle.typecodes.specs.declared.types.OtsType.TheVariants.{W1, W2, W4, W8}
 use Rattle.typecodes.specs.declared.types.LmsType.{LmsType}
 use Rattle.typecodes.specs.declared.types.LmsType.TheVariants.{H5, H10, H15, H20, H25}
 use Rattle.typecodes.specs.declared.types.LmsPair.{LmsPair}
-use Rattle.typecodes.specs.declared.xmss.XmssType.{XmssType}
-use Rattle.typecodes.specs.declared.xmss.XmssType.TheVariants as xmss
+use Rattle.typecodes.specs.declared.types.XmssType.{XmssType}
+use Rattle.typecodes.specs.declared.types.XmssType.TheVariants as xmss
 use Rattle.typecodes.specs.declared.spec.BadSpec.{BadSpec}
 use Rattle.typecodes.specs.declared.spec.Spec.{Spec}
 use Rattle.typecodes.specs.declared.spec.Spec.TheVariants.{Lms, Hss, Xmss}
 use Rattle.typecodes.specs.Levels.{AreLevels}
-use Rattle.typecodes.specs.Types.{named, lms_types, ots_types}
-use Rattle.typecodes.specs.XmssTypes.{xmss_types}
+use Rattle.typecodes.specs.Types.{named, lms_types, ots_types, xmss_types}
 use Rattle.typecodes.specs.Spec.{IsSpec, comma, levels_text, ots_text, pair_text, spec_text, tree_text, xmss_text}
 
--- ---- texts that are joined by a byte which none of them has
+-- ---- texts with a separator between them, a byte which none of them has
 
 abbrev pub Lacks : ℕ → List ℕ → Type 0
 Lacks c bytes = All (λ b. eqb b c ≡ false) bytes
 
--- what joins them takes them apart again
-split_joined : (c : ℕ) (first : List ℕ) (parts : List (List ℕ)) → AllByRecursion (Lacks c) (first ∷ parts)
+-- splitting at the separator gives the texts again
+split-join : (c : ℕ) (first : List ℕ) (parts : List (List ℕ)) → AllByRecursion (Lacks c) (first ∷ parts)
     → slice_split (λ b. eqb b c) (join_with_byte c (first ∷ parts)) ≡ first ∷ parts
-split_joined c first [] lack = slice_split_none (λ b. eqb b c) first lack.0
-split_joined c first (second ∷ parts) lack =
+split-join c first [] lack = slice_split_none (λ b. eqb b c) first lack.0
+split-join c first (second ∷ parts) lack =
     slice_split_at (λ b. eqb b c) first c (join_with_byte c (second ∷ parts)) lack.0 (eq-eqb c c refl)
-    ∙ ap (λ l. first ∷ l) (split_joined c second parts lack.1)
+    ∙ ap (λ l. first ∷ l) (split-join c second parts lack.1)
 
 -- ---- types and pairs
 
@@ -100,7 +99,7 @@ pair_parts pair =
     let tree = tree_text pair.tree in
     let ots = ots_text pair.ots in
     ap (slice_split (λ b. eqb b 47)) (append_assoc tree (codes "/") ots)
-    ∙ split_joined 47 tree (ots ∷ [])
+    ∙ split-join 47 tree (ots ∷ [])
     (lacks 47 tree (omega arith) (tree_high pair.tree), (lacks 47 ots (omega arith) (ots_high pair.ots), tt))
 
 same_pair : (a b : LmsPair) → pair_text a ≡ pair_text b → a ≡ b
@@ -123,7 +122,7 @@ pairs_lack (pair ∷ levels) = (pair_lacks pair, pairs_lack levels)
 -- the parts of the text of levels are the texts of their pairs
 parts_of-levels : (levels : List LmsPair) → 1 ≤ length levels → parts_of (levels_text levels) ≡ map pair_text levels
 parts_of-levels [] some = absurd (omega arith)
-parts_of-levels (pair ∷ levels) some = split_joined comma (pair_text pair) (map pair_text levels) (pairs_lack (pair ∷ levels))
+parts_of-levels (pair ∷ levels) some = split-join comma (pair_text pair) (map pair_text levels) (pairs_lack (pair ∷ levels))
 
 same_pairs : (a b : List LmsPair) → map pair_text a ≡ map pair_text b → a ≡ b
 same_pairs [] [] same = refl

@@ -12,8 +12,8 @@ same_beginning (field n next) v w a b c d same (front, rest, a_is, len, first) (
     let whole : front ++ (rest ++ b) ≡ front' ++ (rest' ++ d) = sym (append_assoc front rest b) ∙ ap (λ x. x ++ b) (sym a_is) ∙ same ∙ ap (λ x. x ++ d) c_is ∙ append_assoc front' rest' d in
     let cut = same_cut front (rest ++ b) front' (rest' ++ d) (len ∙ sym len') whole in
     let moved = subst (λ x. Spells (next x) w rest') (sym cut.0) second in
-    let behind = same_beginning (next front) v w rest b rest' d cut.1 first moved in
-    (a_is ∙ ap₂ (λ x y. x ++ y) cut.0 behind.0 ∙ sym c_is, behind.1)
+    let after = same_beginning (next front) v w rest b rest' d cut.1 first moved in
+    (a_is ∙ ap₂ (λ x y. x ++ y) cut.0 after.0 ∙ sym c_is, after.1)
 
 -- bytes spell one value
 pub one_value : {V : Type 0} (layout : Layout V) (v w : V) (bytes : List ℕ) → Spells layout v bytes → Spells layout w bytes → v ≡ w
@@ -60,8 +60,8 @@ in_turn (field n rest) next w bytes (front, others, bytes_are, len, spelled) =
 
 -- and back
 pub from_turn : {A B : Type 0} (first : Layout A) (next : A → Layout B) (v : A) (w : B) (a b : List ℕ) → Spells first v a → Spells (next v) w b → Spells (first >>= next) w (a ++ b)
-from_turn (done u) next v w a b spelled behind =
-    subst₂ (λ x y. Spells (next x) w (y ++ b)) (sym spelled.0) (sym spelled.1) behind
-from_turn (refuse back cause) next v w a b spelled behind = spelled
-from_turn (field n others) next v w a b (front, rest, a_is, len, spelled) behind =
-    (front, rest ++ b, ap (λ x. x ++ b) a_is ∙ append_assoc front rest b, len, from_turn (others front) next v w rest b spelled behind)
+from_turn (done u) next v w a b spelled after =
+    subst₂ (λ x y. Spells (next x) w (y ++ b)) (sym spelled.0) (sym spelled.1) after
+from_turn (refuse back cause) next v w a b spelled after = spelled
+from_turn (field n others) next v w a b (front, rest, a_is, len, spelled) after =
+    (front, rest ++ b, ap (λ x. x ++ b) a_is ∙ append_assoc front rest b, len, from_turn (others front) next v w rest b spelled after)

@@ -1,4 +1,4 @@
--- Values of 32 bytes, one after the other, are what one block of them holds.
+-- Values of 32 bytes, one after the other, are one block of bytes, cut into values.
 use Rattle.std.proofs.Common.{◌≡◌, ℕ, zero, suc, ◌+◌, ◌-◌, ◌*◌, ◌/◌, ◌<◌, ◌≤◌, inl, inr, ap₂, List, [], ◌∷◌, length, take, drop, Result, Ok, Err, refl, sym, ◌∙◌, ap, add-zero, arith, take-take, drop-drop, length-take, length-drop}
 use Rattle.std.specs.Simd.{first_chunks}
 use Rattle.std.proofs.lemmas.Bool.{cases_lt}
@@ -8,7 +8,7 @@ use Rattle.typecodes.specs.declared.fault.ReadFault.{ReadFault}
 use Rattle.typecodes.specs.Fault.{fault_at}
 use Rattle.typecodes.specs.Layout.{Layout, done, ◌>>=◌}
 use Rattle.typecodes.specs.Fields.{block, values, values_in}
-use Rattle.typecodes.specs.Reading.{and_then, read, Gives}
+use Rattle.typecodes.specs.Cursor.{and_then, read, Gives}
 use Rattle.typecodes.proofs.Read.{read-fits, read-cut, read-bind}
 
 -- the first value of a block of them, and the others
@@ -17,9 +17,9 @@ values_in-more n place bytes =
     let size : 32 * suc n ≡ 32 + 32 * n = omega arith in
     rw (size, take-take 32 (32 + 32 * n) (drop place bytes) (omega arith), drop-take 32 (32 * n) (drop place bytes), drop-drop 32 place bytes) refl
 
--- the layout of one more value, behind the first
-abbrev pub behind : ℕ → List ℕ → Layout (List (List ℕ))
-behind n first = values n >>= λ rest. done (first ∷ rest)
+-- the layout of more values, after the first
+abbrev pub more_values : ℕ → List ℕ → Layout (List (List ℕ))
+more_values n first = values n >>= λ rest. done (first ∷ rest)
 
 -- values that fit are read
 pub values-fit : (n : ℕ) (bytes : List ℕ) (place : ℕ) → place + 32 * n ≤ length bytes → read (values n) bytes place ≡ Ok (values_in n (take (32 * n) (drop place bytes)), place + 32 * n)
@@ -30,7 +30,7 @@ values-fit (suc n) bytes place h =
     let fits : place + 32 ≤ length bytes = omega arith in
     let others_fit : (place + 32) + 32 * n ≤ length bytes = omega arith in
     let end : (place + 32) + 32 * n ≡ place + 32 * suc n = omega arith in
-    read-fits 32 (behind n) bytes place fits
+    read-fits 32 (more_values n) bytes place fits
     ∙ read-bind (values n) (λ rest. done (first ∷ rest)) bytes (place + 32)
     ∙ ap (λ rest. and_then rest (λ x. Ok (first ∷ x.0, x.1))) (values-fit n bytes (place + 32) others_fit)
     ∙ ap₂ (λ all at. Ok (all, at)) (values_in-more n place bytes) end
@@ -43,11 +43,11 @@ values-cut (suc n) bytes place within cut =
     elim (cases_lt (length bytes) (place + 32)) [
       | inl here ↦
           let same : place ≡ place + 32 * ((length bytes - place) / 32) = omega arith in
-          read-cut 32 (behind n) bytes place here ∙ ap (λ at. Err (fault_at at Truncated)) same
+          read-cut 32 (more_values n) bytes place here ∙ ap (λ at. Err (fault_at at Truncated)) same
       | inr fits ↦
           let cut_later : length bytes < (place + 32) + 32 * n = omega arith in
           let same : (place + 32) + 32 * ((length bytes - (place + 32)) / 32) ≡ place + 32 * ((length bytes - place) / 32) = omega arith in
-          read-fits 32 (behind n) bytes place fits
+          read-fits 32 (more_values n) bytes place fits
           ∙ read-bind (values n) (λ rest. done (take 32 (drop place bytes) ∷ rest)) bytes (place + 32)
           ∙ ap (λ rest. and_then rest (λ x. Ok (take 32 (drop place bytes) ∷ x.0, x.1))) (values-cut n bytes (place + 32) fits cut_later)
           ∙ ap (λ at. Err (fault_at at Truncated)) same

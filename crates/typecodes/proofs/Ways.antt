@@ -1,7 +1,6 @@
 -- Layouts whose values are spelled in one way, by the parts that each value shows.
 use Rattle.std.proofs.Common.{◌≡◌, ℕ, Bool, true, false, cond, List, subst}
-use Rattle.typecodes.specs.Layout.{Layout, done, ◌>>=◌, Spells}
-use Rattle.typecodes.specs.Reading.{OneSpelling}
+use Rattle.typecodes.specs.Layout.{Layout, done, ◌>>=◌, Spells, OneSpelling}
 use Rattle.typecodes.proofs.OneWay.{one_way-bind, one_way-done}
 use Rattle.typecodes.proofs.Spelling.{in_turn}
 
@@ -22,7 +21,7 @@ pub way-bind : {V W : Type 0} (first : Layout V) (next : V → Layout W) (of : W
     → OneSpelling first → ((v : V) → Way (next v) (λ w. (of w ≡ v) × HasParts w)) → Way (first >>= next) HasParts
 way-bind first next of HasParts first_one ways = record {
   one = one_way-bind first next of first_one (λ v. (ways v).one) (λ v w bytes spelled. ((ways v).has w bytes spelled).0);
-  has = λ w bytes spelled. let (v, a, b, _, _, behind) = in_turn first next w bytes spelled in ((ways v).has w b behind).1;
+  has = λ w bytes spelled. let (v, a, b, _, _, after) = in_turn first next w bytes spelled in ((ways v).has w b after).1;
 }
 
 -- either of two layouts

@@ -1,13 +1,14 @@
 -- Faults, by their place and cause.
 use Rattle.std.specs.Prelude.{ℕ}
 use Rattle.typecodes.specs.declared.fault.Cause.{Cause}
-use Rattle.typecodes.specs.declared.fault.Cause.TheVariants.{Truncated, UnknownType, LevelCount, LeafOutOfRange, Trailing}
+use Rattle.typecodes.specs.declared.fault.Cause.TheVariants.{Truncated, UnknownType, LevelCount}
+use Rattle.typecodes.specs.declared.fault.Cause.TheVariants.{LeafOutOfRange, Trailing}
 use Rattle.typecodes.specs.declared.fault.ReadFault.{ReadFault}
 
 abbrev pub fault_at : ℕ → Cause → ReadFault
 fault_at place cause = record { place = place; cause = cause }
 
--- the number by which a fault is told
+-- the number that reports a fault
 abbrev pub cause_number : Cause → ℕ
 cause_number Truncated = 1
 cause_number UnknownType = 2

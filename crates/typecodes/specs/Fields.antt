@@ -5,9 +5,8 @@ use Rattle.byteorder.specs.Endian.{big_number}
 use Rattle.typecodes.specs.declared.fault.Cause.TheVariants.{UnknownType}
 use Rattle.typecodes.specs.declared.types.OtsType.{OtsType}
 use Rattle.typecodes.specs.declared.types.LmsType.{LmsType}
-use Rattle.typecodes.specs.declared.xmss.XmssType.{XmssType}
-use Rattle.typecodes.specs.Types.{named, ots_code, ots_types, lms_code, lms_types}
-use Rattle.typecodes.specs.XmssTypes.{xmss_code, xmss_types}
+use Rattle.typecodes.specs.declared.types.XmssType.{XmssType}
+use Rattle.typecodes.specs.Types.{named, ots_code, ots_types, lms_code, lms_types, xmss_code, xmss_types}
 use Rattle.typecodes.specs.Layout.{Layout, done, refuse, field, ◌>>=◌}
 
 -- a number of 4 bytes

@@ -1,6 +1,6 @@
 -- How each layout of this project is described, and what follows from a description: which bytes
 -- spell a value, and which fault other bytes have.
-use Rattle.std.specs.Prelude.{◌≡◌, ℕ, ◌+◌, ◌-◌, ◌<◌, ◌⊎◌, List, [], ◌++◌, length}
+use Rattle.std.specs.Prelude.{◌≡◌, ℕ, ◌+◌, ◌-◌, ◌<◌, ◌⊎◌, List, [], ◌++◌, length, slice_index}
 use Rattle.typecodes.specs.declared.fault.Cause.{Cause}
 use Rattle.typecodes.specs.declared.fault.Cause.TheVariants.{Truncated, Trailing}
 use Rattle.typecodes.specs.declared.fault.ReadFault.{ReadFault}
@@ -34,7 +34,7 @@ Spells (refuse back cause) value bytes = ⊥
 Spells (field n next) value bytes =
     (front : List ℕ) × (rest : List ℕ) × (bytes ≡ front ++ rest) × (length front ≡ n) × Spells (next front) value rest
 
--- The bytes spell a value of one layout, and behind it one of the layout that depends on this value.
+-- The bytes spell a value of one layout, and after it one of the layout that depends on this value.
 abbrev pub InTurn : {A B : Type 0} → Layout A → (A → Layout B) → B → List ℕ → Type 0
 InTurn {A = A} first next w bytes =
     (v : A) × (a : List ℕ) × (b : List ℕ) × (bytes ≡ a ++ b) × Spells first v a × Spells (next v) w b
@@ -46,4 +46,18 @@ HasFault (done v) bytes place fault = (0 < length bytes) × (fault ≡ fault_at 
 HasFault (refuse back cause) bytes place fault = fault ≡ fault_at (place - back) cause
 HasFault (field n next) bytes place fault =
     ((length bytes < n) × (fault ≡ fault_at place Truncated))
-    ⊎ ((front : List ℕ) × (rest : List ℕ) × (bytes ≡ front ++ rest) × (length front ≡ n) × HasFault (next front) rest (place + n) fault)
+    ⊎ ((front : List ℕ) × (rest : List ℕ) × (bytes ≡ front ++ rest) × (length front ≡ n)
+    × HasFault (next front) rest (place + n) fault)
+
+-- each number of the list is a byte
+abbrev pub AreBytes : List ℕ → Type 0
+AreBytes bytes = (i : ℕ) → slice_index bytes i < 256
+
+-- Values are spelled in one way: bytes that spell one value are one list.
+abbrev pub OneSpelling : {V : Type 0} → Layout V → Type 0
+OneSpelling {V = V} layout =
+    (v : V) (a b : List ℕ) → AreBytes a → AreBytes b → Spells layout v a → Spells layout v b → a ≡ b
+
+-- Every value that the layout spells shows x: `of` the value is x.
+abbrev pub Shows : {V X : Type 0} → Layout V → (V → X) → X → Type 0
+Shows {V = V} layout of x = (v : V) (bytes : List ℕ) → Spells layout v bytes → of v ≡ x

@@ -1,11 +1,10 @@
 pub mod Types
-pub mod XmssTypes
-pub mod Coef
+pub mod Coefficient
 pub mod Fault
-pub mod Refusals
+pub mod Refusal
 pub mod Layout
 pub mod Fields
-pub mod Reading
-pub mod Names
+pub mod Cursor
+pub mod Name
 pub mod Levels
 pub mod Spec

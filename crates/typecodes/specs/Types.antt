@@ -1,11 +1,13 @@
--- The types of the profile and their numbers: RFC 8554 4.1, table 1, and 5.1, table 2, for SHA-256
--- with n = 32.
+-- The types of the profile and their numbers: RFC 8554 4.1, table 1, and 5.1, table 2; RFC 8391 5.3, table 2, and
+-- the codes of its XDR formats. All are for SHA-256 with n = 32.
 use Rattle.std.specs.Prelude.{◌≡◌, ◌==◌, ℕ, ◌+◌, ◌*◌, ◌⊎◌, List, [], ◌∷◌, Option, find}
 use Rattle.typecodes.specs.declared.types.OtsType.{OtsType}
 use Rattle.typecodes.specs.declared.types.OtsType.TheVariants.{W1, W2, W4, W8}
 use Rattle.typecodes.specs.declared.types.LmsType.{LmsType}
 use Rattle.typecodes.specs.declared.types.LmsType.TheVariants.{H5, H10, H15, H20, H25}
 use Rattle.typecodes.specs.declared.types.LmsPair.{LmsPair}
+use Rattle.typecodes.specs.declared.types.XmssType.{XmssType}
+use Rattle.typecodes.specs.declared.types.XmssType.TheVariants as xmss
 
 -- the bits of a Winternitz digit
 abbrev pub IsWidth : ℕ → Type 0
@@ -77,3 +79,28 @@ lms_of_code c = named lms_code lms_types c
 -- a leaf's index, a one-time signature, the tree's code and a node of each height below the root
 abbrev pub lms_signature_len_of : LmsPair → ℕ
 lms_signature_len_of pair = 8 + signature_len_of pair.ots + 32 * height_of pair.tree
+
+-- ---- XMSS, w = 16
+
+-- XMSS-SHA2_10_256, XMSS-SHA2_16_256, XMSS-SHA2_20_256
+abbrev pub xmss_code : XmssType → ℕ
+xmss_code xmss.H10 = 1
+xmss_code xmss.H16 = 2
+xmss_code xmss.H20 = 3
+
+-- h
+abbrev pub xmss_height_of : XmssType → ℕ
+xmss_height_of xmss.H10 = 10
+xmss_height_of xmss.H16 = 16
+xmss_height_of xmss.H20 = 20
+
+-- all of them
+abbrev pub xmss_types : List XmssType
+xmss_types = xmss.H10 ∷ xmss.H16 ∷ xmss.H20 ∷ []
+
+abbrev pub xmss_of_code : ℕ → Option XmssType
+xmss_of_code c = named xmss_code xmss_types c
+
+-- a leaf's index, a randomizer, a value for each of 67 chains, and a node of each height below the root
+abbrev pub xmss_signature_len_of : XmssType → ℕ
+xmss_signature_len_of t = 4 + 32 + 32 * 67 + 32 * xmss_height_of t

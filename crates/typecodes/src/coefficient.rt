@@ -2,7 +2,7 @@
 
 ghost use Rattle.std.specs.Prelude.{◌≡◌, ◌<◌, ◌*◌, ◌/◌, ◌^◌, length};
 ghost use Rattle.typecodes.specs.Types.{IsWidth};
-ghost use Rattle.typecodes.specs.Coef.{coef_of};
+ghost use Rattle.typecodes.specs.Coefficient.{coef_of};
 
 /// Digit i of the bytes s, each cut into digits of w bits, the highest first (RFC 8554 3.1.3). The caller keeps w in
 /// 1, 2, 4, 8 and i inside s.
@@ -17,3 +17,6 @@ pub fn coef(s: &[u8], i: u32, w: u8) -> u8
     let digit = (s[place] as u16 >> after) % (1u16 << w);
     digit as u8
 }
+
+#[cfg(test)]
+mod tests;

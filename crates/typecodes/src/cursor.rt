@@ -3,11 +3,10 @@
 ghost use Rattle.std.specs.Prelude.{◌≡◌, ◌<◌, ◌≤◌, ◌+◌, ◌*◌, ◌/◌, ◌^◌, length, IfOk, OnOk, OnErr, MatchResult};
 
 use crate::fault::{Cause, ReadFault};
-use crate::types::{LmsType, OtsType};
-use crate::xmss::XmssType;
+use crate::types::{LmsType, OtsType, XmssType};
 use byteorder::{BigEndian, ByteOrder};
 
-/// Hands out the fields of its bytes one after the other, without copying.
+/// Reads the fields of its bytes one after the other, without copying.
 #[derive(Clone, Copy, Debug)]
 pub struct Cursor<'a> {
     /// The bytes, whole.
@@ -20,7 +19,7 @@ pub struct Cursor<'a> {
 impl<'a> Cursor<'a> {
     ghost use Rattle.std.specs.Simd.{first_chunks};
     ghost use Rattle.typecodes.specs.Fields.{number, block, values, ots_type, lms_type, xmss_type};
-    ghost use Rattle.typecodes.specs.Reading.{read, Gives};
+    ghost use Rattle.typecodes.specs.Cursor.{read, Gives};
     ghost use Rattle.typecodes.specs.Fault.{fault_at};
 
     /// A cursor before the first field.
@@ -34,7 +33,8 @@ impl<'a> Cursor<'a> {
     /// The next n bytes, a field. A field that doesn't fit leaves the cursor where it is.
     pub fn block(&mut self, n: u32) -> Result<&'a [u8], ReadFault>
         requires { self.old.place + n < 2 ^ 32 }
-        ensures read { Gives (λ taken. (taken.now, self.new.place)) result (read (block n) self.old.bytes.now self.old.place) }
+        ensures read { Gives (λ taken. (taken.now, self.new.place)) result
+            (read (block n) self.old.bytes.now self.old.place) }
         ensures len { OnOk result (self.new.place ≡ self.old.place + n) }
         ensures bytes { self.new.bytes ≡ self.old.bytes }
         ensures err { OnErr result (self.new.place ≡ self.old.place) }
@@ -51,7 +51,8 @@ impl<'a> Cursor<'a> {
     /// The next N bytes, a field.
     pub fn array<const N: usize>(&mut self) -> Result<&'a [u8; N], ReadFault>
         requires { self.old.place + N < 2 ^ 32 }
-        ensures read { Gives (λ taken. (taken.now, self.new.place)) result (read (block N) self.old.bytes.now self.old.place) }
+        ensures read { Gives (λ taken. (taken.now, self.new.place)) result
+            (read (block N) self.old.bytes.now self.old.place) }
         ensures len { OnOk result (self.new.place ≡ self.old.place + N) }
         ensures bytes { self.new.bytes ≡ self.old.bytes }
         ensures err { OnErr result (self.new.place ≡ self.old.place) }
@@ -83,10 +84,10 @@ impl<'a> Cursor<'a> {
         ensures bytes { self.new.bytes ≡ self.old.bytes }
         ensures err { OnErr result (self.new.place ≡ self.old.place) }
     {
-        let mut behind = *self;
-        let code = behind.number()?;
+        let mut after = *self;
+        let code = after.number()?;
         let named = OtsType::from_code(code).ok_or(self.fault(Cause::UnknownType))?;
-        *self = behind;
+        *self = after;
         Ok(named)
     }
 
@@ -100,10 +101,10 @@ impl<'a> Cursor<'a> {
         ensures bytes { self.new.bytes ≡ self.old.bytes }
         ensures err { OnErr result (self.new.place ≡ self.old.place) }
     {
-        let mut behind = *self;
-        let code = behind.number()?;
+        let mut after = *self;
+        let code = after.number()?;
         let named = LmsType::from_code(code).ok_or(self.fault(Cause::UnknownType))?;
-        *self = behind;
+        *self = after;
         Ok(named)
     }
 
@@ -117,30 +118,32 @@ impl<'a> Cursor<'a> {
         ensures bytes { self.new.bytes ≡ self.old.bytes }
         ensures err { OnErr result (self.new.place ≡ self.old.place) }
     {
-        let mut behind = *self;
-        let code = behind.number()?;
+        let mut after = *self;
+        let code = after.number()?;
         let named = XmssType::from_code(code).ok_or(self.fault(Cause::UnknownType))?;
-        *self = behind;
+        *self = after;
         Ok(named)
     }
 
     /// The next count values of 32 bytes, each a field.
     pub fn values(&mut self, count: u32) -> Result<&'a [[u8; 32]], ReadFault>
         requires { self.old.place + 32 * count < 2 ^ 32 }
-        ensures read { Gives (λ taken. (taken.now, self.new.place)) result (read (values count) self.old.bytes.now self.old.place) }
+        ensures read { Gives (λ taken. (taken.now, self.new.place)) result
+            (read (values count) self.old.bytes.now self.old.place) }
         ensures count { IfOk result (λ taken. length taken.now ≡ count) }
         ensures len { OnOk result (self.new.place ≡ self.old.place + 32 * count) }
         ensures bytes { self.new.bytes ≡ self.old.bytes }
         ensures err { OnErr result (self.new.place ≡ self.old.place) }
     {
-        let taken = self.values_joined(count)?;
+        let taken = self.values_bytes(count)?;
         Ok(taken.as_chunks().0)
     }
 
     // The bytes of the next count values.
-    fn values_joined(&mut self, count: u32) -> Result<&'a [u8], ReadFault>
+    fn values_bytes(&mut self, count: u32) -> Result<&'a [u8], ReadFault>
         requires { self.old.place + 32 * count < 2 ^ 32 }
-        ensures read { Gives (λ taken. (first_chunks 32 (length taken.now / 32) taken.now, self.new.place)) result (read (values count) self.old.bytes.now self.old.place) }
+        ensures read { Gives (λ taken. (first_chunks 32 (length taken.now / 32) taken.now, self.new.place)) result
+            (read (values count) self.old.bytes.now self.old.place) }
         ensures count { IfOk result (λ taken. length taken.now / 32 ≡ count) }
         ensures len { OnOk result (self.new.place ≡ self.old.place + 32 * count) }
         ensures bytes { self.new.bytes ≡ self.old.bytes }
@@ -157,7 +160,8 @@ impl<'a> Cursor<'a> {
 
     /// Refuses bytes that follow the value.
     pub fn end(&self) -> Result<(), ReadFault>
-        ensures { MatchResult result (λ _. length self.now.bytes.now ≡ self.now.place) (λ e. (self.now.place < length self.now.bytes.now) × (e ≡ fault_at self.now.place Cause.Trailing)) }
+        ensures { MatchResult result (λ _. length self.now.bytes.now ≡ self.now.place)
+            (λ e. (self.now.place < length self.now.bytes.now) × (e ≡ fault_at self.now.place Cause.Trailing)) }
     {
         if self.place as usize == self.bytes.len() {
             Ok(())
@@ -176,3 +180,6 @@ impl<'a> Cursor<'a> {
         }
     }
 }
+
+#[cfg(test)]
+mod tests;

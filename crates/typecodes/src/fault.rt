@@ -6,7 +6,7 @@ ghost use Rattle.typecodes.specs.Fault.{cause_number};
 use std::fmt;
 use thiserror::Error;
 
-/// What is wrong with a field, in the words of the refusal that tells it.
+/// What is wrong with a field, in the words of the refusal that reports it.
 #[derive(Clone, Copy, Debug, PartialEq, Eq, Error)]
 pub enum Cause {
     /// 1: the field doesn't fit into the bytes that are left.
@@ -27,7 +27,7 @@ pub enum Cause {
 }
 
 impl Cause {
-    /// The number by which the fault is told, 1 to 5.
+    /// The number that reports the fault, 1 to 5.
     pub fn number(self) -> u8
         ensures { result ≡ cause_number self }
     {

@@ -7,30 +7,38 @@
 //! Its contract for the crates above: a code names exactly one type, a cursor hands out exactly the
 //! field that the layout names, or its fault, levels are 1 to 8, and a text is that of one spec or of
 //! none.
+//!
+//! ```rust
+//! use typecodes::{Cursor, LmsType};
+//!
+//! // a type's code and a number
+//! let mut cursor = Cursor::new(&[0, 0, 0, 5, 0, 0, 1, 2]);
+//! assert_eq!(rt; cursor.lms_type(), Ok(LmsType::H5));
+//! assert_eq!(rt; cursor.number(), Ok(0x0102));
+//! assert_eq!(rt; cursor.end(), Ok(()));
+//! ```
 #![tactic(auto)]
 
 mod coefficient;
 mod count;
 mod cursor;
 mod fault;
-mod laws;
+mod fields;
+mod layout;
 mod levels;
 mod name;
 mod refusal;
 mod spec;
-#[cfg(test)]
-mod tests;
 mod types;
-mod xmss;
 
 pub use crate::coefficient::coef;
 pub use crate::count::Count;
 pub use crate::cursor::Cursor;
 pub use crate::fault::{Cause, ReadFault};
-pub use crate::laws::{field_laws, following_laws, layout_laws};
+pub use crate::fields::field_laws;
+pub use crate::layout::{following_laws, layout_laws};
 pub use crate::levels::{LevelCount, Levels};
 pub use crate::name::{BadName, Name};
 pub use crate::refusal::Refusal;
 pub use crate::spec::{BadSpec, Spec};
-pub use crate::types::{LmsPair, LmsType, OtsType};
-pub use crate::xmss::XmssType;
+pub use crate::types::{LmsPair, LmsType, OtsType, XmssType};

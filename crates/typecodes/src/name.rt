@@ -1,7 +1,7 @@
 //! The names under which messages are signed.
 
 ghost use Rattle.std.specs.Prelude.{◌≡◌, ◌↔◌, IfOk, IsOk, List, ℕ};
-ghost use Rattle.typecodes.specs.Names.{IsName};
+ghost use Rattle.typecodes.specs.Name.{IsName};
 
 use arrayvec::ArrayVec;
 use std::marker::Model;
@@ -48,7 +48,7 @@ impl Name {
         self.bytes.as_slice()
     }
 
-    /// The same name once more. It can't fail, as a name holds no memory.
+    /// The same name once more. It can't fail, as a name owns no memory.
     pub fn copied(&self) -> Self
         ensures { result ≡ self.now }
     {

@@ -1,7 +1,7 @@
 //! Why a signature isn't verified.
 
 ghost use Rattle.std.specs.Prelude.{◌≡◌};
-ghost use Rattle.typecodes.specs.Refusals.{refusal_number};
+ghost use Rattle.typecodes.specs.Refusal.{refusal_number};
 
 use crate::fault::ReadFault;
 use std::fmt;
@@ -26,7 +26,7 @@ pub enum Refusal {
 }
 
 impl Refusal {
-    /// The number by which the refusal is told: 1 to 5 or 10 to 12.
+    /// The number that reports the refusal: 1 to 5 or 10 to 12.
     pub fn number(&self) -> u8
         ensures { result ≡ refusal_number self.now }
     {
@@ -38,3 +38,6 @@ impl Refusal {
         }
     }
 }
+
+#[cfg(test)]
+mod tests;

@@ -5,13 +5,12 @@ ghost use Rattle.typecodes.specs.declared.spec.Spec.{Spec as S};
 ghost use Rattle.typecodes.specs.declared.types.LmsType.{LmsType as Tree};
 ghost use Rattle.typecodes.specs.declared.types.OtsType.{OtsType as Ots};
 ghost use Rattle.typecodes.specs.declared.types.LmsPair.{LmsPair as Pair};
-ghost use Rattle.typecodes.specs.declared.xmss.XmssType.{XmssType as XmssTree};
+ghost use Rattle.typecodes.specs.declared.types.XmssType.{XmssType as XmssTree};
 ghost use Rattle.typecodes.specs.Levels.{AreLevels};
 ghost use Rattle.typecodes.specs.Spec.{IsSpec, levels_text, ots_text, pair_text, spec_text, tree_text, xmss_text};
 
 use crate::levels::Levels;
-use crate::types::{LmsPair, LmsType, OtsType};
-use crate::xmss::XmssType;
+use crate::types::{LmsPair, LmsType, OtsType, XmssType};
 use thiserror::Error;
 
 /// What key is to be made: its scheme, and the types of the scheme.
@@ -51,7 +50,7 @@ impl Spec {
     }
 }
 
-// The levels that this is the text of, pairs joined by commas.
+// The levels that this is the text of, pairs with commas between them.
 fn parse_levels(text: &str) -> Result<Levels, BadSpec>
     ensures ok { IfOk result (λ levels. text.now ≡ levels_text levels) }
     ensures levels { IfOk result AreLevels }

@@ -1,7 +1,11 @@
-//! The types of RFC 8554's tables (4.1 and 5.1), SHA-256 with n = 32.
+//! The types of the standards' tables: RFC 8554 4.1 and 5.1, RFC 8391 5.3 and the codes of its XDR formats. All are
+//! for SHA-256 with n = 32.
 
 ghost use Rattle.std.specs.Prelude.{◌≡◌, ◌≢◌, ◌≤◌, ◌↔◌, All, IfSome};
-ghost use Rattle.typecodes.specs.Types.{IsWidth, chains_of, height_of, lms_code, lms_of_code, lms_signature_len_of, lms_types, ots_code, ots_of_code, ots_types, signature_len_of, width_of};
+ghost use Rattle.typecodes.specs.Types.{IsWidth, chains_of, ots_code, ots_of_code, ots_types};
+ghost use Rattle.typecodes.specs.Types.{signature_len_of, width_of};
+ghost use Rattle.typecodes.specs.Types.{height_of, lms_code, lms_of_code, lms_signature_len_of, lms_types};
+ghost use Rattle.typecodes.specs.Types.{xmss_code, xmss_height_of, xmss_of_code, xmss_signature_len_of, xmss_types};
 
 /// A one-time signature type of LM-OTS (RFC 8554 4.1), by the bits of its Winternitz digits.
 #[derive(Clone, Copy, Debug, PartialEq, Eq)]
@@ -158,3 +162,65 @@ impl LmsPair {
         8 + self.ots.signature_len() + 32 * u32::from(self.tree.height())
     }
 }
+
+/// A type of XMSS, by the height of its tree. Each has chains of 15 steps, 67 of them in a leaf.
+#[derive(Clone, Copy, Debug, PartialEq, Eq)]
+pub enum XmssType {
+    /// XMSS-SHA2_10_256, 1,024 leaves.
+    H10,
+    /// XMSS-SHA2_16_256, 65,536 leaves.
+    H16,
+    /// XMSS-SHA2_20_256, 1,048,576 leaves.
+    H20,
+}
+
+impl XmssType {
+    /// The type that a code names: 1 to 3 in the order of the heights.
+    pub fn from_code(code: u32) -> Option<Self>
+        ensures named { result ≡ xmss_of_code code }
+        ensures some { IfSome result (λ t. xmss_code t ≡ code) }
+        ensures none { result ≡ None ↔ All (λ t. xmss_code t ≢ code) xmss_types }
+    {
+        match code {
+            1 => Some(XmssType::H10),
+            2 => Some(XmssType::H16),
+            3 => Some(XmssType::H20),
+            _ => None,
+        }
+    }
+
+    /// The code of the type, 1 to 3.
+    pub fn code(self) -> u32
+        ensures value { result ≡ xmss_code self }
+        ensures alone { (other : XmssType) → xmss_code other ≡ result → other ≡ self }
+    {
+        match self {
+            XmssType::H10 => 1,
+            XmssType::H16 => 2,
+            XmssType::H20 => 3,
+        }
+    }
+
+    /// h: the height of the tree, which has `2^h` leaves.
+    pub fn height(self) -> u8
+        ensures value { result ≡ xmss_height_of self }
+        ensures most { result ≤ 20 }
+    {
+        match self {
+            XmssType::H10 => 10,
+            XmssType::H16 => 16,
+            XmssType::H20 => 20,
+        }
+    }
+
+    /// The bytes of a signature: its leaf's index, the randomizer, a value for each of 67 chains and
+    /// the nodes of the path.
+    pub fn signature_len(self) -> u32
+        ensures { result ≡ xmss_signature_len_of self }
+    {
+        4 + 32 + 32 * 67 + 32 * u32::from(self.height())
+    }
+}
+
+#[cfg(test)]
+mod tests;

@@ -6,7 +6,7 @@ use Rattle.std.proofs.Math.ListN.{get_or-append}
 use Rattle.std.proofs.lemmas.List.{get_or-append-add}
 use Rattle.std.proofs.lemmas.List.Sums.{sum_by-cons}
 use Rattle.std.proofs.lemmas.List.Elements.{All-from_get_or, recursion_from_All}
-use Rattle.winternitz.specs.Digits.{lacking_of, HasWholeChecksum}
+use Rattle.winternitz.specs.Digest.{lacking_of, HasWholeChecksum}
 use Rattle.winternitz.proofs.Bases.{same_digits}
 
 -- each digit of one list is at most the other's
@@ -59,19 +59,19 @@ pub none_above : (w : ℕ) (digest other digits others : List ℕ) → length ot
 none_above w digest other digits others size fits other_fits p q each =
     let count : length p.message ≡ length q.message = p.message_digits.count ∙ sym q.message_digits.count in
     let more : length p.checksum ≡ length q.checksum = p.checksum_digits.count ∙ sym q.checksum_digits.count in
-    let joined : (i : ℕ) → get_or (p.message ++ p.checksum) i 0 ≤ get_or (q.message ++ q.checksum) i 0 = λ i.
-    omega (arith, each i, ap (λ l. get_or l i 0) p.joined, ap (λ l. get_or l i 0) q.joined) in
+    let each_digit : (i : ℕ) → get_or (p.message ++ p.checksum) i 0 ≤ get_or (q.message ++ q.checksum) i 0 = λ i.
+    omega (arith, each i, ap (λ l. get_or l i 0) p.all, ap (λ l. get_or l i 0) q.all) in
     let message : AreAtMost p.message q.message = λ i within.
     omega (
       arith,
-      joined i,
+      each_digit i,
       get_or-append p.message p.checksum 0 i within,
       get_or-append q.message q.checksum 0 i (omega arith),
     ) in
     let checksum : AreAtMost p.checksum q.checksum = λ i within.
     omega (
       arith,
-      joined (length p.message + i),
+      each_digit (length p.message + i),
       get_or-append-add p.message p.checksum i 0,
       ap (λ n. get_or (q.message ++ q.checksum) (n + i) 0) count,
       get_or-append-add q.message q.checksum i 0,

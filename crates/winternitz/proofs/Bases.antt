@@ -2,7 +2,7 @@
 use Rattle.std.proofs.Common.{◌≡◌, refl, ℕ, ◌+◌, ◌*◌, List, [], ◌∷◌, length, arith}
 use Rattle.std.specs.Int.Digits.{number_from_digits_after, AllBelowBase}
 use Rattle.std.proofs.lemmas.Nat.{same_from_place}
-use Rattle.winternitz.specs.Digits.{AreDigitsOf}
+use Rattle.winternitz.specs.Digest.{AreDigitsOf}
 
 -- as many digits in a base that read as one number are the same digits, also after others
 same_after : (b m n : ℕ) (xs ys : List ℕ) → length xs ≡ length ys → AllBelowBase b xs → AllBelowBase b ys

@@ -7,11 +7,11 @@ use Rattle.std.proofs.lemmas.List.Elements.{All-from_get_or, recursion_from_All}
 use Rattle.std.proofs.lemmas.List.FromFn.{length-map-range_with_len, take-map-range_with_len}
 use Rattle.byteorder.specs.Endian.{big_bytes}
 use Rattle.typecodes.specs.Types.{IsWidth}
-use Rattle.typecodes.specs.Coef.{coef_of}
-use Rattle.winternitz.specs.Digits.{message_count, checksum_count, digit_count, checksum_shift, lacking_of, checksum_of, AreDigitsOf, AreWinternitzDigits, HasWholeChecksum, first_digits, digits_of}
+use Rattle.typecodes.specs.Coefficient.{coef_of}
+use Rattle.winternitz.specs.Digest.{message_count, checksum_count, digit_count, checksum_shift, lacking_of, checksum_of, AreDigitsOf, AreWinternitzDigits, HasWholeChecksum, first_digits, digits_of}
 use Rattle.winternitz.proofs.Widths.{by_width}
 use Rattle.winternitz.proofs.Bases.{same_digits}
-use Rattle.winternitz.proofs.Coefs.{digits_below, number_within, number_of_digits, digits_joined}
+use Rattle.winternitz.proofs.Coefs.{digits_below, number_within, number_of_digits, first_digits-append}
 
 -- what as many digits lack as a digest has, all together
 pub lacking_at_most : (w : ℕ) (digits : List ℕ) → length digits ≡ message_count w
@@ -66,7 +66,7 @@ standard_digits w is digest size =
     let two = big_bytes 2 (checksum_of w (first_digits w (message_count w) digest)) in
     let v = checksum_count w in
     subst (λ n. first_digits w n digest ++ first_digits w v two ≡ first_digits w (n + v) (digest ++ two))
-    (sym (digest_count w is digest size)) (digits_joined w is v digest two)
+    (sym (digest_count w is digest size)) (first_digits-append w is v digest two)
 
 -- so are lists that were made like these
 pub made_digits : (w v : ℕ) → IsWidth w → (digest message two digits : List ℕ) → length digest ≡ 32
@@ -76,7 +76,7 @@ made_digits w v is digest message two digits size first sum count all =
     all ∙ ap (λ t. message ++ first_digits w v t) sum ∙ ap (λ n. message ++ first_digits w n (big_bytes 2 (checksum_of w message))) count
     ∙ ap (λ m. m ++ first_digits w (checksum_count w) (big_bytes 2 (checksum_of w m))) first ∙ standard_digits w is digest size
 
--- and that list is what the law asks for
+-- and that list is what the law says
 pub are_winternitz_digits : (w : ℕ) → IsWidth w → (digest : List ℕ) → length digest ≡ 32
     → ((i : ℕ) → get_or digest i 0 < 256) → AreWinternitzDigits w digest (digits_of w digest)
 are_winternitz_digits w is digest size fits =
@@ -96,7 +96,7 @@ are_winternitz_digits w is digest size fits =
       message_digits = all_digits w (message_count w) is digest fits (digest_count w is digest size);
       checksum_digits = subst (λ n. AreDigitsOf (2 ^ w) (16 / w) n checksum) (two_bytes_number sum small)
           (all_digits w (16 / w) is two (two_bytes_fit sum) places);
-      joined = sym (standard_digits w is digest size)
+      all = sym (standard_digits w is digest size)
           ∙ ap (λ l. message ++ l) (sym (take-map-range_with_len (λ i. coef_of two i w) 0 (16 / w) (checksum_count w) room))
           ∙ sym (take-append-add message checksum (checksum_count w))
           ∙ ap (λ n. take (n + checksum_count w) (message ++ checksum)) count;
@@ -137,7 +137,7 @@ has_whole_checksum w is digest size fits =
         below = recursion_from_All (λ d. d < 2 ^ w) checksum (digits_below w (checksum_count w) two);
         number = number_kept w (lacking_of w message) is (lacking_fits w _ is (lacking_at_most w message count)).1;
       };
-      joined = sym (standard_digits w is digest size);
+      all = sym (standard_digits w is digest size);
     }
 
 -- a digest has no two lists of Winternitz digits
@@ -148,8 +148,8 @@ same_winternitz_digits w digest xs ys p q =
     let here : AreDigitsOf (2 ^ w) (16 / w) (checksum_of w q.message) p.checksum =
     subst (λ m. AreDigitsOf (2 ^ w) (16 / w) (checksum_of w m) p.checksum) message p.checksum_digits in
     let checksum : p.checksum ≡ q.checksum = same_digits _ _ _ _ _ here q.checksum_digits in
-    p.joined ∙ ap (λ m. take (digit_count w) (m ++ p.checksum)) message
-    ∙ ap (λ c. take (digit_count w) (q.message ++ c)) checksum ∙ sym q.joined
+    p.all ∙ ap (λ m. take (digit_count w) (m ++ p.checksum)) message
+    ∙ ap (λ c. take (digit_count w) (q.message ++ c)) checksum ∙ sym q.all
 
 -- what the law allows has its checksum whole
 pub whole_of_law : (w : ℕ) → IsWidth w → (digest digits : List ℕ) → length digest ≡ 32

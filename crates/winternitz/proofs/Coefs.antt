@@ -11,8 +11,8 @@ use Rattle.std.proofs.lemmas.Int.Digits.{number_push, number_more}
 use Rattle.std.proofs.lemmas.Nat.{shr-shr, shr_split, div-mul-add, mod-mul-add, mod_below, pow_pos}
 use Rattle.std.proofs.lemmas.Bool.{cases_lt}
 use Rattle.typecodes.specs.Types.{IsWidth}
-use Rattle.typecodes.specs.Coef.{coef_of}
-use Rattle.winternitz.specs.Digits.{checksum_of, digit_count, digits_of, first_digits, message_count}
+use Rattle.typecodes.specs.Coefficient.{coef_of}
+use Rattle.winternitz.specs.Digest.{checksum_of, digit_count, digits_of, first_digits, message_count}
 use Rattle.byteorder.specs.Endian.{big_bytes}
 use Rattle.winternitz.proofs.Widths.{by_width, whole_digits, place_inside}
 
@@ -122,9 +122,9 @@ coef_rest w is xs ys i =
     rw (byte, place, get_or-append-add xs ys (i * w / 8) 0) refl
 
 -- the digits of bytes one after the other: those of the first bytes, and then those of the others
-pub digits_joined : (w : ℕ) → IsWidth w → (n : ℕ) (xs ys : List ℕ)
+pub first_digits-append : (w : ℕ) → IsWidth w → (n : ℕ) (xs ys : List ℕ)
     → first_digits w (length xs * (8 / w)) xs ++ first_digits w n ys ≡ first_digits w (length xs * (8 / w) + n) (xs ++ ys)
-digits_joined w is n xs ys =
+first_digits-append w is n xs ys =
     let m = length xs * (8 / w) in
     let first = first_digits w m xs in
     let rest = first_digits w n ys in

@@ -1,8 +1,7 @@
 -- The ends of chains, as a relation and as a list.
 use Rattle.std.proofs.Common.{◌≡◌, ℕ, List, [], length, arith}
 use Rattle.std.proofs.lemmas.List.FromFn.{length-map-range_with_len, get_or-map-range_with_len, fill_by_all}
-use Rattle.winternitz.specs.Walk.{Steps}
-use Rattle.winternitz.specs.Ends.{AreEnds, end_of, ends_of}
+use Rattle.winternitz.specs.Chain.{Steps, AreEnds, end_of, ends_of}
 
 -- the list of the ends is a list of ends
 pub are_ends : (step : Steps) (w : ℕ) (digits : List ℕ) (values : List (List ℕ))

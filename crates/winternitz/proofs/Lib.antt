@@ -5,4 +5,4 @@ pub mod Coefs
 mod Checksums
 mod Apart
 pub mod Ends
-pub mod Joined
+pub mod Concatenated

@@ -1,6 +1,6 @@
 -- Walks along a chain.
 use Rattle.std.proofs.Common.{◌≡◌, ◌∙◌, ap, ℕ, zero, suc, ◌+◌, ◌-◌, ◌≤◌, List, arith}
-use Rattle.winternitz.specs.Walk.{Steps, walk_on, walk}
+use Rattle.winternitz.specs.Chain.{Steps, walk_on, walk}
 
 -- a walk of no steps stays where it is
 pub walk_none : (step : Steps) (c a : ℕ) (v : List ℕ) → v ≡ walk step c a a v
@@ -18,21 +18,21 @@ walk_more step c a b u v w within before last =
     ∙ ap (λ n. walk_on step c a n u) count
 
 -- the steps of one walk and those of the next
-walk_on-joined : (step : Steps) (c a m n : ℕ) (v : List ℕ) → walk_on step c (a + m) n (walk_on step c a m v) ≡ walk_on step c a (m + n) v
+walk_on-walk_on : (step : Steps) (c a m n : ℕ) (v : List ℕ) → walk_on step c (a + m) n (walk_on step c a m v) ≡ walk_on step c a (m + n) v
 unfolding walk_on
-walk_on-joined step c a m zero v = let all : m ≡ m + 0 = omega arith in ap (λ k. walk_on step c a k v) all
-walk_on-joined step c a m (suc n) v =
+walk_on-walk_on step c a m zero v = let all : m ≡ m + 0 = omega arith in ap (λ k. walk_on step c a k v) all
+walk_on-walk_on step c a m (suc n) v =
     let at : a + m + n ≡ a + (m + n) = omega arith in
     let more : suc (m + n) ≡ m + suc n = omega arith in
     ap (λ p. step c p (walk_on step c (a + m) n (walk_on step c a m v))) at
-    ∙ ap (step c (a + (m + n))) (walk_on-joined step c a m n v)
+    ∙ ap (step c (a + (m + n))) (walk_on-walk_on step c a m n v)
     ∙ ap (λ k. walk_on step c a k v) more
 
 -- a walk from a to b and then to d is the walk from a to d
-pub walk_joined : (step : Steps) (c a b d : ℕ) (v : List ℕ) → a ≤ b → b ≤ d → walk step c b d (walk step c a b v) ≡ walk step c a d v
-walk_joined step c a b d v first second =
+pub walk-walk : (step : Steps) (c a b d : ℕ) (v : List ℕ) → a ≤ b → b ≤ d → walk step c b d (walk step c a b v) ≡ walk step c a d v
+walk-walk step c a b d v first second =
     let at : b ≡ a + (b - a) = omega arith in
     let all : b - a + (d - b) ≡ d - a = omega arith in
     ap (λ p. walk_on step c p (d - b) (walk_on step c a (b - a) v)) at
-    ∙ walk_on-joined step c a (b - a) (d - b) v
+    ∙ walk_on-walk_on step c a (b - a) (d - b) v
     ∙ ap (λ k. walk_on step c a k v) all

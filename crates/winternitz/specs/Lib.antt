@@ -1,3 +1,2 @@
-pub mod Walk
-pub mod Digits
-pub mod Ends
+pub mod Chain
+pub mod Digest

@@ -4,8 +4,9 @@ ghost use Rattle.std.specs.Prelude.{◌≡◌, ◌≤◌, ◌<◌, ◌+◌, ◌*
 ghost use Rattle.arrayvec.specs.ArrayVec.{array_vec_len};
 ghost use Rattle.byteorder.specs.Endian.{big_bytes};
 ghost use Rattle.typecodes.specs.Types.{IsWidth};
-ghost use Rattle.winternitz.specs.Digits as spec;
-ghost use Rattle.winternitz.specs.Digits.{AreWinternitzDigits, HasWholeChecksum, NoneAbove, digit_count, lacking_of, message_count, checksum_of, first_digits, digits_of};
+ghost use Rattle.winternitz.specs.Digest as spec;
+ghost use Rattle.winternitz.specs.Digest.{AreWinternitzDigits, HasWholeChecksum, NoneAbove, digit_count, digits_of};
+ghost use Rattle.winternitz.specs.Digest.{checksum_of, first_digits, lacking_of, message_count};
 
 use arrayvec::ArrayVec;
 use typecodes::coef;
@@ -86,3 +87,6 @@ fn lacking(width: u8, digits: &[u8]) -> u16
         .map(|digit| greatest - u16::from(*digit))
         .sum()
 }
+
+#[cfg(test)]
+mod tests;

@@ -2,10 +2,9 @@
 
 ghost use Rattle.std.specs.Prelude.{◌≡◌, ◌+◌, ◌*◌};
 ghost use Rattle.typecodes.specs.declared.types.OtsType.{OtsType};
-ghost use Rattle.typecodes.specs.declared.xmss.XmssType.{XmssType};
-ghost use Rattle.typecodes.specs.Types.{chains_of, width_of};
-ghost use Rattle.typecodes.specs.XmssTypes.{xmss_height_of, xmss_signature_len_of};
-ghost use Rattle.winternitz.specs.Digits.{digit_count};
+ghost use Rattle.typecodes.specs.declared.types.XmssType.{XmssType};
+ghost use Rattle.typecodes.specs.Types.{chains_of, width_of, xmss_height_of, xmss_signature_len_of};
+ghost use Rattle.winternitz.specs.Digest.{digit_count};
 
 /// A leaf has a chain for each digit of its width.
 ///
@@ -16,3 +15,6 @@ pub fn chain_law()
     ensures lm_ots { (ots : OtsType) → chains_of ots ≡ digit_count (width_of ots) }
     ensures xmss { (t : XmssType) → xmss_signature_len_of t ≡ 4 + 32 + 32 * digit_count 4 + 32 * xmss_height_of t }
 {}
+
+#[cfg(test)]
+mod tests;

@@ -10,8 +10,8 @@ use Rattle.std.proofs.lemmas.Slice.Zip.{get_or-zip, length-zip}
 use borrow.Rule.Slice.PartMut.{put_mid}
 use Rattle.wots_plus.specs.declared.address.Address.{Address}
 use Rattle.wots_plus.specs.declared.address.Address.TheVariants.{OneTime, LTree, HashTree}
-use Rattle.wots_plus.specs.Addresses.{address, address_of, bytes_of_words, words_of}
-use Rattle.wots_plus.specs.Formulas.{to_byte, xor}
+use Rattle.wots_plus.specs.Address.{address, address_of, bytes_of_words, words_of}
+use Rattle.wots_plus.specs.Hashes.{to_byte, xor}
 
 -- the first i words are written, and the next one behind them
 pub word_more : (words before part : List ℕ) (i k : ℕ) → i < length words → length part ≡ 4 → 4 * i ≤ length before

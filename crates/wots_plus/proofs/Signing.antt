@@ -5,11 +5,10 @@ use Rattle.std.specs.List.{concat, range_with_len}
 use Rattle.std.proofs.lemmas.List.FromFn.{fill_by_all, get_or-map-range_with_len, length-map-range_with_len}
 use Rattle.std.proofs.lemmas.List.{take_all}
 use Rattle.typecodes.specs.Fields.{values_in}
-use Rattle.winternitz.specs.Walk.{Steps, walk, walk_on}
-use Rattle.winternitz.specs.Digits.{digit_count, digits_of}
-use Rattle.winternitz.specs.Ends.{AreEnds, end_of, ends_of}
-use Rattle.winternitz.proofs.Joined.{chunks_of_joined}
-use Rattle.winternitz.proofs.Walks.{walk_joined}
+use Rattle.winternitz.specs.Chain.{Steps, walk, walk_on, AreEnds, end_of, ends_of}
+use Rattle.winternitz.specs.Digest.{digit_count, digits_of}
+use Rattle.winternitz.proofs.Concatenated.{chunks_of_concat}
+use Rattle.winternitz.proofs.Walks.{walk-walk}
 use Rattle.winternitz.proofs.Coefs.{digit_most}
 
 -- the private values, walked to the digits
@@ -33,7 +32,7 @@ signed_climbs step start w n digest all =
       each = λ i within.
           let inside : i < n = omega arith in
           get_or-map-range_with_len end 0 n i i [] inside (omega arith)
-          ∙ sym (walk_joined step i 0 (get_or digits i 0) (2 ^ w - 1) (start i) (omega arith) (digit_most w digest i (omega arith)))
+          ∙ sym (walk-walk step i 0 (get_or digits i 0) (2 ^ w - 1) (start i) (omega arith) (digit_most w digest i (omega arith)))
           ∙ ap (walk step i (get_or digits i 0) (2 ^ w - 1)) (sym (get_or-map-range_with_len value 0 n i i [] inside (omega arith)));
     }
 
@@ -80,5 +79,5 @@ bytes_climb step start w n digest bytes all steps starts are =
     let values = signed step start digits n in
     let sizes = signed_sizes step start digits n steps starts in
     let held : values_in n bytes ≡ values =
-    ap (values_in n) are ∙ chunks_of_joined n values (length-map-range_with_len value 0 n) sizes in
+    ap (values_in n) are ∙ chunks_of_concat n values (length-map-range_with_len value 0 n) sizes in
     subst (λ held. AreEnds step w digits held (ends step start w n)) (sym held) (signed_climbs step start w n digest all)

@@ -1,5 +1,7 @@
--- L-trees (RFC 8391 4.1.5), over any join of two nodes.
+-- L-trees (RFC 8391 4.1.5), over any join of two nodes, and the join of a leaf's.
 use Rattle.std.specs.Prelude.{◌≡◌, ℕ, zero, suc, ◌+◌, List, [], ◌∷◌, length, slice_index_or}
+use Rattle.wots_plus.specs.Address.{l_tree}
+use Rattle.wots_plus.specs.Hashes.{rand_hash}
 
 -- a node from its two children, by the children's height and the node's index among those of its height
 abbrev pub Joins : Type 0
@@ -24,3 +26,7 @@ IsLTreeRoot join values root = (k : ℕ) × (at_height join values k ≡ root �
 -- the root: the first value, and by then the only one, at a height as great as their number
 abbrev pub l_tree_root : Joins → List (List ℕ) → List ℕ
 l_tree_root join values = slice_index_or (at_height join values (length values)) 0 []
+
+-- the join of a leaf's L-tree (4.1.5)
+abbrev pub l_tree_join : List ℕ → ℕ → Joins
+l_tree_join seed leaf height index left right = rand_hash seed (l_tree leaf height index) left right

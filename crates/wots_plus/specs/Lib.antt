@@ -1,5 +1,4 @@
-pub mod Formulas
-pub mod Addresses
-pub mod Begun
+pub mod Hashes
+pub mod Address
 pub mod LTree
-pub mod Signed
+pub mod Key

@@ -15,7 +15,7 @@ pub enum Address {
 }
 
 impl Address {
-    ghost use Rattle.wots_plus.specs.Addresses.{address_of, words_of};
+    ghost use Rattle.wots_plus.specs.Address.{address_of, words_of};
 
     /// The 32 bytes of the address with a value for keyAndMask.
     pub fn bytes(&self, key_and_mask: u32) -> [u8; 32]

@@ -2,10 +2,9 @@
 
 ghost use Rattle.std.specs.Prelude.{◌≡◌, ◌≤◌, ◌++◌};
 ghost use Rattle.sha2.specs.Hashers.{Holds256};
-ghost use Rattle.wots_plus.specs.Addresses.{address_of};
-ghost use Rattle.wots_plus.specs.Begun.{Holds256-prop};
-ghost use Rattle.wots_plus.specs.Formulas as spec;
-ghost use Rattle.wots_plus.specs.Formulas.{prf, to_byte};
+ghost use Rattle.wots_plus.specs.Address.{address_of};
+ghost use Rattle.wots_plus.specs.Hashes.{Holds256-prop, prf, to_byte};
+ghost use Rattle.wots_plus.specs.Hashes as spec;
 
 use crate::address::Address;
 use sha2::{Digest, Sha256};

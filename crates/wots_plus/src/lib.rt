@@ -1,11 +1,11 @@
 //! WOTS+ one-time signatures and their L-trees, of RFC 8391, sections 3.1 and 4.1.5, for SHA-256 with
 //! n = 32 and w = 16.
 //!
-//! Its model is `specs/Formulas.antt`, the standard's hashes, each as a formula over SHA-256,
-//! `specs/Addresses.antt`, the addresses that go into them, and `specs/LTree.antt`: a list of values
+//! Its model is `specs/Hashes.antt`, the standard's hashes, each as a formula over SHA-256,
+//! `specs/Address.antt`, the addresses that go into them, and `specs/LTree.antt`: a list of values
 //! that is replaced by its joined neighbours until one is left. Its contract for the crates above:
-//! `public_from_signature` gives the public value of the chain ends to which a signature's values
-//! lead, and `public_value` that of the ends to which a secret's do. `sign_digest` writes the values
+//! `hash_from_signature` gives the public hash of the chain ends to which a signature's values
+//! lead, and `public_hash` that of the ends to which a secret's do. `sign_digest` writes the values
 //! of a secret's signature, which climb to the secret's ends. `rand_hash` joins the nodes of the hash
 //! tree above.
 #![tactic(auto)]
@@ -13,6 +13,7 @@
 mod address;
 mod hashes;
 mod key;
+mod l_tree;
 #[cfg(test)]
 mod tests;
 

@@ -234,7 +234,7 @@ fn private_values_come_from_the_secret(rt: HostRuntime) {
 
 // The root of the L-tree over the private values after all 15 steps.
 #[test]
-fn public_value_ends_every_chain(rt: HostRuntime) {
+fn public_hash_ends_every_chain(rt: HostRuntime) {
     let seed = Prf::new(SEED);
     let key = Wots {
         seed: &seed,
@@ -245,7 +245,7 @@ fn public_value_ends_every_chain(rt: HostRuntime) {
         0x94, 0x80, 0xd8, 0x83, 0xda, 0x07, 0xe3, 0x81, 0x89, 0x6f, 0x0f, 0xbb, 0xce, 0xdd, 0xce,
         0x0b, 0x6b,
     ];
-    assert_eq!(rt; key.public_value(&SECRET), expected);
+    assert_eq!(rt; key.public_hash(&SECRET), expected);
 }
 
 // SHA-256 of the private values after digit i steps each, of the digest SHA-256("digest").
@@ -268,7 +268,7 @@ fn signatures_walk_to_their_digits(rt: HostRuntime) {
 
 // The root of the L-tree over the made up values after the steps digit i, .., 14 each.
 #[test]
-fn made_up_signature_leads_to_its_public_value(rt: HostRuntime) {
+fn made_up_signature_leads_to_its_public_hash(rt: HostRuntime) {
     let seed = Prf::new(SEED);
     let key = Wots {
         seed: &seed,
@@ -281,7 +281,7 @@ fn made_up_signature_leads_to_its_public_value(rt: HostRuntime) {
         0x92, 0x19, 0x9b, 0xa2, 0xa7, 0xf8, 0x6d, 0x0c, 0x6e, 0xb1, 0xcf, 0x26, 0x99, 0x75, 0xfc,
         0x8f, 0x86,
     ];
-    assert_eq!(rt; key.public_from_signature(&VALUE, values), expected);
+    assert_eq!(rt; key.hash_from_signature(&VALUE, values), expected);
 }
 
 // The first byte is 15, 0, and the checksum 15 * 63 = 945, so 3, 11, 1.
@@ -295,7 +295,7 @@ fn digits_end_with_the_checksum(rt: HostRuntime) {
     assert_eq!(rt; &digits[64..], [3, 11, 1].as_slice());
 }
 
-// A signature of leaf 255 by XMSS-SHA2_10_256 that Bouncy Castle made. The public value below leads
+// A signature of leaf 255 by XMSS-SHA2_10_256 that Bouncy Castle made. The public hash below leads
 // along the signature's path to the root of the public key.
 #[test]
 fn a_real_signature_leads_to_its_leaf(rt: HostRuntime) {
@@ -311,7 +311,7 @@ fn a_real_signature_leads_to_its_leaf(rt: HostRuntime) {
         0xf3, 0x8e, 0xd5, 0x66, 0x11, 0x08, 0x3b, 0x1c, 0xb2, 0x16, 0xbf, 0x56, 0x3f, 0x9d, 0xda,
         0x91, 0xfe,
     ];
-    assert_eq!(rt; key.public_from_signature(&digest, values), expected);
+    assert_eq!(rt; key.hash_from_signature(&digest, values), expected);
 }
 
 const REAL_SEED: [u8; 32] = [

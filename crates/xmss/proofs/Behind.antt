@@ -1,12 +1,12 @@
 -- What stands behind each field of a public key and of a signature.
 use Rattle.std.proofs.Common.{ℕ, ◌^◌, List, nat_lt, if◌then◌else◌}
 use Rattle.typecodes.specs.declared.fault.Cause.TheVariants.{LeafOutOfRange}
-use Rattle.typecodes.specs.declared.xmss.XmssType.{XmssType}
-use Rattle.typecodes.specs.XmssTypes.{xmss_height_of}
+use Rattle.typecodes.specs.declared.types.XmssType.{XmssType}
+use Rattle.typecodes.specs.Types.{xmss_height_of}
 use Rattle.typecodes.specs.Layout.{Layout, done, refuse, ◌>>=◌}
 use Rattle.typecodes.specs.Fields.{block, values}
 use Rattle.xmss.specs.declared.key.XmssPublic.{XmssPublic}
-use Rattle.xmss.specs.Layouts.{Signature}
+use Rattle.xmss.specs.Signature.{Signature}
 
 abbrev pub behind_root : XmssType → List ℕ → Layout XmssPublic
 behind_root tree root = block 32 >>= λ seed. done (record { tree = tree; root = root; seed = seed })

@@ -1,27 +1,22 @@
 -- The root to which a signature leads, from the steps by which it is computed.
 use Rattle.std.proofs.Common.{◌≡◌, ℕ, List, length, sym, subst, ◌∙◌}
-use Rattle.winternitz.specs.Digits.{digits_of}
-use Rattle.winternitz.specs.Ends.{AreEnds}
 use Rattle.merkle.specs.Ascent.{IsAscent, at}
-use Rattle.wots_plus.specs.Signed.{step_of}
+use Rattle.wots_plus.specs.Key.{ClimbTo}
 use Rattle.xmss.specs.declared.key.XmssPublic.{XmssPublic}
-use Rattle.xmss.specs.Layouts.{Signature}
-use Rattle.xmss.specs.Formulas.{join_of, leaf_of, message_digest_of}
-use Rattle.xmss.specs.Valid.{LeadsTo}
-
--- the values climb to these ends under a seed and a digest
-abbrev Climbs : List ℕ → List ℕ → Signature → List (List ℕ) → Type 0
-Climbs seed digest s ends = AreEnds (step_of seed s.index) 4 (digits_of 4 digest) s.chains ends
+use Rattle.xmss.specs.Signature.{Signature}
+use Rattle.xmss.specs.Nodes.{join_of, leaf_of}
+use Rattle.xmss.specs.Digest.{message_digest_of}
+use Rattle.xmss.specs.Verification.{LeadsTo}
 
 -- the ends of the chains and the nodes above the leaf show that the signature leads to the root
 pub leads : (key : XmssPublic) (message : List ℕ) (s : Signature) (seed digest leaf root : List ℕ)
     → seed ≡ key.seed → digest ≡ message_digest_of s.randomizer key.root s.index message
-    → ((ends : List (List ℕ)) × AreEnds (step_of seed s.index) 4 (digits_of 4 digest) s.chains ends × (leaf ≡ leaf_of seed s.index ends))
+    → ((ends : List (List ℕ)) × ClimbTo seed s.index digest s.chains ends × (leaf ≡ leaf_of seed s.index ends))
     → ((nodes : List (List ℕ)) × IsAscent (join_of seed) s.index leaf s.path nodes × (root ≡ at nodes (length s.path)))
     → LeadsTo key message s root
 leads key message s seed digest leaf root seed_is digested (ends, climbed, leaf_is) (nodes, ascent, last) = record {
   ends = ends;
-  climbed = subst (λ d. Climbs key.seed d s ends) digested (subst (λ x. Climbs x digest s ends) seed_is climbed);
+  climbed = subst (λ d. ClimbTo key.seed s.index d s.chains ends) digested (subst (λ x. ClimbTo x s.index digest s.chains ends) seed_is climbed);
   nodes = nodes;
   ascent = subst (λ x. IsAscent (join_of x) s.index (leaf_of x s.index ends) s.path nodes) seed_is
       (subst (λ l. IsAscent (join_of seed) s.index l s.path nodes) leaf_is ascent);
@@ -31,11 +26,12 @@ leads key message s seed digest leaf root seed_is digested (ends, climbed, leaf_
 -- and any root to which it leads is this one
 pub leads_only : (key : XmssPublic) (message : List ℕ) (s : Signature) (seed digest leaf root : List ℕ)
     → seed ≡ key.seed → digest ≡ message_digest_of s.randomizer key.root s.index message
-    → ((ends : List (List ℕ)) → AreEnds (step_of seed s.index) 4 (digits_of 4 digest) s.chains ends → leaf ≡ leaf_of seed s.index ends)
+    → ((ends : List (List ℕ)) → ClimbTo seed s.index digest s.chains ends → leaf ≡ leaf_of seed s.index ends)
     → ((nodes : List (List ℕ)) → IsAscent (join_of seed) s.index leaf s.path nodes → root ≡ at nodes (length s.path))
     → (other : List ℕ) → LeadsTo key message s other → other ≡ root
 leads_only key message s seed digest leaf root seed_is digested leaf_only root_only other led =
-    let climbed = subst (λ x. Climbs x digest s led.ends) (sym seed_is) (subst (λ d. Climbs key.seed d s led.ends) (sym digested) led.climbed) in
+    let climbed = subst (λ x. ClimbTo x s.index digest s.chains led.ends) (sym seed_is)
+    (subst (λ d. ClimbTo key.seed s.index d s.chains led.ends) (sym digested) led.climbed) in
     let leaf_is = leaf_only led.ends climbed in
     let ascent = subst (λ l. IsAscent (join_of seed) s.index l s.path led.nodes) (sym leaf_is)
     (subst (λ x. IsAscent (join_of x) s.index (leaf_of x s.index led.ends) s.path led.nodes) (sym seed_is) led.ascent) in

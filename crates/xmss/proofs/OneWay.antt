@@ -1,14 +1,14 @@
 -- Public keys and signatures are spelled in one way.
 use Rattle.std.proofs.Common.{◌≡◌, ◌^◌, ℕ, true, false, cond, refl, sym, nat_lt}
 use Rattle.typecodes.specs.declared.fault.Cause.TheVariants.{LeafOutOfRange}
-use Rattle.typecodes.specs.declared.xmss.XmssType.{XmssType}
-use Rattle.typecodes.specs.XmssTypes.{xmss_height_of}
-use Rattle.typecodes.specs.Layout.{done, refuse, Spells}
+use Rattle.typecodes.specs.declared.types.XmssType.{XmssType}
+use Rattle.typecodes.specs.Types.{xmss_height_of}
+use Rattle.typecodes.specs.Layout.{done, refuse, Spells, OneSpelling, Shows}
 use Rattle.typecodes.specs.Fields.{number, block, values, xmss_type}
-use Rattle.typecodes.specs.Reading.{OneSpelling, Shows}
 use Rattle.typecodes.proofs.OneWay.{one_way-bind, one_way-block, one_way-done, one_way-number, one_way-refuse, one_way-values, one_way-xmss_type}
 use Rattle.typecodes.proofs.Ways.{Way, way-bind, way-done, one_way-if}
-use Rattle.xmss.specs.Layouts.{leaf_index, public_key, signature}
+use Rattle.xmss.specs.Signature.{leaf_index, signature}
+use Rattle.xmss.specs.Key.{public_key}
 use Rattle.xmss.proofs.Behind.{behind_chains, behind_index, behind_randomizer, behind_root, behind_tree, checked}
 
 pub one_way-public_key : OneSpelling public_key

@@ -4,11 +4,11 @@ use Rattle.std.proofs.lemmas.Bool.{cases_lt}
 use Rattle.std.proofs.lemmas.List.{drop-take}
 use Rattle.byteorder.specs.Endian.{big_number}
 use Rattle.typecodes.specs.Fields.{block, number, values, values_in}
-use Rattle.typecodes.specs.Reading.{read}
+use Rattle.typecodes.specs.Cursor.{read}
 use Rattle.typecodes.proofs.Read.{read-cut, read-fits}
 use Rattle.typecodes.proofs.Values.{values-cut, values-fit}
 use Rattle.typecodes.specs.Layout.{done}
-use Rattle.xmss.specs.Layouts.{chains_in}
+use Rattle.xmss.specs.Signature.{chains_in}
 
 -- a number that is read is that of the 4 bytes at the place
 pub number_read : (bytes : List ℕ) (place n end : ℕ) → read number bytes place ≡ Ok (n, end) → n ≡ big_number 4 (take 4 (drop place bytes))

@@ -1,15 +1,16 @@
 -- The textbook signature is valid.
 use Rattle.std.proofs.Common.{◌≡◌, ◌∙◌, refl, ap, ℕ, ◌<◌, ◌^◌, List, length, arith, subst, sym}
 use Rattle.std.proofs.lemmas.List.FromFn.{length-map-range_with_len}
-use Rattle.typecodes.specs.XmssTypes.{xmss_height_of}
+use Rattle.typecodes.specs.Types.{xmss_height_of}
 use Rattle.merkle.specs.Ascent.{at}
 use Rattle.merkle.proofs.Climb.{climbed_is_ascent, climbed_nodes, climbed_nodes_at}
 use Rattle.merkle.proofs.Leading.{climbed_to_root}
-use Rattle.wots_plus.specs.Signed.{ends_of_secret, private_value, step_of}
+use Rattle.wots_plus.specs.Key.{ends_of_secret, private_value, step_of}
 use Rattle.wots_plus.proofs.Signing.{signed_climbs}
 use Rattle.xmss.specs.declared.secret.XmssSecret.{XmssSecret}
-use Rattle.xmss.specs.Textbook.{digest_in, joins_of, leaves_of, path_in, public_of, root_in, signed, textbook}
-use Rattle.xmss.specs.Valid.{IsValid}
+use Rattle.xmss.specs.Secret.{digest_in, joins_of, leaves_of, path_in, public_of, root_in}
+use Rattle.xmss.specs.Writing.{signed, textbook}
+use Rattle.xmss.specs.Verification.{IsValid}
 
 -- the path of a leaf is as long as the tree is high
 path_long : (secret : XmssSecret) (i : ℕ) → length (path_in secret i) ≡ xmss_height_of secret.tree
@@ -29,6 +30,7 @@ path_ends secret i inside =
 textbook_valid : (secret : XmssSecret) (i : ℕ) (message : List ℕ) → i < 2 ^ xmss_height_of secret.tree
     → IsValid (public_of secret) message (textbook secret i (digest_in secret (root_in secret) i message))
 textbook_valid secret i message inside = record {
+  chains = refl;
   leaf = inside;
   height = path_long secret i;
   leads = record {

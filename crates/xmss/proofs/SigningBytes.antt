@@ -11,19 +11,19 @@ use Rattle.byteorder.specs.Numbers.{big_number-reads_back}
 use Rattle.sha2.proofs.Facts256.{length-sha256}
 use Rattle.typecodes.specs.declared.xmss.XmssType.{XmssType}
 use Rattle.typecodes.specs.declared.xmss.XmssType.TheVariants.{H10, H16, H20}
-use Rattle.typecodes.specs.Types.{named}
-use Rattle.typecodes.specs.XmssTypes.{xmss_code, xmss_height_of, xmss_of_code, xmss_types}
+use Rattle.typecodes.specs.Types.{named, xmss_code, xmss_height_of, xmss_of_code, xmss_types}
 use Rattle.typecodes.specs.Layout.{Layout, Spells, done, ◌>>=◌}
 use Rattle.typecodes.specs.Fields.{block, known, number, values, xmss_type}
 use Rattle.typecodes.proofs.Spelling.{from_turn}
-use Rattle.winternitz.specs.Digits.{digits_of}
-use Rattle.wots_plus.specs.Formulas.{to_byte}
-use Rattle.wots_plus.specs.Signed.{private_value, step_of}
+use Rattle.winternitz.specs.Digest.{digits_of}
+use Rattle.wots_plus.specs.Hashes.{to_byte}
+use Rattle.wots_plus.specs.Key.{private_value, step_of}
 use Rattle.wots_plus.proofs.Signing.{signed_sizes}
 use Rattle.xmss.specs.declared.key.XmssPublic.{XmssPublic}
 use Rattle.xmss.specs.declared.secret.XmssSecret.{XmssSecret}
-use Rattle.xmss.specs.Layouts.{Signature, leaf_index, public_key, signature}
-use Rattle.xmss.specs.Textbook.{public_bytes, signature_bytes, signed}
+use Rattle.xmss.specs.Signature.{Signature, leaf_index, signature}
+use Rattle.xmss.specs.Key.{public_key}
+use Rattle.xmss.specs.Writing.{public_bytes, signature_bytes, signed}
 use Rattle.xmss.proofs.Behind.{behind_chains, behind_index, behind_randomizer, behind_root, behind_tree, checked}
 
 -- the last field of a layout ends its bytes

@@ -6,9 +6,8 @@ use Rattle.typecodes.specs.declared.refusal.Refusal.{Refusal}
 use Rattle.typecodes.specs.declared.refusal.Refusal.TheVariants.{Unreadable, TypeMismatch, LevelMismatch, RootMismatch}
 use Rattle.typecodes.proofs.Spelling.{no_value, one_fault, one_value}
 use Rattle.xmss.specs.declared.key.XmssPublic.{XmssPublic}
-use Rattle.xmss.specs.Layouts.{Signature, signature}
-use Rattle.xmss.specs.Valid.{IsValid}
-use Rattle.xmss.specs.Verdict.{Verdict}
+use Rattle.xmss.specs.Signature.{Signature, signature}
+use Rattle.xmss.specs.Verification.{IsValid, Verdict}
 
 -- a valid signature is refused by no answer
 pub accepted : {A : Type 0} (key : XmssPublic) (message bytes : List ℕ) (result : Result A Refusal) → Verdict key message bytes result → (s : Signature) → Spells (signature key.tree) s bytes → IsValid key message s → IsOk result

@@ -2,13 +2,13 @@
 use Rattle.std.proofs.Common.{◌≡◌, ◌<◌, ◌^◌, ℕ, List, Result, Ok, Err, length, ap, subst, ◌∙◌}
 use Rattle.std.specs.Prelude.{IfOk, MatchResult}
 use Rattle.typecodes.specs.declared.fault.ReadFault.{ReadFault}
-use Rattle.typecodes.specs.XmssTypes.{xmss_height_of}
+use Rattle.typecodes.specs.Types.{xmss_height_of}
 use Rattle.typecodes.specs.Layout.{Spells}
-use Rattle.typecodes.specs.Reading.{Reads}
+use Rattle.typecodes.specs.Cursor.{Reads}
 use Rattle.xmss.specs.declared.key.XmssPublic.{XmssPublic}
 use Rattle.xmss.specs.declared.signature.XmssSigView.{XmssSigView}
-use Rattle.xmss.specs.Layouts.{signature}
-use Rattle.xmss.specs.Valid.{IsValid, LeadsTo}
+use Rattle.xmss.specs.Signature.{signature}
+use Rattle.xmss.specs.Verification.{IsValid, LeadsTo}
 use Rattle.xmss.specs.View.{signature_of}
 
 -- a reader's answer, whatever was made of its faults
@@ -17,9 +17,10 @@ was_read : {X : Type 0} (E : Type 0) (result : Result X ReadFault) (x : X) (Q : 
 was_read E (Ok y) x Q same never = let e : y ≡ x = cc in ap Ok e
 was_read E (Err fault) x Q same never = absurd (never fault same)
 
--- The bytes spell what the view shows, and its index and path are of the key's tree.
+-- The bytes spell what the view shows, it has a value for each chain, and its index and path are of the key's tree.
 pub record IsRead (key : XmssPublic) (bytes : List ℕ) (view : XmssSigView) : Type 0 where
   pub spelled : Spells (signature key.tree) (signature_of view) bytes
+  pub chains : length view.chains.now ≡ 67
   pub leaf : view.index < 2 ^ xmss_height_of key.tree
   pub height : length view.path.now ≡ xmss_height_of key.tree
 
@@ -32,6 +33,7 @@ is_read E key bytes result view Q reads tree cases never =
     let same : view.tree ≡ key.tree = subst (λ r. IfOk r (λ view. view.tree ≡ key.tree)) read_is tree in
     record {
       spelled = subst (λ r. Reads (signature key.tree) signature_of bytes r) read_is reads;
+      chains = view.chain_count;
       leaf = subst (λ t. view.index < 2 ^ xmss_height_of t) same view.inside;
       height = view.path_length ∙ ap xmss_height_of same;
     }
@@ -39,4 +41,5 @@ is_read E key bytes result view Q reads tree cases never =
 -- such a signature is valid if it leads to the key's root
 pub read_valid : (key : XmssPublic) (message bytes : List ℕ) (view : XmssSigView) → IsRead key bytes view → LeadsTo key message (signature_of view) key.root
     → IsValid key message (signature_of view)
-read_valid key message bytes view read leads = record { leaf = read.leaf; height = read.height; leads = leads }
+read_valid key message bytes view read leads =
+    record { chains = read.chains; leaf = read.leaf; height = read.height; leads = leads }

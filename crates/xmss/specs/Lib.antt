@@ -1,7 +1,8 @@
-pub mod Layouts
+pub mod Key
+pub mod Signature
 pub mod View
+pub mod Digest
+pub mod Nodes
+pub mod Verification
 pub mod Secret
-pub mod Formulas
-pub mod Valid
-pub mod Verdict
-pub mod Textbook
+pub mod Writing

@@ -1,9 +1,9 @@
 -- What a view of a signature's bytes shows.
 use denote.Bor.{Bor}
 use Rattle.std.specs.Prelude.{ℕ, List}
-use Rattle.typecodes.specs.declared.xmss.XmssType.{XmssType}
+use Rattle.typecodes.specs.declared.types.XmssType.{XmssType}
 use Rattle.xmss.specs.declared.signature.XmssSigView.{XmssSigView}
-use Rattle.xmss.specs.Layouts.{Signature}
+use Rattle.xmss.specs.Signature.{Signature}
 
 -- the signature
 abbrev pub signature_of : XmssSigView → Signature

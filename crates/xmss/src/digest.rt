@@ -1,8 +1,8 @@
 //! The digests of messages.
 
 ghost use Rattle.std.specs.Prelude.{◌≡◌, ◌++◌};
-ghost use Rattle.xmss.specs.Formulas as spec;
-ghost use Rattle.xmss.specs.Formulas.{message_digest_of};
+ghost use Rattle.xmss.specs.Digest as spec;
+ghost use Rattle.xmss.specs.Digest.{message_digest_of};
 
 use crate::writing::put;
 use wots_plus::hash_message;
@@ -32,7 +32,7 @@ fn digest_key(randomizer: &[u8; 32], root: &[u8; 32], index: u32) -> [u8; 96]
 }
 
 // toByte(idx, 32)
-#[tactic(auto, unfolding(crate::specs::Formulas::index_bytes))]
+#[tactic(auto, unfolding(crate::specs::Digest::index_bytes))]
 pub(crate) fn index_bytes(index: u32) -> [u8; 32]
     ensures { result ≡ spec.index_bytes index }
 {

@@ -1,7 +1,7 @@
 //! Public keys.
 
 ghost use Rattle.std.specs.Prelude.{◌≡◌, ◌+◌, ◌<◌, ◌^◌, OnOk};
-ghost use Rattle.typecodes.specs.Reading.{Gives, Reads, read};
+ghost use Rattle.typecodes.specs.Cursor.{Gives, Reads, read};
 
 use typecodes::{Cursor, ReadFault, XmssType};
 
@@ -17,7 +17,7 @@ pub struct XmssPublic {
 }
 
 impl XmssPublic {
-    ghost use Rattle.xmss.specs.Layouts.{public_key};
+    ghost use Rattle.xmss.specs.Key.{public_key};
 
     /// The key that the bytes spell, 68 bytes and no more: its type, the root and SEED. Otherwise their
     /// first fault (1, 2 or 5).
@@ -32,7 +32,7 @@ impl XmssPublic {
     }
 
     // The key at a cursor.
-    #[tactic(auto, using(typecodes::proofs::Steps::reading), unfolding(crate::specs::Layouts::public_key))]
+    #[tactic(auto, using(typecodes::proofs::Steps::reading), unfolding(crate::specs::Key::public_key))]
     fn from_cursor(cursor: &mut Cursor<'_>) -> Result<Self, ReadFault>
         requires { cursor.old.place + 68 < 2 ^ 32 }
         ensures read { Gives (λ key. (key, cursor.new.place)) result (read public_key cursor.old.bytes.now cursor.old.place) }

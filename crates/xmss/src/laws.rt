@@ -2,14 +2,13 @@
 //! every key and every signature.
 
 ghost use Rattle.std.specs.Prelude.{◌≡◌, List, [], ◌++◌, ℕ, Result, Err, IsOk};
-ghost use Rattle.typecodes.specs.Layout.{Spells};
-ghost use Rattle.typecodes.specs.Reading.{OneSpelling};
+ghost use Rattle.typecodes.specs.Layout.{Spells, OneSpelling};
 ghost use Rattle.typecodes.specs.declared.refusal.Refusal.{Refusal};
-ghost use Rattle.typecodes.specs.declared.xmss.XmssType.{XmssType};
+ghost use Rattle.typecodes.specs.declared.types.XmssType.{XmssType};
 ghost use Rattle.xmss.specs.declared.key.XmssPublic.{XmssPublic};
-ghost use Rattle.xmss.specs.Layouts.{Signature, public_key, signature};
-ghost use Rattle.xmss.specs.Valid.{IsValid};
-ghost use Rattle.xmss.specs.Verdict.{Verdict};
+ghost use Rattle.xmss.specs.Signature.{Signature, signature};
+ghost use Rattle.xmss.specs.Key.{public_key};
+ghost use Rattle.xmss.specs.Verification.{IsValid, Verdict};
 
 /// What holds of the spellings of public keys and of each type's signatures: no value has two, no
 /// bytes spell two values, and no spelling begins another.

@@ -1,9 +1,9 @@
 //! XMSS keys, signatures and their verification (RFC 8391 4.1), for SHA-256 with n = 32 and w = 16.
 //!
-//! Its model is `specs/Layouts.antt`, how keys and signatures are spelled, and `specs/Valid.antt`,
-//! which signatures are valid. Its contract for the crates above: `verify` is Ok exactly on the
+//! Its model is `specs/Key.antt` and `specs/Signature.antt`, how keys and signatures are spelled, and
+//! `specs/Verification.antt`, which signatures are valid. Its contract for the crates above: `verify` is Ok exactly on the
 //! spellings of valid signatures, and else tells the first refusal; what `write_signature` writes is
-//! the textbook signature of `specs/Textbook.antt`, which is valid. That keys and signatures are
+//! the textbook signature of `specs/Writing.antt`, which is valid. That keys and signatures are
 //! spelled in one way, and that an answer of `verify` is the only one, stands on `spelling_laws` and
 //! `verdict_laws`.
 #![tactic(auto)]

@@ -1,7 +1,7 @@
 //! The nodes of a tree, by the standard's hash.
 
 ghost use Rattle.std.specs.Prelude.{◌≡◌};
-ghost use Rattle.xmss.specs.Formulas.{join_of};
+ghost use Rattle.xmss.specs.Nodes.{join_of};
 
 use merkle::NodeHash;
 use wots_plus::{Address, Prf, rand_hash};

@@ -1,8 +1,6 @@
 //! Secrets, and the trees that they make.
 
 ghost use Rattle.std.specs.Prelude.{◌≡◌};
-ghost use Rattle.xmss.specs.Formulas.{randomizer_of};
-ghost use Rattle.xmss.specs.Textbook.{digest_in, joins_of, leaves_of};
 
 use crate::digest::{index_bytes, message_digest};
 use crate::nodes::Nodes;
@@ -24,6 +22,8 @@ pub struct XmssSecret {
 }
 
 impl XmssSecret {
+    ghost use Rattle.xmss.specs.Secret.{digest_in, randomizer_of};
+
     /// r, the randomizer of leaf `index`'s signature, 32 bytes (RFC 8391 4.1.9).
     pub fn randomizer(&self, index: u32) -> [u8; 32]
         ensures { result ≡ randomizer_of self.now.prf_key index }
@@ -68,7 +68,7 @@ impl XmssTree {
 }
 
 impl NodeHash for XmssTree {
-    ghost use Rattle.xmss.specs.Secret.{secret_of};
+    ghost use Rattle.xmss.specs.Secret.{joins_of, secret_of};
 
     ghost join_of = { λ tree. joins_of (secret_of tree) };
 
@@ -78,7 +78,7 @@ impl NodeHash for XmssTree {
 }
 
 impl TreeHash for XmssTree {
-    ghost use Rattle.xmss.specs.Secret.{leaves_made, secret_of};
+    ghost use Rattle.xmss.specs.Secret.{leaves_made, leaves_of, secret_of};
 
     ghost leaf_of = { λ tree. leaves_of (secret_of tree) };
 
@@ -90,6 +90,6 @@ impl TreeHash for XmssTree {
             seed: &self.seed,
             leaf: i,
         };
-        key.public_value(&self.secret.secret_seed)
+        key.public_hash(&self.secret.secret_seed)
     }
 }

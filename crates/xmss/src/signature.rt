@@ -4,10 +4,10 @@ ghost use Rattle.std.specs.Prelude.{◌≡◌, ◌+◌, ◌*◌, ◌<◌, ◌^�
 ghost use Rattle.byteorder.specs.Endian.{big_number};
 ghost use Rattle.typecodes.specs.Layout.{Spells};
 ghost use Rattle.typecodes.specs.Fields.{values_in};
-ghost use Rattle.typecodes.specs.Reading.{Gives, Reads, read};
-ghost use Rattle.typecodes.specs.XmssTypes.{xmss_height_of, xmss_signature_len_of};
-ghost use Rattle.xmss.specs.Layouts as spec;
-ghost use Rattle.xmss.specs.Layouts.{chains_in, signature, signature_with};
+ghost use Rattle.typecodes.specs.Cursor.{Gives, Reads, read};
+ghost use Rattle.typecodes.specs.Types.{xmss_height_of, xmss_signature_len_of};
+ghost use Rattle.xmss.specs.Signature as spec;
+ghost use Rattle.xmss.specs.Signature.{chains_in, signature, signature_with};
 
 use typecodes::{Cause, Cursor, ReadFault, XmssType};
 
@@ -37,7 +37,7 @@ impl<'a> XmssSigView<'a> {
     /// The signature of a type that the bytes spell, and no more: 2500, 2692 or 2820 bytes. Otherwise
     /// their first fault (1, 4 or 5). An index that is no leaf of the tree is told before what follows
     /// it is read.
-    #[tactic(auto, using(crate::proofs::Fields::fields), unfolding(crate::specs::Layouts::signature))]
+    #[tactic(auto, using(crate::proofs::Fields::fields), unfolding(crate::specs::Signature::signature))]
     pub fn read(tree: XmssType, bytes: &'a [u8]) -> Result<Self, ReadFault>
         ensures reads { Reads (signature tree) signature_of bytes.entry.now result }
         ensures tree { IfOk result (λ view. tree_of view ≡ tree) }
@@ -105,7 +105,7 @@ impl<'a> XmssSigView<'a> {
 }
 
 // The index of a leaf of a tree at a cursor, a field of 4 bytes. Any other index is told at once.
-#[tactic(auto, using(crate::proofs::Fields::fields), unfolding(crate::specs::Layouts::leaf_index))]
+#[tactic(auto, using(crate::proofs::Fields::fields), unfolding(crate::specs::Signature::leaf_index))]
 fn leaf_index(cursor: &mut Cursor<'_>, tree: XmssType) -> Result<u32, ReadFault>
     requires { cursor.old.place + 4 < 2 ^ 32 }
     ensures read { Gives (λ index. (index, cursor.new.place)) result (read (spec.leaf_index (xmss_height_of tree)) cursor.old.bytes.now cursor.old.place) }

@@ -2,8 +2,7 @@
 
 ghost use Rattle.std.specs.Prelude.{◌≡◌, ◌↔◌, List, ℕ, IsTrue};
 ghost use Rattle.xmss.specs.View.{signature_of};
-ghost use Rattle.xmss.specs.Valid.{LeadsTo};
-ghost use Rattle.xmss.specs.Verdict.{LeavesMessage, Verdict};
+ghost use Rattle.xmss.specs.Verification.{LeadsTo, LeavesMessage, Verdict};
 
 use crate::digest::message_digest;
 use crate::key::XmssPublic;
@@ -50,7 +49,7 @@ fn candidate(public: &XmssPublic, message: &[u8], view: &XmssSigView<'_>) -> [u8
         seed: &seed,
         leaf: view.index,
     };
-    let leaf = key.public_from_signature(&digest, view.chains);
+    let leaf = key.hash_from_signature(&digest, view.chains);
     let nodes = Nodes { seed: &seed };
     root_from_path(&nodes, view.index, &leaf, view.path)
 }

@@ -2,10 +2,12 @@
 
 ghost use Rattle.std.specs.Prelude.{◌≡◌, ◌+◌, ◌<◌, ◌≤◌, ◌^◌, ℕ, List, ◌++◌, length, take};
 ghost use Rattle.typecodes.specs.Layout.{Spells};
-ghost use Rattle.typecodes.specs.XmssTypes.{xmss_height_of, xmss_signature_len_of};
-ghost use Rattle.xmss.specs.Layouts.{public_key, signature};
-ghost use Rattle.xmss.specs.Textbook.{digest_in, path_in, public_bytes, public_of, root_in, signature_bytes, signed};
-ghost use Rattle.xmss.specs.Valid.{IsValid};
+ghost use Rattle.typecodes.specs.Types.{xmss_height_of, xmss_signature_len_of};
+ghost use Rattle.xmss.specs.Key.{public_key};
+ghost use Rattle.xmss.specs.Signature.{signature};
+ghost use Rattle.xmss.specs.Secret.{digest_in, path_in, public_of, root_in};
+ghost use Rattle.xmss.specs.Writing.{public_bytes, signature_bytes, signed};
+ghost use Rattle.xmss.specs.Verification.{IsValid};
 
 use crate::key::XmssPublic;
 use crate::secret::XmssSecret;

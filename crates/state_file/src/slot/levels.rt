@@ -1,7 +1,7 @@
 //! Reading the levels of an HSS key.
 
 ghost use Rattle.std.specs.Prelude.{◌≡◌, ◌<◌, ◌≤◌, ◌+◌, ◌*◌, ◌^◌, take, OnOk};
-ghost use Rattle.typecodes.specs.Reading.{read, Gives};
+ghost use Rattle.typecodes.specs.Cursor.{read, Gives};
 ghost use Rattle.state_file.specs.Slots.{levels_field, pair_field, pairs};
 
 use crate::slot::fields::{read_byte_within, read_zeros};

@@ -2,7 +2,7 @@
 
 ghost use Rattle.std.specs.Prelude.{◌≡◌, ◌<◌, ◌≤◌, ◌+◌, ◌^◌, true, false, length, MatchOption, MatchResult, OnOk};
 ghost use Rattle.typecodes.specs.Layout.{Spells};
-ghost use Rattle.typecodes.specs.Reading.{read, Gives, Reads};
+ghost use Rattle.typecodes.specs.Cursor.{read, Gives, Reads};
 ghost use Rattle.state_file.specs.declared.record.Record.{Record as Entry};
 ghost use Rattle.state_file.specs.Slots.{are_visible, bound_fields, extend_fields, fields_of, hss_secret, key_fields, lms_secret, moved_fields, name_field, retire_fields, secret_of, slot_record, version_code, version_field, versions, xmss_secret};
 

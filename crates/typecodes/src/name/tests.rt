@@ -33,10 +33,10 @@ fn compares_by_bytes(rt: HostRuntime) -> Result<(), Fail> {
 }
 
 #[test]
-fn tells_what_a_name_is(rt: HostRuntime) -> Result<(), Fail> {
-    let told = format!(in rt.alloc(); "{BadName}")?;
+fn says_what_a_name_is(rt: HostRuntime) -> Result<(), Fail> {
+    let message = format!(in rt.alloc(); "{BadName}")?;
     assert_eq!(rt;
-        told.as_str(),
+        message.as_str(),
         "a name is 1 to 64 visible characters of ASCII"
     );
     Ok(())

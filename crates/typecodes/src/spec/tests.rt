@@ -155,7 +155,7 @@ fn refuses_other_heights_of_xmss(rt: HostRuntime) {
 }
 
 #[test]
-fn tells_what_a_spec_is(rt: HostRuntime) -> Result<(), Fail> {
+fn says_what_a_spec_is(rt: HostRuntime) -> Result<(), Fail> {
     let message = format!(in rt.alloc(); "{BadSpec}")?;
     assert_eq!(rt;
         message.as_str(),

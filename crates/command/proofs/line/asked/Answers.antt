@@ -2,7 +2,7 @@ use Rattle.std.proofs.Common.{◌≡◌, ◌∙◌, refl, sym, ap, codes, Some, 
 use Rattle.clap.specs.Words.{found_of, rows_of, subcommand_rows_of}
 use Rattle.clap.proofs.WalkLemmas.{first_value-rows}
 use Rattle.command.specs.Requests.{Files, files_of}
-use Rattle.command.proofs.Finding.{rows_have, same_line}
+use Rattle.command.proofs.Finding.{rows_have, same_files}
 use Rattle.command.proofs.line.asked.Goals as goal
 
 pub returns-in_err-of-in-verify-clause-files : goal.returns-in_err-of-in-verify-clause-files
@@ -23,4 +23,4 @@ returns-in_ok-of-in-verify-clause-files c p m s named =
     let message = sym (first_value-rows found (codes "MESSAGE")) ∙ c.in_ok-of-in-verify.ensures.message in
     let signature = sym (first_value-rows found (codes "SIGNATURE")) ∙ c.in_ok-of-in-verify.ensures.signature in
     let these : files_of (rows_of found) ≡ (Some c.in_ok-of-in-verify.field-0.public.now, Some c.in_ok-of-in-verify.field-0.message.now, Some c.in_ok-of-in-verify.field-0.signature.now) = rw (public, message, signature) refl in
-    same_line _ _ _ p m s (files_of (rows_of found)) these those
+    same_files _ _ _ p m s (files_of (rows_of found)) these those

@@ -25,7 +25,7 @@ returns-in_err-judge-clause-answers g c =
     let m = c.deref.result.now in
     let first = c.deref-2.ensures.value ∙ s_is ∙ ap (λ n. take n s) decisive_is in
     let m_fits = subst (IsContent _) (sym c.deref.ensures.value) c.in_ok-message.ensures.whole in
-    (p, m, s, p_fits, m_fits, s_fits, refused p m s c.in_err-judge.field-0.0 c.from_residual-in_err-judge.result (c.in_err-judge.ensures p s reads first) c.from_residual-in_err-judge.ensures.1)
+    (p, m, s, p_fits, m_fits, s_fits, refused p m s c.in_err-judge.field-0.0 c.from_residual-in_err-judge.result (c.in_err-judge.ensures.first_decide p s reads first) c.from_residual-in_err-judge.ensures.1)
 
 pub returns-clause-answers : goal.returns-clause-answers
 returns-clause-answers g c =
@@ -34,4 +34,4 @@ returns-clause-answers g c =
     let m = c.deref.result.now in
     let first = c.deref-2.ensures.value ∙ s_is ∙ ap (λ n. take n s) decisive_is in
     let m_fits = subst (IsContent _) (sym c.deref.ensures.value) c.in_ok-message.ensures.whole in
-    (p, m, s, p_fits, m_fits, s_fits, same_judgement p m s c.in_ok-judge.field-0 Verified (c.in_ok-judge.ensures p s reads first))
+    (p, m, s, p_fits, m_fits, s_fits, same_judgement p m s c.in_ok-judge.field-0 Verified (c.in_ok-judge.ensures.first_decide p s reads first))

@@ -1,5 +1,5 @@
 use Rattle.std.proofs.Common.{◌≡◌, ◌+◌, ◌-◌, ◌∙◌, sym, ap, arith, take, drop}
-use Rattle.lms.specs.Layouts.{public_key as lms_public_key}
+use Rattle.lms.specs.Key.{public_key as lms_public_key}
 use Rattle.hss.proofs.Walking.{ends-within}
 use Rattle.hss.proofs.KeyBytes.{public-read}
 use Rattle.hss.proofs.signed_key.bytes_of_key.Goals as goal

@@ -2,8 +2,8 @@ use Rattle.std.proofs.Common.{◌≡◌, ◌-◌, ◌++◌, sym, ap, ◌∙◌, 
 use Rattle.std.specs.List.{flat_map}
 use borrow.Rule.Slice.PartMut.{post_of}
 use Rattle.typecodes.specs.Layout.{Spells}
-use Rattle.lms.specs.Layouts.{signature as lms_signature}
-use Rattle.lms.specs.Textbook.{signature_bytes as lms_signature_bytes}
+use Rattle.lms.specs.Signature.{signature as lms_signature}
+use Rattle.lms.specs.Writing.{signature_bytes as lms_signature_bytes}
 use Rattle.hss.specs.SignedKey.{signed_keys}
 use Rattle.hss.specs.Signature.{signature}
 use Rattle.hss.specs.Secret.{key_of, signature_by}

@@ -1,5 +1,6 @@
 use Rattle.typecodes.proofs.Spelling.{no_longer, one_value}
-use Rattle.lms.specs.Layouts.{public_key, signature}
+use Rattle.lms.specs.Key.{public_key}
+use Rattle.lms.specs.Signature.{signature}
 use Rattle.lms.proofs.OneWay.{one_way-public_key, one_way-signature}
 use Rattle.lms.proofs.laws.spelling_laws.Goals as goal
 

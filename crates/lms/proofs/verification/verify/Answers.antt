@@ -1,4 +1,4 @@
-use Rattle.lms.specs.Layouts.{signature}
+use Rattle.lms.specs.Signature.{signature}
 use Rattle.lms.specs.View.{signature_of}
 use Rattle.lms.proofs.Comparing.{read_spells}
 use Rattle.lms.proofs.Verdicts.{whole_verdict}

@@ -1,8 +1,8 @@
 use Rattle.std.proofs.Common.{◌≡◌, ◌∙◌, sym, ap, subst, arith}
 use Rattle.typecodes.specs.Layout.{Spells}
-use Rattle.lmots.specs.Formulas.{u32str}
-use Rattle.lms.specs.Layouts.{public_key}
-use Rattle.lms.specs.Textbook.{public_bytes}
+use Rattle.lmots.specs.Hashes.{u32str}
+use Rattle.lms.specs.Key.{public_key}
+use Rattle.lms.specs.Writing.{public_bytes}
 use Rattle.lms.proofs.SigningBytes.{four_in_turn, public_spelled}
 use Rattle.lms.proofs.writing.write_public.Goals as goal
 

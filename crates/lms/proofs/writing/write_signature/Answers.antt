@@ -1,9 +1,9 @@
 use Rattle.std.proofs.Common.{◌≡◌, ◌∙◌, sym, ap, subst, arith, ◌+◌, ◌-◌, ◌*◌}
 use Rattle.std.proofs.lemmas.List.Concat.{concat_is}
 use Rattle.typecodes.specs.Layout.{Spells}
-use Rattle.lmots.specs.Formulas.{u32str}
-use Rattle.lms.specs.Layouts.{Signature, signature}
-use Rattle.lms.specs.Textbook.{signature_bytes, signed}
+use Rattle.lmots.specs.Hashes.{u32str}
+use Rattle.lms.specs.Signature.{Signature, signature}
+use Rattle.lms.specs.Writing.{signature_bytes, signed}
 use Rattle.lms.proofs.Signing.{signed_valid}
 use Rattle.lms.proofs.SigningBytes.{signed_spelled, written_in_turn}
 use Rattle.lms.proofs.writing.write_signature.Goals as goal

@@ -1,6 +1,6 @@
 -- The loop has walked from the first step up to its own.
 use Rattle.std.proofs.Common.{◌≡◌}
-use Rattle.winternitz.specs.Walk.{walk}
+use Rattle.winternitz.specs.Chain.{walk}
 use Rattle.winternitz.proofs.chain.climb.Given as goal
 
 abbrev pub invariant-loop-at : goal.invariant-loop-at

@@ -1,7 +1,7 @@
 use Rattle.std.proofs.Common.{◌≡◌, ◌∙◌, ◌<◌, ◌^◌, sym, subst, All}
 use Rattle.std.proofs.lemmas.List.Elements.{All-get_or}
 use Rattle.byteorder.specs.Endian.{big_bytes}
-use Rattle.winternitz.specs.Digits.{message_count, checksum_of, first_digits, AreWinternitzDigits, HasWholeChecksum}
+use Rattle.winternitz.specs.Digest.{message_count, checksum_of, first_digits, AreWinternitzDigits, HasWholeChecksum}
 use Rattle.winternitz.proofs.Coefs.{digits_below}
 use Rattle.winternitz.proofs.Checksums.{made_digits, are_winternitz_digits, has_whole_checksum, whole_of_law, same_winternitz_digits}
 use Rattle.winternitz.proofs.Apart.{none_above}

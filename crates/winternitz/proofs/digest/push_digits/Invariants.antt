@@ -1,7 +1,7 @@
 -- The digits so far stand after those that were there.
 use Rattle.std.proofs.Common.{◌≡◌, ◌+◌, ◌++◌}
 use Rattle.arrayvec.specs.ArrayVec.{array_vec_len}
-use Rattle.winternitz.specs.Digits.{first_digits}
+use Rattle.winternitz.specs.Digest.{first_digits}
 use Rattle.winternitz.proofs.digest.push_digits.Given as goal
 
 abbrev pub invariant-loop-i : goal.invariant-loop-i

@@ -1,5 +1,6 @@
 use Rattle.typecodes.proofs.Spelling.{no_longer, one_value}
-use Rattle.xmss.specs.Layouts.{public_key, signature}
+use Rattle.xmss.specs.Key.{public_key}
+use Rattle.xmss.specs.Signature.{signature}
 use Rattle.xmss.proofs.OneWay.{one_way-public_key, one_way-signature}
 use Rattle.xmss.proofs.laws.spelling_laws.Goals as goal
 

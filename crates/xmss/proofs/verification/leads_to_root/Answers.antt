@@ -1,7 +1,7 @@
 use Rattle.std.proofs.Common.{sym, subst}
 use Rattle.std.proofs.lemmas.Bool.Decides.{Decides-eqb}
 use Rattle.std.proofs.lemmas.Slice.Eq.{slice_eq-Decides}
-use Rattle.xmss.specs.Valid.{LeadsTo}
+use Rattle.xmss.specs.Verification.{LeadsTo}
 use Rattle.xmss.specs.View.{signature_of}
 use Rattle.xmss.proofs.verification.leads_to_root.Goals as goal
 

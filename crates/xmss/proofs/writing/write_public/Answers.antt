@@ -1,8 +1,8 @@
 use Rattle.std.proofs.Common.{◌≡◌, ◌∙◌, sym, ap, subst, arith}
 use Rattle.typecodes.specs.Layout.{Spells}
-use Rattle.wots_plus.specs.Formulas.{to_byte}
-use Rattle.xmss.specs.Layouts.{public_key}
-use Rattle.xmss.specs.Textbook.{public_bytes}
+use Rattle.wots_plus.specs.Hashes.{to_byte}
+use Rattle.xmss.specs.Key.{public_key}
+use Rattle.xmss.specs.Writing.{public_bytes}
 use Rattle.xmss.proofs.SigningBytes.{public_spelled, three_in_turn}
 use Rattle.xmss.proofs.writing.write_public.Goals as goal
 

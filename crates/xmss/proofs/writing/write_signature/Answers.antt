@@ -2,9 +2,9 @@ use Rattle.std.proofs.Common.{◌≡◌, ◌∙◌, sym, ap, subst, arith, ◌+�
 use Rattle.std.specs.List.{concat}
 use Rattle.std.proofs.lemmas.List.Concat.{concat_is}
 use Rattle.typecodes.specs.Layout.{Spells}
-use Rattle.wots_plus.specs.Signed.{signed_values}
-use Rattle.xmss.specs.Layouts.{Signature, signature}
-use Rattle.xmss.specs.Textbook.{signature_bytes, signed}
+use Rattle.wots_plus.specs.Key.{signed_values}
+use Rattle.xmss.specs.Signature.{Signature, signature}
+use Rattle.xmss.specs.Writing.{signature_bytes, signed}
 use Rattle.xmss.proofs.Signing.{signed_valid}
 use Rattle.xmss.proofs.SigningBytes.{signed_spelled, written_in_turn}
 use Rattle.xmss.proofs.writing.write_signature.Goals as goal

@@ -1,8 +1,8 @@
 use Rattle.std.proofs.Common.{◌≡◌, ◌+◌, ◌-◌, ◌<◌, ◌≤◌, ◌∙◌, length, sym, ap, ap₂, Ok, arith, rules, subst₂, take, drop}
 use Rattle.typecodes.specs.Types.{lms_signature_len_of}
-use Rattle.typecodes.specs.Reading.{read}
+use Rattle.typecodes.specs.Cursor.{read}
 use Rattle.typecodes.proofs.Steps.{ends-trailing}
-use Rattle.lms.specs.Layouts.{signature as lms_signature}
+use Rattle.lms.specs.Signature.{signature as lms_signature}
 use Rattle.lms.specs.View.{bytes_of as lms_bytes_of, pair_of as lms_pair_of, signature_of as lms_signature_of}
 use Rattle.hss.specs.Key.{level_number}
 use Rattle.hss.specs.SignedKey.{StandInTurn, signed_in, signed_keys, taken_by}

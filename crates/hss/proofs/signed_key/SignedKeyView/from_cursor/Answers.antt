@@ -1,7 +1,8 @@
 use Rattle.std.proofs.Common.{◌≡◌, ◌+◌, ◌-◌, ◌∙◌, ap, ap₂, arith, rules, take, drop, Ok, Err}
 use Rattle.typecodes.specs.Types.{lms_signature_len_of}
-use Rattle.typecodes.specs.Reading.{read}
-use Rattle.lms.specs.Layouts.{public_key as lms_public_key, signature as lms_signature}
+use Rattle.typecodes.specs.Cursor.{read}
+use Rattle.lms.specs.Key.{public_key as lms_public_key}
+use Rattle.lms.specs.Signature.{signature as lms_signature}
 use Rattle.lms.specs.View.{pair_of, signature_of as lms_signature_of}
 use Rattle.hss.proofs.Passing.{signed_key-faulty}
 use Rattle.hss.proofs.signed_key.SignedKeyView.from_cursor.Goals as goal

@@ -1,5 +1,5 @@
 use Rattle.std.proofs.Common.{◌≡◌, ◌+◌, ◌*◌, ◌≤◌, Ok, length}
-use Rattle.typecodes.specs.Reading.{read}
+use Rattle.typecodes.specs.Cursor.{read}
 use Rattle.hss.specs.SignedKey.{AreFirst, StandInTurn, signed_in, signed_keys}
 use Rattle.hss.proofs.signed_keys.SignedKeys.from_cursor.Given as goal
 

@@ -1,10 +1,8 @@
 use Rattle.std.proofs.Common.{◌≡◌, ◌∙◌, refl, sym, ap, subst, arith, length, get_or, ◌<◌, ◌^◌}
 use Rattle.sha2.specs.Hashers.{Holds256}
 use Rattle.sha2.specs.Sha256.{sha256}
-use Rattle.winternitz.specs.Digits.{digit_count, digits_of}
-use Rattle.lmots.specs.Formulas.{public_hash, step_of}
-use Rattle.typecodes.specs.Types.{width_of}
-use Rattle.winternitz.specs.Ends.{ends_of}
+use Rattle.winternitz.specs.Digest.{digit_count, digits_of}
+use Rattle.lmots.specs.Key.{ends_of_signature, public_hash}
 use Rattle.winternitz.proofs.Ends.{are_ends, same_ends}
 use Rattle.lmots.proofs.Ends.{fed_none, fed_more, fed_all_ends}
 use Rattle.lmots.proofs.Counts.{digits_are_chains}
@@ -34,8 +32,7 @@ loop-chain-preserved c =
 
 -- what the hasher gives is the public hash of the ends
 value : (c : goal.After-finalize) → c.finalize.result ≡ public_hash c.args.self.now.identifier c.args.self.now.leaf
-    (ends_of (step_of c.args.self.now.identifier c.args.self.now.leaf) (width_of c.args.ots)
-    (digits_of (width_of c.args.ots) c.args.digest.now) c.args.values.now)
+    (ends_of_signature c.args.self.now.identifier c.args.self.now.leaf c.args.ots c.args.digest.now c.args.values.now)
 value c =
     let count : c.loop-chain.chain ≡ length c.deref-digit-items.result.now = omega arith in
     let read = c.deref-digit-items.ensures.0 ∙ c.digits.ensures.computed

@@ -1,9 +1,10 @@
 -- The hasher holds the ends of the chains so far.
 use Rattle.std.proofs.Common.{◌++◌}
 use Rattle.sha2.specs.Hashers.{Holds256}
-use Rattle.lmots.specs.Formulas.{public_separator, step_of, u16str, u32str}
+use Rattle.lmots.specs.Hashes.{public_separator, u16str, u32str}
+use Rattle.lmots.specs.Key.{step_of}
 use Rattle.typecodes.specs.Types.{width_of}
-use Rattle.winternitz.specs.Ends.{end_of}
+use Rattle.winternitz.specs.Chain.{end_of}
 use Rattle.lmots.proofs.Ends.{fed}
 use Rattle.lmots.proofs.key.LmOts.hash_from_signature.Given as goal
 

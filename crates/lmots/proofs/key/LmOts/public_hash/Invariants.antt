@@ -1,7 +1,8 @@
 -- The hasher holds the ends of the chains so far.
 use Rattle.std.proofs.Common.{◌-◌, ◌^◌, ◌++◌}
 use Rattle.sha2.specs.Hashers.{Holds256}
-use Rattle.lmots.specs.Formulas.{chain_value, public_separator, u16str, u32str}
+use Rattle.lmots.specs.Key.{chain_value}
+use Rattle.lmots.specs.Hashes.{public_separator, u16str, u32str}
 use Rattle.typecodes.specs.Types.{width_of}
 use Rattle.lmots.proofs.Ends.{fed}
 use Rattle.lmots.proofs.key.LmOts.public_hash.Given as goal

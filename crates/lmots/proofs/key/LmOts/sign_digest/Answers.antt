@@ -1,12 +1,12 @@
 use Rattle.std.proofs.Common.{◌≡◌, ◌∙◌, refl, sym, ap, arith, ◌*◌, ◌≤◌, length}
 use Rattle.std.proofs.lemmas.List.{take_all}
 use Rattle.std.specs.List.{concat}
-use Rattle.lmots.specs.Signed.{signed_values}
+use Rattle.lmots.specs.Key.{signed_values}
 use Rattle.typecodes.specs.Types.{chains_of}
-use Rattle.winternitz.specs.Digits.{digit_count, digits_of}
+use Rattle.winternitz.specs.Digest.{digit_count, digits_of}
 use Rattle.lmots.proofs.Counts.{digits_are_chains}
 use Rattle.lmots.proofs.Signing.{bytes_climb}
-use Rattle.winternitz.proofs.Joined.{written_more}
+use Rattle.winternitz.proofs.Concatenated.{written_more}
 use Rattle.lmots.proofs.key.LmOts.sign_digest.Goals as goal
 
 pub loop-chain-preserved : goal.loop-chain-preserved

@@ -1,7 +1,7 @@
 -- The values of the chains so far are written.
 use Rattle.std.proofs.Common.{◌≡◌, ◌*◌, get_or, map, take}
 use Rattle.std.specs.List.{concat, range_with_len}
-use Rattle.lmots.specs.Formulas.{chain_value}
+use Rattle.lmots.specs.Key.{chain_value}
 use Rattle.lmots.proofs.key.LmOts.sign_digest.Given as goal
 
 abbrev pub invariant-loop-chain : goal.invariant-loop-chain

@@ -1,5 +1,5 @@
 use Rattle.std.proofs.Common.{arith, ap, ◌≡◌, ◌∙◌, ◌-◌, ◌+◌, ◌^◌}
-use Rattle.lmots.specs.Formulas.{u32str}
+use Rattle.lmots.specs.Hashes.{u32str}
 use Rattle.lms.proofs.Numbers.{shift-or-zero, u32str-wrapped}
 use Rattle.lms.proofs.nodes.Nodes.number.Goals as goal
 

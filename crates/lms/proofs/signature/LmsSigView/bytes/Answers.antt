@@ -1,6 +1,6 @@
 use Rattle.std.proofs.Common.{refl}
 use Rattle.typecodes.proofs.Steps.{ends-spelled}
-use Rattle.lms.specs.Layouts.{signature}
+use Rattle.lms.specs.Signature.{signature}
 use Rattle.lms.specs.View.{signature_of}
 use Rattle.lms.proofs.signature.LmsSigView.bytes.Goals as goal
 

@@ -1,7 +1,7 @@
 use Rattle.std.proofs.Common.{◌≡◌, ◌<◌, length, Ok, rules}
-use Rattle.typecodes.specs.Reading.{read}
+use Rattle.typecodes.specs.Cursor.{read}
 use Rattle.typecodes.proofs.Steps.{ends-trailing}
-use Rattle.lms.specs.Layouts.{signature}
+use Rattle.lms.specs.Signature.{signature}
 use Rattle.lms.specs.View.{signature_of}
 use Rattle.lms.proofs.signature.LmsSigView.read.Goals as goal
 

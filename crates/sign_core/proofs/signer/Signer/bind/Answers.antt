@@ -1,10 +1,11 @@
 use Rattle.std.proofs.Common.{◌≡◌, ◌+◌, ℕ, true, not, [], ◌∷◌, ◌++◌, Some, Ok, Err, List, ap, sym, ◌∙◌, subst, refl, rules}
 use Rattle.state_file.specs.declared.record.Record.TheVariants.{Bound as BoundRecord}
-use Rattle.sign_core.specs.Ledger.{binding_of, key_of, signature_of}
-use Rattle.sign_core.specs.Keeping.{Stores, closes}
+use Rattle.sign_core.specs.Ledger.{key_of, signature_of}
+use Rattle.sign_core.specs.Signing.{Stores}
+use Rattle.sign_core.specs.Fault.{closes}
 use Rattle.sign_core.specs.World.{Outcome, acked, new_bound}
-use Rattle.sign_core.specs.Calls.{answered, state_of}
-use Rattle.sign_core.proofs.Steps.{append_fails, draw_fails, key_appended, key_snoc, key_stays_first, kept_along, signs_along, hindered_signs, undrawn_signs, appended_signs, kept_more}
+use Rattle.sign_core.specs.Signer.{answered, state_of}
+use Rattle.sign_core.proofs.SignSteps.{append_fails, draw_fails, key_appended, key_snoc, key_stays_first, kept_along, free_name, leaves_grown, signs_along, hindered_signs, undrawn_signs, appended_signs, kept_more}
 use Rattle.sign_core.proofs.signer.Signer.bind.Goals as goal
 
 pub append-requires-clause-key_first : goal.append-requires-clause-key_first
@@ -16,40 +17,39 @@ pub returns-in_err-prepare-clause-step : goal.returns-in_err-prepare-clause-step
 returns-in_err-prepare-clause-step g c =
     let i = c.self.inside in
     let list = ap (λ w. g.S.Store.list w.store) c.self.view_is in
-    let told = ap (λ w. g.R.Source.told w.random) c.self.view_is in
+    let upcoming = ap (λ w. g.R.Source.upcoming w.random) c.self.view_is in
     let open_now = ap (λ w. w.is_open) c.self.view_is ∙ c.requires.open in
-    let kept = c.self.invariant.1 open_now in
-    let none = ap (λ l. binding_of l c.args.name.now) list ∙ c.requires.unbound in
-    let h = c.in_err-prepare.ensures.hindrance in
+    let free = free_name _ (c.self.invariant.1 open_now) c.in_err-prepare.ensures.hindrance list (ap (λ w. w.key) c.self.view_is) (ap (λ w. w.spare) c.self.view_is) c.requires.unbound in
     let answer : answered c.from_residual.result c.prepare.new.out.items ≡ Err c.in_err-prepare.field-0.0 = search rules in
-    signs_along (hindered_signs c.limit.result (g.S.Store.list i.store) (g.S.Store.stopped i.store) i.ledger.key i.ledger.bounds.items i.ledger.next (g.R.Source.told i.random) c.args.name.now c.args.message.now.now h.0 c.in_err-prepare.field-0.0 kept none h.1)
-    (c.limit.ensures ∙ ap (λ w. g.S.Store.most w.store) c.self.view_is) (ap (λ l. state_of l true) list) (ap (state_of (g.S.Store.list i.store)) (sym open_now)) told refl refl (sym answer)
+    signs_along (hindered_signs c.limit.result _ (g.S.Store.list i.store) (g.S.Store.stopped i.store) i.ledger.key i.ledger.bounds.items i.ledger.next (g.R.Source.upcoming i.random) c.args.name.now c.args.message.now.now c.in_err-prepare.field-0.0 free)
+    (c.limit.ensures ∙ ap (λ w. g.S.Store.most w.store) c.self.view_is) (λ j. state_of (list j) (sym c.requires.open j)) (ap (state_of (g.S.Store.list i.store)) (sym open_now)) upcoming refl refl (sym answer)
+
+pub returns-in_err-prepare-clause-leaves : goal.returns-in_err-prepare-clause-leaves
+returns-in_err-prepare-clause-leaves g c =
+    let answer : c.from_residual.result ≡ Err c.in_err-prepare.field-0.0 = search rules in
+    leaves_grown _ _ _ _ _ _ answer c.self.view_is c.prepare.ensures.key
 
 pub returns-in_err-randomizer-clause-step : goal.returns-in_err-randomizer-clause-step
 returns-in_err-randomizer-clause-step g c =
     let i = c.self.inside in
     let list = ap (λ w. g.S.Store.list w.store) c.self.view_is in
-    let told = ap (λ w. g.R.Source.told w.random) c.self.view_is in
+    let upcoming = ap (λ w. g.R.Source.upcoming w.random) c.self.view_is in
     let most = c.limit.ensures ∙ ap (λ w. g.S.Store.most w.store) c.self.view_is in
     let open_now = ap (λ w. w.is_open) c.self.view_is ∙ c.requires.open in
-    let kept = c.self.invariant.1 open_now in
-    let none = ap (λ l. binding_of l c.args.name.now) list ∙ c.requires.unbound in
-    let h = c.in_ok-prepare.ensures.hindrance in
+    let free = free_name _ (c.self.invariant.1 open_now) c.in_ok-prepare.ensures.hindrance list (ap (λ w. w.key) c.self.view_is) (ap (λ w. w.spare) c.self.view_is) c.requires.unbound in
     let answer : answered c.from_residual-in_err-randomizer.result c.prepare.new.out.items ≡ Err c.in_err-randomizer.field-0.0 = search rules in
     let failed = draw_fails _ _ _ _ _ c.in_err-randomizer.ensures.drawn in
-    signs_along (undrawn_signs c.limit.result (g.S.Store.list i.store) (g.S.Store.stopped i.store) i.ledger.key i.ledger.bounds.items i.ledger.next (g.R.Source.told i.random) (g.R.Source.told c.draw.new.random) c.args.name.now c.args.message.now.now h.0 kept none h.1 failed.1)
-    most (ap (λ l. state_of l true) list) (ap (state_of (g.S.Store.list i.store)) (sym open_now)) told refl refl (ap Err (sym failed.0) ∙ sym answer)
+    signs_along (undrawn_signs c.limit.result _ (g.S.Store.list i.store) (g.S.Store.stopped i.store) i.ledger.key i.ledger.bounds.items i.ledger.next (g.R.Source.upcoming i.random) (g.R.Source.upcoming c.draw.new.random) c.args.name.now c.args.message.now.now free failed.1)
+    most (λ j. state_of (list j) (sym c.requires.open j)) (ap (state_of (g.S.Store.list i.store)) (sym open_now)) upcoming refl refl (ap Err (sym failed.0) ∙ sym answer)
 
 pub returns-in-Err-clause-step : goal.returns-in-Err-clause-step
 returns-in-Err-clause-step g c =
     let i = c.self.inside in
     let list = ap (λ w. g.S.Store.list w.store) c.self.view_is in
-    let told = ap (λ w. g.R.Source.told w.random) c.self.view_is in
+    let upcoming = ap (λ w. g.R.Source.upcoming w.random) c.self.view_is in
     let most = c.limit.ensures ∙ ap (λ w. g.S.Store.most w.store) c.self.view_is in
     let open_now = ap (λ w. w.is_open) c.self.view_is ∙ c.requires.open in
-    let kept = c.self.invariant.1 open_now in
-    let none = ap (λ l. binding_of l c.args.name.now) list ∙ c.requires.unbound in
-    let h = c.in_ok-prepare.ensures.hindrance in
+    let free = free_name _ (c.self.invariant.1 open_now) c.in_ok-prepare.ensures.hindrance list (ap (λ w. w.key) c.self.view_is) (ap (λ w. w.spare) c.self.view_is) c.requires.unbound in
     let p = c.prepare.ensures in
     let randomizer = c.in_ok-randomizer.randomizer in
     let bound = new_bound i.ledger.key i.ledger.next c.args.name.now c.args.message.now.now randomizer in
@@ -57,8 +57,8 @@ returns-in-Err-clause-step g c =
     ∙ (λ j. new_bound (p.key j) (p.next j) c.args.name.now (c.take_all.ensures.text j) randomizer) in
     let stored = subst (λ entry. Stores {A = Unit {0}} (g.S.Store.list i.store) (BoundRecord entry) (g.S.Store.list c.append.new.store) (g.S.Store.stopped c.append.new.store) (g.S.Store.failures i.store) (g.S.Store.failures c.append.new.store) (Err c.in-Err.fault)) same c.in-Err.ensures.stored in
     let made = append_fails true _ _ _ _ _ _ _ (signature_of i.ledger.key bound) stored in
-    signs_along (appended_signs c.limit.result (g.S.Store.list i.store) (g.S.Store.list c.append.new.store) (not (closes c.in-Err.fault)) (g.S.Store.stopped i.store) i.ledger.key i.ledger.bounds.items i.ledger.next (g.R.Source.told i.random) (g.R.Source.told c.draw.new.random) c.args.name.now c.args.message.now.now randomizer h.0 made.0 (Err c.in-Err.fault) kept none h.1 c.next_bound-bound.ensures.drawn c.in_ok-randomizer.ensures.drawn.1 made.1)
-    most (ap (λ l. state_of l true) list) (ap (λ b. state_of (g.S.Store.list c.append.new.store) (not b)) (sym c.closes.ensures)) told refl (sym c.take_all.ensures.rest) refl
+    signs_along (appended_signs c.limit.result _ (g.S.Store.list i.store) (g.S.Store.list c.append.new.store) (not (closes c.in-Err.fault)) (g.S.Store.stopped i.store) i.ledger.key i.ledger.bounds.items i.ledger.next (g.R.Source.upcoming i.random) (g.R.Source.upcoming c.draw.new.random) c.args.name.now c.args.message.now.now randomizer made.0 (Err c.in-Err.fault) free c.next_bound-bound.ensures.drawn c.in_ok-randomizer.ensures.drawn.1 made.1)
+    most (λ j. state_of (list j) (sym c.requires.open j)) (ap (λ b. state_of (g.S.Store.list c.append.new.store) (not b)) (sym c.closes.ensures)) upcoming refl (sym c.take_all.ensures.rest) refl
 
 pub invariant_of-self-in-Ok : goal.invariant_of-self-in-Ok
 invariant_of-self-in-Ok g c =
@@ -90,12 +90,10 @@ pub returns-in-Ok-clause-step : goal.returns-in-Ok-clause-step
 returns-in-Ok-clause-step g c =
     let i = c.self.inside in
     let list = ap (λ w. g.S.Store.list w.store) c.self.view_is in
-    let told = ap (λ w. g.R.Source.told w.random) c.self.view_is in
+    let upcoming = ap (λ w. g.R.Source.upcoming w.random) c.self.view_is in
     let most = c.limit.ensures ∙ ap (λ w. g.S.Store.most w.store) c.self.view_is in
     let open_now = ap (λ w. w.is_open) c.self.view_is ∙ c.requires.open in
-    let kept = c.self.invariant.1 open_now in
-    let none = ap (λ l. binding_of l c.args.name.now) list ∙ c.requires.unbound in
-    let h = c.in_ok-prepare.ensures.hindrance in
+    let free = free_name _ (c.self.invariant.1 open_now) c.in_ok-prepare.ensures.hindrance list (ap (λ w. w.key) c.self.view_is) (ap (λ w. w.spare) c.self.view_is) c.requires.unbound in
     let p = c.prepare.ensures in
     let randomizer = c.in_ok-randomizer.randomizer in
     let bound = new_bound i.ledger.key i.ledger.next c.args.name.now c.args.message.now.now randomizer in
@@ -106,5 +104,5 @@ returns-in-Ok-clause-step g c =
     stored.0 ∙ ap (λ b. g.S.Store.list i.store ++ BoundRecord b ∷ []) (c.copied.ensures ∙ same) in
     let out : c.write_bound.new.out.items ≡ signature_of i.ledger.key bound =
     c.write_bound.ensures ∙ (λ j. signature_of (p.key j) (same j)) in
-    signs_along (appended_signs c.limit.result (g.S.Store.list i.store) (g.S.Store.list i.store ++ BoundRecord bound ∷ []) true (g.S.Store.stopped i.store) i.ledger.key i.ledger.bounds.items i.ledger.next (g.R.Source.told i.random) (g.R.Source.told c.draw.new.random) c.args.name.now c.args.message.now.now randomizer h.0 acked (Ok (signature_of i.ledger.key bound)) kept none h.1 c.next_bound-bound.ensures.drawn c.in_ok-randomizer.ensures.drawn.1 refl)
-    most (ap (λ l. state_of l true) list) (λ j. state_of (sym new j) (sym open_now j)) told refl (sym c.take_all.ensures.rest) (ap Ok (sym out))
+    signs_along (appended_signs c.limit.result _ (g.S.Store.list i.store) (g.S.Store.list i.store ++ BoundRecord bound ∷ []) true (g.S.Store.stopped i.store) i.ledger.key i.ledger.bounds.items i.ledger.next (g.R.Source.upcoming i.random) (g.R.Source.upcoming c.draw.new.random) c.args.name.now c.args.message.now.now randomizer acked (Ok (signature_of i.ledger.key bound)) free c.next_bound-bound.ensures.drawn c.in_ok-randomizer.ensures.drawn.1 refl)
+    most (λ j. state_of (list j) (sym c.requires.open j)) (λ j. state_of (sym new j) (sym open_now j)) upcoming refl (sym c.take_all.ensures.rest) (ap Ok (sym out))

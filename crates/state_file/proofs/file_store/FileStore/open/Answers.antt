@@ -1,5 +1,5 @@
 use Rattle.std.proofs.Common.{sym, ◌∙◌, arith}
-use Rattle.state_file.proofs.Finding.{found_kept, found_left}
+use Rattle.state_file.proofs.Finding.{found_kept}
 use Rattle.state_file.proofs.file_store.FileStore.open.Goals as goal
 
 pub invariant_of-result : goal.invariant_of-result
@@ -10,7 +10,3 @@ invariant_of-result g c = record {
       let before = sym c.in-Ok.ensures.honest ∙ honest in
       found_kept c.in-Ok.found.records c.in-Ok.found.tag (g.D.Disk.state c.args.disk).content (g.D.Disk.state c.find_records.new.disk) (c.in-Ok.ensures.synced before) (c.in-Ok.ensures.found before);
 }
-
-pub returns-in-Ok-clause-shown : goal.returns-in-Ok-clause-shown
-returns-in-Ok-clause-shown g c honest left may =
-    found_left c.in-Ok.found.records c.in-Ok.found.tag (g.D.Disk.state c.args.disk).content left (g.D.Disk.state c.find_records.new.disk) (c.in-Ok.ensures.synced honest) (c.in-Ok.ensures.found honest) may

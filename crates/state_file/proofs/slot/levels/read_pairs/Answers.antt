@@ -1,6 +1,6 @@
 use Rattle.std.proofs.Common.{◌≡◌, ◌+◌, ◌-◌, ◌++◌, Ok, Err, arith, ap, sym, ◌∙◌, rules, take, length-set}
 use Rattle.std.proofs.lemmas.List.{take_more_set}
-use Rattle.typecodes.specs.Reading.{and_then, read}
+use Rattle.typecodes.specs.Cursor.{and_then, read}
 use Rattle.state_file.specs.Slots.{pair_field, pairs}
 use Rattle.state_file.proofs.Pairs.{gives-fault, pairs-all_of, pairs-fault_of, pairs-next_of}
 use Rattle.state_file.proofs.slot.levels.read_pairs.Goals as goal

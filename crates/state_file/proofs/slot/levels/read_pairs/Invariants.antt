@@ -1,5 +1,5 @@
 use Rattle.std.proofs.Common.{◌≡◌, ◌+◌, ◌-◌, ◌*◌, ◌++◌, Ok, length, take}
-use Rattle.typecodes.specs.Reading.{and_then, read}
+use Rattle.typecodes.specs.Cursor.{and_then, read}
 use Rattle.state_file.specs.Slots.{pairs}
 use Rattle.state_file.proofs.slot.levels.read_pairs.Given as goal
 

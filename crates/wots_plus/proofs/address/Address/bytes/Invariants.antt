@@ -1,6 +1,6 @@
 -- The words so far are written.
 use Rattle.std.proofs.Common.{◌≡◌, ◌*◌, take, length}
-use Rattle.wots_plus.specs.Addresses.{bytes_of_words}
+use Rattle.wots_plus.specs.Address.{bytes_of_words}
 use Rattle.wots_plus.proofs.address.Address.bytes.Given as goal
 
 abbrev pub invariant-loop-i : goal.invariant-loop-i

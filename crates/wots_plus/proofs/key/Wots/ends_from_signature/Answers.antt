@@ -1,7 +1,7 @@
 use Rattle.std.proofs.Common.{◌≡◌, ◌∙◌, ◌<◌, ℕ, List, [], get_or, length, arith, rules, ap}
 use Rattle.std.proofs.lemmas.List.Edits.{fill_by_more}
-use Rattle.winternitz.specs.Ends.{end_of}
-use Rattle.wots_plus.specs.Signed.{step_of}
+use Rattle.winternitz.specs.Chain.{end_of}
+use Rattle.wots_plus.specs.Key.{step_of}
 use Rattle.wots_plus.proofs.Signing.{ends_filled}
 use Rattle.wots_plus.proofs.key.Wots.ends_from_signature.Goals as goal
 

@@ -1,7 +1,7 @@
 -- The ends of the chains so far.
 use Rattle.std.proofs.Common.{◌≡◌, ℕ, ◌<◌, [], get_or, length}
-use Rattle.winternitz.specs.Ends.{end_of}
-use Rattle.wots_plus.specs.Signed.{step_of}
+use Rattle.winternitz.specs.Chain.{end_of}
+use Rattle.wots_plus.specs.Key.{step_of}
 use Rattle.wots_plus.proofs.key.Wots.ends_from_signature.Given as goal
 
 abbrev pub invariant-loop-chain : goal.invariant-loop-chain

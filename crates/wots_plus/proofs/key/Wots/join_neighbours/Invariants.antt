@@ -1,6 +1,6 @@
 -- The first pairs are joined, and what comes after them is as it was.
 use Rattle.std.proofs.Common.{◌≡◌, ℕ, ◌+◌, ◌*◌, ◌<◌, ◌≤◌, [], get_or, length}
-use Rattle.wots_plus.specs.Signed.{l_tree_join}
+use Rattle.wots_plus.specs.LTree.{l_tree_join}
 use Rattle.wots_plus.proofs.key.Wots.join_neighbours.Given as goal
 
 abbrev pub invariant-loop-i : goal.invariant-loop-i

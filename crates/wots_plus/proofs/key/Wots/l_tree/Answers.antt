@@ -1,7 +1,6 @@
 use Rattle.std.proofs.Common.{◌≡◌, ◌∙◌, sym, [], ◌∷◌, get_or, length, take, arith}
 use Rattle.std.proofs.lemmas.List.{length-take-le, take_all, take-append-le}
-use Rattle.wots_plus.specs.LTree.{at_height}
-use Rattle.wots_plus.specs.Signed.{l_tree_join}
+use Rattle.wots_plus.specs.LTree.{at_height, l_tree_join}
 use Rattle.wots_plus.proofs.LTree.{height_more, height_none, one_left, one_root, root_is}
 use Rattle.wots_plus.proofs.key.Wots.l_tree.Goals as goal
 

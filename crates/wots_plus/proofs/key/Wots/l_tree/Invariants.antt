@@ -1,7 +1,6 @@
 -- In front are the values of the height.
 use Rattle.std.proofs.Common.{◌≡◌, ◌+◌, ◌<◌, ◌≤◌, length, take}
-use Rattle.wots_plus.specs.LTree.{at_height}
-use Rattle.wots_plus.specs.Signed.{l_tree_join}
+use Rattle.wots_plus.specs.LTree.{at_height, l_tree_join}
 use Rattle.wots_plus.proofs.key.Wots.l_tree.Given as goal
 
 abbrev pub invariant-loop-count : goal.invariant-loop-count

@@ -1,6 +1,6 @@
 use Rattle.std.proofs.Common.{◌∙◌, ap, ◌++◌}
 use Rattle.sha2.specs.Sha256.{sha256}
-use Rattle.wots_plus.specs.Formulas.{to_byte}
+use Rattle.wots_plus.specs.Hashes.{to_byte}
 use Rattle.wots_plus.proofs.key.Wots.private_value.Goals as goal
 
 pub returns : goal.returns

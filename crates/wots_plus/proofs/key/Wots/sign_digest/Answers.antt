@@ -1,10 +1,10 @@
 use Rattle.std.proofs.Common.{◌≡◌, ◌∙◌, refl, ap, arith, length}
 use Rattle.std.specs.List.{concat}
 use Rattle.sha2.proofs.Facts256.{length-sha256}
-use Rattle.winternitz.specs.Digits.{digits_of}
-use Rattle.wots_plus.specs.Signed.{private_value, signed_values, step_of}
+use Rattle.winternitz.specs.Digest.{digits_of}
+use Rattle.wots_plus.specs.Key.{private_value, signed_values, step_of}
 use Rattle.wots_plus.proofs.Signing.{bytes_climb, written_all}
-use Rattle.winternitz.proofs.Joined.{written_more}
+use Rattle.winternitz.proofs.Concatenated.{written_more}
 use Rattle.wots_plus.proofs.key.Wots.sign_digest.Goals as goal
 use Rattle.wots_plus.proofs.key.Wots.sign_digest.Goals.{After-loop-chain}
 

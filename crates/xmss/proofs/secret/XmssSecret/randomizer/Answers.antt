@@ -1,5 +1,5 @@
 use Rattle.std.proofs.Common.{◌∙◌, ap₂}
-use Rattle.wots_plus.specs.Formulas.{prf}
+use Rattle.wots_plus.specs.Hashes.{prf}
 use Rattle.xmss.proofs.secret.XmssSecret.randomizer.Goals as goal
 
 pub returns : goal.returns

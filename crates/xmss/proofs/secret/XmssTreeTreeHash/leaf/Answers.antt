@@ -1,9 +1,9 @@
 use Rattle.std.proofs.Common.{◌∙◌, ap}
-use Rattle.wots_plus.specs.Signed.{ends_of_secret}
-use Rattle.xmss.specs.Formulas.{leaf_of}
+use Rattle.wots_plus.specs.Key.{ends_of_secret}
+use Rattle.xmss.specs.Nodes.{leaf_of}
 use Rattle.xmss.proofs.secret.XmssTreeTreeHash.leaf.Goals as goal
 
 pub returns-clause-value : goal.returns-clause-value
 returns-clause-value c =
-    c.public_value.ensures
+    c.public_hash.ensures
     ∙ ap (λ seed. leaf_of seed c.args.i (ends_of_secret seed c.args.i c.args.self.now.secret.secret_seed)) c.args.self.now.seeded

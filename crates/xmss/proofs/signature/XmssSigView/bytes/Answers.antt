@@ -1,6 +1,6 @@
 use Rattle.std.proofs.Common.{refl}
 use Rattle.typecodes.proofs.Steps.{ends-spelled}
-use Rattle.xmss.specs.Layouts.{signature}
+use Rattle.xmss.specs.Signature.{signature}
 use Rattle.xmss.specs.View.{signature_of}
 use Rattle.xmss.proofs.signature.XmssSigView.bytes.Goals as goal
 

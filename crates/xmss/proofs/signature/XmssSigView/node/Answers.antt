@@ -1,4 +1,4 @@
-use Rattle.typecodes.specs.XmssTypes.{xmss_height_of}
+use Rattle.typecodes.specs.Types.{xmss_height_of}
 use Rattle.xmss.proofs.Parts.{values_at}
 use Rattle.xmss.proofs.signature.XmssSigView.node.Goals as goal
 

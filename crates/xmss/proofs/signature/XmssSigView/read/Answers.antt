@@ -1,7 +1,7 @@
 use Rattle.std.proofs.Common.{◌≡◌, length, Ok, rules}
-use Rattle.typecodes.specs.Reading.{read}
-use Rattle.typecodes.specs.XmssTypes.{xmss_height_of}
-use Rattle.xmss.specs.Layouts.{Signature, signature, signature_with}
+use Rattle.typecodes.specs.Cursor.{read}
+use Rattle.typecodes.specs.Types.{xmss_height_of}
+use Rattle.xmss.specs.Signature.{Signature, signature, signature_with}
 use Rattle.xmss.proofs.Fields.{fields}
 use Rattle.xmss.proofs.Parts.{array_at, chains_read_at, values_read_at}
 use Rattle.xmss.proofs.signature.XmssSigView.read.Goals as goal

@@ -1,0 +1,37 @@
+-- How LMS signatures are spelled (RFC 8554 4.5 and 5.4).
+use Rattle.std.specs.Prelude.{ℕ, ◌+◌, ◌^◌, List, nat_lt, if◌then◌else◌}
+use Rattle.typecodes.specs.declared.fault.Cause.TheVariants.{LeafOutOfRange}
+use Rattle.typecodes.specs.declared.types.OtsType.{OtsType}
+use Rattle.typecodes.specs.declared.types.LmsPair.{LmsPair}
+use Rattle.typecodes.specs.Types.{chains_of, height_of, signature_len_of}
+use Rattle.typecodes.specs.Layout.{Layout, done, refuse, ◌>>=◌}
+use Rattle.typecodes.specs.Fields.{number, block, values, ots_type, lms_type}
+
+-- a signature: its leaf's index q, C, the value of each chain, and the authentication path
+pub record Signature : Type 0 where
+  pub pair : LmsPair
+  pub index : ℕ
+  pub randomizer : List ℕ
+  pub chains : List (List ℕ)
+  pub path : List (List ℕ)
+
+-- the signature of these parts
+abbrev pub signature_with : LmsPair → ℕ → List ℕ → List (List ℕ) → List (List ℕ) → Signature
+signature_with pair index randomizer chains path =
+    record { pair = pair; index = index; randomizer = randomizer; chains = chains; path = path }
+
+-- how many bytes the tree's type ends behind the start of a signature
+abbrev pub type_end : OtsType → ℕ
+type_end ots = 4 + signature_len_of ots + 4
+
+-- A signature (5.4): q, the one-time signature (4.5) with its type, C and its values, the tree's
+-- type, and the path. That q is a leaf of the tree is told once the tree's type is read, at q.
+unfoldable pub signature : Layout Signature
+signature = do
+  index ← number
+  ots ← ots_type
+  randomizer ← block 32
+  chains ← values (chains_of ots)
+  tree ← lms_type
+  path ← if nat_lt index (2 ^ height_of tree) then values (height_of tree) else refuse (type_end ots) LeafOutOfRange
+  done (record { pair = record { tree = tree; ots = ots }; index = index; randomizer = randomizer; chains = chains; path = path })

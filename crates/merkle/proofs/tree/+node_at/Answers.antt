@@ -1,0 +1,24 @@
+use Rattle.std.proofs.Common.{rules, arith, sym, ◌∙◌}
+use Rattle.merkle.proofs.tree.+node_at.Goals as goal
+use Rattle.merkle.proofs.Building.{node_leaf, node_children, leaves_twice, children_inside}
+
+pub returns-then-height-eq0-clause-value : goal.returns-then-height-eq0-clause-value
+returns-then-height-eq0-clause-value g t c = c.leaf.ensures.value ∙ sym (node_leaf _ _ _ _ c.if-height-eq0.true)
+
+pub node_at-left-requires : goal.node_at-left-requires
+node_at-left-requires g t c κs within =
+    let both = children_inside c.args.height c.args.index (omega arith) c.requires.height c.requires.inside in
+    search rules
+
+pub node_at-right-requires : goal.node_at-right-requires
+node_at-right-requires g t c κs within =
+    let both = children_inside c.args.height c.args.index (omega arith) c.requires.height c.requires.inside in
+    search rules
+
+pub returns-clause-value : goal.returns-clause-value
+returns-clause-value g t c =
+    let e = node_children (g.T.TreeHash.leaf_of c.args.tree.now) (g.T.NodeHash.join_of c.args.tree.now) c.args.height c.args.index (omega arith) in
+    cc
+
+pub returns-clause-counted : goal.returns-clause-counted
+returns-clause-counted g t c = omega (arith, leaves_twice c.args.height (omega arith))

@@ -1,0 +1,35 @@
+//! The nodes through which an authentication path leads.
+
+ghost use Rattle.std.specs.Prelude.{◌≡◌, ◌≤◌, ◌<◌, ◌^◌, ℕ, List, length};
+ghost use Rattle.merkle.specs.Ascent.{IsAscent, at};
+ghost use Rattle.merkle.specs.Tree.{path_of, root_of};
+
+use crate::tree::NodeHash;
+
+/// The node to which an authentication path leads leaf q (RFC 8554 5.4.2, RFC 8391 4.1.10): the root, where the
+/// path is q's in its tree. The caller keeps the path at most 25 long and q below `2^(path.len())`.
+pub fn root_from_path<T: NodeHash>(tree: &T, q: u32, leaf: &[u8; 32], path: &[[u8; 32]]) -> [u8; 32]
+    requires height { length path.now ≤ 25 }
+    requires inside { q < 2 ^ length path.now }
+    // The last of the nodes above the leaf.
+    ensures last { (nodes : List (List ℕ)) × IsAscent (T.join_of tree.now) q leaf.now path.now nodes
+        × (result ≡ at nodes (length path.now)) }
+    ensures only { (nodes : List (List ℕ)) → IsAscent (T.join_of tree.now) q leaf.now path.now nodes →
+        result ≡ at nodes (length path.now) }
+    // The path of leaf q leads from it to the root.
+    ensures leads { (leaves : ℕ → List ℕ) → path.now ≡ path_of leaves (T.join_of tree.now) (length path.now) q →
+        leaf.now ≡ leaves q → result ≡ root_of leaves (T.join_of tree.now) (length path.now) }
+{
+    let mut node = *leaf;
+    let mut index = q;
+    for (k, sibling) in path.iter().enumerate() {
+        let right = index % 2 == 1;
+        index /= 2;
+        node = if right {
+            tree.join(k as u8, index, sibling, &node)
+        } else {
+            tree.join(k as u8, index, &node, sibling)
+        };
+    }
+    node
+}

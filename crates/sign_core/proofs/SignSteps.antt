@@ -1,0 +1,373 @@
+-- What the records of a key and its bindings say, and the world's steps on them.
+use Rattle.std.proofs.Common.{◌≡◌, ℕ, suc, ◌+◌, ◌<◌, ◌≤◌, ◌^◌, Bool, true, false, not, List, [], ◌∷◌, ◌++◌, length, Option, Some, None, Result, Ok, Err, cond, drop, refl, sym, ap, ◌∙◌, subst, arith, find, map, ⊎_elim, IsSome, true≢false}
+use Rattle.std.specs.Prelude.{fold, max, nat_le, nat_lt, if◌then◌else◌, ◌&&◌, ◌||◌, is_some}
+use Rattle.typecodes.specs.Types.{height_of}
+use Rattle.lmots.specs.Key.{message_digest_of}
+use Rattle.lms.specs.Writing.{signature_size}
+use Rattle.state_file.specs.declared.record.Bound.{Bound}
+use Rattle.sign_core.specs.declared.ledger.LmsKey.{LmsKey}
+use Rattle.state_file.specs.declared.record.Record.{Record}
+use Rattle.state_file.specs.declared.record.Record.TheVariants.{Key as KeyRecord, Extend as ExtendRecord, Bound as BoundRecord, Retire, Moved}
+use Rattle.state_file.specs.Store.{is_key}
+use Rattle.sign_core.specs.declared.fault.SignFault.{SignFault}
+use Rattle.sign_core.specs.declared.fault.SignFault.TheVariants.{Changed, Exhausted, RandomFailed, StoreFailed, Stopped, Damaged, OutOfMemory, LedgerFull, Unreadable, KeyThere}
+use Rattle.sign_core.specs.Ledger.{above_of, binding_of, bound_in, bounds_of, is_sound, key_of, key_record, next_leaf, same_bytes, signature_of}
+use Rattle.sign_core.specs.World.{Chance, Fate, Outcome, State, acked, cut_old, cut_new, no_memory, appended, bound_anew, bound_to, new_bound, refused, repeated, requested, requested_of, requested_under}
+use Rattle.sign_core.specs.Ledger.{LacksMemory}
+use Rattle.sign_core.specs.Signer.{Leaves, Signs, View, is_read, state_of}
+use Rattle.sign_core.specs.Once.{IsDrawn}
+use Rattle.sign_core.specs.Source.{Gives}
+use Rattle.sign_core.specs.Signing.{DrawsBytes, Stores}
+use Rattle.sign_core.specs.Ledger.{IsKept, hindrance, records_of, Hinders}
+use Rattle.sign_core.specs.Fault.{closes}
+
+-- the bindings of bindings' records
+pub bounds_of-map : (bounds : List Bound) → bounds_of (map BoundRecord bounds) ≡ bounds
+bounds_of-map [] = refl
+bounds_of-map (bound ∷ rest) = ap (λ all. bound ∷ all) (bounds_of-map rest)
+
+-- the same once more, of records that are kept
+pub kept_bounds : (list : List Record) (stopped : Bool) (key : LmsKey) (bounds : List Bound) (leaf : ℕ) → IsKept list stopped key bounds leaf → bounds_of list ≡ bounds
+kept_bounds list stopped key bounds leaf kept = ap bounds_of kept.records ∙ bounds_of-map bounds
+
+pub kept_key : (list : List Record) (stopped : Bool) (key : LmsKey) (bounds : List Bound) (leaf : ℕ) → IsKept list stopped key bounds leaf → key_of list ≡ Some key
+kept_key list stopped key bounds leaf kept = ap key_of kept.records
+
+pub length-map_bound : (bounds : List Bound) → length (map BoundRecord bounds) ≡ length bounds
+length-map_bound [] = refl
+length-map_bound (bound ∷ rest) = ap suc (length-map_bound rest)
+
+pub kept_length : (list : List Record) (stopped : Bool) (key : LmsKey) (bounds : List Bound) (leaf : ℕ) → IsKept list stopped key bounds leaf → length list ≡ length bounds + 1
+kept_length list stopped key bounds leaf kept = omega (arith, ap length kept.records, length-map_bound bounds)
+
+-- the least number above all leaves, seen from a start on, is no less than that start
+pub above_start : (leaves : List ℕ) (from : ℕ) → from ≤ fold max from leaves
+above_start [] from = omega arith
+above_start (leaf ∷ leaves) from = omega (arith, above_start leaves (max from leaf))
+
+-- the leaf of a binding that is found is below it
+pub found_below : (test : Bound → Bool) (bounds : List Bound) (found : Bound) (from : ℕ) → find test bounds ≡ Some found → found.leaf < fold max from (map (λ bound. bound.leaf + 1) bounds)
+found_below test [] found from e = absurd (cc)
+found_below test (bound ∷ rest) found from e =
+    by_test (test bound) e (λ later. found_below test rest found (max from (bound.leaf + 1)) later)
+  where
+    by_test : (is : Bool) → cond is (Some bound) (find test rest) ≡ Some found → (find test rest ≡ Some found → found.leaf < fold max (max from (bound.leaf + 1)) (map (λ bound. bound.leaf + 1) rest)) → found.leaf < fold max (max from (bound.leaf + 1)) (map (λ bound. bound.leaf + 1) rest)
+    by_test true here later =
+        let same : bound ≡ found = cc in
+        let leaf = ap (λ (b : Bound). b.leaf) same in
+        omega (arith, above_start (map (λ bound. bound.leaf + 1) rest) (max from (bound.leaf + 1)))
+    by_test false there later = later there
+
+-- the next leaf of a key and its bindings
+above-map_bound : (bounds : List Bound) → map above_of (map BoundRecord bounds) ≡ map (λ bound. bound.leaf + 1) bounds
+above-map_bound [] = refl
+above-map_bound (bound ∷ rest) = ap (λ all. (bound.leaf + 1) ∷ all) (above-map_bound rest)
+
+pub next_of-records : (key : LmsKey) (bounds : List Bound) (list : List Record) → list ≡ records_of key bounds → next_leaf list ≡ fold max 0 (map (λ bound. bound.leaf + 1) bounds)
+next_of-records key bounds list is = ap next_leaf is ∙ ap (fold max 0) (above-map_bound bounds)
+
+-- one more binding
+next_snoc : (bounds : List Bound) (bound : Bound) (from : ℕ) → fold max from (map (λ bound. bound.leaf + 1) (bounds ++ bound ∷ [])) ≡ max (fold max from (map (λ bound. bound.leaf + 1) bounds)) (bound.leaf + 1)
+next_snoc [] bound from = refl
+next_snoc (first ∷ rest) bound from = next_snoc rest bound (max from (first.leaf + 1))
+
+records_snoc : (key : LmsKey) (bounds : List Bound) (bound : Bound) → records_of key bounds ++ BoundRecord bound ∷ [] ≡ records_of key (bounds ++ bound ∷ [])
+records_snoc key [] bound = refl
+records_snoc key (first ∷ rest) bound = ap (λ all. key_record key ∷ BoundRecord first ∷ all) (ap (drop 1) (records_snoc key rest bound))
+
+-- records with one more binding, to the next leaf
+pub kept_more : (list : List Record) (stopped : Bool) (key : LmsKey) (bounds : List Bound) (leaf : ℕ) (bound : Bound) (new : List Record) (new_stopped : Bool) → IsKept list stopped key bounds leaf → bound.leaf ≡ leaf → leaf < 2 ^ height_of key.pair.tree → new ≡ list ++ BoundRecord bound ∷ [] → new_stopped ≡ false → IsKept new new_stopped key (bounds ++ bound ∷ []) (leaf + 1)
+kept_more list stopped key bounds leaf bound new new_stopped kept is below made running =
+    let all : new ≡ records_of key (bounds ++ bound ∷ []) =
+    made ∙ ap (λ records. records ++ BoundRecord bound ∷ []) kept.records ∙ records_snoc key bounds bound in
+    let next = next_of-records key (bounds ++ bound ∷ []) new all ∙ next_snoc bounds bound 0 in
+    let before = kept.next ∙ next_of-records key bounds list kept.records in
+    record { running = running; records = all; next = omega arith; inside = omega arith }
+
+-- a request to a signer that is closed
+pub closed_step : (limit : ℕ) (list : List Record) (name message : List ℕ) (chance : Chance) → requested limit (state_of list false) name message chance ≡ refused (state_of list false) Stopped
+closed_step limit list name message chance =
+    under (key_of list)
+  where
+    under : (found : Option LmsKey) → requested_under limit (state_of list false) name message chance found ≡ refused (state_of list false) Stopped
+    under (Some key) = refl
+    under None = refl
+
+-- a request under a name that is bound
+pub repeated_step : (limit : ℕ) (list : List Record) (key : LmsKey) (bound : Bound) (name message : List ℕ) (chance : Chance) → key_of list ≡ Some key → binding_of list name ≡ Some bound → requested limit (state_of list true) name message chance ≡ record { state = state_of list true; answer = repeated key bound message chance }
+repeated_step limit list key bound name message chance is found =
+    let state = state_of list true in
+    ap (requested_under limit state name message chance) is ∙ ap (requested_of limit state key name message chance) found
+
+-- a request under a name that isn't
+pub unbound_step : (limit : ℕ) (list : List Record) (key : LmsKey) (name message : List ℕ) (chance : Chance) → key_of list ≡ Some key → binding_of list name ≡ None → requested limit (state_of list true) name message chance ≡ bound_anew limit (state_of list true) key name message chance
+unbound_step limit list key name message chance is none =
+    let state = state_of list true in
+    ap (requested_under limit state name message chance) is ∙ ap (requested_of limit state key name message chance) none
+
+abbrev pub answers : ℕ → State → LmsKey → List ℕ → List ℕ → Chance → Option SignFault → Outcome (List ℕ)
+answers limit state key name message chance (Some fault) = refused state fault
+answers limit state key name message chance None = bound_to state key name message chance chance.drawn
+
+-- what a name that isn't bound is answered, by what hinders
+pub anew_step : (limit : ℕ) (state : State) (key : LmsKey) (name message : List ℕ) (chance : Chance) → bound_anew limit state key name message chance ≡ answers limit state key name message chance (hindrance limit (height_of key.pair.tree) (next_leaf state.records) (length state.records) chance.has_room (is_sound key))
+anew_step limit state key name message chance =
+    by_tests (nat_le (2 ^ height_of key.pair.tree) (next_leaf state.records)) (nat_lt limit (length state.records + 1)) chance.has_room (is_sound key)
+  where
+    by_tests : (a b c d : Bool) → (if a then refused state Exhausted else (if b then refused state LedgerFull else (if not c then refused state OutOfMemory else (if not d then refused state (Damaged 0) else bound_to state key name message chance chance.drawn)))) ≡ answers limit state key name message chance (if a then Some Exhausted else (if b then Some LedgerFull else (if not c then Some OutOfMemory else (if not d then Some (Damaged 0) else None))))
+    by_tests true b c d = refl
+    by_tests false true c d = refl
+    by_tests false false false d = refl
+    by_tests false false true false = refl
+    by_tests false false true true = refl
+
+-- ---- what each call is
+
+-- what hinders, by the records and by what is kept of them
+hindrance_kept : (limit : ℕ) (list : List Record) (stopped : Bool) (key : LmsKey) (bounds : List Bound) (leaf : ℕ) (has_room : Bool) → IsKept list stopped key bounds leaf → hindrance limit (height_of key.pair.tree) (next_leaf list) (length list) has_room (is_sound key) ≡ hindrance limit (height_of key.pair.tree) leaf (length bounds + 1) has_room (is_sound key)
+hindrance_kept limit list stopped key bounds leaf has_room kept =
+    let count = kept_length list stopped key bounds leaf kept in
+    λ i. hindrance limit (height_of key.pair.tree) (sym kept.next i) (count i) has_room (is_sound key)
+
+-- a request under a name that isn't bound, by what hinders
+pub anew_kept : (limit : ℕ) (list : List Record) (stopped : Bool) (key : LmsKey) (bounds : List Bound) (leaf : ℕ) (name message : List ℕ) (chance : Chance) (hinders : Option SignFault) → IsKept list stopped key bounds leaf → binding_of list name ≡ None → hinders ≡ hindrance limit (height_of key.pair.tree) leaf (length bounds + 1) chance.has_room (is_sound key) → requested limit (state_of list true) name message chance ≡ answers limit (state_of list true) key name message chance hinders
+anew_kept limit list stopped key bounds leaf name message chance hinders kept none is =
+    let state = state_of list true in
+    unbound_step limit list key name message chance (kept_key list stopped key bounds leaf kept) none
+    ∙ anew_step limit state key name message chance
+    ∙ ap (answers limit state key name message chance) (hindrance_kept limit list stopped key bounds leaf chance.has_room kept ∙ sym is)
+
+-- where nothing hinders, memory was granted
+granted : (limit height next count : ℕ) (has_room sound : Bool) → None ≡ hindrance limit height next count has_room sound → has_room ≡ true
+granted limit height next count has_room sound is =
+    by_tests (nat_le (2 ^ height) next) (nat_lt limit (count + 1)) has_room sound is
+  where
+    by_tests : (a b c d : Bool) → None ≡ (if a then Some Exhausted else (if b then Some LedgerFull else (if not c then Some OutOfMemory else (if not d then Some (Damaged 0) else None)))) → c ≡ true
+    by_tests a b true d e = refl
+    by_tests true b false d e = absurd (cc)
+    by_tests false true false d e = absurd (cc)
+    by_tests false false false d e = absurd (cc)
+
+-- the message of a name that isn't bound is read where C is drawn
+read_anew : (list : List Record) (name message : List ℕ) (drawn : Option (List ℕ)) → binding_of list name ≡ None → (if is_read (state_of list true) name drawn then [] else message) ≡ (if is_some drawn then [] else message)
+read_anew list name message drawn none =
+    ap (λ (bound : Option Bound). if (true && is_some bound) || is_some drawn then [] else message) none
+
+-- to a signer that is closed
+pub closed_signs : (limit : ℕ) (lacking : Type 0) (list : List Record) (upcoming : Option (List ℕ)) (name message : List ℕ) → Signs limit lacking (state_of list false) (state_of list false) upcoming upcoming name message message (Err Stopped)
+closed_signs limit lacking list upcoming name message =
+    let chance : Chance = record { drawn = None; has_room = true; fate = acked } in
+    record { chance = chance; step = closed_step limit list name message chance; drawn = refl; possible = tt; memory = λ e. absurd (cc); early = λ e. refl; read = refl }
+
+-- under a name that is bound
+pub repeat_signs : (limit : ℕ) (lacking : Type 0) (list : List Record) (key : LmsKey) (bound : Bound) (upcoming : Option (List ℕ)) (name message : List ℕ) (has_room : Bool) (answer : Result (List ℕ) SignFault) → key_of list ≡ Some key → binding_of list name ≡ Some bound → answer ≡ repeated key bound message (record { drawn = None; has_room = has_room; fate = acked }) → (has_room ≡ false → lacking) → Signs limit lacking (state_of list true) (state_of list true) upcoming upcoming name message [] answer
+repeat_signs limit lacking list key bound upcoming name message has_room answer is found made lacks =
+    let chance : Chance = record { drawn = None; has_room = has_room; fate = acked } in
+    let nothing : Option (List ℕ) = None in
+    let step = repeated_step limit list key bound name message chance is found in record {
+      chance = chance;
+      step = step ∙ ap (λ a. record { state = state_of list true; answer = a }) (sym made);
+      drawn = refl;
+      possible = tt;
+      memory = lacks;
+      early = λ e. refl;
+      read = ap (λ (o : Option Bound). if (true && is_some o) || is_some nothing then [] else message) (sym found);
+    }
+
+-- What a signer knows of a request under a name that isn't bound: what is kept, and what hinders, if anything does.
+pub record FreeName (limit : ℕ) (lacking : Type 0) (list : List Record) (stopped : Bool) (key : LmsKey) (bounds : List Bound) (leaf : ℕ) (name : List ℕ) (fault : Option SignFault) : Type 0 where
+  pub kept : IsKept list stopped key bounds leaf
+  pub unbound : binding_of list name ≡ None
+  pub hinders : Hinders limit (height_of key.pair.tree) leaf (length bounds + 1) lacking (is_sound key) fault
+
+-- under a new name, where something hinders
+pub hindered_signs : (limit : ℕ) (lacking : Type 0) (list : List Record) (stopped : Bool) (key : LmsKey) (bounds : List Bound) (leaf : ℕ) (upcoming : Option (List ℕ)) (name message : List ℕ) (fault : SignFault) → FreeName limit lacking list stopped key bounds leaf name (Some fault) → Signs limit lacking (state_of list true) (state_of list true) upcoming upcoming name message message (Err fault)
+hindered_signs limit lacking list stopped key bounds leaf upcoming name message fault free =
+    let chance : Chance = record { drawn = None; has_room = free.hinders.0; fate = acked } in record {
+      chance = chance;
+      step = anew_kept limit list stopped key bounds leaf name message chance (Some fault) free.kept free.unbound free.hinders.1;
+      drawn = refl;
+      possible = tt;
+      memory = free.hinders.2;
+      early = λ e. refl;
+      read = sym (read_anew list name message None free.unbound);
+    }
+
+-- under a new name, where the source fails
+pub undrawn_signs : (limit : ℕ) (lacking : Type 0) (list : List Record) (stopped : Bool) (key : LmsKey) (bounds : List Bound) (leaf : ℕ) (upcoming left : Option (List ℕ)) (name message : List ℕ) → FreeName limit lacking list stopped key bounds leaf name None → left ≡ upcoming → Signs limit lacking (state_of list true) (state_of list true) upcoming left name message message (Err RandomFailed)
+undrawn_signs limit lacking list stopped key bounds leaf upcoming left name message free same =
+    let chance : Chance = record { drawn = None; has_room = free.hinders.0; fate = acked } in record {
+      chance = chance;
+      step = anew_kept limit list stopped key bounds leaf name message chance None free.kept free.unbound free.hinders.1;
+      drawn = same;
+      possible = tt;
+      memory = free.hinders.2;
+      early = λ e. refl;
+      read = sym (read_anew list name message None free.unbound);
+    }
+
+-- under a new name whose record is appended
+pub appended_signs : (limit : ℕ) (lacking : Type 0) (list new : List Record) (is_open stopped : Bool) (key : LmsKey) (bounds : List Bound) (leaf : ℕ) (upcoming left : Option (List ℕ)) (name message randomizer : List ℕ) (fate : Fate) (answer : Result (List ℕ) SignFault) → FreeName limit lacking list stopped key bounds leaf name None → IsDrawn (Some randomizer) → Gives upcoming randomizer left → (let bound = new_bound key leaf name message randomizer in appended (state_of list true) (BoundRecord bound) (signature_of key bound) fate ≡ record { state = state_of new is_open; answer = answer }) → Signs limit lacking (state_of list true) (state_of new is_open) upcoming left name message [] answer
+appended_signs limit lacking list new is_open stopped key bounds leaf upcoming left name message randomizer fate answer free drawn gave made =
+    let chance : Chance = record { drawn = Some randomizer; has_room = free.hinders.0; fate = fate } in
+    let state = state_of list true in record {
+      chance = chance;
+      step = anew_kept limit list stopped key bounds leaf name message chance None free.kept free.unbound free.hinders.1
+          ∙ ap (λ n. let bound = new_bound key n name message randomizer in appended state (BoundRecord bound) (signature_of key bound) fate) (sym free.kept.next)
+          ∙ made;
+      drawn = gave;
+      possible = drawn;
+      memory = free.hinders.2;
+      early = λ e. let room = granted limit (height_of key.pair.tree) leaf (length bounds + 1) free.hinders.0 (is_sound key) free.hinders.1 in absurd (cc);
+      read = sym (read_anew list name message (Some randomizer) free.unbound);
+    }
+
+-- the same call, of equal arguments
+pub signs_along : {limit limit' : ℕ} {lacking : Type 0} {old old' new new' : State} {upcoming upcoming' left left' : Option (List ℕ)} {name message rest rest' : List ℕ} {answer answer' : Result (List ℕ) SignFault} → Signs limit lacking old new upcoming left name message rest answer → limit ≡ limit' → old ≡ old' → new ≡ new' → upcoming ≡ upcoming' → left ≡ left' → rest ≡ rest' → answer ≡ answer' → Signs limit' lacking old' new' upcoming' left' name message rest' answer'
+signs_along {lacking = lacking} {name = name} {message = message} signs a b c d e f g =
+    subst (λ (t : ℕ × State × State × Option (List ℕ) × Option (List ℕ) × List ℕ × Result (List ℕ) SignFault). Signs t.0 lacking t.1 t.2 t.3 t.4 name message t.5 t.6)
+    (λ i. (a i, b i, c i, d i, e i, f i, g i)) signs
+
+-- the same lack, of equal arguments
+pub lacks_along : {bound bound' : Option Bound} {key key' : LmsKey} {spare spare' : ℕ} (capacity : ℕ) → LacksMemory bound (signature_size key.pair) capacity spare → bound ≡ bound' → key ≡ key' → spare ≡ spare' → LacksMemory bound' (signature_size key'.pair) capacity spare'
+lacks_along capacity lacks a b c =
+    subst (λ (t : Option Bound × LmsKey × ℕ). LacksMemory t.0 (signature_size t.1.pair) capacity t.2) (λ i. (a i, b i, c i)) lacks
+
+-- what a signer knows of such a request, by its fields and by its view
+pub free_name : {limit : ℕ} {list list' : List Record} {stopped : Bool} {key key' : LmsKey} {bounds : List Bound} {leaf : ℕ} {name : List ℕ} (capacity : ℕ) {spare spare' : ℕ} {fault : Option SignFault} → IsKept list stopped key bounds leaf → Hinders limit (height_of key.pair.tree) leaf (length bounds + 1) (LacksMemory None (signature_size key.pair) capacity spare) (is_sound key) fault → list ≡ list' → key ≡ key' → spare ≡ spare' → binding_of list' name ≡ None → FreeName limit (LacksMemory (binding_of list' name) (signature_size key'.pair) capacity spare') list stopped key bounds leaf name fault
+free_name {name = name} capacity kept hinders a b c none = record {
+  kept = kept;
+  unbound = ap (λ l. binding_of l name) a ∙ none;
+  hinders = (hinders.0, hinders.1, λ e. lacks_along {bound = None} capacity (hinders.2 e) (sym none) b c);
+}
+
+-- a repeat where the record's root isn't the secret's
+pub repeated_unsound : (key : LmsKey) (bound : Bound) (message : List ℕ) → not (same_bytes (message_digest_of key.identifier bound.leaf bound.randomizer message) bound.digest) ≡ false → is_sound key ≡ false → Err (Damaged 0) ≡ repeated key bound message (record { drawn = None; has_room = true; fate = acked })
+repeated_unsound key bound message same unsound =
+    by_tests (not (same_bytes (message_digest_of key.identifier bound.leaf bound.randomizer message) bound.digest)) (is_sound key) same unsound
+  where
+    by_tests : (changed sound : Bool) → changed ≡ false → sound ≡ false → Err (Damaged 0) ≡ (if changed then Err Changed else (if not true then Err OutOfMemory else (if not sound then Err (Damaged 0) else Ok (signature_of key bound))))
+    by_tests true sound e f = absurd (cc)
+    by_tests false true e f = absurd (cc)
+    by_tests false false e f = refl
+
+-- ---- from a signer's fields
+
+-- the same kept, of equal arguments
+pub kept_along : {list list' : List Record} {stopped stopped' : Bool} {key key' : LmsKey} {bounds bounds' : List Bound} {leaf leaf' : ℕ} → IsKept list stopped key bounds leaf → list ≡ list' → stopped ≡ stopped' → key ≡ key' → bounds ≡ bounds' → leaf ≡ leaf' → IsKept list' stopped' key' bounds' leaf'
+kept_along kept a b c d e =
+    subst (λ (t : List Record × Bool × LmsKey × List Bound × ℕ). IsKept t.0 t.1 t.2 t.3 t.4) (λ i. (a i, b i, c i, d i, e i)) kept
+
+and_false : (b : Bool) → b && false ≡ false
+and_false true = refl
+and_false false = refl
+
+and_true : (b : Bool) → b && true ≡ b
+and_true true = refl
+and_true false = refl
+
+-- what becomes of an append that fails, to a signer that was open or wasn't
+pub append_fails : {A : Type 0} (was : Bool) (list : List Record) (entry : Record) (new : List Record) (stopped : Bool) (before after : ℕ) (fault : SignFault) (value : A) → Stores {A = Unit {0}} list entry new stopped before after (Err fault) → (fate : Fate) × (appended (state_of list was) entry value fate ≡ record { state = state_of new (was && not (closes fault)); answer = Err fault })
+append_fails was list entry new stopped before after StoreFailed value (left, _) =
+    ⊎_elim
+    (λ (same : new ≡ list). (cut_old, λ i. refused (state_of (sym same i) (sym (and_false was) i)) StoreFailed))
+    (λ (more : new ≡ list ++ entry ∷ []). (cut_new, λ i. refused (state_of (sym more i) (sym (and_false was) i)) StoreFailed))
+    left
+append_fails was list entry new stopped before after OutOfMemory value (same, _, _) =
+    (no_memory, λ i. refused (state_of (sym same i) (sym (and_true was) i)) OutOfMemory)
+append_fails was list entry new stopped before after Changed value h = absurd h
+append_fails was list entry new stopped before after Exhausted value h = absurd h
+append_fails was list entry new stopped before after RandomFailed value h = absurd h
+append_fails was list entry new stopped before after Stopped value h = absurd h
+append_fails was list entry new stopped before after (Damaged k) value h = absurd h
+append_fails was list entry new stopped before after LedgerFull value h = absurd h
+append_fails was list entry new stopped before after (Unreadable k) value h = absurd h
+append_fails was list entry new stopped before after KeyThere value h = absurd h
+
+-- the first record stays the first
+pub key_snoc : (list : List Record) (entry : Record) (key : LmsKey) → key_of list ≡ Some key → key_of (list ++ entry ∷ []) ≡ Some key
+key_snoc [] entry key is = absurd (cc)
+key_snoc (KeyRecord first ∷ rest) entry key is = is
+key_snoc (ExtendRecord first ∷ rest) entry key is = absurd (cc)
+key_snoc (BoundRecord first ∷ rest) entry key is = absurd (cc)
+key_snoc (Retire upto ∷ rest) entry key is = absurd (cc)
+key_snoc (Moved ∷ rest) entry key is = absurd (cc)
+
+-- any record may stand after a key
+pub key_stays_first : (list : List Record) (entry : Record) (key : LmsKey) → key_of list ≡ Some key → length list ≡ 0 → is_key entry ≡ true
+key_stays_first [] entry key is none = absurd (cc)
+key_stays_first (first ∷ rest) entry key is none = absurd (omega arith)
+
+-- also where an append fails
+pub key_appended : {A : Type 0} (was : Bool) (list : List Record) (entry : Record) (key : LmsKey) (value : A) (fate : Fate) → key_of list ≡ Some key → key_of (appended (state_of list was) entry value fate).state.records ≡ Some key
+key_appended was list entry key value acked is = key_snoc list entry key is
+key_appended was list entry key value cut_old is = is
+key_appended was list entry key value cut_new is = key_snoc list entry key is
+key_appended was list entry key value no_memory is = is
+
+-- what is found among the bindings is the name's binding
+pub found_binding : {list list' : List Record} {stopped : Bool} {key : LmsKey} {bounds searched : List Bound} {leaf : ℕ} (name : List ℕ) {found : Option Bound} → IsKept list stopped key bounds leaf → list ≡ list' → searched ≡ bounds → bound_in searched name ≡ found → binding_of list' name ≡ found
+found_binding {list = list} {stopped = stopped} {key = key} {bounds = bounds} {leaf = leaf} name kept a b is =
+    ap (λ l. binding_of l name) (sym a) ∙ ap (λ l. bound_in l name) (kept_bounds list stopped key bounds leaf kept ∙ sym b) ∙ is
+
+-- a name without a binding isn't bound
+pub not_bound : {A : Type 0} {found : Option Bound} → found ≡ None → IsSome found → A
+not_bound none some =
+    let never : false ≡ true = subst IsSome none some in
+    absurd (true≢false (sym never))
+
+-- and its leaf is one of the tree's
+pub found_inside : (list : List Record) (stopped : Bool) (key : LmsKey) (bounds : List Bound) (leaf : ℕ) (test : Bound → Bool) (found : Bound) → IsKept list stopped key bounds leaf → find test bounds ≡ Some found → found.leaf < 2 ^ height_of key.pair.tree
+found_inside list stopped key bounds leaf test found kept is =
+    let below = found_below test bounds found 0 is in
+    let next = kept.next ∙ next_of-records key bounds list kept.records in
+    let inside = kept.inside in
+    omega arith
+
+-- a refusal may leave all as it was
+pub leaves_same : {A S R : Type 0} (result : Result A SignFault) (v : View S R) → Leaves result v v
+leaves_same (Ok _) v = tt
+leaves_same (Err Changed) v = refl
+leaves_same (Err Exhausted) v = refl
+leaves_same (Err RandomFailed) v = refl
+leaves_same (Err StoreFailed) v = tt
+leaves_same (Err Stopped) v = refl
+leaves_same (Err (Damaged k)) v = refl
+leaves_same (Err OutOfMemory) v = tt
+leaves_same (Err LedgerFull) v = refl
+leaves_same (Err (Unreadable k)) v = refl
+leaves_same (Err KeyThere) v = refl
+
+-- and all but the ledger's memory
+all_but_memory : {S R : Type 0} (A : Type 0) (fault : SignFault) (old new : View S R) → new ≡ record old { spare = new.spare } → Leaves {A = A} (Err fault) old new
+all_but_memory A Changed old new same = same
+all_but_memory A Exhausted old new same = same
+all_but_memory A RandomFailed old new same =
+    let random = ap (λ (v : View _ _). v.random) same in
+    same ∙ (λ i. record old { random = sym random i; spare = new.spare })
+all_but_memory A StoreFailed old new same = tt
+all_but_memory A Stopped old new same = same
+all_but_memory A (Damaged k) old new same = same
+all_but_memory A OutOfMemory old new same = tt
+all_but_memory A LedgerFull old new same = same
+all_but_memory A (Unreadable k) old new same = same
+all_but_memory A KeyThere old new same = same
+
+pub leaves_grown : {A S R : Type 0} (result : Result A SignFault) (fault : SignFault) (old view : View S R) (key : LmsKey) (spare : ℕ) → result ≡ Err fault → view ≡ old → key ≡ view.key → Leaves result old (record view { key = key; spare = spare })
+leaves_grown {A = A} result fault old view key spare failed seen same =
+    let key_is = same ∙ ap (λ (v : View _ _). v.key) seen in
+    subst (λ r. Leaves r old (record view { key = key; spare = spare })) (sym failed)
+    (all_but_memory A fault old (record view { key = key; spare = spare }) (λ i. record (seen i) { key = key_is i; spare = spare }))
+
+-- what a draw that fails says
+pub draw_fails : (before after : ℕ) (upcoming left : Option (List ℕ)) (fault : SignFault) → DrawsBytes before after upcoming left (Err fault) → (fault ≡ RandomFailed) × (left ≡ upcoming)
+draw_fails before after upcoming left RandomFailed (_, same) = (refl, same)
+draw_fails before after upcoming left Changed h = absurd h
+draw_fails before after upcoming left Exhausted h = absurd h
+draw_fails before after upcoming left StoreFailed h = absurd h
+draw_fails before after upcoming left Stopped h = absurd h
+draw_fails before after upcoming left (Damaged k) h = absurd h
+draw_fails before after upcoming left OutOfMemory h = absurd h
+draw_fails before after upcoming left LedgerFull h = absurd h
+draw_fails before after upcoming left (Unreadable k) h = absurd h
+draw_fails before after upcoming left KeyThere h = absurd h

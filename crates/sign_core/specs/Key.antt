@@ -1,0 +1,41 @@
+-- Public keys of every scheme: how they are spelled, and what their verification answers.
+use Rattle.std.specs.Prelude.{◌≡◌, ◌≢◌, ◌⊎◌, ℕ, List, length, Result}
+use Rattle.typecodes.specs.declared.refusal.Refusal.{Refusal}
+use Rattle.typecodes.specs.Layout.{Spells, HasFault}
+use Rattle.lms.specs.Key.{public_key as lms_public_key}
+use Rattle.lms.specs.Verification.{Verdict as LmsVerdict, LeavesMessage as LmsLeavesMessage}
+use Rattle.hss.specs.Key.{public_key as hss_public_key}
+use Rattle.hss.specs.Verification.{Verdict as HssVerdict, LeavesMessage as HssLeavesMessage}
+use Rattle.xmss.specs.Key.{public_key as xmss_public_key}
+use Rattle.xmss.specs.Verification.{Verdict as XmssVerdict, LeavesMessage as XmssLeavesMessage}
+use Rattle.sign_core.specs.declared.key.AnyPublic.{AnyPublic}
+use Rattle.sign_core.specs.declared.key.AnyPublic.TheVariants.{Lms, Hss, Xmss}
+use Rattle.sign_core.specs.declared.key.KeyFault.{KeyFault}
+use Rattle.sign_core.specs.declared.key.KeyFault.TheVariants.{Length, Unreadable}
+
+-- A key is spelled as its scheme says (RFC 8554 5.3 and 6.1, RFC 8391 4.1.7).
+abbrev pub SpellsKey : AnyPublic → List ℕ → Type 0
+SpellsKey (Lms key) bytes = Spells lms_public_key key bytes
+SpellsKey (Hss key) bytes = Spells hss_public_key key bytes
+SpellsKey (Xmss key) bytes = Spells xmss_public_key key bytes
+
+-- What is wrong with bytes that spell no key: they have no scheme's length, which is 56, 60 or 68 bytes; or
+-- they have one's, and as a key of this scheme they have this fault.
+abbrev pub KeyHasFault : List ℕ → KeyFault → Type 0
+KeyHasFault bytes (Length n) = (n ≡ length bytes) × (n ≢ 56) × (n ≢ 60) × (n ≢ 68)
+KeyHasFault bytes (Unreadable fault) =
+    ((length bytes ≡ 56) × HasFault lms_public_key bytes 0 fault)
+    ⊎ ((length bytes ≡ 60) × HasFault hss_public_key bytes 0 fault)
+    ⊎ ((length bytes ≡ 68) × HasFault xmss_public_key bytes 0 fault)
+
+-- Verification answers what the key's scheme says.
+abbrev pub KeyVerdict : {A : Type 0} → AnyPublic → List ℕ → List ℕ → Result A Refusal → Type 0
+KeyVerdict (Lms key) message bytes result = LmsVerdict key message bytes result
+KeyVerdict (Hss key) message bytes result = HssVerdict key message bytes result
+KeyVerdict (Xmss key) message bytes result = XmssVerdict key message bytes result
+
+-- and leaves of the message what the key's scheme says
+abbrev pub KeyLeavesMessage : {A : Type 0} → AnyPublic → List ℕ → List ℕ → Result A Refusal → Type 0
+KeyLeavesMessage (Lms key) old new result = LmsLeavesMessage old new result
+KeyLeavesMessage (Hss key) old new result = HssLeavesMessage key old new result
+KeyLeavesMessage (Xmss key) old new result = XmssLeavesMessage old new result

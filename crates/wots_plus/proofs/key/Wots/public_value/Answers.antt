@@ -1,6 +1,0 @@
-use Rattle.std.proofs.Common.{◌∙◌, ap}
-use Rattle.wots_plus.specs.Signed.{public_value}
-use Rattle.wots_plus.proofs.key.Wots.public_value.Goals as goal
-
-pub returns : goal.returns
-returns c = c.l_tree.ensures.value ∙ ap (public_value _ _) c.ends_from_secret-ends.ensures

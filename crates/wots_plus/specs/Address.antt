@@ -1,0 +1,42 @@
+-- The addresses of the hashes (RFC 8391 2.5), in the one tree of layer 0 and number 0.
+use Rattle.std.specs.Prelude.{ℕ, List, [], ◌∷◌}
+use Rattle.std.specs.List.{flat_map}
+use Rattle.wots_plus.specs.declared.address.Address.{Address}
+use Rattle.wots_plus.specs.declared.address.Address.TheVariants.{OneTime, LTree, HashTree}
+use Rattle.wots_plus.specs.Hashes.{Adrs, to_byte}
+
+-- the eight words of an address: layer, tree (two words), type, and the four that the type has, of
+-- which keyAndMask is the last
+abbrev pub words : ℕ → ℕ → ℕ → ℕ → ℕ → List ℕ
+words kind first second third mask = 0 ∷ 0 ∷ 0 ∷ kind ∷ first ∷ second ∷ third ∷ mask ∷ []
+
+-- words as bytes, 4 for each
+abbrev pub bytes_of_words : List ℕ → List ℕ
+bytes_of_words words = flat_map (λ word. to_byte word 4) words
+
+unfoldable pub address : ℕ → ℕ → ℕ → ℕ → Adrs
+address kind first second third mask = bytes_of_words (words kind first second third mask)
+
+-- an OTS hash address: OTS address, chain address, hash address
+abbrev pub one_time : ℕ → ℕ → ℕ → Adrs
+one_time leaf chain hash = address 0 leaf chain hash
+
+-- an L-tree address: L-tree address, tree height, tree index
+abbrev pub l_tree : ℕ → ℕ → ℕ → Adrs
+l_tree leaf height index = address 1 leaf height index
+
+-- a hash tree address: padding, tree height, tree index
+abbrev pub hash_tree : ℕ → ℕ → Adrs
+hash_tree height index = address 2 0 height index
+
+-- an address as the code has it
+abbrev pub address_of : Address → Adrs
+address_of (OneTime leaf chain hash) mask = one_time leaf chain hash mask
+address_of (LTree leaf height index) mask = l_tree leaf height index mask
+address_of (HashTree height index) mask = hash_tree height index mask
+
+-- and its words
+abbrev pub words_of : Address → ℕ → List ℕ
+words_of (OneTime leaf chain hash) mask = words 0 leaf chain hash mask
+words_of (LTree leaf height index) mask = words 1 leaf height index mask
+words_of (HashTree height index) mask = words 2 0 height index mask

@@ -1,0 +1,16 @@
+-- The nodes of an XMSS tree (RFC 8391 4.1). SEED is the public seed of its key.
+use Rattle.std.specs.Prelude.{ℕ, List}
+use Rattle.merkle.specs.Tree.{Joins}
+use Rattle.wots_plus.specs.Address.{hash_tree}
+use Rattle.wots_plus.specs.Hashes.{rand_hash}
+use Rattle.wots_plus.specs.Key.{public_hash}
+
+-- leaf i, of the ends of its one-time key's chains: the root of the L-tree over them, under the OTS
+-- address and the L-tree address i (4.1.6)
+abbrev pub leaf_of : List ℕ → ℕ → List (List ℕ) → List ℕ
+leaf_of seed i ends = public_hash seed i ends
+
+-- RAND_HASH of two nodes of height k under a hash tree address with that height and the index j of
+-- the node above them (4.1.6)
+abbrev pub join_of : List ℕ → Joins
+join_of seed k j left right = rand_hash seed (hash_tree k j) left right

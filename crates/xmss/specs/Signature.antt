@@ -1,0 +1,38 @@
+-- How XMSS signatures are spelled (RFC 8391 4.1.8).
+use Rattle.std.specs.Prelude.{ℕ, ◌^◌, List, nat_lt, if◌then◌else◌}
+use Rattle.typecodes.specs.declared.fault.Cause.TheVariants.{LeafOutOfRange}
+use Rattle.typecodes.specs.declared.types.XmssType.{XmssType}
+use Rattle.typecodes.specs.Types.{xmss_height_of}
+use Rattle.typecodes.specs.Layout.{Layout, done, refuse, ◌>>=◌}
+use Rattle.typecodes.specs.Fields.{number, block, values, values_in}
+
+-- a signature: its leaf's index idx, r, the value of each chain, and the authentication path
+pub record Signature : Type 0 where
+  pub index : ℕ
+  pub randomizer : List ℕ
+  pub chains : List (List ℕ)
+  pub path : List (List ℕ)
+
+-- the signature of these parts
+abbrev pub signature_with : ℕ → List ℕ → List (List ℕ) → List (List ℕ) → Signature
+signature_with index randomizer chains path =
+    record { index = index; randomizer = randomizer; chains = chains; path = path }
+
+-- the values of all chains in the bytes: each of 32 bytes, 67 of them (3.1.1)
+unfoldable pub chains_in : List ℕ → List (List ℕ)
+chains_in bytes = values_in 67 bytes
+
+-- the index of a leaf of a tree of height h: any other is told at once, where it stands
+unfoldable pub leaf_index : ℕ → Layout ℕ
+leaf_index h = do
+  index ← number
+  if nat_lt index (2 ^ h) then done index else refuse 4 LeafOutOfRange
+
+-- A signature of a type (4.1.8), which has no code of the type: idx, r, 67 values and the path.
+unfoldable pub signature : XmssType → Layout Signature
+signature tree = do
+  index ← leaf_index (xmss_height_of tree)
+  randomizer ← block 32
+  chains ← values 67
+  path ← values (xmss_height_of tree)
+  done (record { index = index; randomizer = randomizer; chains = chains; path = path })

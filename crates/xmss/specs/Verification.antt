@@ -1,0 +1,49 @@
+-- Which signatures are valid (RFC 8391 4.1.10, 3.1.6 and 4.1.5), and what verification answers, with the refusal that
+-- comes first.
+use Rattle.std.specs.Prelude.{◌≡◌, ℕ, ◌<◌, ◌^◌, List, [], length, Result, Ok, Err}
+use Rattle.typecodes.specs.declared.refusal.Refusal.{Refusal}
+use Rattle.typecodes.specs.declared.refusal.Refusal.TheVariants.{Unreadable, TypeMismatch, LevelMismatch, RootMismatch}
+use Rattle.typecodes.specs.Layout.{Spells, HasFault}
+use Rattle.typecodes.specs.Types.{xmss_height_of}
+use Rattle.merkle.specs.Ascent.{IsAscent, at}
+use Rattle.wots_plus.specs.Key.{ClimbTo}
+use Rattle.xmss.specs.declared.key.XmssPublic.{XmssPublic}
+use Rattle.xmss.specs.Digest.{message_digest_of}
+use Rattle.xmss.specs.Nodes.{join_of, leaf_of}
+use Rattle.xmss.specs.Signature.{Signature, signature}
+
+-- The node to which a signature of a message leads under a key: from the digits of the message's
+-- digest the signature's values climb to the ends of their chains; the L-tree over these is the leaf;
+-- and from this leaf the path leads, node by node, to a node of the path's height.
+pub record LeadsTo (key : XmssPublic) (message : List ℕ) (s : Signature) (node : List ℕ) : Type 0 where
+  pub ends : List (List ℕ)
+  pub climbed : ClimbTo key.seed s.index (message_digest_of s.randomizer key.root s.index message) s.chains ends
+  pub nodes : List (List ℕ)
+  pub ascent : IsAscent (join_of key.seed) s.index (leaf_of key.seed s.index ends) s.path nodes
+  pub last : at nodes (length s.path) ≡ node
+
+-- The signature has a value for each chain (3.1.1); its index is one of a leaf of the key's tree, and the path is
+-- as long as the tree is high; and it leads to the key's root.
+pub record IsValid (key : XmssPublic) (message : List ℕ) (s : Signature) : Type 0 where
+  pub chains : length s.chains ≡ 67
+  pub leaf : s.index < 2 ^ xmss_height_of key.tree
+  pub height : length s.path ≡ xmss_height_of key.tree
+  pub leads : LeadsTo key message s key.root
+
+-- Ok: the bytes spell a valid signature of the key's type. Else the bytes spell none of that type, and
+-- have this fault; or they spell one that isn't valid.
+abbrev pub Verdict : {A : Type 0} → XmssPublic → List ℕ → List ℕ → Result A Refusal → Type 0
+Verdict key message bytes (Ok _) = (s : Signature) × Spells (signature key.tree) s bytes × IsValid key message s
+Verdict key message bytes (Err (Unreadable fault)) = HasFault (signature key.tree) bytes 0 fault
+Verdict key message bytes (Err (TypeMismatch level)) = ⊥
+Verdict key message bytes (Err LevelMismatch) = ⊥
+Verdict key message bytes (Err (RootMismatch level)) =
+    (level ≡ 0) × ((s : Signature) × Spells (signature key.tree) s bytes × (IsValid key message s → ⊥))
+
+-- What is left of the message: nothing where it was read to its end; all of it where a refusal came first.
+abbrev pub LeavesMessage : {A : Type 0} → List ℕ → List ℕ → Result A Refusal → Type 0
+LeavesMessage old new (Ok _) = new ≡ []
+LeavesMessage old new (Err (Unreadable fault)) = new ≡ old
+LeavesMessage old new (Err (TypeMismatch level)) = ⊥
+LeavesMessage old new (Err LevelMismatch) = ⊥
+LeavesMessage old new (Err (RootMismatch level)) = new ≡ []

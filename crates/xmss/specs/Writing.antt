@@ -1,0 +1,31 @@
+-- The signatures that a secret makes (RFC 8391 3.1.5 and 4.1.9), and the bytes of keys and signatures.
+use Rattle.std.specs.Prelude.{ℕ, List, ◌++◌}
+use Rattle.std.specs.List.{concat}
+use Rattle.typecodes.specs.Types.{xmss_code}
+use Rattle.wots_plus.specs.Hashes.{to_byte}
+use Rattle.wots_plus.specs.Key.{signed_values}
+use Rattle.xmss.specs.declared.key.XmssPublic.{XmssPublic}
+use Rattle.xmss.specs.declared.secret.XmssSecret.{XmssSecret}
+use Rattle.xmss.specs.Secret.{path_in, randomizer_of}
+use Rattle.xmss.specs.Signature.{Signature}
+
+-- the signature of the digest M' by leaf i, with a path
+abbrev pub signed : XmssSecret → ℕ → List ℕ → List (List ℕ) → Signature
+signed secret i digest path = record {
+  index = i;
+  randomizer = randomizer_of secret.prf_key i;
+  chains = signed_values secret.public_seed i secret.secret_seed digest;
+  path = path;
+}
+
+-- The textbook signature: that with the path of leaf i.
+abbrev pub textbook : XmssSecret → ℕ → List ℕ → Signature
+textbook secret i digest = signed secret i digest (path_in secret i)
+
+-- the bytes of a signature (4.1.8)
+abbrev pub signature_bytes : Signature → List ℕ
+signature_bytes s = to_byte s.index 4 ++ s.randomizer ++ concat s.chains ++ concat s.path
+
+-- the bytes of a public key (4.1.7)
+abbrev pub public_bytes : XmssPublic → List ℕ
+public_bytes key = to_byte (xmss_code key.tree) 4 ++ key.root ++ key.seed
