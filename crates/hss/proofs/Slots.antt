@@ -65,17 +65,17 @@ module _ (slots : List (Option SignedKeyView)) (i : ℕ) (view : SignedKeyView) 
   -- one more slot in use
   pub filled-first : AreFirst i slots → AreFirst (i + 1) (set slots i (Some view))
   filled-first first = (
-      λ j below. elim (cases_lt j (i + 1)) [
-        | inl before ↦ ap (λ front. length (signed_in front)) (take-set-le j slots i (Some view) (omega arith)) ∙ first.0 j (omega arith)
-        | inr past ↦
-            let last : i + 1 ≡ j = omega arith in
-            let front : signed_in (take (i + 1) (set slots i (Some view))) ≡ signed_in (take i slots) ++ signed_key_of view ∷ [] =
-            ap signed_in (take_more_set slots i (Some view) within) ∙ flat_map-append shown (take i slots) (Some view ∷ []) in
-            subst (λ j. length (signed_in (take j (set slots i (Some view)))) ≡ j) last
-            (ap length front ∙ length-append (signed_in (take i slots)) (signed_key_of view ∷ []) ∙ ap (λ n. n + 1) (first.0 i (omega arith)))
-      ],
-      ap (λ k. signed_in (drop k (set slots i (Some view)))) (add-one i) ∙ (set-in slots i view within empty).1,
-    )
+    λ j below. elim (cases_lt j (i + 1)) [
+      | inl before ↦ ap (λ front. length (signed_in front)) (take-set-le j slots i (Some view) (omega arith)) ∙ first.0 j (omega arith)
+      | inr past ↦
+          let last : i + 1 ≡ j = omega arith in
+          let front : signed_in (take (i + 1) (set slots i (Some view))) ≡ signed_in (take i slots) ++ signed_key_of view ∷ [] =
+          ap signed_in (take_more_set slots i (Some view) within) ∙ flat_map-append shown (take i slots) (Some view ∷ []) in
+          subst (λ j. length (signed_in (take j (set slots i (Some view)))) ≡ j) last
+          (ap length front ∙ length-append (signed_in (take i slots)) (signed_key_of view ∷ []) ∙ ap (λ n. n + 1) (first.0 i (omega arith)))
+    ],
+    ap (λ k. signed_in (drop k (set slots i (Some view)))) (add-one i) ∙ (set-in slots i view within empty).1,
+  )
 
   -- it stands after those before it
   pub filled-stand : (place : ℕ) (bytes : List ℕ) → StandInTurn place bytes slots → StandsAt (place + taken_by (signed_in (take i slots))) bytes view

@@ -61,6 +61,10 @@ message_at message s i = slice_index_or (messages_of message s) i message
 abbrev pub start_of : Signature → ℕ → ℕ
 start_of s i = 4 + sum_by taken (take i (signatures_of s))
 
+-- the types of the levels
+abbrev pub pairs_in : Signature → List LmsPair
+pairs_in s = map (λ level. level.pair) (signatures_of s)
+
 -- how many bytes the signatures of levels of these pairs have
 abbrev pub signature_size : List LmsPair → ℕ
 signature_size pairs = 4 + sum_by lms_signature_len_of pairs + 56 * (length pairs - 1)

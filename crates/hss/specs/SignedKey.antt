@@ -1,5 +1,6 @@
 -- The signature of a level above the bottom with the key that it signs (RFC 8554 6.2).
-use Rattle.std.specs.Prelude.{◌≡◌, ◌≤◌, ℕ, zero, suc, ◌+◌, List, [], ◌∷◌, Option, Some, None, drop, length, map, slice_index_or, sum_by, take}
+use Rattle.std.specs.Prelude.{◌≡◌, ◌≤◌, ℕ, zero, suc, ◌+◌, List, [], ◌∷◌, Option, Some, None}
+use Rattle.std.specs.Prelude.{drop, length, map, slice_index_or, sum_by, take}
 use Rattle.std.specs.List.{flat_map}
 use Rattle.typecodes.specs.Types.{lms_signature_len_of}
 use Rattle.typecodes.specs.Layout.{Layout, done, ◌>>=◌}

@@ -20,11 +20,7 @@ impl HssPublic {
 
     /// The key that the bytes spell, 60 bytes and no more; it has 1 to 8 levels. Otherwise their first fault
     /// (1, 2, 3 or 5).
-    #[tactic(
-        auto,
-        using(typecodes::proofs::Steps::steps, typecodes::proofs::Steps::reading),
-        unfolding(crate::specs::Key::public_key)
-    )]
+    #[tactic(auto, using(typecodes::proofs::Steps::steps, typecodes::proofs::Steps::reading), unfolding(crate::specs::Key::public_key))]
     pub fn read(bytes: &[u8]) -> Result<Self, ReadFault>
         ensures read { Reads public_key (λ key. key) bytes.now result }
         ensures least { IfOk result (λ key. 1 ≤ key.levels) }
@@ -41,10 +37,8 @@ impl HssPublic {
     #[tactic(auto, using(crate::proofs::Numbers::numbers), unfolding(crate::specs::Key::level_number))]
     fn level_count_at(cursor: &mut Cursor<'_>) -> Result<LevelCount, ReadFault>
         requires { cursor.old.place + 4 < 2 ^ 32 }
-        ensures read {
-            Gives (λ n. (n, cursor.new.place)) result
-            (read (level_number 1 8) cursor.old.bytes.now cursor.old.place)
-        }
+        ensures read { Gives (λ n. (n, cursor.new.place)) result
+            (read (level_number 1 8) cursor.old.bytes.now cursor.old.place) }
         ensures least { IfOk result (λ n. 1 ≤ n) }
         ensures most { IfOk result (λ n. n ≤ 8) }
         ensures len { OnOk result (cursor.new.place ≡ cursor.old.place + 4) }

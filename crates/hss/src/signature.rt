@@ -11,7 +11,8 @@ ghost use Rattle.lms.specs.Key.{public_key as lms_public_key};
 ghost use Rattle.lms.specs.View.{bytes_of as lms_bytes_of, pair_of as lms_pair_of, signature_of as lms_signature_of};
 ghost use Rattle.hss.specs.Key.{level_number};
 ghost use Rattle.hss.specs.SignedKey.{StandInTurn, StandsAt, signed_in, taken_by};
-ghost use Rattle.hss.specs.Signature.{key_at, level_count, shown_by, signature, signature_at, signature_size, signatures_of, start_of};
+ghost use Rattle.hss.specs.Signature.{key_at, level_count, pairs_in, shown_by, signature, signature_at};
+ghost use Rattle.hss.specs.Signature.{signature_size, start_of};
 
 use crate::signed_key::SignedKeyView;
 use crate::signed_keys::SignedKeys;
@@ -26,10 +27,8 @@ pub struct HssSigView<'a> {
     bytes: &'a [u8],
     ghost spelled: { read signature bytes.now 0 ≡ Ok (shown_by signed.slots bottom, length bytes.now) },
     ghost stand: { StandInTurn 4 bytes.now signed.slots },
-    ghost last: {
-        lms_bytes_of bottom ≡ take (lms_signature_len_of (lms_pair_of bottom))
-        (drop (4 + taken_by (signed_in signed.slots)) bytes.now)
-    },
+    ghost last: { lms_bytes_of bottom ≡ take (lms_signature_len_of (lms_pair_of bottom))
+        (drop (4 + taken_by (signed_in signed.slots)) bytes.now) },
 }
 
 impl<'a> HssSigView<'a> {
@@ -37,11 +36,7 @@ impl<'a> HssSigView<'a> {
 
     /// The signature that the bytes spell, and no more: 2644 bytes for two levels of H5/W8. Otherwise
     /// their first fault (1 to 5).
-    #[tactic(
-        auto,
-        using(typecodes::proofs::Steps::steps, typecodes::proofs::Steps::reading),
-        unfolding(crate::specs::Signature::signature)
-    )]
+    #[tactic(auto, using(typecodes::proofs::Steps::steps, typecodes::proofs::Steps::reading), unfolding(crate::specs::Signature::signature))]
     pub fn read(bytes: &'a [u8]) -> Result<Self, ReadFault>
         ensures reads { Reads signature signature_of bytes.entry.now result }
         ensures whole { IfOk result (λ view. lent_of view ≡ bytes.entry) }
@@ -72,10 +67,8 @@ impl<'a> HssSigView<'a> {
     pub fn level(&self, i: u8) -> LmsSigView<'a>
         requires { i < level_count (signature_of self.now) }
         ensures value { lms_signature_of result ≡ signature_at (signature_of self.now) i }
-        ensures range {
-            lms_bytes_of result ≡ take (lms_signature_len_of (lms_pair_of result))
-            (drop (start_of (signature_of self.now) i) (bytes_of self.now))
-        }
+        ensures range { lms_bytes_of result ≡ take (lms_signature_len_of (lms_pair_of result))
+            (drop (start_of (signature_of self.now) i) (bytes_of self.now)) }
     {
         match self.signed_key(i) {
             Some(signed) => signed.signature,
@@ -87,15 +80,9 @@ impl<'a> HssSigView<'a> {
     /// bottom.
     pub fn signed_key(&self, i: u8) -> Option<SignedKeyView<'a>>
         ensures some { IsSome result ↔ (i + 1 < level_count (signature_of self.now)) }
-        ensures signature {
-            IfSome result (λ view. lms_signature_of view.signature ≡ signature_at (signature_of self.now) i)
-        }
-        ensures key {
-            (top : LmsPublic) → IfSome result (λ view. view.key ≡ key_at top (signature_of self.now) (i + 1))
-        }
-        ensures range {
-            IfSome result (StandsAt (start_of (signature_of self.now) i) (bytes_of self.now))
-        }
+        ensures signature { IfSome result (λ view. lms_signature_of view.signature ≡ signature_at (signature_of self.now) i) }
+        ensures key { (top : LmsPublic) → IfSome result (λ view. view.key ≡ key_at top (signature_of self.now) (i + 1)) }
+        ensures range { IfSome result (StandsAt (start_of (signature_of self.now) i) (bytes_of self.now)) }
         ensures spells { IfSome result (λ view. Spells lms_public_key view.key view.key_bytes.now) }
     {
         self.signed.get(i)
@@ -112,7 +99,7 @@ impl<'a> HssSigView<'a> {
     pub fn bytes(&self) -> &'a [u8]
         ensures whole { result ≡ lent_of self.now }
         ensures spells { Spells signature (signature_of self.now) result.now }
-        ensures len { length result.now ≡ signature_size (map (λ level. level.pair) (signatures_of (signature_of self.now))) }
+        ensures len { length result.now ≡ signature_size (pairs_in (signature_of self.now)) }
     {
         self.bytes
     }
@@ -122,10 +109,8 @@ impl<'a> HssSigView<'a> {
 #[tactic(auto, using(crate::proofs::Numbers::numbers), unfolding(crate::specs::Key::level_number))]
 fn number_above(cursor: &mut Cursor<'_>) -> Result<u8, ReadFault>
     requires { cursor.old.place + 4 < 2 ^ 32 }
-    ensures read {
-        Gives (λ n. (n, cursor.new.place)) result
-        (read (level_number 0 7) cursor.old.bytes.now cursor.old.place)
-    }
+    ensures read { Gives (λ n. (n, cursor.new.place)) result
+        (read (level_number 0 7) cursor.old.bytes.now cursor.old.place) }
     ensures most { IfOk result (λ n. n ≤ 7) }
     ensures len { OnOk result (cursor.new.place ≡ cursor.old.place + 4) }
     ensures bytes { cursor.new.bytes ≡ cursor.old.bytes }

@@ -23,10 +23,8 @@ impl<'a> SignedKeys<'a> {
     pub(crate) fn from_cursor(cursor: &mut Cursor<'a>, count: u8) -> Result<Self, ReadFault>
         requires few { count ≤ 7 }
         requires room { cursor.old.place + 9380 * count < 2 ^ 31 }
-        ensures read {
-            Gives (λ keys. (signed_in keys.slots, cursor.new.place)) result
-            (read (signed_keys count) cursor.old.bytes.now cursor.old.place)
-        }
+        ensures read { Gives (λ keys. (signed_in keys.slots, cursor.new.place)) result
+            (read (signed_keys count) cursor.old.bytes.now cursor.old.place) }
         ensures count { IfOk result (λ keys. keys.count ≡ count) }
         ensures stand { IfOk result (λ keys. StandInTurn cursor.old.place cursor.old.bytes.now keys.slots) }
         ensures most { OnOk result (cursor.new.place ≤ cursor.old.place + 9380 * count) }

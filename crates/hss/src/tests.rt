@@ -358,7 +358,10 @@ fn eight_levels_are_read(rt: HostRuntime) -> Result<(), Fail> {
     for i in 0..view.levels() {
         assert_eq!(rt; view.level(i).index(), u32::from(i));
         let next = view.signed_key(i);
-        assert_eq!(rt; next.map(|next| next.key.identifier[0]), (i < 7).then_some(i));
+        assert_eq!(rt;
+            next.map(|next| next.key.identifier[0]),
+            (i < 7).then_some(i)
+        );
     }
     Ok(())
 }

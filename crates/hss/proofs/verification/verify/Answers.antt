@@ -41,10 +41,10 @@ returns-clause-message c =
 -- the signature has other levels than the key
 pub returns-then-levels-get-clause-verdict : goal.returns-then-levels-get-clause-verdict
 returns-then-levels-get-clause-verdict c = (
-      signature_of c.in_ok-view.view,
-      read_spells _ signature signature_of _ c.read.result _ _ c.read.ensures.reads c.in_ok-view.ensures.cases (λ _ never. never),
-      λ same. c.if-levels-get.true (c.levels.ensures.value ∙ same ∙ sym c.get.ensures.value),
-    )
+  signature_of c.in_ok-view.view,
+  read_spells _ signature signature_of _ c.read.result _ _ c.read.ensures.reads c.in_ok-view.ensures.cases (λ _ never. never),
+  λ same. c.if-levels-get.true (c.levels.ensures.value ∙ same ∙ sym c.get.ensures.value),
+)
 
 pub returns-in_err-key-clause-message : goal.returns-in_err-key-clause-message
 returns-in_err-key-clause-message c =

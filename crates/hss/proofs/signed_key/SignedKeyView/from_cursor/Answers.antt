@@ -16,7 +16,7 @@ returns-clause-part c =
     let next : c.from_cursor.new.cursor.place ≡ cursor.place + size = omega (arith, c.in_ok-signature.ensures.len) in (
       c.in_ok-signature.ensures.part ∙ ap (λ n. take n (drop cursor.place cursor.bytes.now)) long,
       c.bytes_of_key-key_bytes.ensures.range
-      ∙ ap₂ (λ at bytes. take 56 (drop at bytes)) next bytes,
+          ∙ ap₂ (λ at bytes. take 56 (drop at bytes)) next bytes,
     )
 
 -- the key has a fault
