@@ -19,7 +19,8 @@ use Rattle.lms.specs.Key.{public_key as lms_public_key}
 use Rattle.lms.specs.Verification.{Verdict as LmsVerdict}
 use Rattle.hss.specs.declared.key.HssPublic.{HssPublic}
 use Rattle.hss.specs.Key.{level_number}
-use Rattle.hss.specs.Signature.{signature as hss_signature, signed_key, signed_keys}
+use Rattle.hss.specs.SignedKey.{signed_key, signed_keys}
+use Rattle.hss.specs.Signature.{signature as hss_signature}
 use Rattle.hss.specs.Verification.{Verdict as HssVerdict}
 use Rattle.xmss.specs.declared.key.XmssPublic.{XmssPublic}
 use Rattle.xmss.specs.Signature.{leaf_index, signature as xmss_signature}

@@ -22,7 +22,8 @@ use Rattle.lms.proofs.SigningBytes.{last_field, number_spelled}
 use Rattle.hss.specs.declared.key.HssPublic.{HssPublic}
 use Rattle.hss.specs.declared.secret.Level.{Level}
 use Rattle.hss.specs.Key.{level_number, public_key}
-use Rattle.hss.specs.Signature.{Signature, SignedKey, signature, signature_size, signed_key, signed_keys}
+use Rattle.hss.specs.SignedKey.{SignedKey, signed_key, signed_keys}
+use Rattle.hss.specs.Signature.{Signature, signature, signature_size}
 use Rattle.hss.specs.Secret.{key_of, signature_by}
 use Rattle.hss.specs.Writing.{level_in, levels_in, pairs_of, part_size, public_bytes, signature_bytes, signed_by, signed_key_by, signed_key_bytes}
 use Rattle.hss.proofs.Making.{signed-at, signed-count}

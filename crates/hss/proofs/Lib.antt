@@ -1,6 +1,9 @@
 pub mod Numbers
 pub mod Passing
+pub mod KeyBytes
+pub mod Slots
 pub mod Walking
+pub mod Shown
 pub mod OneWay
 pub mod Verifying
 pub mod Verdicts

@@ -10,7 +10,8 @@ use Rattle.lms.specs.Secret.{path_in, public_of as lms_public_of}
 use Rattle.lms.specs.Writing.{signed as lms_signed, textbook as lms_textbook}
 use Rattle.lms.specs.Verification.{IsValid as IsLmsValid}
 use Rattle.lms.proofs.Signing.{signed_valid}
-use Rattle.hss.specs.Signature.{Signature, SignedKey, key_at, keys_of, message_at, signature_at, signatures_of}
+use Rattle.hss.specs.SignedKey.{SignedKey}
+use Rattle.hss.specs.Signature.{Signature, key_at, keys_of, message_at, signature_at, signatures_of}
 use Rattle.hss.specs.Verification.{IsValid}
 use Rattle.hss.specs.Secret.{Signing, key_of, signature_by, signing_of}
 use Rattle.hss.specs.Writing.{AreDigests, FromSecrets, Signs, level_in, levels_in, public_by, public_of, signed_by, signed_with, textbook}

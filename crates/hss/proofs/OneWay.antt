@@ -13,7 +13,8 @@ use Rattle.lms.specs.Key.{public_key as lms_public_key}
 use Rattle.lms.proofs.OneWay.{one_way-public_key as one_way-lms_public_key, one_way-signature as one_way-lms_signature}
 use Rattle.hss.specs.declared.key.HssPublic.{HssPublic}
 use Rattle.hss.specs.Key.{level_number, public_key}
-use Rattle.hss.specs.Signature.{Signature, SignedKey, signature, signed_key, signed_keys}
+use Rattle.hss.specs.SignedKey.{SignedKey, signed_key, signed_keys}
+use Rattle.hss.specs.Signature.{Signature, signature}
 
 -- a number of levels
 tested : ℕ → ℕ → ℕ → Layout ℕ

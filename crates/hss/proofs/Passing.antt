@@ -1,5 +1,5 @@
 -- Signed keys that are read one after the other.
-use Rattle.std.proofs.Common.{◌≡◌, ◌∙◌, refl, sym, ap, ℕ, suc, ◌+◌, ◌-◌, ◌<◌, ◌≤◌, List, ◌∷◌, Ok, Err, arith}
+use Rattle.std.proofs.Common.{◌≡◌, ◌∙◌, refl, sym, ap, ℕ, zero, suc, ◌+◌, ◌<◌, ◌≤◌, List, [], ◌∷◌, ◌++◌, Ok, Err, arith, add-one}
 use Rattle.typecodes.specs.declared.fault.ReadFault.{ReadFault}
 use Rattle.typecodes.specs.declared.types.LmsType.{LmsType}
 use Rattle.typecodes.specs.declared.types.OtsType.{OtsType}
@@ -11,7 +11,8 @@ use Rattle.typecodes.specs.Cursor.{and_then, read}
 use Rattle.typecodes.proofs.Read.{read-bind}
 use Rattle.lms.specs.Signature.{Signature as LmsSignature, signature as lms_signature}
 use Rattle.lms.specs.Key.{public_key as lms_public_key}
-use Rattle.hss.specs.Signature.{SignedKey, end_of, signed_key, signed_keys}
+use Rattle.lms.proofs.Parts.{in_turn}
+use Rattle.hss.specs.SignedKey.{SignedKey, signed_key, signed_keys}
 
 -- no one-time signature is longer than W1's, and no tree is higher than H25's
 pub ots_most : (ots : OtsType) → signature_len_of ots ≤ 8516
@@ -32,66 +33,73 @@ pub read-behind : {V W : Type 0} (first : Layout V) (next : V → Layout W) (byt
     → read (first >>= next) bytes place ≡ read (next x.0) bytes x.1
 read-behind first next bytes place x found = read-bind first next bytes place ∙ ap (λ r. and_then r (λ y. read (next y.0) bytes y.1)) found
 
--- values that are put in front of a list change no end
-end-behind : (first : SignedKey) (rest : Layout (List SignedKey)) (bytes : List ℕ) (place : ℕ)
-    → end_of (read (rest >>= λ keys. done (first ∷ keys)) bytes place) ≡ end_of (read rest bytes place)
-end-behind first rest bytes place =
-    ap end_of (read-bind rest (λ keys. done (first ∷ keys)) bytes place)
-    ∙ (elim (read rest bytes place) as (λ r. end_of (and_then r (λ x. Ok (first ∷ x.0, x.1))) ≡ end_of r) [ Ok x ↦ refl | Err fault ↦ refl ])
+-- ---- signed keys, one after the other
 
--- a first signed key, and what follows it
-more : (n : ℕ) (bytes : List ℕ) (place next : ℕ) → end_of (read signed_key bytes place) ≡ Ok next → end_of (read (signed_keys (suc n)) bytes place) ≡ end_of (read (signed_keys n) bytes next)
+-- one more before those that are read
+pub keys-more : (n : ℕ) (bytes : List ℕ) (place middle end : ℕ) (first : SignedKey) (rest : List SignedKey) → read signed_key bytes place ≡ Ok (first, middle)
+    → read (signed_keys n) bytes middle ≡ Ok (rest, end) → read (signed_keys (suc n)) bytes place ≡ Ok (first ∷ rest, end)
 unfolding signed_keys
-more n bytes place next passed =
-    elim (read signed_key bytes place) as (λ r. read signed_key bytes place ≡ r → end_of r ≡ Ok next → end_of (read (signed_keys (suc n)) bytes place) ≡ end_of (read (signed_keys n) bytes next)) [
-      | Ok x ↦ λ found ends.
-          let at : x.1 ≡ next = cc in
-          ap end_of (read-behind signed_key (λ first. signed_keys n >>= λ rest. done (first ∷ rest)) bytes place x found)
-          ∙ end-behind x.0 (signed_keys n) bytes x.1 ∙ ap (λ at. end_of (read (signed_keys n) bytes at)) at
-      | Err fault ↦ λ found ends. absurd (cc)
-    ] refl passed
+keys-more n bytes place middle end first rest first_found rest_found =
+    read-behind signed_key (λ first. signed_keys n >>= λ rest. done (first ∷ rest)) bytes place (first, middle) first_found
+    ∙ read-behind (signed_keys n) (λ rest. done (first ∷ rest)) bytes middle (rest, end) rest_found
 
--- a first signed key with a fault
-faulty : (n : ℕ) (bytes : List ℕ) (place : ℕ) (fault : ReadFault) → end_of (read signed_key bytes place) ≡ Err fault → end_of (read (signed_keys (suc n)) bytes place) ≡ Err fault
+-- the first of them, and the others
+pub keys-split : (n : ℕ) (bytes : List ℕ) (place end : ℕ) (keys : List SignedKey) → read (signed_keys (suc n)) bytes place ≡ Ok (keys, end)
+    → (first : SignedKey) × (middle : ℕ) × (rest : List SignedKey) × (keys ≡ first ∷ rest) × (read signed_key bytes place ≡ Ok (first, middle)) × (read (signed_keys n) bytes middle ≡ Ok (rest, end))
 unfolding signed_keys
-faulty n bytes place fault passed =
-    ap end_of (read-bind signed_key (λ first. signed_keys n >>= λ rest. done (first ∷ rest)) bytes place)
-    ∙ (elim (read signed_key bytes place) as (λ r. end_of r ≡ Err fault → end_of (and_then r (λ x. read (signed_keys n >>= λ rest. done (x.0 ∷ rest)) bytes x.1)) ≡ Err fault) [
-      | Ok x ↦ λ ends. absurd (cc)
-      | Err other ↦ λ ends. ends
-    ] passed)
+keys-split n bytes place end keys found =
+    let (x, x_found, behind) = in_turn signed_key (λ first. signed_keys n >>= λ rest. done (first ∷ rest)) bytes place (keys, end) found in
+    let (y, y_found, same) = in_turn (signed_keys n) (λ rest. done (x.0 ∷ rest)) bytes x.1 (keys, end) behind in
+    let pair : ◌≡◌ {A = List SignedKey × ℕ} (x.0 ∷ y.0, y.1) (keys, end) = cc in
+    (x.0, x.1, y.0, sym (ap (λ p. p.0) pair), x_found, y_found ∙ ap (λ at. Ok (y.0, at)) (ap (λ p. p.1) pair))
 
--- what is left when i of n signed keys were passed
-pub passed-more : (n i : ℕ) (bytes : List ℕ) (place next : ℕ) → i < n → end_of (read signed_key bytes place) ≡ Ok next
-    → end_of (read (signed_keys (n - (i + 1))) bytes next) ≡ end_of (read (signed_keys (n - i)) bytes place)
-passed-more n i bytes place next within passed =
-    let left : n - i ≡ suc (n - (i + 1)) = omega arith in
-    sym (more (n - (i + 1)) bytes place next passed) ∙ ap (λ k. end_of (read (signed_keys k) bytes place)) (sym left)
+-- none were read yet
+pub keys-none : (bytes : List ℕ) (place : ℕ) → read (signed_keys 0) bytes place ≡ Ok ([], place)
+unfolding signed_keys
+keys-none bytes place = refl
+
+-- one more after those that were read
+keys-push : (n : ℕ) (bytes : List ℕ) (place middle end : ℕ) (keys : List SignedKey) (last : SignedKey) → read (signed_keys n) bytes place ≡ Ok (keys, middle)
+    → read signed_key bytes middle ≡ Ok (last, end) → read (signed_keys (suc n)) bytes place ≡ Ok (keys ++ last ∷ [], end)
+unfolding signed_keys
+keys-push zero bytes place middle end keys last found last_found =
+    let pair : ◌≡◌ {A = List SignedKey × ℕ} ([], place) (keys, middle) = cc in
+    keys-more 0 bytes place end end last [] (ap (λ at. read signed_key bytes at) (ap (λ p. p.1) pair) ∙ last_found) (keys-none bytes end)
+    ∙ ap (λ keys. Ok (keys ++ last ∷ [], end)) (ap (λ p. p.0) pair)
+keys-push (suc n) bytes place middle end keys last found last_found =
+    let (first, next, rest, keys_are, first_found, rest_found) = keys-split n bytes place middle keys found in
+    keys-more (suc n) bytes place next end first (rest ++ last ∷ []) first_found (keys-push n bytes next middle end rest last rest_found last_found)
+    ∙ ap (λ keys. Ok (keys ++ last ∷ [], end)) (sym keys_are)
+
+pub keys-next : (n : ℕ) (bytes : List ℕ) (place middle end : ℕ) (keys : List SignedKey) (last : SignedKey) → read (signed_keys n) bytes place ≡ Ok (keys, middle)
+    → read signed_key bytes middle ≡ Ok (last, end) → read (signed_keys (n + 1)) bytes place ≡ Ok (keys ++ last ∷ [], end)
+keys-next n bytes place middle end keys last found last_found =
+    ap (λ n. read (signed_keys n) bytes place) (add-one n) ∙ keys-push n bytes place middle end keys last found last_found
 
 -- the fault of the next one is that of all
-pub passed-faulty : (n i : ℕ) (bytes : List ℕ) (place : ℕ) (fault : ReadFault) → i < n → end_of (read signed_key bytes place) ≡ Err fault
-    → end_of (read (signed_keys (n - i)) bytes place) ≡ Err fault
-passed-faulty n i bytes place fault within passed =
-    let left : n - i ≡ suc (n - (i + 1)) = omega arith in
-    ap (λ k. end_of (read (signed_keys k) bytes place)) left ∙ faulty (n - (i + 1)) bytes place fault passed
-
--- where none is left, they end here
-pub passed-all : (n i : ℕ) (bytes : List ℕ) (place : ℕ) → n ≤ i → end_of (read (signed_keys (n - i)) bytes place) ≡ Ok place
+pub keys-faulty : (i n : ℕ) (bytes : List ℕ) (place middle : ℕ) (keys : List SignedKey) (fault : ReadFault) → i < n → read (signed_keys i) bytes place ≡ Ok (keys, middle)
+    → read signed_key bytes middle ≡ Err fault → read (signed_keys n) bytes place ≡ Err fault
 unfolding signed_keys
-passed-all n i bytes place all =
-    let left : n - i ≡ 0 = omega arith in
-    ap (λ k. end_of (read (signed_keys k) bytes place)) left
-
-pub ruleset passing = (passed-more, passed-faulty, passed-all)
+keys-faulty i zero bytes place middle keys fault within found faulty = absurd (omega arith)
+keys-faulty zero (suc n) bytes place middle keys fault within found faulty =
+    let pair : ◌≡◌ {A = List SignedKey × ℕ} ([], place) (keys, middle) = cc in
+    let here : read signed_key bytes place ≡ Err fault = ap (λ at. read signed_key bytes at) (ap (λ p. p.1) pair) ∙ faulty in
+    read-bind signed_key (λ first. signed_keys n >>= λ rest. done (first ∷ rest)) bytes place
+    ∙ ap (λ r. and_then r (λ x. read (signed_keys n >>= λ rest. done (x.0 ∷ rest)) bytes x.1)) here
+keys-faulty (suc i) (suc n) bytes place middle keys fault within found faulty =
+    let (first, next, rest, keys_are, first_found, rest_found) = keys-split i bytes place middle keys found in
+    read-behind signed_key (λ first. signed_keys n >>= λ rest. done (first ∷ rest)) bytes place (first, next) first_found
+    ∙ read-bind (signed_keys n) (λ rest. done (first ∷ rest)) bytes next
+    ∙ ap (λ r. and_then r (λ x. Ok (first ∷ x.0, x.1))) (keys-faulty i n bytes next middle rest fault (omega arith) rest_found faulty)
 
 -- a signed key whose key has a fault
 pub signed_key-faulty : (bytes : List ℕ) (place middle : ℕ) (s : LmsSignature) (fault : ReadFault)
-    → read lms_signature bytes place ≡ Ok (s, middle) → read lms_public_key bytes middle ≡ Err fault → end_of (read signed_key bytes place) ≡ Err fault
+    → read lms_signature bytes place ≡ Ok (s, middle) → read lms_public_key bytes middle ≡ Err fault → read signed_key bytes place ≡ Err fault
 unfolding signed_key
 signed_key-faulty bytes place middle s fault s_read key_faulty =
     let behind : LmsSignature → Layout SignedKey = λ s. lms_public_key >>= λ key. done (record { signature = s; key = key }) in
-    ap end_of (read-behind lms_signature behind bytes place (s, middle) s_read
+    read-behind lms_signature behind bytes place (s, middle) s_read
     ∙ read-bind lms_public_key (λ key. done (record { signature = s; key = key })) bytes middle
-    ∙ ap (λ r. and_then r (λ x. Ok (record { signature = s; key = x.0 }, x.1))) key_faulty)
+    ∙ ap (λ r. and_then r (λ x. Ok (record { signature = s; key = x.0 }, x.1))) key_faulty
 
 pub ruleset one = (ots_most, height_most, signed_key-faulty)

@@ -16,7 +16,8 @@ use Rattle.lms.specs.Secret.{joins_of, leaves_of, path_in, public_of as lms_publ
 use Rattle.lms.specs.Writing.{public_bytes as lms_public_bytes, signature_bytes as lms_signature_bytes, textbook as lms_textbook}
 use Rattle.lms.proofs.SigningBytes.{public_spelled, signed_spelled}
 use Rattle.hss.specs.Key.{public_key}
-use Rattle.hss.specs.Signature.{SignedKey, signature, signed_keys}
+use Rattle.hss.specs.SignedKey.{SignedKey, signed_keys}
+use Rattle.hss.specs.Signature.{signature}
 use Rattle.hss.specs.Secret.{Signing}
 use Rattle.hss.specs.Writing.{IsSized, level_in, public_bytes, public_of, signature_bytes, signed_key_bytes, textbook}
 use Rattle.hss.proofs.Bytes.{key-spelled, keys-more, keys-none, signed_key-spelled, whole-spelled}

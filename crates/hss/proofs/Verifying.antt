@@ -1,5 +1,5 @@
 -- What the steps of verification tell of a signature's levels.
-use Rattle.std.proofs.Common.{◌≡◌, ◌∙◌, sym, ap, ℕ, ◌+◌, ◌<◌, inl, inr, List, [], ◌∷◌, length, map, get_or, Result, Ok, Err, subst, arith, add-one}
+use Rattle.std.proofs.Common.{◌≡◌, ◌∙◌, refl, sym, ap, ℕ, ◌+◌, ◌<◌, inl, inr, List, [], ◌∷◌, length, map, get_or, Result, Ok, Err, subst, arith, add-one, ne_eqb}
 use Rattle.std.proofs.lemmas.Bool.{cases_lt, eq-eqb}
 use Rattle.std.proofs.lemmas.List.{get_or-map, get_or_append_left, get_or_at, length-map}
 use Rattle.typecodes.specs.declared.refusal.Refusal.{Refusal}
@@ -10,7 +10,8 @@ use Rattle.lms.specs.Writing.{public_bytes}
 use Rattle.lms.specs.Verification.{IsValid as IsLmsValid, LeavesMessage as LmsLeavesMessage, LevelVerdict}
 use Rattle.typecodes.specs.Layout.{Spells}
 use Rattle.hss.specs.declared.key.HssPublic.{HssPublic}
-use Rattle.hss.specs.Signature.{Signature, SignedKey, key_at, keys_of, level_count, message_at, signature, signature_at}
+use Rattle.hss.specs.SignedKey.{SignedKey}
+use Rattle.hss.specs.Signature.{Signature, key_at, keys_of, level_count, message_at, signature, signature_at}
 use Rattle.hss.specs.Verification.{AboveVerdict, AreValidAbove, IsValid, IsValidAt, LeavesMessage, Reaches, Verdict}
 
 -- above the bottom a level signs the bytes of the next level's key
@@ -37,16 +38,15 @@ level-refused A B key message s i (TypeMismatch level) refused = refused
 level-refused A B key message s i LevelMismatch refused = refused
 level-refused A B key message s i (RootMismatch level) refused = refused
 
--- one more valid level above
-pub above-more : (top : LmsPublic) (s : Signature) (i : ℕ) (key : LmsPublic) → key ≡ key_at top s i → AreValidAbove top s i
-    → ((message : List ℕ) → IsLmsValid key (message_at message s i) (signature_at s i)) → AreValidAbove top s (i + 1)
-above-more top s i key key_is above valid message j below =
-    elim (cases_lt j i) [
-      | inl before ↦ above message j before
-      | inr past ↦
-          let same : i ≡ j = omega arith in
-          subst (IsValidAt top message s) same (subst (λ k. IsLmsValid k (message_at message s i) (signature_at s i)) key_is (valid message))
-    ]
+-- what a level above the bottom answers for the key after it is its answer, whatever the message
+pub level-at : {A : Type 0} (top : LmsPublic) (s : Signature) (i : ℕ) (key next : LmsPublic) (read : LmsSignature) (result : Result A Refusal) → i < length s.signed → read ≡ signature_at s i
+    → ((top : LmsPublic) → next ≡ key_at top s (i + 1)) → LevelVerdict key (public_bytes next) read i result → (message : List ℕ) → LevelVerdict key (message_at message s i) (signature_at s i) i result
+level-at top s i key next read result within read_is next_is verdict message =
+    level-same key (public_bytes next) (message_at message s i) read (signature_at s i) i i result read_is (ap public_bytes (next_is top) ∙ message_at-above top message s i within) refl verdict
+
+-- one more valid level
+pub valid-at : (top : LmsPublic) (s : Signature) (i : ℕ) (key : LmsPublic) (message : List ℕ) → key ≡ key_at top s i → IsLmsValid key (message_at message s i) (signature_at s i) → IsValidAt top message s i
+valid-at top s i key message key_is valid = subst (λ k. IsLmsValid k (message_at message s i) (signature_at s i)) key_is valid
 
 -- a level that is refused is the first that isn't valid
 pub above-refused : (top : LmsPublic) (s : Signature) (i : ℕ) (key : LmsPublic) (refusal : Refusal) → i < length s.signed → key ≡ key_at top s i → AreValidAbove top s i
@@ -128,3 +128,17 @@ bottom-leaves key k read old new i (Err (TypeMismatch level)) last verdict leave
 bottom-leaves key k read old new i (Err LevelMismatch) last never leaves = elim never [ ]
 bottom-leaves key k read old new i (Err (RootMismatch level)) last (is, _, _) leaves =
     rw (eq-eqb (level + 1) key.levels (ap (λ i. i + 1) is ∙ last)) leaves
+
+-- the bottom level's signature is the last one
+pub signature_at-bottom : (s : Signature) (i : ℕ) → i ≡ length s.signed → s.bottom ≡ signature_at s i
+signature_at-bottom s i last =
+    let of : SignedKey → LmsSignature = λ signed. signed.signature in
+    sym (get_or_at (map of s.signed) s.bottom [] s.bottom i (length-map s.signed of ∙ sym last))
+
+-- a refusal above the bottom leaves the message
+pub above-leaves : (A : Type 0) (key : HssPublic) (s : Signature) (message : List ℕ) (refusal : Refusal) → level_count s ≡ key.levels → AboveVerdict key.top s (Err refusal)
+    → LeavesMessage {A = A} key message message (Err refusal)
+above-leaves A key s message (Unreadable fault) count refused = absurd refused
+above-leaves A key s message LevelMismatch count refused = absurd refused
+above-leaves A key s message (TypeMismatch i) count refused = refl
+above-leaves A key s message (RootMismatch i) count (within, _, _, _) = rw (ne_eqb (i + 1) key.levels (λ same. omega (arith, count))) refl

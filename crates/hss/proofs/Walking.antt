@@ -21,8 +21,9 @@ use Rattle.lms.specs.Signature.{Signature as LmsSignature, signature as lms_sign
 use Rattle.lms.specs.Key.{public_key as lms_public_key}
 use Rattle.lms.proofs.Parts.{in_turn, laid_out, part_read}
 use Rattle.hss.specs.Key.{level_number}
-use Rattle.hss.specs.Signature.{Signature, SignedKey, end_of, key_at, keys_of, level_count, read_value, signature, signature_at, signature_size, signatures_of, signed_key, signed_keys, spelled_by, start_of}
-use Rattle.hss.proofs.Passing.{read-behind}
+use Rattle.hss.specs.SignedKey.{SignedKey, signed_key, signed_keys, taken}
+use Rattle.hss.specs.Signature.{Signature, key_at, keys_of, level_count, signature, signature_at, signature_size, signatures_of, start_of}
+use Rattle.hss.proofs.Passing.{keys-more, keys-split, read-behind}
 
 -- ---- how long the parts are
 
@@ -43,7 +44,7 @@ public-end key bytes place end within found =
     omega (arith, end_is, public-size key a spelled)
 
 -- what is read ends within the bytes
-ends-within : {V : Type 0} (layout : Layout V) (v : V) (bytes : List ℕ) (place end : ℕ) → place ≤ length bytes → read layout bytes place ≡ Ok (v, end) → (place ≤ end) × (end ≤ length bytes)
+pub ends-within : {V : Type 0} (layout : Layout V) (v : V) (bytes : List ℕ) (place end : ℕ) → place ≤ length bytes → read layout bytes place ≡ Ok (v, end) → (place ≤ end) × (end ≤ length bytes)
 ends-within layout v bytes place end within found =
     let (a, after, rest_is, end_is, spelled) = read-stands layout v bytes place end within found in
     (omega (arith, end_is), omega (arith, end_is, ap length rest_is, length-drop place bytes, length-append a after))
@@ -59,24 +60,6 @@ signature-end s bytes place end within found =
 
 -- ---- signed keys, one after the other
 
--- one more behind those that were read
-keys-more : (n : ℕ) (bytes : List ℕ) (place middle end : ℕ) (first : SignedKey) (rest : List SignedKey) → read signed_key bytes place ≡ Ok (first, middle)
-    → read (signed_keys n) bytes middle ≡ Ok (rest, end) → read (signed_keys (suc n)) bytes place ≡ Ok (first ∷ rest, end)
-unfolding signed_keys
-keys-more n bytes place middle end first rest first_found rest_found =
-    read-behind signed_key (λ first. signed_keys n >>= λ rest. done (first ∷ rest)) bytes place (first, middle) first_found
-    ∙ read-behind (signed_keys n) (λ rest. done (first ∷ rest)) bytes middle (rest, end) rest_found
-
--- the first of them, and the others
-keys-split : (n : ℕ) (bytes : List ℕ) (place end : ℕ) (keys : List SignedKey) → read (signed_keys (suc n)) bytes place ≡ Ok (keys, end)
-    → (first : SignedKey) × (middle : ℕ) × (rest : List SignedKey) × (keys ≡ first ∷ rest) × (read signed_key bytes place ≡ Ok (first, middle)) × (read (signed_keys n) bytes middle ≡ Ok (rest, end))
-unfolding signed_keys
-keys-split n bytes place end keys found =
-    let (x, x_found, behind) = in_turn signed_key (λ first. signed_keys n >>= λ rest. done (first ∷ rest)) bytes place (keys, end) found in
-    let (y, y_found, same) = in_turn (signed_keys n) (λ rest. done (x.0 ∷ rest)) bytes x.1 (keys, end) behind in
-    let pair : ◌≡◌ {A = List SignedKey × ℕ} (x.0 ∷ y.0, y.1) (keys, end) = cc in
-    (x.0, x.1, y.0, sym (ap (λ p. p.0) pair), x_found, y_found ∙ ap (λ at. Ok (y.0, at)) (ap (λ p. p.1) pair))
-
 -- the first i of them, and the others
 keys-prefix : (i n : ℕ) (bytes : List ℕ) (place end : ℕ) (keys : List SignedKey) → i ≤ n → read (signed_keys n) bytes place ≡ Ok (keys, end)
     → (middle : ℕ) × (read (signed_keys i) bytes place ≡ Ok (take i keys, middle)) × (read (signed_keys (n - i)) bytes middle ≡ Ok (drop i keys, end))
@@ -91,10 +74,6 @@ keys-prefix (suc i) (suc n) bytes place end keys within found =
       keys-more i bytes place next middle first (take i rest) first_found front ∙ ap (λ ks. Ok (ks, middle)) (sym (ap (take (suc i)) keys_are)),
       ap (λ k. read (signed_keys k) bytes middle) left ∙ back ∙ ap (λ ks. Ok (ks, end)) (sym (ap (drop (suc i)) keys_are)),
     )
-
--- what a signature and the key behind it take
-abbrev taken : LmsSignature → ℕ
-taken above = lms_signature_len_of above.pair + 56
 
 -- a signed key, by its parts
 signed_key-split : (bytes : List ℕ) (place end : ℕ) (signed : SignedKey) → place ≤ length bytes → read signed_key bytes place ≡ Ok (signed, end)
@@ -120,7 +99,7 @@ signed_key-split bytes place end signed within found =
     )
 
 -- signed keys are as many as they are to be, and end behind all of them
-keys-end : (n : ℕ) (bytes : List ℕ) (place end : ℕ) (keys : List SignedKey) → place ≤ length bytes → read (signed_keys n) bytes place ≡ Ok (keys, end)
+pub keys-end : (n : ℕ) (bytes : List ℕ) (place end : ℕ) (keys : List SignedKey) → place ≤ length bytes → read (signed_keys n) bytes place ≡ Ok (keys, end)
     → (length keys ≡ n) × (end ≡ place + sum_by taken (map (λ signed. signed.signature) keys)) × (end ≤ length bytes)
 unfolding signed_keys
 keys-end zero bytes place end keys within found =
@@ -207,7 +186,7 @@ is_read s bytes found =
     is_read-parts s bytes n.0 n.1 keys.1 bottom.1 keys.0 bottom.0 n_found keys_found bottom_found (cc)
 
 -- the levels above level i end where it begins
-starts : (s : Signature) (i : ℕ) → i ≤ length s.signed → 4 + sum_by taken (map (λ signed. signed.signature) (take i s.signed)) ≡ start_of s i
+pub starts : (s : Signature) (i : ℕ) → i ≤ length s.signed → 4 + sum_by taken (map (λ signed. signed.signature) (take i s.signed)) ≡ start_of s i
 starts s i within =
     let above = map (λ signed. signed.signature) s.signed in
     let few : i ≤ length above = omega (arith, length-map s.signed (λ signed. signed.signature)) in
@@ -221,7 +200,7 @@ above_read s bytes i parts within =
     front ∙ ap (λ at. Ok (take i s.signed, at)) (ends.1 ∙ starts s i within)
 
 -- each level begins behind the signature and the key of the one above
-start-more : (s : Signature) (i : ℕ) → i < length s.signed → start_of s (i + 1) ≡ start_of s i + taken (signature_at s i)
+pub start-more : (s : Signature) (i : ℕ) → i < length s.signed → start_of s (i + 1) ≡ start_of s i + taken (signature_at s i)
 start-more s i within =
     let all = signatures_of s in
     let above = map (λ signed. signed.signature) s.signed in
@@ -231,7 +210,7 @@ start-more s i within =
     omega (arith, sum)
 
 -- the signature and the key of a level above the bottom are those of its signed key
-signature_at-above : (s : Signature) (i : ℕ) (first : SignedKey) (rest : List SignedKey) → i < length s.signed → drop i s.signed ≡ first ∷ rest → first.signature ≡ signature_at s i
+pub signature_at-above : (s : Signature) (i : ℕ) (first : SignedKey) (rest : List SignedKey) → i < length s.signed → drop i s.signed ≡ first ∷ rest → first.signature ≡ signature_at s i
 signature_at-above s i first rest within is =
     let of : SignedKey → LmsSignature = λ signed. signed.signature in
     let above = map of s.signed in
@@ -239,7 +218,7 @@ signature_at-above s i first rest within is =
     sym (ap (λ xs. get_or (map of xs) 0 s.bottom) is) ∙ sym (ap (λ xs. get_or xs 0 s.bottom) (drop-map of i s.signed))
     ∙ get_or-drop i above 0 s.bottom ∙ ap (λ k. get_or above k s.bottom) (add-zero i) ∙ sym (get_or_append_left above (s.bottom ∷ []) s.bottom i size)
 
-key_at-below : (top : LmsPublic) (s : Signature) (i : ℕ) (first : SignedKey) (rest : List SignedKey) → drop i s.signed ≡ first ∷ rest → first.key ≡ key_at top s (i + 1)
+pub key_at-below : (top : LmsPublic) (s : Signature) (i : ℕ) (first : SignedKey) (rest : List SignedKey) → drop i s.signed ≡ first ∷ rest → first.key ≡ key_at top s (i + 1)
 key_at-below top s i first rest is =
     let of : SignedKey → LmsPublic = λ signed. signed.key in
     sym (ap (λ xs. get_or (map of xs) 0 top) is) ∙ sym (ap (λ xs. get_or xs 0 top) (drop-map of i s.signed))
@@ -300,57 +279,13 @@ level_read s bytes i parts within =
           ∙ ap (λ k. Ok (signature_at s k, start_of s k + lms_signature_len_of (signature_at s k).pair)) (sym same)
     ]
 
--- Signed keys that were passed, and a bottom signature behind them, are a signature, and this is the one that the bytes spell.
-pub whole_read : (bytes : List ℕ) (above four place end : ℕ) (bottom : LmsSignature) → read (level_number 0 7) bytes 0 ≡ Ok (above, four) → end_of (read (signed_keys above) bytes four) ≡ Ok place
-    → read lms_signature bytes place ≡ Ok (bottom, end) → (read signature bytes 0 ≡ Ok (spelled_by bytes, end)) × (above + 1 ≡ level_count (spelled_by bytes))
-unfolding signature
-whole_read bytes above four place end bottom number passed bottom_found =
-    let behind_keys : List SignedKey → Layout Signature = λ signed. lms_signature >>= λ bottom. done (record { signed = signed; bottom = bottom }) in
-    elim (read (signed_keys above) bytes four) as (λ r. read (signed_keys above) bytes four ≡ r → end_of r ≡ Ok place → (read signature bytes 0 ≡ Ok (spelled_by bytes, end)) × (above + 1 ≡ level_count (spelled_by bytes))) [
-      | Ok x ↦ λ keys_found ends.
-          let at : x.1 ≡ place = cc in
-          let s : Signature = record { signed = x.0; bottom = bottom } in
-          let found : read signature bytes 0 ≡ Ok (s, end) =
-          read-behind (level_number 0 7) (λ above. signed_keys above >>= behind_keys) bytes 0 (above, four) number
-          ∙ read-behind (signed_keys above) behind_keys bytes four x keys_found
-          ∙ ap (λ at. read (behind_keys x.0) bytes at) at
-          ∙ read-behind lms_signature (λ bottom. done (record { signed = x.0; bottom = bottom })) bytes place (bottom, end) bottom_found in
-          let is : spelled_by bytes ≡ s = ap read_value found in
-          let inside = level_number-read 0 7 bytes 0 (above, four) number in
-          let counted = keys-end above bytes four x.1 x.0 (omega (arith, inside.2, inside.3)) keys_found in
-          (found ∙ ap (λ s. Ok (s, end)) (sym is), omega (arith, counted.0, ap (λ s. length s.signed) is))
-      | Err fault ↦ λ keys_found ends. absurd (cc)
-    ] refl passed
-
--- a fault of the signed keys is the signature's
-pub whole_faulty : (bytes : List ℕ) (above four : ℕ) (fault : ReadFault) → read (level_number 0 7) bytes 0 ≡ Ok (above, four) → end_of (read (signed_keys above) bytes four) ≡ Err fault
-    → read signature bytes 0 ≡ Err fault
-unfolding signature
-whole_faulty bytes above four fault number passed =
-    let behind_keys : List SignedKey → Layout Signature = λ signed. lms_signature >>= λ bottom. done (record { signed = signed; bottom = bottom }) in
-    read-behind (level_number 0 7) (λ above. signed_keys above >>= behind_keys) bytes 0 (above, four) number
-    ∙ read-bind (signed_keys above) behind_keys bytes four
-    ∙ (elim (read (signed_keys above) bytes four) as (λ r. end_of r ≡ Err fault → and_then r (λ x. read (behind_keys x.0) bytes x.1) ≡ Err fault) [
-      | Ok x ↦ λ ends. absurd (cc)
-      | Err other ↦ λ ends. let same : other ≡ fault = cc in ap Err same
-    ] passed)
-
 -- ---- what a view finds in its bytes
-
--- where the levels above level i end
-pub start_found : (s : Signature) (bytes : List ℕ) (i : ℕ) → read signature bytes 0 ≡ Ok (s, length bytes) → i < level_count s → end_of (read (signed_keys i) bytes 4) ≡ Ok (start_of s i)
-start_found s bytes i found within = ap end_of (above_read s bytes i (is_read s bytes found) (omega arith))
 
 -- no level begins past the end
 pub start_inside : (s : Signature) (bytes : List ℕ) (i : ℕ) → read signature bytes 0 ≡ Ok (s, length bytes) → i < level_count s → start_of s i ≤ length bytes
 start_inside s bytes i found within =
     let parts = is_read s bytes found in
     (keys-end i bytes 4 (start_of s i) (take i s.signed) parts.long (above_read s bytes i parts (omega arith))).2
-
--- the signature of level i
-pub level_found : (s : Signature) (bytes : List ℕ) (i : ℕ) → read signature bytes 0 ≡ Ok (s, length bytes) → i < level_count s
-    → read lms_signature bytes (start_of s i) ≡ Ok (signature_at s i, start_of s i + lms_signature_len_of (signature_at s i).pair)
-level_found s bytes i found within = level_read s bytes i (is_read s bytes found) within
 
 -- the key of level i
 pub key_found : (s : Signature) (bytes : List ℕ) (top : LmsPublic) (i : ℕ) → read signature bytes 0 ≡ Ok (s, length bytes) → 1 ≤ i → i < level_count s
@@ -395,3 +330,13 @@ whole-size s bytes found =
     let count : length all ≡ n + 1 = omega (arith, length-append above (s.bottom ∷ []), length-map s.signed of) in
     let pairs : length (map (λ level. level.pair) all) ≡ n + 1 = length-map all (λ level. level.pair) ∙ count in
     omega (arith, keys.1, bottom, sum, with-keys all, count, pairs)
+
+-- A number of levels, so many signed keys and a signature at the bottom that are read in turn are read as a signature.
+pub whole-read : (bytes : List ℕ) (above four place end : ℕ) (keys : List SignedKey) (bottom : LmsSignature) → read (level_number 0 7) bytes 0 ≡ Ok (above, four)
+    → read (signed_keys above) bytes four ≡ Ok (keys, place) → read lms_signature bytes place ≡ Ok (bottom, end) → read signature bytes 0 ≡ Ok (record { signed = keys; bottom = bottom }, end)
+unfolding signature
+whole-read bytes above four place end keys bottom number keys_found bottom_found =
+    let behind_keys : List SignedKey → Layout Signature = λ signed. lms_signature >>= λ bottom. done (record { signed = signed; bottom = bottom }) in
+    read-behind (level_number 0 7) (λ above. signed_keys above >>= behind_keys) bytes 0 (above, four) number
+    ∙ read-behind (signed_keys above) behind_keys bytes four (keys, place) keys_found
+    ∙ read-behind lms_signature (λ bottom. done (record { signed = keys; bottom = bottom })) bytes place (bottom, end) bottom_found

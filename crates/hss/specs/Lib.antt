@@ -1,4 +1,5 @@
 pub mod Key
+pub mod SignedKey
 pub mod Signature
 pub mod View
 pub mod Verification

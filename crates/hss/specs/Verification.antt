@@ -34,7 +34,8 @@ HasKeyTypes top s i = (signature_at s i).pair ≡ (key_at top s i).pair
 abbrev pub Verdict : {A : Type 0} → HssPublic → List ℕ → List ℕ → Result A Refusal → Type 0
 Verdict key message bytes (Ok _) = (s : Signature) × Spells signature s bytes × IsValid key message s
 Verdict key message bytes (Err (Unreadable fault)) = HasFault signature bytes 0 fault
-Verdict key message bytes (Err LevelMismatch) = (s : Signature) × Spells signature s bytes × (level_count s ≢ key.levels)
+Verdict key message bytes (Err LevelMismatch) =
+    (s : Signature) × Spells signature s bytes × (level_count s ≢ key.levels)
 Verdict key message bytes (Err (TypeMismatch i)) =
     (s : Signature) × Reaches key message bytes s i × (HasKeyTypes key.top s i → ⊥)
 Verdict key message bytes (Err (RootMismatch i)) =

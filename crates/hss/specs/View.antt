@@ -2,11 +2,11 @@
 use denote.Bor.{Bor}
 use Rattle.std.specs.Prelude.{ℕ, List}
 use Rattle.hss.specs.declared.signature.HssSigView.{HssSigView}
-use Rattle.hss.specs.Signature.{Signature, spelled_by}
+use Rattle.hss.specs.Signature.{Signature, shown_by}
 
 -- the signature
 abbrev pub signature_of : HssSigView → Signature
-signature_of view = spelled_by view.bytes.now
+signature_of view = shown_by view.signed.slots view.bottom
 
 -- the bytes that spell it, as they were lent
 abbrev pub lent_of : HssSigView → Bor (List ℕ)

@@ -8,10 +8,12 @@ use Rattle.lmots.specs.Hashes.{u32str}
 use Rattle.lms.specs.declared.key.LmsPublic.{LmsPublic}
 use Rattle.lms.specs.Signature.{Signature as LmsSignature}
 use Rattle.lms.specs.Secret.{path_in, public_of as lms_public_of}
-use Rattle.lms.specs.Writing.{public_bytes as lms_public_bytes, signature_bytes as lms_signature_bytes, textbook as lms_textbook}
+use Rattle.lms.specs.Writing.{public_bytes as lms_public_bytes, signature_bytes as lms_signature_bytes}
+use Rattle.lms.specs.Writing.{textbook as lms_textbook}
 use Rattle.hss.specs.declared.key.HssPublic.{HssPublic}
 use Rattle.hss.specs.declared.secret.Level.{Level}
-use Rattle.hss.specs.Signature.{Signature, SignedKey, message_at}
+use Rattle.hss.specs.SignedKey.{SignedKey}
+use Rattle.hss.specs.Signature.{Signature, message_at}
 use Rattle.hss.specs.Secret.{Signing, key_of, signature_by}
 
 -- ---- the bytes
@@ -66,6 +68,10 @@ pub record IsSized (level : Signing) : Type 0 where
   pub identifier : length level.secret.identifier ≡ 16
   pub randomizer : length level.randomizer ≡ 32
   pub inside : level.leaf < 2 ^ height_of level.secret.pair.tree
+
+-- so it is of each level
+abbrev pub AreSized : List Signing → Signing → Type 0
+AreSized above bottom = (i : ℕ) → i < length above + 1 → IsSized (level_in above bottom i)
 
 -- each level's leaf is one of its tree, and its digest that of what it signs
 pub record Signs (above : List Signing) (bottom : Signing) (message : List ℕ) : Type 0 where

@@ -1,11 +1,10 @@
 //! Public keys.
 
-ghost use Rattle.std.specs.Prelude.{◌≡◌, ◌≤◌, IfOk};
-ghost use Rattle.typecodes.specs.Cursor.{Reads};
+ghost use Rattle.std.specs.Prelude.{◌≡◌, ◌+◌, ◌<◌, ◌≤◌, ◌^◌, IfOk, OnOk};
+ghost use Rattle.typecodes.specs.Cursor.{Gives, Reads, read};
 
-use crate::levels::level_count_at;
 use lms::LmsPublic;
-use typecodes::{Cursor, LevelCount, ReadFault};
+use typecodes::{Cause, Cursor, LevelCount, ReadFault};
 
 /// The public key of one to eight levels of trees (RFC 8554 6.1).
 #[derive(Clone, Copy, Debug, PartialEq, Eq)]
@@ -17,7 +16,7 @@ pub struct HssPublic {
 }
 
 impl HssPublic {
-    ghost use Rattle.hss.specs.Key.{public_key};
+    ghost use Rattle.hss.specs.Key.{level_number, public_key};
 
     /// The key that the bytes spell, 60 bytes and no more; it has 1 to 8 levels. Otherwise their first fault
     /// (1, 2, 3 or 5).
@@ -28,9 +27,31 @@ impl HssPublic {
         ensures most { IfOk result (λ key. key.levels ≤ 8) }
     {
         let mut cursor = Cursor::new(bytes);
-        let levels = level_count_at(&mut cursor)?;
+        let levels = Self::level_count_at(&mut cursor)?;
         let top = LmsPublic::from_cursor(&mut cursor)?;
         cursor.end()?;
         Ok(HssPublic { levels, top })
+    }
+
+    // L at a cursor, a field of 4 bytes, 1 to 8.
+    #[tactic(auto, using(crate::proofs::Numbers::numbers), unfolding(crate::specs::Key::level_number))]
+    fn level_count_at(cursor: &mut Cursor<'_>) -> Result<LevelCount, ReadFault>
+        requires { cursor.old.place + 4 < 2 ^ 32 }
+        ensures read { Gives (λ n. (n, cursor.new.place)) result
+            (read (level_number 1 8) cursor.old.bytes.now cursor.old.place) }
+        ensures least { IfOk result (λ n. 1 ≤ n) }
+        ensures most { IfOk result (λ n. n ≤ 8) }
+        ensures len { OnOk result (cursor.new.place ≡ cursor.old.place + 4) }
+        ensures bytes { cursor.new.bytes ≡ cursor.old.bytes }
+    {
+        let fault = ReadFault {
+            place: cursor.place,
+            cause: Cause::LevelCount,
+        };
+        let number = cursor.number()?;
+        if number > 8 {
+            return Err(fault);
+        }
+        LevelCount::new(number as u8).ok_or(fault)
     }
 }

@@ -1,34 +1,44 @@
-//! Laws of spellings, of verdicts and of textbook signatures. The functions do nothing: what their contracts say is proved of
-//! every key and every signature.
+//! Laws of spellings, of verdicts and of textbook signatures. The functions do nothing: what their
+//! contracts say is proved of every key and every signature.
 
-ghost use Rattle.std.specs.Prelude.{◌≡◌, List, [], ◌∷◌, ◌++◌, ℕ, ◌+◌, ◌<◌, ◌≤◌, length, Result, Err, IsOk};
+ghost use Rattle.std.specs.Prelude.{◌≡◌, List, [], ◌∷◌, ◌++◌, ℕ, ◌+◌, ◌≤◌, length, Result, Err, IsOk};
 ghost use Rattle.typecodes.specs.declared.refusal.Refusal.{Refusal};
 ghost use Rattle.typecodes.specs.Layout.{Spells, OneSpelling};
 ghost use Rattle.hss.specs.declared.key.HssPublic.{HssPublic};
 ghost use Rattle.lmots.specs.Hashes.{u32str};
 ghost use Rattle.lms.specs.Signature.{signature as lms_signature};
 ghost use Rattle.hss.specs.Key.{public_key};
-ghost use Rattle.hss.specs.Signature.{Signature, SignedKey, signature, signed_key, signed_keys};
+ghost use Rattle.hss.specs.SignedKey.{SignedKey, signed_key, signed_keys};
+ghost use Rattle.hss.specs.Signature.{Signature, signature};
 ghost use Rattle.hss.specs.Verification.{IsValid, Verdict};
 ghost use Rattle.hss.specs.Secret.{Signing};
-ghost use Rattle.hss.specs.Writing.{IsSized, Signs, level_in, public_bytes, public_of, signature_bytes, textbook};
+ghost use Rattle.hss.specs.Writing.{AreSized, IsSized, Signs, level_in};
+ghost use Rattle.hss.specs.Writing.{public_bytes, public_of, signature_bytes, textbook};
 
 /// What holds of the spellings of public keys and of signatures: no value has two, no bytes spell two
 /// values, and no spelling begins another.
 pub fn spelling_laws()
     ensures key_once { OneSpelling public_key }
-    ensures one_key { (key other : HssPublic) (a : List ℕ) → Spells public_key key a → Spells public_key other a → key ≡ other }
-    ensures no_longer_key { (key other : HssPublic) (a b : List ℕ) → Spells public_key key a → Spells public_key other (a ++ b) → b ≡ [] }
+    ensures one_key { (key other : HssPublic) (a : List ℕ) → Spells public_key key a → Spells public_key other a
+        → key ≡ other }
+    ensures no_longer_key { (key other : HssPublic) (a b : List ℕ) → Spells public_key key a → Spells public_key other (a ++ b)
+        → b ≡ [] }
     ensures signature_once { OneSpelling signature }
-    ensures one_signature { (s other : Signature) (a : List ℕ) → Spells signature s a → Spells signature other a → s ≡ other }
-    ensures no_longer_signature { (s other : Signature) (a b : List ℕ) → Spells signature s a → Spells signature other (a ++ b) → b ≡ [] }
+    ensures one_signature { (s other : Signature) (a : List ℕ) → Spells signature s a → Spells signature other a
+        → s ≡ other }
+    ensures no_longer_signature { (s other : Signature) (a b : List ℕ) → Spells signature s a → Spells signature other (a ++ b)
+        → b ≡ [] }
 {}
 
 /// What holds of the answers of verification: bytes that spell a valid signature are refused by none
 /// (`accepted`), and no bytes have two refusals (`one_refusal`).
 pub fn verdict_laws()
-    ensures accepted { (key : HssPublic) (message bytes : List ℕ) (result : Result (Unit {0}) Refusal) → Verdict key message bytes result → (s : Signature) → Spells signature s bytes → IsValid key message s → IsOk result }
-    ensures one_refusal { (key : HssPublic) (message bytes : List ℕ) (first second : Refusal) → Verdict {A = Unit {0}} key message bytes (Err first) → Verdict {A = Unit {0}} key message bytes (Err second) → first ≡ second }
+    ensures accepted { (key : HssPublic) (message bytes : List ℕ) (result : Result (Unit {0}) Refusal)
+        → Verdict key message bytes result
+        → (s : Signature) → Spells signature s bytes → IsValid key message s → IsOk result }
+    ensures one_refusal { (key : HssPublic) (message bytes : List ℕ) (first second : Refusal)
+        → Verdict {A = Unit {0}} key message bytes (Err first)
+        → Verdict {A = Unit {0}} key message bytes (Err second) → first ≡ second }
 {}
 
 /// What holds of the textbook signatures of any levels.
@@ -37,17 +47,23 @@ pub fn verdict_laws()
 /// - The bytes of the key and of a signature of at most 8 levels spell them, where the levels' values
 ///   have their sizes (`key`, `signature`).
 pub fn textbook_laws()
-    ensures valid { (above : List Signing) (bottom : Signing) (message : List ℕ) → Signs above bottom message → IsValid (public_of above bottom) message (textbook above bottom) }
-    ensures key { (above : List Signing) (bottom : Signing) → length above ≤ 7 → IsSized (level_in above bottom 0) → Spells public_key (public_of above bottom) (public_bytes (public_of above bottom)) }
-    ensures signature { (above : List Signing) (bottom : Signing) → length above ≤ 7 → ((i : ℕ) → i < length above + 1 → IsSized (level_in above bottom i)) → Spells signature (textbook above bottom) (signature_bytes (textbook above bottom)) }
+    ensures valid { (above : List Signing) (bottom : Signing) (message : List ℕ) → Signs above bottom message
+        → IsValid (public_of above bottom) message (textbook above bottom) }
+    ensures key { (above : List Signing) (bottom : Signing) → length above ≤ 7 → IsSized (level_in above bottom 0)
+        → Spells public_key (public_of above bottom) (public_bytes (public_of above bottom)) }
+    ensures signature { (above : List Signing) (bottom : Signing) → length above ≤ 7 → AreSized above bottom
+        → Spells signature (textbook above bottom) (signature_bytes (textbook above bottom)) }
 {}
 
-/// What holds of a signature whose parts are written one by one: signed keys that stand one behind the
+/// What holds of a signature whose parts are written one by one: signed keys that stand one after the
 /// other spell themselves (`none`, `more`), and with their number before them and the bottom level's
-/// signature behind them they spell the signature (`whole`).
+/// signature after them they spell the signature (`whole`).
 pub fn joining_laws()
     ensures none { Spells (signed_keys 0) [] [] }
-    ensures more { (n : ℕ) (keys : List SignedKey) (last : SignedKey) (a b : List ℕ) → Spells (signed_keys n) keys a → Spells signed_key last b → Spells (signed_keys (n + 1)) (keys ++ last ∷ []) (a ++ b) }
-    ensures whole { (s : Signature) (a b : List ℕ) → length s.signed ≤ 7 → Spells (signed_keys (length s.signed)) s.signed a → Spells lms_signature s.bottom b
+    ensures more { (n : ℕ) (keys : List SignedKey) (last : SignedKey) (a b : List ℕ)
+        → Spells (signed_keys n) keys a → Spells signed_key last b
+        → Spells (signed_keys (n + 1)) (keys ++ last ∷ []) (a ++ b) }
+    ensures whole { (s : Signature) (a b : List ℕ) → length s.signed ≤ 7
+        → Spells (signed_keys (length s.signed)) s.signed a → Spells lms_signature s.bottom b
         → Spells signature s (u32str (length s.signed) ++ a ++ b) }
 {}

@@ -1,19 +1,31 @@
 //! HSS keys, signatures, their verification and their writing, one to eight levels of LMS trees (RFC
 //! 8554, section 6).
 //!
-//! Its model is `specs/Layouts.antt`, how keys and signatures are spelled, `specs/Valid.antt`, which
-//! signatures are valid, and `specs/Textbook.antt`, the signature that the levels' secrets make. Its
-//! contract for the crates above: `verify` is Ok exactly on the spellings of valid signatures, and else
-//! tells the first refusal; `write_signature` writes the textbook signature where roots and paths are those of
-//! the secrets, and it is valid where each digest is that of what its level signs. The laws
-//! stand on `spelling_laws`, `verdict_laws`, `textbook_laws` and `joining_laws`.
+//! Its model is `specs/Key.antt` and `specs/Signature.antt`, how keys and signatures are spelled,
+//! `specs/Verification.antt`, which signatures are valid, and `specs/Writing.antt`, the signature that the
+//! levels' secrets make. Its contract for the crates above: `verify` is Ok exactly on the spellings of
+//! valid signatures, and else reports the first refusal; `write_signature` writes the textbook signature
+//! where roots and paths are those of the secrets, and it is valid where each digest is that of what its
+//! level signs. The laws stand on `spelling_laws`, `verdict_laws`, `textbook_laws` and `joining_laws`.
+//!
+//! ```rust
+//! use hss::{HssPublic, verify};
+//!
+//! let key = HssPublic::read(&public)?;
+//! let mut message: &[u8] = b"firmware 7";
+//! match verify(&key, &mut message, &signature) {
+//!     Ok(()) => println!(rt; "verified")?,
+//!     Err(refusal) => println!(rt; "refused, {}: {refusal}", refusal.number())?,
+//! }
+//! ```
 #![tactic(auto)]
 
 mod key;
 mod laws;
-mod levels;
 mod secret;
 mod signature;
+mod signed_key;
+mod signed_keys;
 #[cfg(test)]
 mod tests;
 mod verification;
@@ -23,5 +35,6 @@ pub use crate::key::HssPublic;
 pub use crate::laws::{joining_laws, spelling_laws, textbook_laws, verdict_laws};
 pub use crate::secret::Level;
 pub use crate::signature::HssSigView;
+pub use crate::signed_key::SignedKeyView;
 pub use crate::verification::verify;
 pub use crate::writing::{signature_len, write_public, write_signature, write_signed_key};

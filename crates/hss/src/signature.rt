@@ -1,29 +1,34 @@
 //! Signatures, as views of their bytes.
 
-ghost use Rattle.std.specs.Prelude.{◌≡◌, ◌+◌, ◌-◌, ◌*◌, ◌<◌, ◌≤◌, ◌^◌, Ok, OnOk, IfOk, length, map, take, drop};
+ghost use Rattle.std.specs.Prelude.{◌≡◌, ◌+◌, ◌*◌, ◌<◌, ◌≤◌, ◌↔◌, ◌^◌, Ok, OnOk, IfOk, IfSome, IsSome};
+ghost use Rattle.std.specs.Prelude.{length, map, take, drop};
 ghost use Rattle.byteorder.specs.Endian.{big_number};
 ghost use Rattle.typecodes.specs.Layout.{Spells};
 ghost use Rattle.typecodes.specs.Cursor.{Gives, Reads, read};
 ghost use Rattle.typecodes.specs.Types.{lms_signature_len_of};
 ghost use Rattle.lms.specs.declared.key.LmsPublic.{LmsPublic};
 ghost use Rattle.lms.specs.Key.{public_key as lms_public_key};
-ghost use Rattle.lms.specs.Signature.{signature as lms_signature};
 ghost use Rattle.lms.specs.View.{bytes_of as lms_bytes_of, pair_of as lms_pair_of, signature_of as lms_signature_of};
-ghost use Rattle.hss.specs.Signature.{end_of, key_at, level_count, signature, signature_at, signature_size, signatures_of, signed_key, signed_keys, spelled_by, start_of};
+ghost use Rattle.hss.specs.Key.{level_number};
+ghost use Rattle.hss.specs.SignedKey.{StandInTurn, StandsAt, signed_in, taken_by};
+ghost use Rattle.hss.specs.Signature.{key_at, level_count, pairs_in, shown_by, signature, signature_at};
+ghost use Rattle.hss.specs.Signature.{signature_size, start_of};
 
-use crate::levels::number_at;
-use lms::{LmsPublic, LmsSigView};
-use typecodes::{Cursor, ReadFault};
+use crate::signed_key::SignedKeyView;
+use crate::signed_keys::SignedKeys;
+use lms::LmsSigView;
+use typecodes::{Cause, Cursor, ReadFault};
 
-/// A signature of one to eight levels (RFC 8554 6.2), as a view of the bytes that spell it. It keeps
-/// these and their number of levels alone, and reads a level anew where it is asked for it.
+/// A signature of one to eight levels (RFC 8554 6.2), as a view of the bytes that spell it.
 #[derive(Clone, Copy, Debug)]
 pub struct HssSigView<'a> {
-    levels: u8,
+    signed: SignedKeys<'a>,
+    bottom: LmsSigView<'a>,
     bytes: &'a [u8],
-    ghost spelled: { read signature bytes.now 0 ≡ Ok (spelled_by bytes.now, length bytes.now) },
-    ghost count: { levels ≡ level_count (spelled_by bytes.now) },
-    ghost most: { levels ≤ 8 },
+    ghost spelled: { read signature bytes.now 0 ≡ Ok (shown_by signed.slots bottom, length bytes.now) },
+    ghost stand: { StandInTurn 4 bytes.now signed.slots },
+    ghost last: { lms_bytes_of bottom ≡ take (lms_signature_len_of (lms_pair_of bottom))
+        (drop (4 + taken_by (signed_in signed.slots)) bytes.now) },
 }
 
 impl<'a> HssSigView<'a> {
@@ -37,12 +42,13 @@ impl<'a> HssSigView<'a> {
         ensures whole { IfOk result (λ view. lent_of view ≡ bytes.entry) }
     {
         let mut cursor = Cursor::new(bytes);
-        let above = number_at(&mut cursor, 0, 7)?;
-        pass_signed_keys(&mut cursor, above)?;
-        LmsSigView::from_cursor(&mut cursor)?;
+        let above = number_above(&mut cursor)?;
+        let signed = SignedKeys::from_cursor(&mut cursor, above)?;
+        let bottom = LmsSigView::from_cursor(&mut cursor)?;
         cursor.end()?;
         Ok(HssSigView {
-            levels: above + 1,
+            signed,
+            bottom,
             bytes,
         })
     }
@@ -53,7 +59,7 @@ impl<'a> HssSigView<'a> {
         ensures range { result ≡ big_number 4 (take 4 (bytes_of self.now)) + 1 }
         ensures most { result ≤ 8 }
     {
-        self.levels
+        self.signed.count + 1
     }
 
     /// The signature of level i, 0 for the top tree's, as a view of its own bytes. The caller keeps i
@@ -61,87 +67,61 @@ impl<'a> HssSigView<'a> {
     pub fn level(&self, i: u8) -> LmsSigView<'a>
         requires { i < level_count (signature_of self.now) }
         ensures value { lms_signature_of result ≡ signature_at (signature_of self.now) i }
-        ensures range { lms_bytes_of result ≡
-            take (lms_signature_len_of (lms_pair_of result)) (drop (start_of (signature_of self.now) i) (bytes_of self.now)) }
+        ensures range { lms_bytes_of result ≡ take (lms_signature_len_of (lms_pair_of result))
+            (drop (start_of (signature_of self.now) i) (bytes_of self.now)) }
     {
-        let mut cursor = Cursor {
-            bytes: self.bytes,
-            place: self.start(i),
-        };
-        match LmsSigView::from_cursor(&mut cursor) {
-            Ok(view) => view,
-            Err(_) => unreachable!(),
+        match self.signed_key(i) {
+            Some(signed) => signed.signature,
+            None => self.bottom,
         }
     }
 
-    /// The public key of level i, which the level above signs: the 56 bytes before the level's
-    /// signature. The caller keeps i from 1 on and below the number of levels.
-    pub fn key(&self, i: u8) -> LmsPublic
-        requires above { 1 ≤ i }
-        requires below { i < level_count (signature_of self.now) }
-        ensures value { (top : LmsPublic) → result ≡ key_at top (signature_of self.now) i }
-        ensures range { Spells lms_public_key result (take 56 (drop (start_of (signature_of self.now) i - 56) (bytes_of self.now))) }
+    /// The signature of level i with the public key of level i + 1, which it signs, if level i is above the
+    /// bottom.
+    pub fn signed_key(&self, i: u8) -> Option<SignedKeyView<'a>>
+        ensures some { IsSome result ↔ (i + 1 < level_count (signature_of self.now)) }
+        ensures signature { IfSome result (λ view. lms_signature_of view.signature ≡ signature_at (signature_of self.now) i) }
+        ensures key { (top : LmsPublic) → IfSome result (λ view. view.key ≡ key_at top (signature_of self.now) (i + 1)) }
+        ensures range { IfSome result (StandsAt (start_of (signature_of self.now) i) (bytes_of self.now)) }
+        ensures spells { IfSome result (λ view. Spells lms_public_key view.key view.key_bytes.now) }
     {
-        let mut cursor = Cursor {
-            bytes: self.bytes,
-            place: self.start(i) - 56,
-        };
-        match LmsPublic::from_cursor(&mut cursor) {
-            Ok(key) => key,
-            Err(_) => unreachable!(),
-        }
+        self.signed.get(i)
+    }
+
+    /// The bottom level's signature, which signs the message.
+    pub fn bottom(&self) -> LmsSigView<'a>
+        ensures { lms_signature_of result ≡ (signature_of self.now).bottom }
+    {
+        self.bottom
     }
 
     /// The bytes that spell the signature, and no others.
     pub fn bytes(&self) -> &'a [u8]
         ensures whole { result ≡ lent_of self.now }
         ensures spells { Spells signature (signature_of self.now) result.now }
-        ensures len { length result.now ≡ signature_size (map (λ level. level.pair) (signatures_of (signature_of self.now))) }
+        ensures len { length result.now ≡ signature_size (pairs_in (signature_of self.now)) }
     {
         self.bytes
     }
-
-    // Where the signature of level i begins.
-    fn start(&self, i: u8) -> u32
-        requires { i < level_count (signature_of self.now) }
-        ensures value { result ≡ start_of (signature_of self.now) i }
-        ensures most { result ≤ 75000 }
-        ensures inside { result ≤ length (bytes_of self.now) }
-    {
-        let mut cursor = Cursor {
-            bytes: self.bytes,
-            place: 4,
-        };
-        match pass_signed_keys(&mut cursor, i) {
-            Ok(()) => cursor.place,
-            Err(_) => unreachable!(),
-        }
-    }
 }
 
-// Passes the next signed keys, one behind the other.
-#[tactic(auto, using(crate::proofs::Passing::passing))]
-fn pass_signed_keys(cursor: &mut Cursor<'_>, count: u8) -> Result<(), ReadFault>
-    requires { cursor.old.place + 9380 * count < 2 ^ 31 }
-    ensures read { Gives (λ _. cursor.new.place) result (end_of (read (signed_keys count) cursor.old.bytes.now cursor.old.place)) }
-    ensures most { OnOk result (cursor.new.place ≤ cursor.old.place + 9380 * count) }
+// L - 1 at a cursor, a field of 4 bytes, 0 to 7.
+#[tactic(auto, using(crate::proofs::Numbers::numbers), unfolding(crate::specs::Key::level_number))]
+fn number_above(cursor: &mut Cursor<'_>) -> Result<u8, ReadFault>
+    requires { cursor.old.place + 4 < 2 ^ 32 }
+    ensures read { Gives (λ n. (n, cursor.new.place)) result
+        (read (level_number 0 7) cursor.old.bytes.now cursor.old.place) }
+    ensures most { IfOk result (λ n. n ≤ 7) }
+    ensures len { OnOk result (cursor.new.place ≡ cursor.old.place + 4) }
     ensures bytes { cursor.new.bytes ≡ cursor.old.bytes }
 {
-    for _ in 0..count {
-        pass_signed_key(cursor)?;
+    let place = cursor.place;
+    let number = cursor.number()?;
+    if number > 7 {
+        return Err(ReadFault {
+            place,
+            cause: Cause::LevelCount,
+        });
     }
-    Ok(())
-}
-
-// Passes the next signed key: a signature of at most 9324 bytes, and a key of 56.
-#[tactic(auto, using(crate::proofs::Passing::one, typecodes::proofs::Steps::reading), unfolding(crate::specs::Signature::signed_key))]
-fn pass_signed_key(cursor: &mut Cursor<'_>) -> Result<(), ReadFault>
-    requires { cursor.old.place + 9380 < 2 ^ 32 }
-    ensures read { Gives (λ _. cursor.new.place) result (end_of (read signed_key cursor.old.bytes.now cursor.old.place)) }
-    ensures most { OnOk result (cursor.new.place ≤ cursor.old.place + 9380) }
-    ensures bytes { cursor.new.bytes ≡ cursor.old.bytes }
-{
-    LmsSigView::from_cursor(cursor)?;
-    LmsPublic::from_cursor(cursor)?;
-    Ok(())
+    Ok(number as u8)
 }

@@ -308,11 +308,15 @@ fn parts_are_shown(rt: HostRuntime) -> Result<(), Fail> {
     assert_eq!(rt; view.bytes(), signature.as_slice());
     assert_eq!(rt; view.level(0).bytes(), &signature[4..1296]);
     assert_eq!(rt; view.level(1).bytes(), &signature[1352..]);
-    assert_eq!(rt; view.key(1), LmsPublic::read(&signature[1296..1352])?);
+    let next = view.signed_key(0).ok_or("a level above the bottom")?;
+    assert_eq!(rt; next.signature.bytes(), &signature[4..1296]);
+    assert_eq!(rt; next.key, LmsPublic::read(&signature[1296..1352])?);
+    assert_eq!(rt; next.key_bytes, &signature[1296..1352]);
+    assert!(rt; view.signed_key(1).is_none());
     let mut part = [0; 1348];
     let (root, path) = tree_of(TOP);
     let top = level(&TOP, TOP_RANDOMIZER, root, &path, &signature[1296..1352]);
-    write_signed_key(&top, &view.key(1), &mut part);
+    write_signed_key(&top, &next.key, &mut part);
     assert_eq!(rt; part.as_slice(), &signature[4..1352]);
     Ok(())
 }
@@ -353,9 +357,11 @@ fn eight_levels_are_read(rt: HostRuntime) -> Result<(), Fail> {
     assert_eq!(rt; view.levels(), 8);
     for i in 0..view.levels() {
         assert_eq!(rt; view.level(i).index(), u32::from(i));
-        if i > 0 {
-            assert_eq!(rt; view.key(i).identifier[0], i - 1);
-        }
+        let next = view.signed_key(i);
+        assert_eq!(rt;
+            next.map(|next| next.key.identifier[0]),
+            (i < 7).then_some(i)
+        );
     }
     Ok(())
 }

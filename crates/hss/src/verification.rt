@@ -1,15 +1,11 @@
 //! Verification.
 
-ghost use Rattle.std.specs.Prelude.{◌≡◌, ◌+◌, ◌<◌, ℕ, List, IfOk};
-ghost use Rattle.lms.specs.declared.key.LmsPublic.{LmsPublic};
-ghost use Rattle.lms.specs.Verification.{LevelVerdict};
-ghost use Rattle.hss.specs.Signature.{key_at, level_count, message_at, signature_at};
-ghost use Rattle.hss.specs.View.{signature_of};
 ghost use Rattle.hss.specs.Verification.{AboveVerdict, LeavesMessage, Verdict};
+ghost use Rattle.hss.specs.View.{signature_of};
 
 use crate::key::HssPublic;
 use crate::signature::HssSigView;
-use lms::{LmsPublic, write_public};
+use lms::LmsPublic;
 use typecodes::Refusal;
 
 /// Verifies that the bytes of a signature sign the message under the key (RFC 8554 6.3).
@@ -26,9 +22,8 @@ pub fn verify(public: &HssPublic, message: &mut &[u8], signature: &[u8]) -> Resu
     if view.levels() != public.levels.get() {
         return Err(Refusal::LevelMismatch);
     }
-    let bottom = view.levels() - 1;
     let key = bottom_key(&public.top, &view)?;
-    view.level(bottom).verify(&key, message, bottom)
+    view.bottom().verify(&key, message, view.levels() - 1)
 }
 
 // The key of the bottom level, where the signatures of all levels above it are valid.
@@ -36,23 +31,11 @@ fn bottom_key(top: &LmsPublic, view: &HssSigView<'_>) -> Result<LmsPublic, Refus
     ensures { AboveVerdict top.now (signature_of view.now) result }
 {
     let mut key = *top;
-    for i in 0..view.levels() - 1 {
-        key = next_key(&key, view, i)?;
+    for i in 0..view.levels() {
+        if let Some(signed) = view.signed_key(i) {
+            signed.verify(&key, i)?;
+            key = signed.key;
+        }
     }
     Ok(key)
-}
-
-// The key that level i, above the bottom, signs, where its signature is valid.
-fn next_key(key: &LmsPublic, view: &HssSigView<'_>, i: u8) -> Result<LmsPublic, Refusal>
-    requires { i + 1 < level_count (signature_of view.now) }
-    ensures verdict { (message : List ℕ) → LevelVerdict key.now (message_at message (signature_of view.now) i)
-        (signature_at (signature_of view.now) i) i result }
-    ensures next { (top : LmsPublic) → IfOk result (λ next. next ≡ key_at top (signature_of view.now) (i + 1)) }
-{
-    let next = view.key(i + 1);
-    let mut bytes = [0; 56];
-    write_public(&next, &mut bytes);
-    let mut signed: &[u8] = &bytes;
-    view.level(i).verify(key, &mut signed, i)?;
-    Ok(next)
 }

@@ -6,10 +6,12 @@ ghost use Rattle.typecodes.specs.Layout.{Spells};
 ghost use Rattle.typecodes.specs.Types.{lms_signature_len_of};
 ghost use Rattle.lmots.specs.Hashes.{u32str};
 ghost use Rattle.hss.specs.Key.{public_key};
-ghost use Rattle.hss.specs.Signature.{signature, signature_size, signed_key, signed_keys};
+ghost use Rattle.hss.specs.SignedKey.{signed_key, signed_keys};
+ghost use Rattle.hss.specs.Signature.{signature, signature_size};
 ghost use Rattle.hss.specs.Verification.{IsValid};
 ghost use Rattle.hss.specs.Secret.{key_of, signing_of};
-ghost use Rattle.hss.specs.Writing.{AreDigests, FromSecrets, level_in, pairs_of, part_size, public_by, public_bytes, signature_bytes, signed_by, signed_key_by, signed_key_bytes, textbook};
+ghost use Rattle.hss.specs.Writing.{AreDigests, FromSecrets, level_in, pairs_of, part_size, public_by};
+ghost use Rattle.hss.specs.Writing.{public_bytes, signature_bytes, signed_by, signed_key_by, signed_key_bytes, textbook};
 
 use crate::key::HssPublic;
 use crate::secret::Level;
@@ -41,7 +43,7 @@ pub fn write_public(public: &HssPublic, into: &mut [u8])
     lms::write_public(&public.top, &mut into[4..60]);
 }
 
-/// Writes the signature of a level above the bottom, and behind it the next level's public key, which
+/// Writes the signature of a level above the bottom, and after it the next level's public key, which
 /// it signs (RFC 8554 6.2): the level's part of a signature.
 pub fn write_signed_key(level: &Level<'_>, next: &LmsPublic, into: &mut [u8])
     requires { length into.old ≡ lms_signature_len_of level.now.secret.pair + 56 }
@@ -57,8 +59,8 @@ pub fn write_signed_key(level: &Level<'_>, next: &LmsPublic, into: &mut [u8])
 
 /// Writes the signature of levels, from the top down (RFC 8554 6.2): the number of those above the
 /// bottom, for each of them its signature and the next level's public key, and the bottom level's
-/// signature. The caller gives at most 7 levels above the bottom, and makes the room that
-/// `signature_len` tells.
+/// signature. The caller gives at most 7 levels above the bottom, and makes room for
+/// `signature_len` bytes.
 pub fn write_signature(above: &[Level<'_>], bottom: &Level<'_>, into: &mut [u8])
     requires few { length above.now ≤ 7 }
     requires room { length into.old ≡ signature_size (pairs_of above.now bottom.now) }
@@ -66,7 +68,8 @@ pub fn write_signature(above: &[Level<'_>], bottom: &Level<'_>, into: &mut [u8])
     // They spell the signature.
     ensures spells { Spells signature (signed_by above.now bottom.now) into.new }
     // Where roots and paths are those of the levels' secrets, it is the textbook signature.
-    ensures textbook { FromSecrets above.now bottom.now → signed_by above.now bottom.now ≡ textbook (map signing_of above.now) (signing_of bottom.now) }
+    ensures textbook { FromSecrets above.now bottom.now
+        → signed_by above.now bottom.now ≡ textbook (map signing_of above.now) (signing_of bottom.now) }
     // And where each digest is that of what the level signs, it is valid.
     ensures valid { (message : List ℕ) → FromSecrets above.now bottom.now → AreDigests above.now bottom.now message
         → IsValid (public_by above.now bottom.now) message (signed_by above.now bottom.now) }
@@ -77,13 +80,14 @@ pub fn write_signature(above: &[Level<'_>], bottom: &Level<'_>, into: &mut [u8])
     bottom.write(&mut into[place..end]);
 }
 
-// Writes the signed keys of a signature behind the first 4 bytes, and tells the place behind them.
+// Writes the signed keys of a signature after the first 4 bytes, and gives the place after them.
 fn write_above(above: &[Level<'_>], bottom: &Level<'_>, into: &mut [u8]) -> usize
     requires few { length above.now ≤ 7 }
     requires room { length into.old ≡ 4 + sum_by part_size above.now + lms_signature_len_of bottom.now.secret.pair }
     ensures place { result ≡ 4 + sum_by part_size above.now }
     ensures bytes { take result into.new ≡ take 4 into.old ++ flat_map signed_key_bytes (signed_by above.now bottom.now).signed }
-    ensures spells { Spells (signed_keys (length above.now)) (signed_by above.now bottom.now).signed (flat_map signed_key_bytes (signed_by above.now bottom.now).signed) }
+    ensures spells { let signed = (signed_by above.now bottom.now).signed in
+        Spells (signed_keys (length above.now)) signed (flat_map signed_key_bytes signed) }
 {
     let mut place = 4;
     for (i, level) in above.iter().enumerate() {

@@ -2,7 +2,7 @@ use Rattle.std.proofs.Common.{◌≡◌, refl, sym, ap, ◌∙◌, subst, subst�
 use Rattle.std.specs.List.{flat_map}
 use Rattle.std.proofs.lemmas.List.{take_all}
 use Rattle.typecodes.specs.Layout.{Spells}
-use Rattle.hss.specs.Signature.{signed_key, signed_keys}
+use Rattle.hss.specs.SignedKey.{signed_key, signed_keys}
 use Rattle.hss.specs.Secret.{key_of, signature_by}
 use Rattle.hss.specs.Writing.{signed_by, signed_key_by, signed_key_bytes}
 use Rattle.hss.proofs.Bytes.{keys-none, part-more, spelled-more, written-more}

@@ -2,7 +2,7 @@ use Rattle.std.proofs.Common.{◌≡◌, ◌+◌, ◌++◌, take}
 use Rattle.std.specs.Prelude.{sum_by}
 use Rattle.std.specs.List.{flat_map}
 use Rattle.typecodes.specs.Layout.{Spells}
-use Rattle.hss.specs.Signature.{signed_keys}
+use Rattle.hss.specs.SignedKey.{signed_keys}
 use Rattle.hss.specs.Writing.{part_size, signed_by, signed_key_bytes}
 use Rattle.hss.proofs.writing.write_above.Given as goal
 

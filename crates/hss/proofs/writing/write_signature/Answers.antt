@@ -4,7 +4,8 @@ use borrow.Rule.Slice.PartMut.{post_of}
 use Rattle.typecodes.specs.Layout.{Spells}
 use Rattle.lms.specs.Signature.{signature as lms_signature}
 use Rattle.lms.specs.Writing.{signature_bytes as lms_signature_bytes}
-use Rattle.hss.specs.Signature.{signature, signed_keys}
+use Rattle.hss.specs.SignedKey.{signed_keys}
+use Rattle.hss.specs.Signature.{signature}
 use Rattle.hss.specs.Secret.{key_of, signature_by}
 use Rattle.hss.specs.Writing.{signature_bytes, signed_by, signed_key_bytes}
 use Rattle.hss.proofs.Bytes.{size-parts, whole-spelled, whole-written}

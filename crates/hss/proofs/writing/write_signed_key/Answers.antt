@@ -2,7 +2,7 @@ use Rattle.std.proofs.Common.{◌≡◌, ◌-◌, ◌++◌, length, sym, subst, 
 use Rattle.std.proofs.lemmas.Grind.{common_steps}
 use borrow.Rule.Slice.PartMut.{post_of, put_mid}
 use Rattle.typecodes.specs.Layout.{Spells}
-use Rattle.hss.specs.Signature.{signed_key}
+use Rattle.hss.specs.SignedKey.{signed_key}
 use Rattle.hss.specs.Writing.{signed_key_by}
 use Rattle.hss.proofs.Bytes.{signed_key-spelled}
 use Rattle.hss.proofs.writing.write_signed_key.Goals as goal

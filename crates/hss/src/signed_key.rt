@@ -1,0 +1,74 @@
+//! The signature of a level above the bottom with the key that it signs, as a view of their bytes.
+
+ghost use Rattle.std.specs.Prelude.{◌≡◌, ◌+◌, ◌<◌, ◌≤◌, ◌^◌, Ok, IfOk, OnErr, OnOk, drop, length, take};
+ghost use Rattle.lms.specs.Key.{public_key as lms_public_key};
+ghost use Rattle.typecodes.specs.Cursor.{Gives, read};
+ghost use Rattle.lms.specs.Writing.{public_bytes};
+ghost use Rattle.lms.specs.Verification.{LevelVerdict};
+ghost use Rattle.lms.specs.View.{signature_of as lms_signature_of};
+
+use lms::{LmsPublic, LmsSigView};
+use typecodes::{Cursor, ReadFault, Refusal};
+
+/// The signature of a level above the bottom, and the next level's public key, which it signs
+/// (RFC 8554 6.2), as a view of the bytes that spell both.
+#[derive(Clone, Copy, Debug)]
+pub struct SignedKeyView<'a> {
+    /// The level's signature.
+    pub signature: LmsSigView<'a>,
+    /// The next level's public key.
+    pub key: LmsPublic,
+    /// The key's 56 bytes as they stand after the signature: the message that the level signs.
+    pub key_bytes: &'a [u8],
+    pub ghost spelled: { key_bytes.now ≡ public_bytes key },
+}
+
+impl<'a> SignedKeyView<'a> {
+    ghost use Rattle.hss.specs.SignedKey.{StandsAt, signed_key, signed_key_of};
+
+    /// The signature and the key at a cursor, at most 9324 bytes and 56. The caller keeps their end below
+    /// `2^32`. A fault leaves the cursor where it is.
+    #[tactic(auto, using(crate::proofs::Passing::one, typecodes::proofs::Steps::reading), unfolding(crate::specs::SignedKey::signed_key))]
+    pub fn from_cursor(cursor: &mut Cursor<'a>) -> Result<Self, ReadFault>
+        requires { cursor.old.place + 9380 < 2 ^ 32 }
+        ensures read { Gives (λ view. (signed_key_of view, cursor.new.place)) result
+            (read signed_key cursor.old.bytes.now cursor.old.place) }
+        ensures most { OnOk result (cursor.new.place ≤ cursor.old.place + 9380) }
+        ensures bytes { cursor.new.bytes ≡ cursor.old.bytes }
+        ensures part { IfOk result (λ view. StandsAt cursor.old.place cursor.old.bytes.now view) }
+        ensures err { OnErr result (cursor.new.place ≡ cursor.old.place) }
+    {
+        let mut rest = *cursor;
+        let signature = LmsSigView::from_cursor(&mut rest)?;
+        let start = rest.place;
+        let key = LmsPublic::from_cursor(&mut rest)?;
+        *cursor = rest;
+        let key_bytes = bytes_of_key(&key, cursor.bytes, start);
+        Ok(SignedKeyView {
+            signature,
+            key,
+            key_bytes,
+        })
+    }
+
+    /// Verifies that the signature signs the key under this level's key. The first refusal comes of: other
+    /// types than the level's key's (10, with the level), another root than its (12, with the level).
+    pub fn verify(&self, public: &LmsPublic, level: u8) -> Result<(), Refusal>
+        ensures { LevelVerdict public.now (public_bytes self.now.key) (lms_signature_of self.now.signature) level result }
+    {
+        let mut message = self.key_bytes;
+        self.signature.verify(public, &mut message, level)
+    }
+}
+
+// The 56 bytes of a key that was read where they begin.
+fn bytes_of_key<'a>(key: &LmsPublic, bytes: &'a [u8], start: u32) -> &'a [u8]
+    requires inside { start + 56 < 2 ^ 32 }
+    requires within { start ≤ length bytes.now }
+    requires found { read lms_public_key bytes.now start ≡ Ok (key.now, start + 56) }
+    ensures range { result.now ≡ take 56 (drop start bytes.now) }
+    ensures spelled { result.now ≡ public_bytes key.now }
+{
+    let start = start as usize;
+    &bytes[start..start + 56]
+}

@@ -1,0 +1,50 @@
+//! The signed keys of a signature, as views of their bytes.
+
+ghost use Rattle.std.specs.Prelude.{◌≡◌, ◌+◌, ◌*◌, ◌<◌, ◌≤◌, ◌^◌, IfOk, OnOk};
+ghost use Rattle.typecodes.specs.Cursor.{Gives, read};
+ghost use Rattle.hss.specs.SignedKey.{AreFirst, StandInTurn, signed_in, signed_keys, slot};
+
+use crate::signed_key::SignedKeyView;
+use typecodes::{Cursor, ReadFault};
+
+/// At most 7 signatures with their keys, from the top level down.
+#[derive(Clone, Copy, Debug)]
+pub(crate) struct SignedKeys<'a> {
+    pub(crate) count: u8,
+    // those from the count on are empty
+    pub(crate) slots: [Option<SignedKeyView<'a>>; 7],
+    ghost few: { count ≤ 7 },
+    ghost first: { AreFirst count slots },
+}
+
+impl<'a> SignedKeys<'a> {
+    /// So many signatures and keys at a cursor, each at most 9380 bytes. The caller keeps their end below
+    /// `2^31`.
+    pub(crate) fn from_cursor(cursor: &mut Cursor<'a>, count: u8) -> Result<Self, ReadFault>
+        requires few { count ≤ 7 }
+        requires room { cursor.old.place + 9380 * count < 2 ^ 31 }
+        ensures read { Gives (λ keys. (signed_in keys.slots, cursor.new.place)) result
+            (read (signed_keys count) cursor.old.bytes.now cursor.old.place) }
+        ensures count { IfOk result (λ keys. keys.count ≡ count) }
+        ensures stand { IfOk result (λ keys. StandInTurn cursor.old.place cursor.old.bytes.now keys.slots) }
+        ensures most { OnOk result (cursor.new.place ≤ cursor.old.place + 9380 * count) }
+        ensures bytes { cursor.new.bytes ≡ cursor.old.bytes }
+    {
+        let mut slots = [None; 7];
+        for i in 0..count {
+            slots[usize::from(i)] = Some(SignedKeyView::from_cursor(cursor)?);
+        }
+        Ok(SignedKeys { count, slots })
+    }
+
+    /// That of level i, if there are more than i.
+    pub(crate) fn get(&self, i: u8) -> Option<SignedKeyView<'a>>
+        ensures { result ≡ slot self.now.slots i }
+    {
+        if i >= self.count {
+            return None;
+        }
+        let slots = &self.slots[..];
+        slots[usize::from(i)]
+    }
+}
