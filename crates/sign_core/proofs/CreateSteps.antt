@@ -13,7 +13,7 @@ use Rattle.sign_core.specs.Create.{Creates, DrawsKey, FailsLoad}
 use Rattle.sign_core.specs.Signer.{state_of}
 use Rattle.sign_core.specs.Create.{FindsNone}
 use Rattle.sign_core.specs.Once.{AreDrawn}
-use Rattle.sign_core.specs.Source.{Gives}
+use Rattle.sign_core.specs.Source.{Provides}
 
 -- a create where the load fails
 pub unloaded_creates : (pair : LmsPair) (stopped honest : Bool) (list : List Record) (upcoming : Option (List ℕ)) (fault : SignFault) → FailsLoad (Some fault) list stopped honest → Creates pair stopped honest (state_of list false) (state_of list false) upcoming upcoming (Err fault)
@@ -60,13 +60,13 @@ undrawn_creates pair stopped honest list upcoming left load none drawn =
     record { chance = chance; step = empty_step pair list chance refl none; load = load; drawn = drawn; possible = tt; memory = refl }
 
 -- a create whose key's record is appended
-pub appended_creates : (pair : LmsPair) (stopped honest : Bool) (list new : List Record) (is_open : Bool) (upcoming left : Option (List ℕ)) (identifier seed : List ℕ) (fate : Fate) (answer : Result LmsPublic SignFault) → stopped ≡ false → length list ≡ 0 → AreDrawn (Some (identifier, seed)) → Gives upcoming (identifier ++ seed) left → (let key = new_key pair identifier seed in appended (state_of list false) (key_record key) (public_key_of key) fate ≡ record { state = state_of new is_open; answer = answer }) → Creates pair stopped honest (state_of list false) (state_of new is_open) upcoming left answer
+pub appended_creates : (pair : LmsPair) (stopped honest : Bool) (list new : List Record) (is_open : Bool) (upcoming left : Option (List ℕ)) (identifier seed : List ℕ) (fate : Fate) (answer : Result LmsPublic SignFault) → stopped ≡ false → length list ≡ 0 → AreDrawn (Some (identifier, seed)) → Provides upcoming (identifier ++ seed) left → (let key = new_key pair identifier seed in appended (state_of list false) (key_record key) (public_key_of key) fate ≡ record { state = state_of new is_open; answer = answer }) → Creates pair stopped honest (state_of list false) (state_of new is_open) upcoming left answer
 appended_creates pair stopped honest list new is_open upcoming left identifier seed fate answer load none drawn gave step =
     let chance : Creation = record { failed_load = None; drawn = Some (identifier, seed); has_room = true; fate = fate } in
     record { chance = chance; step = empty_step pair list chance refl none ∙ step; load = load; drawn = (drawn.0, drawn.2, gave); possible = drawn; memory = refl }
 
 -- two fills, one after the other
-pub gives_both : (upcoming : Option (List ℕ)) (a : List ℕ) (between : Option (List ℕ)) (b : List ℕ) (left : Option (List ℕ)) → Gives upcoming a between → Gives between b left → Gives upcoming (a ++ b) left
+pub gives_both : (upcoming : Option (List ℕ)) (a : List ℕ) (between : Option (List ℕ)) (b : List ℕ) (left : Option (List ℕ)) → Provides upcoming a between → Provides between b left → Provides upcoming (a ++ b) left
 gives_both None a None b left h k = k
 gives_both None a (Some rest) b left h k = absurd (cc)
 gives_both (Some upcoming) a None b left h k = absurd h

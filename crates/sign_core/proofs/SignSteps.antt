@@ -16,9 +16,9 @@ use Rattle.sign_core.specs.World.{Chance, Fate, Outcome, State, acked, cut_old, 
 use Rattle.sign_core.specs.Ledger.{LacksMemory}
 use Rattle.sign_core.specs.Signer.{Leaves, Signs, View, is_read, state_of}
 use Rattle.sign_core.specs.Once.{IsDrawn}
-use Rattle.sign_core.specs.Source.{Gives}
-use Rattle.sign_core.specs.Signing.{DrawsBytes, Stores}
-use Rattle.sign_core.specs.Ledger.{IsKept, hindrance, records_of, Hinders}
+use Rattle.sign_core.specs.Source.{Provides}
+use Rattle.sign_core.specs.Signing.{DrawsBytes, AppendsEntry}
+use Rattle.sign_core.specs.Ledger.{IsLedgerOf, hindrance, records_of, Hinders}
 use Rattle.sign_core.specs.Fault.{closes}
 
 -- the bindings of bindings' records
@@ -27,17 +27,17 @@ bounds_of-map [] = refl
 bounds_of-map (bound ∷ rest) = ap (λ all. bound ∷ all) (bounds_of-map rest)
 
 -- the same once more, of records that are kept
-pub kept_bounds : (list : List Record) (stopped : Bool) (key : LmsKey) (bounds : List Bound) (leaf : ℕ) → IsKept list stopped key bounds leaf → bounds_of list ≡ bounds
+pub kept_bounds : (list : List Record) (stopped : Bool) (key : LmsKey) (bounds : List Bound) (leaf : ℕ) → IsLedgerOf list stopped key bounds leaf → bounds_of list ≡ bounds
 kept_bounds list stopped key bounds leaf kept = ap bounds_of kept.records ∙ bounds_of-map bounds
 
-pub kept_key : (list : List Record) (stopped : Bool) (key : LmsKey) (bounds : List Bound) (leaf : ℕ) → IsKept list stopped key bounds leaf → key_of list ≡ Some key
+pub kept_key : (list : List Record) (stopped : Bool) (key : LmsKey) (bounds : List Bound) (leaf : ℕ) → IsLedgerOf list stopped key bounds leaf → key_of list ≡ Some key
 kept_key list stopped key bounds leaf kept = ap key_of kept.records
 
 pub length-map_bound : (bounds : List Bound) → length (map BoundRecord bounds) ≡ length bounds
 length-map_bound [] = refl
 length-map_bound (bound ∷ rest) = ap suc (length-map_bound rest)
 
-pub kept_length : (list : List Record) (stopped : Bool) (key : LmsKey) (bounds : List Bound) (leaf : ℕ) → IsKept list stopped key bounds leaf → length list ≡ length bounds + 1
+pub kept_length : (list : List Record) (stopped : Bool) (key : LmsKey) (bounds : List Bound) (leaf : ℕ) → IsLedgerOf list stopped key bounds leaf → length list ≡ length bounds + 1
 kept_length list stopped key bounds leaf kept = omega (arith, ap length kept.records, length-map_bound bounds)
 
 -- the least number above all leaves, seen from a start on, is no less than that start
@@ -76,7 +76,7 @@ records_snoc key [] bound = refl
 records_snoc key (first ∷ rest) bound = ap (λ all. key_record key ∷ BoundRecord first ∷ all) (ap (drop 1) (records_snoc key rest bound))
 
 -- records with one more binding, to the next leaf
-pub kept_more : (list : List Record) (stopped : Bool) (key : LmsKey) (bounds : List Bound) (leaf : ℕ) (bound : Bound) (new : List Record) (new_stopped : Bool) → IsKept list stopped key bounds leaf → bound.leaf ≡ leaf → leaf < 2 ^ height_of key.pair.tree → new ≡ list ++ BoundRecord bound ∷ [] → new_stopped ≡ false → IsKept new new_stopped key (bounds ++ bound ∷ []) (leaf + 1)
+pub kept_more : (list : List Record) (stopped : Bool) (key : LmsKey) (bounds : List Bound) (leaf : ℕ) (bound : Bound) (new : List Record) (new_stopped : Bool) → IsLedgerOf list stopped key bounds leaf → bound.leaf ≡ leaf → leaf < 2 ^ height_of key.pair.tree → new ≡ list ++ BoundRecord bound ∷ [] → new_stopped ≡ false → IsLedgerOf new new_stopped key (bounds ++ bound ∷ []) (leaf + 1)
 kept_more list stopped key bounds leaf bound new new_stopped kept is below made running =
     let all : new ≡ records_of key (bounds ++ bound ∷ []) =
     made ∙ ap (λ records. records ++ BoundRecord bound ∷ []) kept.records ∙ records_snoc key bounds bound in
@@ -124,13 +124,13 @@ anew_step limit state key name message chance =
 -- ---- what each call is
 
 -- what hinders, by the records and by what is kept of them
-hindrance_kept : (limit : ℕ) (list : List Record) (stopped : Bool) (key : LmsKey) (bounds : List Bound) (leaf : ℕ) (has_room : Bool) → IsKept list stopped key bounds leaf → hindrance limit (height_of key.pair.tree) (next_leaf list) (length list) has_room (is_sound key) ≡ hindrance limit (height_of key.pair.tree) leaf (length bounds + 1) has_room (is_sound key)
+hindrance_kept : (limit : ℕ) (list : List Record) (stopped : Bool) (key : LmsKey) (bounds : List Bound) (leaf : ℕ) (has_room : Bool) → IsLedgerOf list stopped key bounds leaf → hindrance limit (height_of key.pair.tree) (next_leaf list) (length list) has_room (is_sound key) ≡ hindrance limit (height_of key.pair.tree) leaf (length bounds + 1) has_room (is_sound key)
 hindrance_kept limit list stopped key bounds leaf has_room kept =
     let count = kept_length list stopped key bounds leaf kept in
     λ i. hindrance limit (height_of key.pair.tree) (sym kept.next i) (count i) has_room (is_sound key)
 
 -- a request under a name that isn't bound, by what hinders
-pub anew_kept : (limit : ℕ) (list : List Record) (stopped : Bool) (key : LmsKey) (bounds : List Bound) (leaf : ℕ) (name message : List ℕ) (chance : Chance) (hinders : Option SignFault) → IsKept list stopped key bounds leaf → binding_of list name ≡ None → hinders ≡ hindrance limit (height_of key.pair.tree) leaf (length bounds + 1) chance.has_room (is_sound key) → requested limit (state_of list true) name message chance ≡ answers limit (state_of list true) key name message chance hinders
+pub anew_kept : (limit : ℕ) (list : List Record) (stopped : Bool) (key : LmsKey) (bounds : List Bound) (leaf : ℕ) (name message : List ℕ) (chance : Chance) (hinders : Option SignFault) → IsLedgerOf list stopped key bounds leaf → binding_of list name ≡ None → hinders ≡ hindrance limit (height_of key.pair.tree) leaf (length bounds + 1) chance.has_room (is_sound key) → requested limit (state_of list true) name message chance ≡ answers limit (state_of list true) key name message chance hinders
 anew_kept limit list stopped key bounds leaf name message chance hinders kept none is =
     let state = state_of list true in
     unbound_step limit list key name message chance (kept_key list stopped key bounds leaf kept) none
@@ -176,7 +176,7 @@ repeat_signs limit lacking list key bound upcoming name message has_room answer 
 
 -- What a signer knows of a request under a name that isn't bound: what is kept, and what hinders, if anything does.
 pub record FreeName (limit : ℕ) (lacking : Type 0) (list : List Record) (stopped : Bool) (key : LmsKey) (bounds : List Bound) (leaf : ℕ) (name : List ℕ) (fault : Option SignFault) : Type 0 where
-  pub kept : IsKept list stopped key bounds leaf
+  pub kept : IsLedgerOf list stopped key bounds leaf
   pub unbound : binding_of list name ≡ None
   pub hinders : Hinders limit (height_of key.pair.tree) leaf (length bounds + 1) lacking (is_sound key) fault
 
@@ -207,7 +207,7 @@ undrawn_signs limit lacking list stopped key bounds leaf upcoming left name mess
     }
 
 -- under a new name whose record is appended
-pub appended_signs : (limit : ℕ) (lacking : Type 0) (list new : List Record) (is_open stopped : Bool) (key : LmsKey) (bounds : List Bound) (leaf : ℕ) (upcoming left : Option (List ℕ)) (name message randomizer : List ℕ) (fate : Fate) (answer : Result (List ℕ) SignFault) → FreeName limit lacking list stopped key bounds leaf name None → IsDrawn (Some randomizer) → Gives upcoming randomizer left → (let bound = new_bound key leaf name message randomizer in appended (state_of list true) (BoundRecord bound) (signature_of key bound) fate ≡ record { state = state_of new is_open; answer = answer }) → Signs limit lacking (state_of list true) (state_of new is_open) upcoming left name message [] answer
+pub appended_signs : (limit : ℕ) (lacking : Type 0) (list new : List Record) (is_open stopped : Bool) (key : LmsKey) (bounds : List Bound) (leaf : ℕ) (upcoming left : Option (List ℕ)) (name message randomizer : List ℕ) (fate : Fate) (answer : Result (List ℕ) SignFault) → FreeName limit lacking list stopped key bounds leaf name None → IsDrawn (Some randomizer) → Provides upcoming randomizer left → (let bound = new_bound key leaf name message randomizer in appended (state_of list true) (BoundRecord bound) (signature_of key bound) fate ≡ record { state = state_of new is_open; answer = answer }) → Signs limit lacking (state_of list true) (state_of new is_open) upcoming left name message [] answer
 appended_signs limit lacking list new is_open stopped key bounds leaf upcoming left name message randomizer fate answer free drawn gave made =
     let chance : Chance = record { drawn = Some randomizer; has_room = free.hinders.0; fate = fate } in
     let state = state_of list true in record {
@@ -234,7 +234,7 @@ lacks_along capacity lacks a b c =
     subst (λ (t : Option Bound × LmsKey × ℕ). LacksMemory t.0 (signature_size t.1.pair) capacity t.2) (λ i. (a i, b i, c i)) lacks
 
 -- what a signer knows of such a request, by its fields and by its view
-pub free_name : {limit : ℕ} {list list' : List Record} {stopped : Bool} {key key' : LmsKey} {bounds : List Bound} {leaf : ℕ} {name : List ℕ} (capacity : ℕ) {spare spare' : ℕ} {fault : Option SignFault} → IsKept list stopped key bounds leaf → Hinders limit (height_of key.pair.tree) leaf (length bounds + 1) (LacksMemory None (signature_size key.pair) capacity spare) (is_sound key) fault → list ≡ list' → key ≡ key' → spare ≡ spare' → binding_of list' name ≡ None → FreeName limit (LacksMemory (binding_of list' name) (signature_size key'.pair) capacity spare') list stopped key bounds leaf name fault
+pub free_name : {limit : ℕ} {list list' : List Record} {stopped : Bool} {key key' : LmsKey} {bounds : List Bound} {leaf : ℕ} {name : List ℕ} (capacity : ℕ) {spare spare' : ℕ} {fault : Option SignFault} → IsLedgerOf list stopped key bounds leaf → Hinders limit (height_of key.pair.tree) leaf (length bounds + 1) (LacksMemory None (signature_size key.pair) capacity spare) (is_sound key) fault → list ≡ list' → key ≡ key' → spare ≡ spare' → binding_of list' name ≡ None → FreeName limit (LacksMemory (binding_of list' name) (signature_size key'.pair) capacity spare') list stopped key bounds leaf name fault
 free_name {name = name} capacity kept hinders a b c none = record {
   kept = kept;
   unbound = ap (λ l. binding_of l name) a ∙ none;
@@ -254,9 +254,9 @@ repeated_unsound key bound message same unsound =
 -- ---- from a signer's fields
 
 -- the same kept, of equal arguments
-pub kept_along : {list list' : List Record} {stopped stopped' : Bool} {key key' : LmsKey} {bounds bounds' : List Bound} {leaf leaf' : ℕ} → IsKept list stopped key bounds leaf → list ≡ list' → stopped ≡ stopped' → key ≡ key' → bounds ≡ bounds' → leaf ≡ leaf' → IsKept list' stopped' key' bounds' leaf'
+pub kept_along : {list list' : List Record} {stopped stopped' : Bool} {key key' : LmsKey} {bounds bounds' : List Bound} {leaf leaf' : ℕ} → IsLedgerOf list stopped key bounds leaf → list ≡ list' → stopped ≡ stopped' → key ≡ key' → bounds ≡ bounds' → leaf ≡ leaf' → IsLedgerOf list' stopped' key' bounds' leaf'
 kept_along kept a b c d e =
-    subst (λ (t : List Record × Bool × LmsKey × List Bound × ℕ). IsKept t.0 t.1 t.2 t.3 t.4) (λ i. (a i, b i, c i, d i, e i)) kept
+    subst (λ (t : List Record × Bool × LmsKey × List Bound × ℕ). IsLedgerOf t.0 t.1 t.2 t.3 t.4) (λ i. (a i, b i, c i, d i, e i)) kept
 
 and_false : (b : Bool) → b && false ≡ false
 and_false true = refl
@@ -267,7 +267,7 @@ and_true true = refl
 and_true false = refl
 
 -- what becomes of an append that fails, to a signer that was open or wasn't
-pub append_fails : {A : Type 0} (was : Bool) (list : List Record) (entry : Record) (new : List Record) (stopped : Bool) (before after : ℕ) (fault : SignFault) (value : A) → Stores {A = Unit {0}} list entry new stopped before after (Err fault) → (fate : Fate) × (appended (state_of list was) entry value fate ≡ record { state = state_of new (was && not (closes fault)); answer = Err fault })
+pub append_fails : {A : Type 0} (was : Bool) (list : List Record) (entry : Record) (new : List Record) (stopped : Bool) (before after : ℕ) (fault : SignFault) (value : A) → AppendsEntry {A = Unit {0}} list entry new stopped before after (Err fault) → (fate : Fate) × (appended (state_of list was) entry value fate ≡ record { state = state_of new (was && not (closes fault)); answer = Err fault })
 append_fails was list entry new stopped before after StoreFailed value (left, _) =
     ⊎_elim
     (λ (same : new ≡ list). (cut_old, λ i. refused (state_of (sym same i) (sym (and_false was) i)) StoreFailed))
@@ -306,7 +306,7 @@ key_appended was list entry key value cut_new is = key_snoc list entry key is
 key_appended was list entry key value no_memory is = is
 
 -- what is found among the bindings is the name's binding
-pub found_binding : {list list' : List Record} {stopped : Bool} {key : LmsKey} {bounds searched : List Bound} {leaf : ℕ} (name : List ℕ) {found : Option Bound} → IsKept list stopped key bounds leaf → list ≡ list' → searched ≡ bounds → bound_in searched name ≡ found → binding_of list' name ≡ found
+pub found_binding : {list list' : List Record} {stopped : Bool} {key : LmsKey} {bounds searched : List Bound} {leaf : ℕ} (name : List ℕ) {found : Option Bound} → IsLedgerOf list stopped key bounds leaf → list ≡ list' → searched ≡ bounds → bound_in searched name ≡ found → binding_of list' name ≡ found
 found_binding {list = list} {stopped = stopped} {key = key} {bounds = bounds} {leaf = leaf} name kept a b is =
     ap (λ l. binding_of l name) (sym a) ∙ ap (λ l. bound_in l name) (kept_bounds list stopped key bounds leaf kept ∙ sym b) ∙ is
 
@@ -317,7 +317,7 @@ not_bound none some =
     absurd (true≢false (sym never))
 
 -- and its leaf is one of the tree's
-pub found_inside : (list : List Record) (stopped : Bool) (key : LmsKey) (bounds : List Bound) (leaf : ℕ) (test : Bound → Bool) (found : Bound) → IsKept list stopped key bounds leaf → find test bounds ≡ Some found → found.leaf < 2 ^ height_of key.pair.tree
+pub found_inside : (list : List Record) (stopped : Bool) (key : LmsKey) (bounds : List Bound) (leaf : ℕ) (test : Bound → Bool) (found : Bound) → IsLedgerOf list stopped key bounds leaf → find test bounds ≡ Some found → found.leaf < 2 ^ height_of key.pair.tree
 found_inside list stopped key bounds leaf test found kept is =
     let below = found_below test bounds found 0 is in
     let next = kept.next ∙ next_of-records key bounds list kept.records in

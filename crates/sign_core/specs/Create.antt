@@ -12,7 +12,7 @@ use Rattle.sign_core.specs.declared.fault.SignFault.TheVariants.{Unreadable, Key
 use Rattle.sign_core.specs.Ledger.{public_key_of}
 use Rattle.sign_core.specs.Once.{AreDrawn}
 use Rattle.sign_core.specs.Signer.{View, state_of}
-use Rattle.sign_core.specs.Source.{Gives}
+use Rattle.sign_core.specs.Source.{Provides}
 use Rattle.sign_core.specs.World.{Creation, State, created}
 
 -- what the load of record 0 failed with, by the store that it failed on
@@ -28,9 +28,9 @@ FailsLoad (Some _) list stopped honest = ⊥
 -- The source gave I and then SEED; or not both: then it gave none of them, or I alone.
 abbrev pub DrawsKey : Option (List ℕ × List ℕ) → (upcoming left : Option (List ℕ)) → Type 0
 DrawsKey None upcoming left =
-    (left ≡ upcoming) ⊎ ((identifier : List ℕ) × (length identifier ≡ 16) × Gives upcoming identifier left)
+    (left ≡ upcoming) ⊎ ((identifier : List ℕ) × (length identifier ≡ 16) × Provides upcoming identifier left)
 DrawsKey (Some drawn) upcoming left =
-    (length drawn.0 ≡ 16) × (length drawn.1 ≡ 32) × Gives upcoming (drawn.0 ++ drawn.1) left
+    (length drawn.0 ≡ 16) × (length drawn.1 ≡ 32) × Provides upcoming (drawn.0 ++ drawn.1) left
 
 -- A call of create is a step of the world, by some chance: the failure of the load is the store's, the drawn I
 -- and SEED are what the source gave, and it takes no memory of its own.

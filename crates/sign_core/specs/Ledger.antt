@@ -94,7 +94,8 @@ abbrev pub records_of : LmsKey → List Bound → List Record
 records_of key bounds = key_record key ∷ map BoundRecord bounds
 
 -- The store runs, its records are those of the key and the bindings, and `leaf` is the next leaf.
-pub record IsKept (list : List Record) (stopped : Bool) (key : LmsKey) (bounds : List Bound) (leaf : ℕ) : Type 0 where
+pub record IsLedgerOf (list : List Record) (stopped : Bool) (key : LmsKey) (bounds : List Bound) (leaf : ℕ)
+    : Type 0 where
   pub running : stopped ≡ false
   pub records : list ≡ records_of key bounds
   pub next : leaf ≡ next_leaf list

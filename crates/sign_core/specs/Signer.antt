@@ -9,7 +9,7 @@ use Rattle.sign_core.specs.declared.fault.SignFault.{SignFault}
 use Rattle.sign_core.specs.declared.fault.SignFault.TheVariants.{RandomFailed, StoreFailed, OutOfMemory}
 use Rattle.sign_core.specs.Ledger.{LacksMemory, binding_of}
 use Rattle.sign_core.specs.Once.{IsDrawn}
-use Rattle.sign_core.specs.Source.{Gives}
+use Rattle.sign_core.specs.Source.{Provides}
 use Rattle.sign_core.specs.World.{Chance, State, acked, repeated, requested}
 
 -- What a signer is, to its callers: its store, its source, the key of record 0, whether it is open, and for how
@@ -34,7 +34,7 @@ answered (Err fault) value = Err fault
 -- the source gave C, or it gave nothing
 abbrev pub Draws : Option (List ℕ) → (upcoming left : Option (List ℕ)) → Type 0
 Draws None upcoming left = left ≡ upcoming
-Draws (Some bytes) upcoming left = Gives upcoming bytes left
+Draws (Some bytes) upcoming left = Provides upcoming bytes left
 
 -- whether a request reads its message: where its name is bound, or C was drawn for it
 abbrev pub is_read : State → List ℕ → Option (List ℕ) → Bool

@@ -4,15 +4,15 @@ use Rattle.sign_core.specs.declared.source.TapeSource.{TapeSource}
 
 -- What a source has still to give, where that is known, before and after it gives these bytes: these come first.
 -- Where it isn't known, it isn't afterwards.
-abbrev pub Gives : Option (List ℕ) → List ℕ → Option (List ℕ) → Type 0
-Gives None bytes left = left ≡ None
-Gives (Some upcoming) bytes None = ⊥
-Gives (Some upcoming) bytes (Some left) = upcoming ≡ bytes ++ left
+abbrev pub Provides : Option (List ℕ) → List ℕ → Option (List ℕ) → Type 0
+Provides None bytes left = left ≡ None
+Provides (Some upcoming) bytes None = ⊥
+Provides (Some upcoming) bytes (Some left) = upcoming ≡ bytes ++ left
 
 -- What a fill does, by its answer: to the count of failures, and to what the source has still to give.
 abbrev pub Fills : {A E : Type 0} (failures_before failures_after : ℕ) (upcoming left : Option (List ℕ))
     (bytes : List ℕ) → Result A E → Type 0
-Fills before after upcoming left bytes (Ok _) = (after ≡ before) × Gives upcoming bytes left
+Fills before after upcoming left bytes (Ok _) = (after ≡ before) × Provides upcoming bytes left
 Fills before after upcoming left bytes (Err _) = (after ≡ before + 1) × (left ≡ upcoming)
 
 -- ---- a source of given bytes

@@ -27,7 +27,7 @@ pub struct Signer<S: Store, R: Source> {
 
 impl<S: Store, R: Source> Model for Signer<S, R> {
     ghost use Rattle.std.specs.Prelude.{◌≡◌, ◌-◌, true, Some, vec_len, vec_capacity};
-    ghost use Rattle.sign_core.specs.Ledger.{IsKept, key_of};
+    ghost use Rattle.sign_core.specs.Ledger.{IsLedgerOf, key_of};
     ghost use Rattle.sign_core.specs.Signer.{View};
 
     ghost Value = { View S R };
@@ -43,7 +43,7 @@ impl<S: Store, R: Source> Model for Signer<S, R> {
     // The key is that of the store's records; while open, the ledger is what they say.
     ghost invariant = { λ s. (key_of (S.list s.store) ≡ Some s.ledger.key) ×
         (s.is_open ≡ true →
-        IsKept (S.list s.store) (S.stopped s.store) s.ledger.key s.ledger.bounds.items s.ledger.next) };
+        IsLedgerOf (S.list s.store) (S.stopped s.store) s.ledger.key s.ledger.bounds.items s.ledger.next) };
 }
 
 impl<S: Store, R: Source> Signer<S, R> {

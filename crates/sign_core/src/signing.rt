@@ -7,7 +7,7 @@ ghost use Rattle.lmots.specs.Key.{message_digest_of};
 ghost use Rattle.lms.specs.Secret.{path_in};
 ghost use Rattle.lms.specs.Writing.{signature_size};
 ghost use Rattle.state_file.specs.Store.{CanFollow};
-ghost use Rattle.sign_core.specs.Signing.{DrawsBytes, Stores};
+ghost use Rattle.sign_core.specs.Signing.{DrawsBytes, AppendsEntry};
 ghost use Rattle.sign_core.specs.Ledger.{is_sound, secret_of, signature_of};
 ghost use Rattle.sign_core.specs.Once.{AreDrawn};
 ghost use Rattle.sign_core.specs.World.{new_key};
@@ -120,7 +120,7 @@ pub(crate) fn append<S: Store>(store: &mut S, entry: &Record) -> Result<(), Sign
     requires running { S.stopped store.old ≡ false }
     requires room { length (S.list store.old) < S.most store.old }
     requires key_first { CanFollow (S.list store.old) entry.now }
-    ensures stored { Stores (S.list store.old) entry.now (S.list store.new) (S.stopped store.new)
+    ensures stored { AppendsEntry (S.list store.old) entry.now (S.list store.new) (S.stopped store.new)
         (S.failures store.old) (S.failures store.new) result }
     ensures honest { S.honest store.new ≡ S.honest store.old }
     ensures most { S.most store.new ≡ S.most store.old }

@@ -2,7 +2,7 @@ use Rattle.std.proofs.Common.{◌≡◌, true, false, is_ok, [], ◌∷◌, ◌+
 use Rattle.state_file.specs.declared.record.Record.{Record}
 use Rattle.state_file.specs.Store.{is_key}
 use Rattle.sign_core.specs.Ledger.{key_record, public_key_of}
-use Rattle.sign_core.specs.Signing.{Stores}
+use Rattle.sign_core.specs.Signing.{AppendsEntry}
 use Rattle.sign_core.specs.World.{acked, new_key}
 use Rattle.sign_core.specs.Create.{published}
 use Rattle.sign_core.specs.Signer.{state_of}
@@ -51,7 +51,7 @@ returns-in_err-append-clause-step g c =
     let key = new_key c.args.pair identifier seed in
     let same = c.record.ensures ∙ ap key_record c.key_from_seed-key.ensures.key in
     let list = g.S.Store.list c.append.new.store in
-    let stored = subst (λ (t : List Record × Record). Stores {A = Unit {0}} t.0 t.1 list (g.S.Store.stopped c.append.new.store) (g.S.Store.failures c.find_none.new.store) (g.S.Store.failures c.append.new.store) (Err c.in_err-append.field-0.0)) (λ i. (c.find_none.ensures.same i, same i)) c.in_err-append.ensures.stored in
+    let stored = subst (λ (t : List Record × Record). AppendsEntry {A = Unit {0}} t.0 t.1 list (g.S.Store.stopped c.append.new.store) (g.S.Store.failures c.find_none.new.store) (g.S.Store.failures c.append.new.store) (Err c.in_err-append.field-0.0)) (λ i. (c.find_none.ensures.same i, same i)) c.in_err-append.ensures.stored in
     let made = append_fails false _ _ _ _ _ _ _ (public_key_of key) stored in
     creates_along (appended_creates c.args.pair _ _ _ _ _ _ _ identifier seed made.0 _ none.0 none.1 c.key_from_seed-key.ensures.drawn (gives_both _ _ _ _ _ first.drawn.1 second.drawn.1) made.1)
     (ap (state_of _) (sym closed)) refl (sym answer)

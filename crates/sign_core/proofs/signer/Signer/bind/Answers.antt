@@ -1,7 +1,7 @@
 use Rattle.std.proofs.Common.{◌≡◌, ◌+◌, ℕ, true, not, [], ◌∷◌, ◌++◌, Some, Ok, Err, List, ap, sym, ◌∙◌, subst, refl, rules}
 use Rattle.state_file.specs.declared.record.Record.TheVariants.{Bound as BoundRecord}
 use Rattle.sign_core.specs.Ledger.{key_of, signature_of}
-use Rattle.sign_core.specs.Signing.{Stores}
+use Rattle.sign_core.specs.Signing.{AppendsEntry}
 use Rattle.sign_core.specs.Fault.{closes}
 use Rattle.sign_core.specs.World.{Outcome, acked, new_bound}
 use Rattle.sign_core.specs.Signer.{answered, state_of}
@@ -55,7 +55,7 @@ returns-in-Err-clause-step g c =
     let bound = new_bound i.ledger.key i.ledger.next c.args.name.now c.args.message.now.now randomizer in
     let same : c.copied.result ≡ bound = c.copied.ensures ∙ c.next_bound-bound.ensures.bound
     ∙ (λ j. new_bound (p.key j) (p.next j) c.args.name.now (c.take_all.ensures.text j) randomizer) in
-    let stored = subst (λ entry. Stores {A = Unit {0}} (g.S.Store.list i.store) (BoundRecord entry) (g.S.Store.list c.append.new.store) (g.S.Store.stopped c.append.new.store) (g.S.Store.failures i.store) (g.S.Store.failures c.append.new.store) (Err c.in-Err.fault)) same c.in-Err.ensures.stored in
+    let stored = subst (λ entry. AppendsEntry {A = Unit {0}} (g.S.Store.list i.store) (BoundRecord entry) (g.S.Store.list c.append.new.store) (g.S.Store.stopped c.append.new.store) (g.S.Store.failures i.store) (g.S.Store.failures c.append.new.store) (Err c.in-Err.fault)) same c.in-Err.ensures.stored in
     let made = append_fails true _ _ _ _ _ _ _ (signature_of i.ledger.key bound) stored in
     signs_along (appended_signs c.limit.result _ (g.S.Store.list i.store) (g.S.Store.list c.append.new.store) (not (closes c.in-Err.fault)) (g.S.Store.stopped i.store) i.ledger.key i.ledger.bounds.items i.ledger.next (g.R.Source.upcoming i.random) (g.R.Source.upcoming c.draw.new.random) c.args.name.now c.args.message.now.now randomizer made.0 (Err c.in-Err.fault) free c.next_bound-bound.ensures.drawn c.in_ok-randomizer.ensures.drawn.1 made.1)
     most (λ j. state_of (list j) (sym c.requires.open j)) (ap (λ b. state_of (g.S.Store.list c.append.new.store) (not b)) (sym c.closes.ensures)) upcoming refl (sym c.take_all.ensures.rest) refl
