@@ -2,11 +2,11 @@
 use Rattle.std.proofs.Common.{◌≡◌, inl, inr, ⊎_elim, ℕ, ◌+◌, ◌-◌, ◌*◌, ◌<◌, ◌≤◌, List, [], ◌∷◌, ◌++◌, length, take, drop, slice_index, slice_range, sym, ◌∙◌, ap, arith, length-append, length-take, length-drop, get_or-drop}
 use Rattle.std.proofs.lemmas.List.{get_or_at, get_or-take}
 use Rattle.std.specs.Prelude.{max}
-use Rattle.state_file.specs.Contents.{HasNoKey}
-use Rattle.state_file.specs.Disk.{State, ChangesOnly, range_of}
-use Rattle.state_file.specs.FileLaws.{closed_gate}
+use Rattle.state_file.specs.File.{HasNoKey}
+use Rattle.state_file.specs.Disk.{State, ChangesOnly, range_of, IsSynced}
+use Rattle.state_file.specs.FileStore.{closed_gate}
 use Rattle.state_file.specs.Format.{Prepares}
-use Rattle.state_file.specs.Gates.{AddsSlot, IsSynced, slot_and_gate}
+use Rattle.state_file.specs.Gates.{AddsSlot, slot_and_gate}
 
 -- the first write, and what both change
 pub first_stays : (k : ℕ) (bytes content c : List ℕ) → length bytes ≡ 256 → ChangesOnly (range_of (256 * k + 1) bytes ∷ []) content c → ChangesOnly (slot_and_gate k ∷ []) content c

@@ -3,16 +3,14 @@ use Rattle.std.proofs.Common.{◌≡◌, ℕ, ◌+◌, ◌*◌, ◌<◌, Bool, t
 use Rattle.std.specs.Prelude.{◌==◌, IfErr, slice_get}
 use Rattle.std.proofs.lemmas.Option.{slice_get-get_or, slice_get_within, get_or_from_slice_get}
 use Rattle.typecodes.specs.Layout.{Spells}
-use Rattle.state_file.specs.Contents.{Begins, Holds, IsClosed, IsDamagedAt, IsOpen, IsWhole, SpellsRecords, fields_at, most_records, previous_tag, tag_at, tag_of}
-use Rattle.state_file.specs.Disk.{State, MayLeave, settled}
-use Rattle.state_file.specs.FileLaws.{closed_gate, fields_length}
-use Rattle.state_file.specs.Files.{IsFileOf, IsKept}
-use Rattle.state_file.specs.Moments.{Elapses, LeavesOnly}
-use Rattle.state_file.specs.Opened.{HasEntry, HasSlot, IsFound, OnlyReads, StartsWithKey, Tells, TellsSlot}
-use Rattle.state_file.specs.Slots.{slot_record}
+use Rattle.state_file.specs.File.{Begins, Holds, IsClosed, IsDamagedAt, IsOpen, IsWhole, SpellsRecords, fields_at, most_records, previous_tag, tag_at, tag_of, IsFileOf, IsKept}
+use Rattle.state_file.specs.Disk.{State, MayLeave, settled, Elapses, LeavesOnly}
+use Rattle.state_file.specs.FileStore.{closed_gate, fields_length}
+use Rattle.state_file.specs.Opening.{HasEntry, HasSlot, IsFound, OnlyReads, StartsWithKey, Tells, TellsSlot}
+use Rattle.state_file.specs.Slot.{slot_record}
 use Rattle.state_file.specs.Store.{begins_with_key}
-use Rattle.state_file.specs.declared.opening.OpenFault.{OpenFault}
-use Rattle.state_file.specs.declared.opening.OpenFault.TheVariants.{NoKey, NotKeyFile, Version as VersionFault, Damaged, DeviceFailed}
+use Rattle.state_file.specs.declared.file.opening.OpenFault.{OpenFault}
+use Rattle.state_file.specs.declared.file.opening.OpenFault.TheVariants.{NoKey, NotKeyFile, Version as VersionFault, Damaged, DeviceFailed}
 use Rattle.state_file.specs.declared.record.Record.{Record}
 use Rattle.state_file.specs.declared.record.Record.TheVariants.{Key as KeyRecord}
 use Rattle.state_file.proofs.Contents.{begins-all, begins-more, begins-none, begins-whole}

@@ -7,13 +7,12 @@ use Rattle.typecodes.proofs.Read.{spelled-read}
 use Rattle.typecodes.proofs.Steps.{ends-spelled}
 use Rattle.typecodes.specs.Layout.{Spells}
 use Rattle.typecodes.specs.Cursor.{read}
-use Rattle.state_file.specs.Contents.{Holds, fields_at, tag_at, previous_tag, tag_of, most_records}
-use Rattle.state_file.specs.Files.{StandsFor, IsFileOf, IsKept}
-use Rattle.state_file.specs.FileLaws.{fields_length, file_stands}
+use Rattle.state_file.specs.File.{Holds, fields_at, tag_at, previous_tag, tag_of, most_records, StandsFor, IsFileOf, IsKept}
+use Rattle.state_file.specs.FileStore.{fields_length, file_stands}
 use Rattle.state_file.specs.Store.{begins_with_key, is_key}
 use Rattle.state_file.specs.Disk.{State}
 use Rattle.state_file.specs.Gates.{IsClosedAfter, IsAtRest}
-use Rattle.state_file.specs.Slots.{slot_record}
+use Rattle.state_file.specs.Slot.{slot_record}
 use Rattle.state_file.specs.declared.record.Record.{Record}
 
 -- contents that begin alike have the same parts there

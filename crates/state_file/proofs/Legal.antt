@@ -6,7 +6,7 @@ use Rattle.std.proofs.lemmas.Option.{slice_get_within}
 use Rattle.state_file.specs.declared.record.Record.{Record}
 use Rattle.state_file.specs.declared.record.Record.TheVariants.{Key as KeyRecord, Extend as ExtendRecord, Bound as BoundRecord, Retire, Moved}
 use Rattle.state_file.specs.declared.record.Secret.{Secret}
-use Rattle.state_file.specs.Legal.{Fits, IsCurrent, IsLastExtend, IsLegal, Names, bottom_of}
+use Rattle.state_file.specs.Laws.{Fits, IsCurrent, IsLastExtend, IsLegal, Names, bottom_of}
 
 -- one Extend is the last
 one_last : (records : List Record) (k level i j : ℕ) → IsLastExtend records k level i → IsLastExtend records k level j → i ≡ j

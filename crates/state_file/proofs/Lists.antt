@@ -1,14 +1,13 @@
 -- From the contents that a stop leaves of a disk to the lists that it leaves of a store over it.
 use Rattle.std.proofs.Common.{◌≡◌, ◌⊎◌, inl, inr, ⊎_elim, ℕ, Bool, true, false, List, Some, refl, sym, subst, slice_get}
-use Rattle.state_file.specs.Moments.{LeavesOnly}
-use Rattle.state_file.specs.Disk.{ChangesOnly, Range, State, MayLeave}
-use Rattle.state_file.specs.Files.{StandsFor, LeftLists, IsKept}
-use Rattle.state_file.specs.FileLaws.{one_of_two, kept_leaves}
+use Rattle.state_file.specs.Disk.{LeavesOnly, ChangesOnly, Range, State, MayLeave}
+use Rattle.state_file.specs.File.{StandsFor, LeftLists, IsKept}
+use Rattle.state_file.specs.FileStore.{one_of_two, kept_leaves}
 use Rattle.state_file.specs.Store.{IsRecordAt}
 use Rattle.state_file.specs.declared.record.Record.{Record}
 use Rattle.state_file.proofs.Moments.{weaker}
 use Rattle.state_file.proofs.Ranges.{changes_nothing, synced_leaves}
-use Rattle.state_file.specs.Opened.{OnlyReads}
+use Rattle.state_file.specs.Opening.{OnlyReads}
 
 module _ {S D : Type 0} (disk_of : S → D) (moment : D → ℕ) (left_since : D → ℕ → List ℕ → Type 0) where
   abbrev pub store_moment : S → ℕ

@@ -1,15 +1,13 @@
 -- One entry more in the log of a disk in memory.
 use Rattle.std.proofs.Common.{◌≡◌, ◌⊎◌, inl, inr, ⊎_elim, ℕ, ◌+◌, ◌-◌, ◌<◌, ◌≤◌, List, [], ◌∷◌, ◌++◌, length, take, drop, reverse, slice_range, get_or, refl, sym, ◌∙◌, ap, subst, arith, length-append}
-use Rattle.std.proofs.lemmas.List.{take_all, take-append-le, reverse-append}
+use Rattle.std.proofs.lemmas.List.{take_all, take-append-le, reverse-append, take_at, take_more}
 use Rattle.std.proofs.lemmas.Bool.{cases_lt}
-use Rattle.std.proofs.lemmas.List.{take_at, take_more}
 use Rattle.std.proofs.lemmas.List.Prefix.{at_from_reads}
 use Rattle.std.proofs.lemmas.Bool.Decides.{nat_tests}
-use Rattle.state_file.specs.Disk.{range_of, ChangesOnly, Opens}
-use Rattle.state_file.specs.Moments.{Elapses}
-use Rattle.state_file.specs.MemoryDisk.{base_of, ranges_of, state_of, LeftBy, LeftSince, Overlays}
-use Rattle.state_file.specs.declared.memory_disk.Entry.{Entry}
-use Rattle.state_file.specs.declared.memory_disk.Entry.TheVariants.{Wrote}
+use Rattle.state_file.specs.Disk.{range_of, ChangesOnly, OpensRange, Elapses}
+use Rattle.state_file.specs.Log.{base_of, ranges_of, state_of, LeftBy, LeftSince, Overlays}
+use Rattle.state_file.specs.declared.disk.log.Entry.{Entry}
+use Rattle.state_file.specs.declared.disk.log.Entry.TheVariants.{Wrote}
 
 module _ (first : List ℕ) (log : List Entry) (entry : Entry) where
   size : length (log ++ entry ∷ []) ≡ length log + 1
@@ -60,7 +58,7 @@ overlays_bytes at (b ∷ bytes) old new over =
     ap (λ n. take n (drop at new)) width ∙ ap (λ (l : List ℕ). take (length (b ∷ bytes)) l) (at_from_reads 0 new (b ∷ bytes) at fits over.put) ∙ take_at (b ∷ bytes) (drop (at + length (b ∷ bytes)) new) (length (b ∷ bytes)) refl
 
 pub opens : (first : List ℕ) (log log_new : List Entry) (at : ℕ) (bytes old new : List ℕ) → Overlays at bytes old new → log_new ≡ log ++ Wrote at (at + length bytes) ∷ []
-    → Opens (range_of at bytes) (state_of old first log) (state_of new first log_new)
+    → OpensRange (range_of at bytes) (state_of old first log) (state_of new first log_new)
 opens first log log_new at bytes old new over is = record {
   changes = overlays_range at bytes old new over;
   more = ap ranges_of (ap reverse is ∙ newest_first log (Wrote at (at + length bytes)));

@@ -1,6 +1,6 @@
 -- How a run of calls of a disk goes on.
 use Rattle.std.proofs.Common.{inl, inr, ⊎_elim, ℕ, Result, Ok, Err, OnOk, arith}
-use Rattle.state_file.specs.Moments.{Elapses, LeavesOnly}
+use Rattle.state_file.specs.Disk.{Elapses, LeavesOnly}
 
 module _ {D C : Type 0} (moment : D → ℕ) (left_since : D → ℕ → C → Type 0) where
   -- before the first call

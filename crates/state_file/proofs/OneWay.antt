@@ -22,8 +22,7 @@ use Rattle.state_file.specs.declared.record.Secret.{Secret}
 use Rattle.state_file.specs.declared.record.Secret.TheVariants.{Lms, Hss, Xmss}
 use Rattle.state_file.specs.declared.record.Version.{Version}
 use Rattle.state_file.specs.declared.record.Version.TheVariants.{One}
-use Rattle.state_file.specs.Slots.{are_visible, bound_fields, byte, byte_within, exactly, extend_fields, fields_of, hss_secret, key_fields, levels_field, lms_secret, magic, moved_fields, name_field, no_record, only_if, pair_field, pairs, retire_fields, secret_of, slot_record, version_code, version_field, versions, xmss_secret, zeros}
-use Rattle.state_file.specs.Writing.{kind_of, scheme_of}
+use Rattle.state_file.specs.Slot.{are_visible, bound_fields, byte, byte_within, exactly, extend_fields, fields_of, hss_secret, key_fields, levels_field, lms_secret, magic, moved_fields, name_field, no_record, only_if, pair_field, pairs, retire_fields, secret_of, slot_record, version_code, version_field, versions, xmss_secret, zeros, kind_of, scheme_of}
 use Rattle.state_file.proofs.Shown.{byte-is, exactly-is, fields-show, only_if-is, schemes-show, version-is}
 
 -- ---- fields

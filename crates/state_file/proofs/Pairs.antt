@@ -5,7 +5,7 @@ use Rattle.typecodes.specs.declared.types.LmsPair.{LmsPair}
 use Rattle.typecodes.specs.Layout.{Layout, done, ◌>>=◌}
 use Rattle.typecodes.specs.Cursor.{and_then, read, Gives}
 use Rattle.typecodes.proofs.Read.{read-bind}
-use Rattle.state_file.specs.Slots.{pair_field, pairs}
+use Rattle.state_file.specs.Slot.{pair_field, pairs}
 
 -- the other pairs, behind those that stand there and one more
 abbrev rest_of : ℕ → LmsPair → Layout (List LmsPair)

@@ -13,9 +13,8 @@ use Rattle.state_file.specs.declared.record.Key.{Key}
 use Rattle.state_file.specs.declared.record.Record.{Record}
 use Rattle.state_file.specs.declared.record.Record.TheVariants.{Key as KeyRecord, Extend as ExtendRecord, Bound as BoundRecord, Retire, Moved}
 use Rattle.state_file.specs.declared.record.Version.{Version}
-use Rattle.state_file.specs.Contents.{begins_key, version_of}
-use Rattle.state_file.specs.Slots.{hss_secret, levels_field, lms_secret, pair_field, xmss_secret, bound_fields, byte, exactly, extend_fields, fields_of, key_fields, known_version, magic, moved_fields, name_field, only_if, retire_fields, secret_of, slot_record, version_code, version_field, versions, zeros}
-use Rattle.state_file.specs.Writing.{kind_of, scheme_of}
+use Rattle.state_file.specs.File.{begins_key, version_of}
+use Rattle.state_file.specs.Slot.{hss_secret, levels_field, lms_secret, pair_field, xmss_secret, bound_fields, byte, exactly, extend_fields, fields_of, key_fields, known_version, magic, moved_fields, name_field, only_if, retire_fields, secret_of, slot_record, version_code, version_field, versions, zeros, kind_of, scheme_of}
 
 -- ---- kinds
 

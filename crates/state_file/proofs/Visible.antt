@@ -5,7 +5,7 @@ use Rattle.std.specs.Result.{result_ok}
 use Rattle.std.proofs.lemmas.Bool.{and_from, and_parts}
 use Rattle.std.proofs.lemmas.List.Sums.{AllPass-from_list_all, list_all-from_AllPass}
 use Rattle.typecodes.specs.Name.{IsName}
-use Rattle.state_file.specs.Slots.{are_visible}
+use Rattle.state_file.specs.Slot.{are_visible}
 
 visible_test : ℕ → Bool
 visible_test b = nat_le 0x21 b && nat_le b 0x7e

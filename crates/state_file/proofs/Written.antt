@@ -21,15 +21,15 @@ use Rattle.typecodes.specs.Fields.{block, known, lms_type, number, ots_type, typ
 use Rattle.typecodes.proofs.Spelling.{from_turn, in_turn}
 use Rattle.typecodes.specs.Name.{IsName}
 use Rattle.state_file.proofs.Visible.{visible-name}
-use Rattle.state_file.specs.Slots.{are_visible, byte, byte_within, exactly, name_field, only_if, pair_field, pairs, version_code, version_field, zeros}
-use Rattle.state_file.specs.Writing.{Writes}
+use Rattle.state_file.specs.Slot.{are_visible, byte, byte_within, exactly, name_field, only_if, pair_field, pairs, version_code, version_field, zeros}
+use Rattle.state_file.specs.Fields.{AppendsSpelling}
 
 -- nothing more
-pub writes-done : {V : Type 0} (v : V) (at : List ℕ) → Writes (done v) v at at
+pub writes-done : {V : Type 0} (v : V) (at : List ℕ) → AppendsSpelling (done v) v at at
 writes-done v at = record { part = []; behind = sym (append-nil at); spelled = (refl, refl) }
 
 -- a field, and what follows it
-pub writes-bind : {A B : Type 0} (first : Layout A) (next : A → Layout B) (v : A) (w : B) (a b c : List ℕ) → Writes first v a b → Writes (next v) w b c → Writes (first >>= next) w a c
+pub writes-bind : {A B : Type 0} (first : Layout A) (next : A → Layout B) (v : A) (w : B) (a b c : List ℕ) → AppendsSpelling first v a b → AppendsSpelling (next v) w b c → AppendsSpelling (first >>= next) w a c
 writes-bind first next v w a b c x y = record {
   part = x.part ++ y.part;
   behind = y.behind ∙ ap (λ l. l ++ y.part) x.behind ∙ append_assoc a x.part y.part;
@@ -37,10 +37,10 @@ writes-bind first next v w a b c x y = record {
 }
 
 -- a type, by its code
-pub writes-typed : {T : Type 0} (code : T → ℕ) (types : List T) (t : T) (a b : List ℕ) → named code types (code t) ≡ Some t → Writes number (code t) a b → Writes (typed code types) t a b
+pub writes-typed : {T : Type 0} (code : T → ℕ) (types : List T) (t : T) (a b : List ℕ) → named code types (code t) ≡ Some t → AppendsSpelling number (code t) a b → AppendsSpelling (typed code types) t a b
 writes-typed code types t a b is x =
     writes-bind number (λ c. known (named code types c)) (code t) t a b b x
-    (let P : Option _ → Type 0 = λ found. Writes (known found) t b b in subst P (sym is) (writes-done t b))
+    (let P : Option _ → Type 0 = λ found. AppendsSpelling (known found) t b b in subst P (sym is) (writes-done t b))
 
 -- a block that meets its condition
 pub spells-only_if : {V : Type 0} (n : ℕ) (test : List ℕ → Bool) (value : List ℕ → V) (bytes : List ℕ) → length bytes ≡ n → test bytes ≡ true
@@ -60,7 +60,7 @@ zeros-length zero m few = refl
 zeros-length (suc n) zero few = absurd (omega arith)
 zeros-length (suc n) (suc m) few = ap suc (zeros-length n m (omega arith))
 
-pub writes-zeros : (n m : ℕ) (old new : List ℕ) → n ≤ m → new ≡ old ++ take n (replicate m 0) → Writes (zeros n) tt old new
+pub writes-zeros : (n m : ℕ) (old new : List ℕ) → n ≤ m → new ≡ old ++ take n (replicate m 0) → AppendsSpelling (zeros n) tt old new
 unfolding zeros
 writes-zeros n m old new few is = record {
   part = take n (replicate m 0);
@@ -69,7 +69,7 @@ writes-zeros n m old new few is = record {
 }
 
 -- bytes that are known
-pub writes-exactly : (bytes old new : List ℕ) → new ≡ old ++ bytes → Writes (exactly (length bytes) bytes) tt old new
+pub writes-exactly : (bytes old new : List ℕ) → new ≡ old ++ bytes → AppendsSpelling (exactly (length bytes) bytes) tt old new
 unfolding exactly
 writes-exactly bytes old new is = record {
   part = bytes;
@@ -78,7 +78,7 @@ writes-exactly bytes old new is = record {
 }
 
 -- a byte
-pub writes-byte : (n : ℕ) (old new : List ℕ) → new ≡ old ++ n ∷ [] → Writes byte n old new
+pub writes-byte : (n : ℕ) (old new : List ℕ) → new ≡ old ++ n ∷ [] → AppendsSpelling byte n old new
 unfolding byte
 writes-byte n old new is = record {
   part = n ∷ [];
@@ -87,17 +87,17 @@ writes-byte n old new is = record {
 }
 
 -- a value that meets its condition, where the field of its bytes was written
-pub writes-only_if : {V : Type 0} (test : Bool) (n : ℕ) (v : V) (at : List ℕ) → test ≡ true → Writes (only_if test n v) v at at
-writes-only_if test n v at passes = let P : Bool → Type 0 = λ t. Writes (only_if t n v) v at at in subst P (sym passes) (writes-done v at)
+pub writes-only_if : {V : Type 0} (test : Bool) (n : ℕ) (v : V) (at : List ℕ) → test ≡ true → AppendsSpelling (only_if test n v) v at at
+writes-only_if test n v at passes = let P : Bool → Type 0 = λ t. AppendsSpelling (only_if t n v) v at at in subst P (sym passes) (writes-done v at)
 
-pub writes-byte_within : (least most n : ℕ) (old new : List ℕ) → least ≤ n → n ≤ most → Writes byte n old new → Writes (byte_within least most) n old new
+pub writes-byte_within : (least most n : ℕ) (old new : List ℕ) → least ≤ n → n ≤ most → AppendsSpelling byte n old new → AppendsSpelling (byte_within least most) n old new
 unfolding byte_within
 writes-byte_within least most n old new low high written =
     writes-bind byte (λ m. only_if (nat_le least m && nat_le m most) 1 m) n n old new new written
     (writes-only_if (nat_le least n && nat_le n most) 1 n new (and_from _ _ (le-leb _ _ low) (le-leb _ _ high)))
 
 -- a version
-pub writes-version : (version : Version) (old new : List ℕ) → new ≡ old ++ big_bytes 2 (version_code version) → Writes version_field version old new
+pub writes-version : (version : Version) (old new : List ℕ) → new ≡ old ++ big_bytes 2 (version_code version) → AppendsSpelling version_field version old new
 unfolding version_field
 writes-version One old new is = record {
   part = 0 ∷ 1 ∷ [];
@@ -106,19 +106,19 @@ writes-version One old new is = record {
 }
 
 -- the types of the tables
-pub writes-lms_type : (t : LmsType) (old new : List ℕ) → Writes number (lms_code t) old new → Writes lms_type t old new
+pub writes-lms_type : (t : LmsType) (old new : List ℕ) → AppendsSpelling number (lms_code t) old new → AppendsSpelling lms_type t old new
 unfolding lms_type
 writes-lms_type t old new written =
     let P : LmsType → Type 0 = λ t. lms_of_code (lms_code t) ≡ Some t in
     writes-typed lms_code lms_types t old new (elim t as P [ H5 ↦ refl | H10 ↦ refl | H15 ↦ refl | H20 ↦ refl | H25 ↦ refl ]) written
 
-pub writes-ots_type : (t : OtsType) (old new : List ℕ) → Writes number (ots_code t) old new → Writes ots_type t old new
+pub writes-ots_type : (t : OtsType) (old new : List ℕ) → AppendsSpelling number (ots_code t) old new → AppendsSpelling ots_type t old new
 unfolding ots_type
 writes-ots_type t old new written =
     let P : OtsType → Type 0 = λ t. ots_of_code (ots_code t) ≡ Some t in
     writes-typed ots_code ots_types t old new (elim t as P [ W1 ↦ refl | W2 ↦ refl | W4 ↦ refl | W8 ↦ refl ]) written
 
-pub writes-xmss_type : (t : XmssType) (old new : List ℕ) → Writes number (xmss_code t) old new → Writes xmss_type t old new
+pub writes-xmss_type : (t : XmssType) (old new : List ℕ) → AppendsSpelling number (xmss_code t) old new → AppendsSpelling xmss_type t old new
 unfolding xmss_type
 writes-xmss_type t old new written =
     let P : XmssType → Type 0 = λ t. xmss_of_code (xmss_code t) ≡ Some t in
@@ -141,7 +141,7 @@ pairs-snoc (suc n) xs pair a b spelled last =
     ∙ ap (λ l. (a₁ ++ l) ++ b) (sym (append-nil a₂) ∙ ap (λ l. a₂ ++ l) (sym end.1) ∙ sym rest_is) ∙ ap (λ l. l ++ b) (sym a_is) in
     subst (λ (p : List LmsPair × List ℕ). Spells (pairs (suc (suc n))) (p.0 ++ pair ∷ []) p.1) (λ i. (end.0 i, bytes i)) whole
 
-pub writes-snoc : (n : ℕ) (xs : List LmsPair) (pair : LmsPair) (a b c : List ℕ) → Writes (pairs n) xs a b → Writes pair_field pair b c → Writes (pairs (suc n)) (xs ++ pair ∷ []) a c
+pub writes-snoc : (n : ℕ) (xs : List LmsPair) (pair : LmsPair) (a b c : List ℕ) → AppendsSpelling (pairs n) xs a b → AppendsSpelling pair_field pair b c → AppendsSpelling (pairs (suc n)) (xs ++ pair ∷ []) a c
 writes-snoc n xs pair a b c x y = record {
   part = x.part ++ y.part;
   behind = y.behind ∙ ap (λ l. l ++ y.part) x.behind ∙ append_assoc a x.part y.part;
@@ -149,17 +149,17 @@ writes-snoc n xs pair a b c x y = record {
 }
 
 -- the next of all pairs
-pub writes-next : (all : List LmsPair) (i : ℕ) (d : LmsPair) (a b c : List ℕ) → i < length all → Writes (pairs i) (take i all) a b → Writes pair_field (get_or all i d) b c → Writes (pairs (i + 1)) (take (i + 1) all) a c
+pub writes-next : (all : List LmsPair) (i : ℕ) (d : LmsPair) (a b c : List ℕ) → i < length all → AppendsSpelling (pairs i) (take i all) a b → AppendsSpelling pair_field (get_or all i d) b c → AppendsSpelling (pairs (i + 1)) (take (i + 1) all) a c
 writes-next all i d a b c within x y =
-    subst (λ (p : ℕ × List LmsPair). Writes (pairs p.0) p.1 a c) (λ j. (sym (add-one i) j, sym (take_more all i d within) j)) (writes-snoc i (take i all) (get_or all i d) a b c x y)
+    subst (λ (p : ℕ × List LmsPair). AppendsSpelling (pairs p.0) p.1 a c) (λ j. (sym (add-one i) j, sym (take_more all i d within) j)) (writes-snoc i (take i all) (get_or all i d) a b c x y)
 
 -- no pair
-pub writes-none : (at : List ℕ) → Writes (pairs 0) [] at at
+pub writes-none : (at : List ℕ) → AppendsSpelling (pairs 0) [] at at
 unfolding pairs
 writes-none at = writes-done [] at
 
 -- a name
-pub writes-name : (name : List ℕ) (old a b c : List ℕ) → IsName name → Writes (byte_within 1 64) (length name) old a → b ≡ a ++ name → Writes (zeros (64 - length name)) tt b c → Writes name_field name old c
+pub writes-name : (name : List ℕ) (old a b c : List ℕ) → IsName name → AppendsSpelling (byte_within 1 64) (length name) old a → b ≡ a ++ name → AppendsSpelling (zeros (64 - length name)) tt b c → AppendsSpelling name_field name old c
 unfolding name_field
 writes-name name old a b c is count bytes rest =
     writes-bind (byte_within 1 64) _ (length name) name old a c count

@@ -41,20 +41,24 @@ pub record State : Type 0 where
 abbrev pub settled : List ℕ → State
 settled content = record { content = content; base = content; ranges = [] }
 
+-- a stop leaves what a read gives
+abbrev pub IsSynced : State → Type 0
+IsSynced state = state ≡ settled state.content
+
 -- what a stop at this moment may leave: any bytes in the ranges and past the base's end
 abbrev pub MayLeave : State → List ℕ → Type 0
 MayLeave state = ChangesOnly state.ranges state.base
 
 -- One range more is open, and what a read gives changed at most there.
-pub record Opens (range : Range) (old new : State) : Type 0 where
+pub record OpensRange (range : Range) (old new : State) : Type 0 where
   pub changes : ChangesOnly (range ∷ []) old.content new.content
   pub more : new.ranges ≡ range ∷ old.ranges
   pub same_base : new.base ≡ old.base
 
 -- What a write does. One that is refused may have written any part of its range, or nothing.
 abbrev pub Writes : {A E : Type 0} (at : ℕ) (bytes : List ℕ) (old new : State) → Result A E → Type 0
-Writes at bytes old new (Ok _) = Opens (range_of at bytes) old new × (slice_range new.content at (at + length bytes) ≡ bytes)
-Writes at bytes old new (Err _) = (new ≡ old) ⊎ Opens (range_of at bytes) old new
+Writes at bytes old new (Ok _) = OpensRange (range_of at bytes) old new × (slice_range new.content at (at + length bytes) ≡ bytes)
+Writes at bytes old new (Err _) = (new ≡ old) ⊎ OpensRange (range_of at bytes) old new
 
 -- What a sync does. One that is refused promises nothing: what a read gives after it is one of the contents
 -- that a stop may leave, as ever.
@@ -73,3 +77,18 @@ CountsPastEnd before after (Ok _) = after ≡ before
 CountsPastEnd before after (Err Failed) = after ≡ before
 CountsPastEnd before after (Err PastEnd) = after ≡ before + 1
 CountsPastEnd before after (Err OutOfMemory) = after ≡ before
+
+-- ---- moments, of a disk or of a store, and what a stop at one of them leaves
+
+-- Time goes on: a stop since t might have left what it might have left before, or what it may leave now.
+pub record Elapses {C : Type 0} (before now : ℕ) (past since : ℕ → C → Type 0) (may_leave : C → Type 0) : Type 0 where
+  pub later : before ≤ now
+  pub nothing_else : (t : ℕ) (c : C) → t ≤ before → since t c → past t c ⊎ may_leave c
+  pub keeps : (t : ℕ) (c : C) → t ≤ before → past t c → since t c
+
+-- What a stop at any moment from old on leaves has P.
+pub record LeavesOnly {D C : Type 0} (moment : D → ℕ) (left_since : D → ℕ → C → Type 0) (old new : D) (P : C → Type 0) : Type 0 where
+  pub later : moment old ≤ moment new
+  pub each : (c : C) → left_since new (moment old) c → P c
+  -- for a run that began earlier
+  pub before : (t : ℕ) (c : C) → t ≤ moment old → left_since new t c → left_since old t c ⊎ P c

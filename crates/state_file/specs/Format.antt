@@ -1,10 +1,10 @@
 -- What preparing a place does.
 use Rattle.std.specs.Prelude.{◌≡◌, ◌⊎◌, ℕ, ◌+◌, ◌<◌, ◌≤◌, List, [], ◌∷◌, length, slice_index, slice_range, Result, Ok, Err}
-use Rattle.state_file.specs.Contents.{IsClosed, open_value}
+use Rattle.state_file.specs.File.{IsClosed, open_value}
 use Rattle.state_file.specs.Disk.{State, MayLeave, settled, ChangesOnly, range_of}
 use Rattle.state_file.specs.Gates.{IsAtRest}
-use Rattle.state_file.specs.declared.gates.FormatFault.{FormatFault}
-use Rattle.state_file.specs.declared.gates.FormatFault.TheVariants.{NotKeyFile, DeviceFailed, KeyThere}
+use Rattle.state_file.specs.declared.file.format.FormatFault.{FormatFault}
+use Rattle.state_file.specs.declared.file.format.FormatFault.TheVariants.{NotKeyFile, DeviceFailed, KeyThere}
 
 -- What preparing leaves: of under 257 bytes the first is zero and no other has changed, and of 257 none has.
 abbrev pub Prepares : (content : List ℕ) (new : State) → Type 0

@@ -1,16 +1,12 @@
 -- Slots are added behind a closed gate.
 use Rattle.std.specs.Prelude.{◌≡◌, ℕ, ◌+◌, ◌*◌, max, List, [], ◌∷◌, length, take}
-use Rattle.state_file.specs.Contents.{IsClosed, IsClosedAt}
-use Rattle.state_file.specs.Disk.{Range, State, ChangesOnly, settled}
+use Rattle.state_file.specs.File.{IsClosed, IsClosedAt}
+use Rattle.state_file.specs.Disk.{Range, State, ChangesOnly, IsSynced}
 
 -- The content begins with front, and the gate after it lies in the content and is closed.
 pub record IsClosedAfter (front content : List ℕ) : Type 0 where
   pub begins : take (length front) content ≡ front
   pub closed : IsClosedAt content (length front)
-
--- a stop leaves what a read gives
-abbrev pub IsSynced : State → Type 0
-IsSynced state = state ≡ settled state.content
 
 -- all of it is synced, and it is closed after front
 pub record IsAtRest (front : List ℕ) (state : State) : Type 0 where

@@ -2,7 +2,14 @@
 
 ghost use Rattle.std.specs.Prelude.{◌≡◌, ◌+◌, ◌<◌, ◌≤◌, ℕ, List, Bool, IsTrue, length, slice_range, IfOk, OnOk};
 ghost use Rattle.state_file.specs.Disk.{State, MayLeave, Writes, Syncs, CountsFailure, CountsPastEnd};
-ghost use Rattle.state_file.specs.Moments.{Elapses};
+ghost use Rattle.state_file.specs.Disk.{Elapses};
+
+mod log;
+mod memory_disk;
+#[cfg(test)]
+mod tests;
+
+pub use memory_disk::{MemoryDisk, Pick};
 
 use thiserror::Error;
 

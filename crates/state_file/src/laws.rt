@@ -4,11 +4,12 @@
 ghost use Rattle.std.specs.Prelude.{◌≡◌, ◌⊎◌, ◌<◌, ◌≤◌, ◌↔◌, ℕ, List, [], ◌∷◌, ◌++◌, length};
 ghost use Rattle.typecodes.specs.Layout.{Spells, OneSpelling};
 ghost use Rattle.state_file.specs.declared.record.Record.{Record};
-ghost use Rattle.state_file.specs.Contents.{HasNoKey, Opening, Opens, no_key, spelled};
-ghost use Rattle.state_file.specs.Legal.{CanSign, IsCurrent, IsLegal};
+ghost use Rattle.state_file.specs.File.{HasNoKey};
+ghost use Rattle.state_file.specs.Opening.{Opening, OpensAs, no_key, spelled};
+ghost use Rattle.state_file.specs.Laws.{CanSign, IsCurrent, IsLegal};
 ghost use Rattle.state_file.specs.Disk.{ChangesOnly, range_of};
-ghost use Rattle.state_file.specs.Files.{StandsFor};
-ghost use Rattle.state_file.specs.Slots.{slot_record};
+ghost use Rattle.state_file.specs.File.{StandsFor};
+ghost use Rattle.state_file.specs.Slot.{slot_record};
 
 /// What holds of the bytes 1 to 223 of slots: they spell at most one record, and a record is spelled by one
 /// list of bytes.
@@ -22,9 +23,9 @@ pub fn slot_laws()
 /// key (`standing`): opening it tells none of 41 to 43. Nor has one a key that a stop leaves while a place of under 257
 /// bytes is prepared (`prepared`).
 pub fn content_laws()
-    ensures some { (content : List ℕ) → (opening : Opening) × Opens content opening }
-    ensures once { (content : List ℕ) (opening other : Opening) → Opens content opening → Opens content other → opening ≡ other }
-    ensures standing { (records : List Record) (content : List ℕ) (opening : Opening) → StandsFor records content → Opens content opening → (opening ≡ no_key) ⊎ (opening ≡ spelled records) }
+    ensures some { (content : List ℕ) → (opening : Opening) × OpensAs content opening }
+    ensures once { (content : List ℕ) (opening other : Opening) → OpensAs content opening → OpensAs content other → opening ≡ other }
+    ensures standing { (records : List Record) (content : List ℕ) (opening : Opening) → StandsFor records content → OpensAs content opening → (opening ≡ no_key) ⊎ (opening ≡ spelled records) }
     ensures prepared { (content c : List ℕ) → length content < 257 → ChangesOnly (range_of 0 (0 ∷ []) ∷ []) content c → HasNoKey c }
 {}
 

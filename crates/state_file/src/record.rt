@@ -2,8 +2,12 @@
 
 ghost use Rattle.std.specs.Prelude.{◌≡◌};
 ghost use Rattle.typecodes.specs.Types.{named};
-ghost use Rattle.state_file.specs.Slots.{version_code, versions};
+ghost use Rattle.state_file.specs.Slot.{version_code, versions};
 ghost use Rattle.state_file.specs.declared.record.Version.{Version as V};
+
+mod list;
+
+pub(crate) use list::RecordList;
 
 use typecodes::{Levels, LmsPair, Name, XmssType};
 

@@ -1,15 +1,17 @@
 //! Slots of 256 bytes: a gate, a record in the bytes 1 to 223, and a tag.
 
+mod bound;
+mod extend;
 mod fields;
 mod gate;
-mod levels;
-mod reading;
+mod key;
+mod record;
+mod secret;
 mod tag;
 #[cfg(test)]
 mod tests;
-mod writing;
 
 pub(crate) use gate::{CLOSED, OPEN, is_open};
-pub(crate) use reading::read_record;
-pub(crate) use tag::{begins_key, tag, version};
-pub(crate) use writing::record_bytes;
+pub(crate) use key::{begins_key, version};
+pub(crate) use record::{read_record, record_bytes};
+pub(crate) use tag::tag;

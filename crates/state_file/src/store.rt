@@ -1,7 +1,15 @@
 //! What a store of records is.
 
 ghost use Rattle.std.specs.Prelude.{◌≡◌, ◌⊎◌, ◌≤◌, ◌∷◌, [], ◌++◌, ℕ, List, Bool, true, false, IsTrue, length};
-ghost use Rattle.state_file.specs.Moments.{LeavesOnly};
+ghost use Rattle.state_file.specs.Disk.{LeavesOnly};
+
+mod file_store;
+mod memory_store;
+#[cfg(test)]
+mod tests;
+
+pub use file_store::FileStore;
+pub use memory_store::{Cut, MemoryStore};
 
 use crate::record::Record;
 use thiserror::Error;

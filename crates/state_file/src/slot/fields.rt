@@ -1,12 +1,18 @@
-//! The fields that slots are read from, beside those of every layout. Where a fault leaves the cursor
+//! The fields of slots, beside those of every layout: each is read and written here. Where a fault leaves the cursor
 //! isn't said.
 
-ghost use Rattle.std.specs.Prelude.{◌≡◌, ◌==◌, ◌<◌, ◌≤◌, ◌+◌, ◌^◌, length, IfOk, OnOk};
+ghost use Rattle.std.specs.Prelude.{◌≡◌, ◌==◌, ◌<◌, ◌≤◌, ◌+◌, ◌++◌, ◌^◌, length, replicate, take, IfOk, OnOk};
 ghost use Rattle.std.specs.List.{list_all};
+ghost use Rattle.arrayvec.specs.ArrayVec.{array_vec_len};
+ghost use Rattle.typecodes.specs.Fields.{block, number};
 ghost use Rattle.typecodes.specs.Cursor.{read, Gives};
-ghost use Rattle.state_file.specs.Slots.{byte, byte_within, exactly, zeros};
+ghost use Rattle.state_file.specs.Fields.{AppendsSpelling};
+ghost use Rattle.state_file.specs.Slot.{byte, byte_within, exactly, zeros};
 
+use arrayvec::ArrayVec;
 use typecodes::{Cause, Cursor, ReadFault};
+
+pub(crate) type Fields = ArrayVec<u8, 223>;
 
 /// The fault of a field that spells no record.
 pub(crate) fn no_record(place: u32) -> ReadFault
@@ -19,7 +25,7 @@ pub(crate) fn no_record(place: u32) -> ReadFault
 }
 
 /// The next byte.
-#[tactic(auto, using(typecodes::proofs::Steps::reading), unfolding(crate::specs::Slots::byte))]
+#[tactic(auto, using(typecodes::proofs::Steps::reading), unfolding(crate::specs::Slot::byte))]
 pub(crate) fn read_byte(cursor: &mut Cursor<'_>) -> Result<u8, ReadFault>
     requires { cursor.old.place + 1 < 2 ^ 32 }
     ensures read { Gives (λ n. (n, cursor.new.place)) result (read byte cursor.old.bytes.now cursor.old.place) }
@@ -30,8 +36,38 @@ pub(crate) fn read_byte(cursor: &mut Cursor<'_>) -> Result<u8, ReadFault>
     Ok(byte)
 }
 
+/// Appends bytes for which there is room.
+pub(crate) fn put(out: &mut Fields, bytes: &[u8])
+    requires { array_vec_len out.old + length bytes.now ≤ 223 }
+    ensures items { out.new.items ≡ out.old.items ++ bytes.now }
+    ensures len { array_vec_len out.new ≡ array_vec_len out.old + length bytes.now }
+    ensures block { AppendsSpelling (block (length bytes.now)) bytes.now out.old.items out.new.items }
+{
+    if out.try_extend_from_slice(bytes).is_err() {
+        unreachable!()
+    }
+}
+
+/// Appends an array.
+pub(crate) fn put_array<const N: usize>(out: &mut Fields, bytes: &[u8; N])
+    requires { array_vec_len out.old + N ≤ 223 }
+    ensures writes { AppendsSpelling (block N) bytes.now out.old.items out.new.items }
+    ensures len { array_vec_len out.new ≡ array_vec_len out.old + N }
+{
+    put(out, bytes);
+}
+
+/// Appends a byte.
+pub(crate) fn put_byte(out: &mut Fields, n: u8)
+    requires { array_vec_len out.old + 1 ≤ 223 }
+    ensures writes { AppendsSpelling byte n out.old.items out.new.items }
+    ensures len { array_vec_len out.new ≡ array_vec_len out.old + 1 }
+{
+    put(out, &[n]);
+}
+
 /// The next byte, if it is a number from the least to the most.
-#[tactic(auto, using(typecodes::proofs::Steps::reading), unfolding(crate::specs::Slots::byte_within))]
+#[tactic(auto, using(typecodes::proofs::Steps::reading), unfolding(crate::specs::Slot::byte_within))]
 pub(crate) fn read_byte_within(
     cursor: &mut Cursor<'_>,
     least: u8,
@@ -52,8 +88,19 @@ pub(crate) fn read_byte_within(
     Ok(byte)
 }
 
+/// Appends a byte that is within bounds.
+pub(crate) fn put_byte_within(out: &mut Fields, n: u8, least: u8, most: u8)
+    requires least { least ≤ n }
+    requires most { n ≤ most }
+    requires room { array_vec_len out.old + 1 ≤ 223 }
+    ensures writes { AppendsSpelling (byte_within least most) n out.old.items out.new.items }
+    ensures len { array_vec_len out.new ≡ array_vec_len out.old + 1 }
+{
+    put_byte(out, n);
+}
+
 /// The next bytes, if they are the expected ones.
-#[tactic(auto, using(typecodes::proofs::Steps::reading), unfolding(crate::specs::Slots::exactly))]
+#[tactic(auto, using(typecodes::proofs::Steps::reading), unfolding(crate::specs::Slot::exactly))]
 pub(crate) fn read_exactly(cursor: &mut Cursor<'_>, expected: &[u8]) -> Result<(), ReadFault>
     requires { cursor.old.place + length expected.now < 2 ^ 32 }
     ensures read { Gives (λ u. (u, cursor.new.place)) result (read (exactly (length expected.now) expected.now) cursor.old.bytes.now cursor.old.place) }
@@ -68,6 +115,15 @@ pub(crate) fn read_exactly(cursor: &mut Cursor<'_>, expected: &[u8]) -> Result<(
     }
 }
 
+/// Appends bytes that are known.
+pub(crate) fn put_exactly(out: &mut Fields, bytes: &[u8])
+    requires { array_vec_len out.old + length bytes.now ≤ 223 }
+    ensures writes { AppendsSpelling (exactly (length bytes.now) bytes.now) tt out.old.items out.new.items }
+    ensures len { array_vec_len out.new ≡ array_vec_len out.old + length bytes.now }
+{
+    put(out, bytes);
+}
+
 // Whether all bytes are zero.
 fn are_zero(bytes: &[u8]) -> bool
     ensures { result ≡ list_all (λ b. b == 0) bytes.now }
@@ -76,7 +132,7 @@ fn are_zero(bytes: &[u8]) -> bool
 }
 
 /// The next n bytes, if they are zero.
-#[tactic(auto, using(typecodes::proofs::Steps::reading), unfolding(crate::specs::Slots::zeros))]
+#[tactic(auto, using(typecodes::proofs::Steps::reading), unfolding(crate::specs::Slot::zeros))]
 pub(crate) fn read_zeros(cursor: &mut Cursor<'_>, n: u32) -> Result<(), ReadFault>
     requires { cursor.old.place + n < 2 ^ 32 }
     ensures read { Gives (λ u. (u, cursor.new.place)) result (read (zeros n) cursor.old.bytes.now cursor.old.place) }
@@ -89,4 +145,22 @@ pub(crate) fn read_zeros(cursor: &mut Cursor<'_>, n: u32) -> Result<(), ReadFaul
     } else {
         Err(no_record(place))
     }
+}
+
+/// Appends n zeros.
+pub(crate) fn put_zeros(out: &mut Fields, n: usize)
+    requires { array_vec_len out.old + n ≤ 223 }
+    ensures writes { AppendsSpelling (zeros n) tt out.old.items out.new.items }
+    ensures len { array_vec_len out.new ≡ array_vec_len out.old + n }
+{
+    put(out, &[0; 223][..n]);
+}
+
+/// Appends a number of 4 bytes.
+pub(crate) fn put_number(out: &mut Fields, n: u32)
+    requires { array_vec_len out.old + 4 ≤ 223 }
+    ensures writes { AppendsSpelling number n out.old.items out.new.items }
+    ensures len { array_vec_len out.new ≡ array_vec_len out.old + 4 }
+{
+    put(out, &n.to_be_bytes());
 }

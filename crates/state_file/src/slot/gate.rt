@@ -1,7 +1,7 @@
 //! The gates of slots.
 
 ghost use Rattle.std.specs.Prelude.{◌≡◌, ◌==◌};
-ghost use Rattle.state_file.specs.Contents.{open_value};
+ghost use Rattle.state_file.specs.File.{open_value};
 
 /// The value of an open gate.
 pub(crate) const OPEN: u8 = 0xa5;

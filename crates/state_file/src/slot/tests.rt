@@ -4,9 +4,9 @@ mod drawn;
 
 use crate::record::{Bound, Extend, Key, Record, Secret, Version};
 use crate::slot::gate::{CLOSED, OPEN, is_open};
-use crate::slot::reading::read_record;
-use crate::slot::tag::{begins_key, tag, version};
-use crate::slot::writing::record_bytes;
+use crate::slot::key::{begins_key, version};
+use crate::slot::record::{read_record, record_bytes};
+use crate::slot::tag::tag;
 use std::process::Abort;
 use std::test::Fail;
 use typecodes::{BadName, Levels, LmsPair, LmsType, Name, OtsType, XmssType};

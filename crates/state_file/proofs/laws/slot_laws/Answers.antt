@@ -1,5 +1,5 @@
 use Rattle.typecodes.proofs.Spelling.{one_value}
-use Rattle.state_file.specs.Slots.{slot_record}
+use Rattle.state_file.specs.Slot.{slot_record}
 use Rattle.state_file.proofs.OneWay.{one_way-slot_record}
 use Rattle.state_file.proofs.laws.slot_laws.Goals as goal
 

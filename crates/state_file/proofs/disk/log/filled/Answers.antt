@@ -1,0 +1,18 @@
+use Rattle.std.proofs.Common.{◌≡◌, ◌≤◌, length, reverse, arith, rules}
+use Rattle.state_file.specs.Disk.{greatest_end}
+use Rattle.state_file.specs.Log.{ranges_of}
+use Rattle.state_file.proofs.Ranges.{no_shorter}
+use Rattle.state_file.proofs.disk.log.filled.Goals as goal
+
+pub returns : goal.returns
+returns c =
+    let ranges = ranges_of (reverse c.args.log.now) in
+    let end : c.in_ok-longest.longest ≡ greatest_end (length c.args.base.now) ranges = search rules in
+    let all : c.loop-place.place ≡ greatest_end (length c.args.base.now) ranges = omega arith in
+    let long : length c.args.base.now ≤ greatest_end (length c.args.base.now) ranges = no_shorter _ ranges in
+    record {
+      longest = omega arith;
+      kept = λ k inside outside. c.loop-place.invariant.kept k (omega arith) inside outside;
+      inside = λ k within not_outside. c.loop-place.invariant.inside k (omega arith) not_outside;
+      behind = λ k within past. c.loop-place.invariant.behind k (omega arith) past;
+    }

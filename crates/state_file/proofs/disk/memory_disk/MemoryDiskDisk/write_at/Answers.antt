@@ -1,0 +1,23 @@
+use Rattle.std.proofs.Common.{◌+◌, List, ℕ, length, subst, arith}
+use Rattle.std.proofs.lemmas.List.{take_all}
+use Rattle.state_file.specs.Log.{Overlays}
+use Rattle.state_file.specs.declared.disk.log.Entry.TheVariants.{Wrote}
+use Rattle.state_file.proofs.Log.{elapses_more, opens, overlays_bytes}
+use Rattle.state_file.proofs.disk.memory_disk.MemoryDiskDisk.write_at.Goals as goal
+
+pub returns-in-Ok-clause-written : goal.returns-in-Ok-clause-written
+returns-in-Ok-clause-written c h =
+    let at = c.args.at in
+    let bytes = c.args.bytes.now in
+    let old = c.args.self.now.content.items in
+    let new = c.write.new.content.items in
+    let over : Overlays at bytes old new = subst (λ (l : List ℕ). Overlays at l old new) (take_all (length bytes) bytes (omega arith)) c.in-Ok.ensures.content in
+    (opens c.args.self.now.first.items c.args.self.now.log.items c.write.new.log.items at bytes old new over c.in-Ok.ensures.log, overlays_bytes at bytes old new over)
+
+pub returns-in-Ok-clause-time : goal.returns-in-Ok-clause-time
+returns-in-Ok-clause-time c h =
+    elapses_more c.args.self.now.first.items c.args.self.now.log.items c.write.new.log.items (Wrote c.args.at (c.args.at + length c.args.bytes.now)) c.in-Ok.ensures.log
+
+pub returns-in-Ok-write-clause-time : goal.returns-in-Ok-write-clause-time
+returns-in-Ok-write-clause-time c h =
+    elapses_more c.args.self.now.first.items c.args.self.now.log.items c.write-in-Fails.new.log.items (Wrote c.args.at (c.args.at + length c.args.bytes.now)) c.in-Ok-write.ensures.log

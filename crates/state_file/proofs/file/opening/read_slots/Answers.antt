@@ -1,0 +1,56 @@
+use Rattle.std.proofs.Common.{[], ◌∷◌, length, length-append, ◌∙◌, ap, subst, arith, rules}
+use Rattle.state_file.specs.Disk.{State}
+use Rattle.state_file.specs.Opening.{HasSlot, Tells, TellsSlot}
+use Rattle.state_file.proofs.Finding.{fault_told, found_all, found_harm, found_more, gate_within, open_gate, reads_on, shut_gate}
+use Rattle.state_file.proofs.file.opening.read_slots.Goals as goal
+
+pub returns-in_err-slot-clause-fault : goal.returns-in_err-slot-clause-fault
+returns-in_err-slot-clause-fault g c honest =
+    let first = g.D.Disk.state c.args.disk.now in
+    let before = c.loop-disk.invariant in
+    let found = c.loop-disk.found in
+    let fault = c.in_err-slot.field-0.0 in
+    let was = before.honest ∙ honest in
+    let same = (before.reads honest).stays in
+    let still = (c.read_gate.ensures.reads was).stays ∙ same in
+    let opened = open_gate first (g.D.Disk.state c.loop-disk.disk) found.count c.in_ok-read_gate.field-0 same (gate_within first (g.D.Disk.state c.loop-disk.disk) found.count found.records found.tag same before.counted (before.found honest)) (c.in_ok-read_gate.ensures.gate was) c.if-branch.true in
+    let told : TellsSlot first.content found.count fault = subst (λ (s : State). TellsSlot s.content found.count fault) still (c.in_err-slot.ensures.fault (c.read_gate.ensures.honest ∙ was)) in
+    fault_told (Tells first.content) c.from_residual-in_err-slot.result fault (search rules)
+    (found_harm first.content found.count found.records found.tag fault (before.found honest) before.counted (c.requires.key honest) opened told)
+
+pub loop-disk-preserved : goal.loop-disk-preserved
+loop-disk-preserved g c =
+    let first = g.D.Disk.state c.args.disk.now in
+    let before = c.loop-disk.invariant in
+    let found = c.loop-disk.found in
+    let slot = c.in_ok-slot.slot in record {
+      counted = omega (arith, c.push.ensures.count, before.counted, ap length c.push.ensures.records, length-append found.records (slot.entry ∷ []));
+      few = omega (arith, c.push.ensures.count, c.in_ok-slot.ensures.few);
+      honest = c.read_slot.ensures.honest ∙ c.read_gate.ensures.honest ∙ before.honest;
+      failures = c.in_ok-slot.ensures.failures ∙ c.in_ok-read_gate.ensures.failures ∙ before.failures;
+      past_ends = λ honest.
+          let was = before.honest ∙ honest in
+          c.read_slot.ensures.past_ends (c.read_gate.ensures.honest ∙ was) ∙ c.read_gate.ensures.past_ends was ∙ before.past_ends honest;
+      reads = λ honest.
+          let was = before.honest ∙ honest in
+          reads_on g.D.Disk.state g.D.Disk.moment g.D.Disk.left_since c.args.disk.now c.loop-disk.disk c.read_slot.new.disk (before.reads honest)
+          (reads_on g.D.Disk.state g.D.Disk.moment g.D.Disk.left_since c.loop-disk.disk c.read_gate.new.disk c.read_slot.new.disk (c.read_gate.ensures.reads was) (c.read_slot.ensures.reads (c.read_gate.ensures.honest ∙ was)));
+      found = λ honest.
+          let was = before.honest ∙ honest in
+          let same = (before.reads honest).stays in
+          let still = (c.read_gate.ensures.reads was).stays ∙ same in
+          let opened = open_gate first (g.D.Disk.state c.loop-disk.disk) found.count c.in_ok-read_gate.field-0 same (gate_within first (g.D.Disk.state c.loop-disk.disk) found.count found.records found.tag same before.counted (before.found honest)) (c.in_ok-read_gate.ensures.gate was) c.if-branch.true in
+          let has : HasSlot first.content found.count slot.entry slot.tag = subst (λ (s : State). HasSlot s.content found.count slot.entry slot.tag) still (c.in_ok-slot.ensures.slot (c.read_gate.ensures.honest ∙ was)) in
+          found_more first.content found.count c.push.new.self.count found.records c.push.new.self.records found.tag c.push.new.self.tag slot.tag slot.entry (before.found honest) before.counted c.push.ensures.count
+          c.push.ensures.records c.push.ensures.tag opened has;
+    }
+
+pub returns-clause-found : goal.returns-clause-found
+returns-clause-found g c honest =
+    let first = g.D.Disk.state c.args.disk.now in
+    let before = c.loop-disk.invariant in
+    let found = c.loop-disk.found in
+    let was = before.honest ∙ honest in
+    let same = (before.reads honest).stays in
+    let shut = shut_gate first (g.D.Disk.state c.loop-disk.disk) found.count c.in_ok-read_gate.field-0 same (gate_within first (g.D.Disk.state c.loop-disk.disk) found.count found.records found.tag same before.counted (before.found honest)) (c.in_ok-read_gate.ensures.gate was) c.if-branch.false in
+    found_all first.content found.count found.records found.tag (before.found honest) before.counted (c.requires.key honest) shut

@@ -1,0 +1,20 @@
+-- The content begins with the records that were found, and all was only read.
+use Rattle.std.proofs.Common.{◌≡◌, ◌-◌, ◌^◌, ◌≤◌, length}
+use Rattle.std.specs.Prelude.{IsTrue}
+use Rattle.state_file.specs.Opening.{OnlyReads}
+use Rattle.state_file.proofs.Finding.{BeginsFound}
+use Rattle.state_file.proofs.file.opening.read_slots.Given as goal
+
+abbrev pub invariant-loop-disk : goal.invariant-loop-disk
+invariant-loop-disk g l = record {
+  counted : l.found.count ≡ length l.found.records;
+  few : l.found.count ≤ 2 ^ 31;
+  honest : g.D.Disk.honest l.disk ≡ g.D.Disk.honest l.initial.disk;
+  failures : g.D.Disk.failures l.disk ≡ g.D.Disk.failures l.initial.disk;
+  past_ends : IsTrue (g.D.Disk.honest l.initial.disk) → g.D.Disk.past_ends l.disk ≡ g.D.Disk.past_ends l.initial.disk;
+  reads : IsTrue (g.D.Disk.honest l.initial.disk) → OnlyReads g.D.Disk.state g.D.Disk.moment g.D.Disk.left_since l.initial.disk l.disk;
+  found : IsTrue (g.D.Disk.honest l.initial.disk) → BeginsFound (g.D.Disk.state l.initial.disk).content l.found.count l.found.records l.found.tag;
+}
+
+abbrev pub decreases-loop-disk : goal.decreases-loop-disk
+decreases-loop-disk g l = 2 ^ 31 - l.found.count

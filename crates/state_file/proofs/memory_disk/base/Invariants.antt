@@ -1,6 +1,0 @@
-use Rattle.std.proofs.Common.{◌≡◌, take, reverse}
-use Rattle.state_file.specs.MemoryDisk.{base_of}
-use Rattle.state_file.proofs.memory_disk.base.Given as goal
-
-abbrev pub invariant-loop-entry : goal.invariant-loop-entry
-invariant-loop-entry l = l.base ≡ base_of l.first (reverse (take l.entry-index l.log))

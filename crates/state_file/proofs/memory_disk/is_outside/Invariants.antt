@@ -1,7 +1,0 @@
-use Rattle.std.proofs.Common.{IsTrue, ◌↔◌, take, reverse}
-use Rattle.state_file.specs.Disk.{IsOutside}
-use Rattle.state_file.specs.MemoryDisk.{ranges_of}
-use Rattle.state_file.proofs.memory_disk.is_outside.Given as goal
-
-abbrev pub invariant-loop-entry : goal.invariant-loop-entry
-invariant-loop-entry l = IsTrue l.outside ↔ IsOutside l.place (ranges_of (reverse (take l.entry-index l.log)))

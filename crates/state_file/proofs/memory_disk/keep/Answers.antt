@@ -1,5 +1,0 @@
-use Rattle.std.proofs.Common.{rules}
-use Rattle.state_file.proofs.memory_disk.keep.Goals as goal
-
-pub returns-clause-log : goal.returns-clause-log
-returns-clause-log c = (c.in_ok-copy.copy, search rules, search rules)

@@ -1,0 +1,9 @@
+-- Writing fields after other bytes.
+use Rattle.std.specs.Prelude.{◌≡◌, ℕ, List, ◌++◌}
+use Rattle.typecodes.specs.Layout.{Layout, Spells}
+
+-- a spelling of the value was written behind the old bytes
+pub record AppendsSpelling {V : Type 0} (layout : Layout V) (value : V) (old new : List ℕ) : Type 0 where
+  pub part : List ℕ
+  pub behind : new ≡ old ++ part
+  pub spelled : Spells layout value part

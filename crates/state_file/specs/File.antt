@@ -1,0 +1,163 @@
+-- What a content of a disk, a list of bytes, is as a state file: slots of 256 bytes, slot k from byte
+-- 256 * k on, each a gate, a record and a tag.
+use Rattle.std.specs.Prelude.{◌≡◌, ◌≢◌, ◌⊎◌, ℕ, zero, suc, ◌+◌, ◌*◌, ◌^◌, ◌<◌, ◌≤◌, Bool, true, false, ◌==◌, List, ◌∷◌, ◌++◌, length, take, drop, replicate, slice_get, slice_index, Option, Some, None, [], Ok}
+use Rattle.std.specs.Cmp.Lexicographic.{pointwise}
+use Rattle.byteorder.specs.Endian.{big_number}
+use Rattle.sha2.specs.Sha256.{sha256}
+use Rattle.typecodes.specs.Layout.{Spells}
+use Rattle.typecodes.specs.Types.{named}
+use Rattle.state_file.specs.declared.record.Key.{Key}
+use Rattle.state_file.specs.declared.record.Record.{Record}
+use Rattle.state_file.specs.declared.record.Record.TheVariants.{Key as KeyRecord}
+use Rattle.state_file.specs.declared.record.Version.{Version}
+use Rattle.state_file.specs.Slot.{magic, slot_record, version_code, versions}
+use Rattle.std.proofs.Props.{props}
+use Rattle.typecodes.specs.Cursor.{read}
+use Rattle.state_file.specs.Disk.{State, IsSynced}
+use Rattle.state_file.specs.Store.{begins_with_key}
+
+-- ---- the parts of a slot
+
+-- its gate, byte 0, if the content reaches so far
+abbrev pub gate : List ℕ → ℕ → Option ℕ
+gate content k = slice_get content (256 * k)
+
+-- the value of an open gate
+abbrev pub open_value : ℕ
+open_value = 0xA5
+
+-- a gate is open at this value, and closed at every other
+abbrev pub IsOpen : List ℕ → ℕ → Type 0
+IsOpen content k = gate content k ≡ Some open_value
+
+-- this place lies in the content, and a gate there is closed
+abbrev pub IsClosedAt : List ℕ → ℕ → Type 0
+IsClosedAt content place = (place < length content) × (slice_index content place ≢ open_value)
+
+abbrev pub IsClosed : List ℕ → ℕ → Type 0
+IsClosed content k = IsClosedAt content (256 * k)
+
+-- its kind and fields, bytes 1 to 223
+abbrev pub fields_at : List ℕ → ℕ → List ℕ
+fields_at content k = take 223 (drop (256 * k + 1) content)
+
+-- its tag, bytes 224 to 255
+abbrev pub tag_at : List ℕ → ℕ → List ℕ
+tag_at content k = take 32 (drop (256 * k + 224) content)
+
+-- the tag of the slot before it; 32 zeros before slot 0
+abbrev pub previous_tag : List ℕ → ℕ → List ℕ
+previous_tag content zero = replicate 32 0
+previous_tag content (suc k) = tag_at content k
+
+-- the tag of these bytes behind a slot of that tag
+abbrev pub tag_of : List ℕ → List ℕ → List ℕ
+tag_of previous fields = sha256 (previous ++ fields)
+
+-- the slot holds the record
+pub record Holds (content : List ℕ) (k : ℕ) (entry : Record) : Type 0 where
+  pub spelled : Spells slot_record entry (fields_at content k)
+  pub tagged : tag_at content k ≡ tag_of (previous_tag content k) (fields_at content k)
+
+-- ---- contents with a key
+
+-- how many records a file has at most
+abbrev pub most_records : ℕ
+most_records = 2 ^ 31
+
+-- The content spells these records: its first slots are open and hold them, and the next gate lies in it
+-- and is closed. Whatever follows says nothing.
+pub record SpellsRecords (content : List ℕ) (records : List Record) : Type 0 where
+  pub few : length records ≤ most_records
+  pub opened : (k : ℕ) → k < length records → IsOpen content k
+  pub closed : IsClosed content (length records)
+  pub first : (key : Key) × (slice_get records 0 ≡ Some (KeyRecord key))
+  pub held : (k : ℕ) (entry : Record) → slice_get records k ≡ Some entry → Holds content k entry
+
+-- ---- contents without one
+
+-- The content has no key: it has under 257 bytes, or its first gate is closed.
+abbrev pub HasNoKey : List ℕ → Type 0
+HasNoKey content = (length content < 257) ⊎ IsClosed content 0
+
+-- otherwise a key may stand there
+pub record MayHaveKey (content : List ℕ) : Type 0 where
+  pub long : 257 ≤ length content
+  pub opened : IsOpen content 0
+
+-- whether a slot's fields are those of a Key: they begin with its kind and the magic
+abbrev pub begins_key : List ℕ → Bool
+begins_key fields = pointwise (λ a b. a == b) (take 9 fields) (1 ∷ magic)
+
+-- the version that a Key's fields tell, if it is known
+abbrev pub version_of : List ℕ → Option Version
+version_of fields = named version_code versions (big_number 2 (drop 9 fields))
+
+-- The first slot holds no Key.
+pub record IsNoKeyFile (content : List ℕ) : Type 0 where
+  pub may : MayHaveKey content
+  pub other : begins_key (fields_at content 0) ≡ false
+
+-- The first slot holds a Key of a version that isn't known.
+pub record HasUnknownVersion (content : List ℕ) : Type 0 where
+  pub may : MayHaveKey content
+  pub key : begins_key (fields_at content 0) ≡ true
+  pub other : version_of (fields_at content 0) ≡ None
+
+-- A slot is whole: it is open, it is one of those that a file may have, it holds a record, and the next gate
+-- lies in the content.
+pub record IsWhole (content : List ℕ) (k : ℕ) : Type 0 where
+  pub opened : IsOpen content k
+  pub few : k < most_records
+  pub ends : 256 * (k + 1) < length content
+  pub entry : Record
+  pub held : Holds content k entry
+
+-- The content begins with slots that hold these records, and the next gate lies in it.
+pub record Begins (content : List ℕ) (records : List Record) : Type 0 where
+  pub few : length records ≤ most_records
+  pub ends : 256 * length records < length content
+  pub opened : (k : ℕ) → k < length records → IsOpen content k
+  pub held : (k : ℕ) (entry : Record) → slice_get records k ≡ Some entry → Holds content k entry
+
+-- Slot k is the first that is open and isn't whole, behind whole ones.
+pub record IsDamagedAt (content : List ℕ) (k : ℕ) : Type 0 where
+  pub may : MayHaveKey content
+  pub key : begins_key (fields_at content 0) ≡ true
+  pub version : (version : Version) × (version_of (fields_at content 0) ≡ Some version)
+  pub before : (j : ℕ) → j < k → IsWhole content j
+  pub opened : IsOpen content k
+  pub damaged : IsWhole content k → ⊥
+
+-- ---- the records that a content stands for
+
+-- the content spells these records, or has no key where there are none
+abbrev pub StandsFor : List Record → List ℕ → Type 0
+StandsFor [] content = HasNoKey content
+StandsFor (entry ∷ entries) content = SpellsRecords content (entry ∷ entries)
+
+-- The content spells these records behind one another, and the gate behind them is closed. It says what
+-- `StandsFor` says, as a fact that has one proof.
+pub record IsFileOf (records : List Record) (content : List ℕ) : Type 0 where
+  pub few : length records ≤ most_records
+  pub first : begins_with_key records ≡ true
+  pub opened : (k : ℕ) → k < length records → slice_index content (256 * k) ≡ open_value
+  pub closed : IsClosed content (length records)
+  pub spelled : (k : ℕ) (entry : Record) → slice_get records k ≡ Some entry → read slot_record (fields_at content k) 0 ≡ Ok (entry, 223)
+  pub tagged : (k : ℕ) → k < length records → tag_at content k ≡ tag_of (previous_tag content k) (fields_at content k)
+
+-- The lists that contents left since a moment stand for. A content that stands for none counts as every list.
+abbrev pub LeftLists : (ℕ → List ℕ → Type 0) → ℕ → List Record → Type 0
+LeftLists left_since t list = (content : List ℕ) × left_since t content × (StandsFor list content ⊎ ((other : List Record) → StandsFor other content → ⊥))
+
+-- all of it is synced, and this is the last slot's tag
+pub record IsKept (records : List Record) (tag : List ℕ) (state : State) : Type 0 where
+  pub synced : IsSynced state
+  pub file : IsFileOf records state.content
+  pub last : tag ≡ previous_tag state.content (length records)
+
+pub IsFileOf-prop : (records : List Record) (content : List ℕ) → IsProp (IsFileOf records content)
+IsFileOf-prop records content = hlevel props
+
+pub IsKept-prop : (records : List Record) (tag : List ℕ) (state : State) → IsProp (IsKept records tag state)
+IsKept-prop records tag state = hlevel (props, IsFileOf-prop)

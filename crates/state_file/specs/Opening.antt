@@ -1,0 +1,98 @@
+-- What opening a place tells, and what its parts do.
+use Rattle.std.specs.Prelude.{◌≡◌, ℕ, ◌+◌, ◌*◌, ◌<◌, true, List, length, Option, Some, None, Result, Ok, Err}
+use Rattle.state_file.specs.File.{Holds, IsWhole, MayHaveKey, SpellsRecords, begins_key, fields_at, most_records, previous_tag, tag_at, version_of, HasNoKey, HasUnknownVersion, IsDamagedAt, IsNoKeyFile}
+use Rattle.state_file.specs.Disk.{State, MayLeave, settled, LeavesOnly}
+use Rattle.state_file.specs.declared.file.opening.OpenFault.{OpenFault}
+use Rattle.state_file.specs.declared.file.opening.OpenFault.TheVariants.{NoKey, NotKeyFile, Version as VersionFault, Damaged, DeviceFailed}
+use Rattle.state_file.specs.declared.record.Record.{Record}
+use Rattle.state_file.specs.declared.record.Version.{Version}
+use Rattle.state_file.specs.declared.record.Key.{Key}
+
+-- ---- what opening tells
+
+-- the records of a key, or why there are none
+pub data Opening : Type 0 where
+  spelled : List Record → Opening
+  no_key : Opening
+  no_key_file : Opening
+  unknown_version : Opening
+  damaged : ℕ → Opening
+
+-- what opening a content tells
+abbrev pub OpensAs : List ℕ → Opening → Type 0
+OpensAs content (spelled records) = SpellsRecords content records
+OpensAs content no_key = HasNoKey content
+OpensAs content no_key_file = IsNoKeyFile content
+OpensAs content unknown_version = HasUnknownVersion content
+OpensAs content (damaged k) = IsDamagedAt content k
+
+-- ---- what its parts do
+
+-- what each refusal tells of the content
+abbrev pub Tells : List ℕ → OpenFault → Type 0
+Tells content NoKey = OpensAs content no_key
+Tells content NotKeyFile = OpensAs content no_key_file
+Tells content VersionFault = OpensAs content unknown_version
+Tells content (Damaged k) = OpensAs content (damaged k)
+Tells content DeviceFailed = Unit {0}
+
+-- A refusal for what stands there leaves it as it was, and all of it is synced.
+abbrev pub KeepsContent : List ℕ → State → OpenFault → Type 0
+KeepsContent content new NoKey = new ≡ settled content
+KeepsContent content new NotKeyFile = new ≡ settled content
+KeepsContent content new VersionFault = new ≡ settled content
+KeepsContent content new (Damaged k) = new ≡ settled content
+KeepsContent content new DeviceFailed = Unit {0}
+
+-- What opening leaves: a store, or a refusal for what stands there, leaves the content as it was, and all of it synced.
+abbrev pub Settles : {A : Type 0} → List ℕ → State → Result A OpenFault → Type 0
+Settles content new (Ok _) = new ≡ settled content
+Settles content new (Err fault) = KeepsContent content new fault
+
+-- 45 comes exactly where the device failed
+abbrev pub CountsFault : (before after : ℕ) → OpenFault → Type 0
+CountsFault before after NoKey = after ≡ before
+CountsFault before after NotKeyFile = after ≡ before
+CountsFault before after VersionFault = after ≡ before
+CountsFault before after (Damaged k) = after ≡ before
+CountsFault before after DeviceFailed = after ≡ before + 1
+
+abbrev pub CountsOpening : {A : Type 0} (before after : ℕ) → Result A OpenFault → Type 0
+CountsOpening before after (Ok _) = after ≡ before
+CountsOpening before after (Err fault) = CountsFault before after fault
+
+-- calls that only read
+pub record OnlyReads {D : Type 0} (state : D → State) (moment : D → ℕ) (left_since : D → ℕ → List ℕ → Type 0) (old new : D) : Type 0 where
+  pub stays : state new ≡ state old
+  pub leaves : LeavesOnly moment left_since old new (MayLeave (state old))
+
+-- The first slot is that of a Key of a known version.
+pub record StartsWithKey (content : List ℕ) : Type 0 where
+  pub may : MayHaveKey content
+  pub key : begins_key (fields_at content 0) ≡ true
+  pub version : (version : Version) × (version_of (fields_at content 0) ≡ Some version)
+
+-- The slot holds the record, has the tag, and the next gate lies in the content.
+pub record HasSlot (content : List ℕ) (k : ℕ) (entry : Record) (tag : List ℕ) : Type 0 where
+  pub few : k < most_records
+  pub ends : 256 * (k + 1) < length content
+  pub held : Holds content k entry
+  pub tagged : tag ≡ tag_at content k
+
+-- the record that the slot holds, if it holds one
+abbrev pub HasEntry : List ℕ → ℕ → Option Record → Type 0
+HasEntry content k None = (entry : Record) → Holds content k entry → ⊥
+HasEntry content k (Some entry) = Holds content k entry
+
+-- what each refusal of a slot tells of it
+abbrev pub TellsSlot : List ℕ → ℕ → OpenFault → Type 0
+TellsSlot content slot NoKey = ⊥
+TellsSlot content slot NotKeyFile = ⊥
+TellsSlot content slot VersionFault = ⊥
+TellsSlot content slot (Damaged k) = (k ≡ slot) × (IsWhole content slot → ⊥)
+TellsSlot content slot DeviceFailed = Unit {0}
+
+-- what the records that were found are, and the last tag
+pub record IsFound (content : List ℕ) (records : List Record) (tag : List ℕ) : Type 0 where
+  pub spelled : SpellsRecords content records
+  pub last : tag ≡ previous_tag content (length records)

@@ -1,0 +1,228 @@
+-- Slots: how one spells its record, in its bytes 1 to 223 a kind and the fields of that kind.
+use Rattle.std.specs.Prelude.{ℕ, zero, suc, ◌-◌, ◌*◌, Bool, ◌==◌, ◌&&◌, List, [], ◌∷◌, Option, Some, None, nat_le, if◌then◌else◌}
+use Rattle.std.specs.List.{list_all}
+use Rattle.std.specs.Cmp.Lexicographic.{pointwise}
+use Rattle.byteorder.specs.Endian.{big_number}
+use Rattle.typecodes.specs.declared.fault.Cause.TheVariants.{UnknownType}
+use Rattle.typecodes.specs.declared.types.LmsPair.{LmsPair}
+use Rattle.typecodes.specs.Layout.{Layout, done, refuse, field, ◌>>=◌}
+use Rattle.typecodes.specs.Fields.{number, block, lms_type, ots_type, xmss_type}
+use Rattle.typecodes.specs.Types.{named}
+use Rattle.state_file.specs.declared.record.Record.{Record}
+use Rattle.state_file.specs.declared.record.Record.TheVariants.{Key as KeyRecord, Extend as ExtendRecord, Bound as BoundRecord, Retire, Moved}
+use Rattle.state_file.specs.declared.record.Secret.{Secret}
+use Rattle.state_file.specs.declared.record.Secret.TheVariants.{Lms, Hss, Xmss}
+use Rattle.state_file.specs.declared.record.Version.{Version}
+use Rattle.state_file.specs.declared.record.Version.TheVariants.{One}
+
+-- ---- fields
+
+-- the field of n bytes before this place spells no record; which of the causes it is told by says nothing
+abbrev pub no_record : {V : Type 0} → ℕ → Layout V
+no_record n = refuse n UnknownType
+
+-- the value, if the field of n bytes before this place meets its condition
+abbrev pub only_if : {V : Type 0} → Bool → ℕ → V → Layout V
+only_if test n value = if test then done value else no_record n
+
+-- a number of 1 byte
+unfoldable pub byte : Layout ℕ
+byte = field 1 (λ bytes. done (big_number 1 bytes))
+
+-- a number of 1 byte, from the least to the most
+unfoldable pub byte_within : ℕ → ℕ → Layout ℕ
+byte_within least most = byte >>= λ n. only_if (nat_le least n && nat_le n most) 1 n
+
+-- bytes that are these
+unfoldable pub exactly : ℕ → List ℕ → Layout (Unit {0})
+exactly n bytes = block n >>= λ read. only_if (pointwise (λ a b. a == b) read bytes) n tt
+
+-- n bytes that are zero
+unfoldable pub zeros : ℕ → Layout (Unit {0})
+zeros n = block n >>= λ bytes. only_if (list_all (λ b. b == 0) bytes) n tt
+
+-- ---- a Key
+
+-- HBSSTATE
+abbrev pub magic : List ℕ
+magic = 0x48 ∷ 0x42 ∷ 0x53 ∷ 0x53 ∷ 0x54 ∷ 0x41 ∷ 0x54 ∷ 0x45 ∷ []
+
+abbrev pub version_code : Version → ℕ
+version_code One = 1
+
+-- the versions that are known
+abbrev pub versions : List Version
+versions = One ∷ []
+
+-- a version that is known, by its code in 2 bytes
+abbrev pub known_version : Option Version → Layout Version
+known_version (Some version) = done version
+known_version None = no_record 2
+
+unfoldable pub version_field : Layout Version
+version_field = block 2 >>= λ bytes. known_version (named version_code versions (big_number 2 bytes))
+
+-- a pair, by its codes
+unfoldable pub pair_field : Layout LmsPair
+pair_field = do
+  tree ← lms_type
+  ots ← ots_type
+  done (record { tree = tree; ots = ots })
+
+-- n pairs
+unfoldable pub pairs : ℕ → Layout (List LmsPair)
+pairs zero = done []
+pairs (suc n) = do
+  first ← pair_field
+  rest ← pairs n
+  done (first ∷ rest)
+
+-- the number of levels, 1 to 8, the pair of each, and zeros for the pairs up to the eighth
+unfoldable pub levels_field : Layout (List LmsPair)
+levels_field = do
+  count ← byte_within 1 8
+  levels ← pairs count
+  rest ← zeros (64 - 8 * count)
+  done levels
+
+-- An LMS key: 1 level, its pair and seven zero pairs, I, SEED, and zeros for SK_PRF and the public SEED.
+unfoldable pub lms_secret : Layout Secret
+lms_secret = do
+  level ← exactly 1 (1 ∷ [])
+  pair ← pair_field
+  others ← zeros 56
+  identifier ← block 16
+  seed ← block 32
+  seeds ← zeros 64
+  done (Lms pair identifier seed)
+
+-- An HSS key: its levels, the I and SEED of the top tree, and zeros for SK_PRF and the public SEED.
+unfoldable pub hss_secret : Layout Secret
+hss_secret = do
+  levels ← levels_field
+  identifier ← block 16
+  seed ← block 32
+  seeds ← zeros 64
+  done (Hss levels identifier seed)
+
+-- An XMSS key: 1 level, its code with zeros for a one-time code and seven pairs, zeros for I, the seed of
+-- the private values, SK_PRF and the public SEED.
+unfoldable pub xmss_secret : Layout Secret
+xmss_secret = do
+  level ← exactly 1 (1 ∷ [])
+  tree ← xmss_type
+  others ← zeros 60
+  identifier ← zeros 16
+  secret_seed ← block 32
+  prf_key ← block 32
+  public_seed ← block 32
+  done (Xmss tree secret_seed prf_key public_seed)
+
+-- by the scheme: 1 LMS, 2 HSS, 3 XMSS
+abbrev pub secret_of : ℕ → Layout Secret
+secret_of scheme =
+    if scheme == 1 then lms_secret
+    else (if scheme == 2 then hss_secret
+    else (if scheme == 3 then xmss_secret
+    else no_record 1))
+
+-- the magic, the version, the scheme, what stands by the scheme, and the root
+unfoldable pub key_fields : Layout Record
+key_fields = do
+  begins ← exactly 8 magic
+  version ← version_field
+  scheme ← byte
+  secret ← secret_of scheme
+  root ← block 32
+  rest ← zeros 2
+  done (KeyRecord (record { version = version; secret = secret; root = root }))
+
+-- ---- the other kinds
+
+-- the level, the parent leaf, I, SEED, C, Q and the root
+unfoldable pub extend_fields : Layout Record
+extend_fields = do
+  level ← byte
+  parent_leaf ← number
+  identifier ← block 16
+  seed ← block 32
+  randomizer ← block 32
+  digest ← block 32
+  root ← block 32
+  rest ← zeros 73
+  done (ExtendRecord (record {
+    level = level;
+    parent_leaf = parent_leaf;
+    identifier = identifier;
+    seed = seed;
+    randomizer = randomizer;
+    digest = digest;
+    root = root;
+  }))
+
+-- each byte is a visible character of ASCII
+abbrev pub are_visible : List ℕ → Bool
+are_visible bytes = list_all (λ b. nat_le 0x21 b && nat_le b 0x7e) bytes
+
+-- a name of 1 to 64 visible characters: its length, and its bytes with zeros up to the 64th
+unfoldable pub name_field : Layout (List ℕ)
+name_field = do
+  count ← byte_within 1 64
+  bytes ← block count
+  name ← only_if (are_visible bytes) count bytes
+  rest ← zeros (64 - count)
+  done name
+
+-- the name, the leaf, C and Q
+unfoldable pub bound_fields : Layout Record
+bound_fields = do
+  name ← name_field
+  leaf ← number
+  randomizer ← block 32
+  digest ← block 32
+  rest ← zeros 89
+  done (BoundRecord (record { name = name; leaf = leaf; randomizer = randomizer; digest = digest }))
+
+-- the number below which leaves are retired
+unfoldable pub retire_fields : Layout Record
+retire_fields = do
+  upto ← number
+  rest ← zeros 218
+  done (Retire upto)
+
+-- the new version, which is 2
+unfoldable pub moved_fields : Layout Record
+moved_fields = do
+  version ← exactly 2 (0 ∷ 2 ∷ [])
+  rest ← zeros 220
+  done Moved
+
+-- ---- all kinds
+
+-- by the kind: 1 Key, 2 Extend, 3 Bound, 4 Retire, 5 Moved
+abbrev pub fields_of : ℕ → Layout Record
+fields_of kind =
+    if kind == 1 then key_fields
+    else (if kind == 2 then extend_fields
+    else (if kind == 3 then bound_fields
+    else (if kind == 4 then retire_fields
+    else (if kind == 5 then moved_fields
+    else no_record 1))))
+
+-- the bytes 1 to 223 of a slot
+unfoldable pub slot_record : Layout Record
+slot_record = byte >>= fields_of
+
+-- the number of a secret's scheme
+abbrev pub scheme_of : Secret → ℕ
+scheme_of (Lms pair identifier seed) = 1
+scheme_of (Hss levels identifier seed) = 2
+scheme_of (Xmss tree secret_seed prf_key public_seed) = 3
+
+-- the number of a record's kind
+abbrev pub kind_of : Record → ℕ
+kind_of (KeyRecord key) = 1
+kind_of (ExtendRecord extend) = 2
+kind_of (BoundRecord bound) = 3
+kind_of (Retire upto) = 4
+kind_of Moved = 5

@@ -1,0 +1,277 @@
+//! A disk in memory, to show what a stop may leave.
+
+ghost use Rattle.std.specs.Prelude.{if◌then◌else◌, nat_le, IsTrue, ◌-◌, ◌≡◌, ◌+◌, ◌≤◌, ◌<◌, length, slice_range};
+ghost use Rattle.std.specs.Prelude.{IfOk, OnOk, ℕ, List};
+ghost use Rattle.std.proofs.Props.{props};
+ghost use Rattle.state_file.specs.Disk.{State, MayLeave, ChangesOnly, settled, Writes, Syncs, CountsFailure};
+ghost use Rattle.state_file.specs.Disk.{CountsPastEnd, Elapses};
+ghost use Rattle.state_file.specs.Log.{LeftBy, left_now, left_only_now};
+
+use crate::disk::log::{Entry, base, filled, keep, part, write};
+use crate::disk::{Disk, DiskFault};
+use std::alloc::{AllocError, Global};
+use typecodes::Count;
+
+/// Which of the contents that a stop may leave.
+#[derive(Clone, Copy, Debug, PartialEq, Eq)]
+pub enum Pick {
+    /// What a read gave right after the last sync that succeeded.
+    Old,
+    /// What a read gives.
+    New,
+    /// The longest, with this byte wherever a stop may leave any.
+    Fill(u8),
+}
+
+// How a call fares: it runs, it is refused once, or the disk has stopped and refuses it and all later ones.
+#[derive(Clone, Copy, Debug, PartialEq, Eq)]
+enum Fate {
+    Runs,
+    Fails,
+    Stopped,
+}
+
+// How many calls come before the stop, and before the one that fails.
+#[derive(Clone, Copy, Debug, PartialEq, Eq)]
+struct Plan {
+    stop: Option<u32>,
+    fail: Option<u32>,
+}
+
+impl Plan {
+    ghost use Rattle.state_file.specs.MemoryDisk.{fate_of, fail_after, stop_after};
+
+    // Tells how a call fares that comes now.
+    fn next(&mut self) -> Fate
+        ensures fate { result ≡ fate_of self.old.stop self.old.fail }
+        ensures stop { self.new.stop ≡ stop_after self.old.stop }
+        ensures fail { self.new.fail ≡ fail_after self.old.fail }
+    {
+        let fate = match (self.stop, self.fail) {
+            (Some(0), _) => Fate::Stopped,
+            (_, Some(0)) => Fate::Fails,
+            _ => Fate::Runs,
+        };
+        self.stop = self.stop.map(|before| before.saturating_sub(1));
+        self.fail = self.fail.and_then(|before| before.checked_sub(1));
+        fate
+    }
+}
+
+/// A disk in memory. It is honest: of what its log tells, a stop leaves what an honest disk may leave, and
+/// nothing else.
+#[derive(Drop)]
+pub struct MemoryDisk {
+    alloc: Global,
+    // what a read gives
+    content: Vec<u8>,
+    // what a read gave first
+    first: Vec<u8>,
+    // what was done since
+    log: Vec<Entry>,
+    plan: Plan,
+    failures: Count,
+    past_ends: Count,
+    ghost shows: { LeftBy first.items log.items content.items } by { Prim.hlevel props },
+}
+
+impl MemoryDisk {
+    ghost use Rattle.state_file.specs.MemoryDisk.{Picks, SameMoment, calls_before, state_in};
+    ghost use Rattle.state_file.specs.MemoryDisk.{fail_in, failures_in, past_ends_in, stop_in};
+
+    /// A disk with these bytes, all of them synced.
+    pub fn of(alloc: Global, bytes: &[u8]) -> Result<Self, AllocError>
+        ensures state { IfOk result (λ disk. state_in disk ≡ settled bytes.now) }
+        ensures plan { IfOk result (λ disk. (stop_in disk ≡ None) × (fail_in disk ≡ None)) }
+        ensures failures { IfOk result (λ disk. (failures_in disk ≡ 0) × (past_ends_in disk ≡ 0)) }
+    {
+        Ok(MemoryDisk {
+            alloc,
+            content: bytes.to_vec(alloc)?,
+            first: bytes.to_vec(alloc)?,
+            log: Vec::new(alloc),
+            plan: Plan {
+                stop: None,
+                fail: None,
+            },
+            failures: Count::new(),
+            past_ends: Count::new(),
+        })
+    }
+
+    /// Refuses the n-th call from now, the next one for 1, and no other. A write so refused has written the
+    /// first half of its bytes, rounded down. It takes the place of a failure that didn't come yet; for 0
+    /// none comes.
+    pub fn fail_at(&mut self, n: u32)
+        ensures fail { fail_in self.new ≡ calls_before n }
+        ensures stop { stop_in self.new ≡ stop_in self.old }
+        ensures moment { SameMoment self.old self.new }
+        ensures failures { failures_in self.new ≡ failures_in self.old }
+        ensures past_ends { past_ends_in self.new ≡ past_ends_in self.old }
+    {
+        self.plan.fail = n.checked_sub(1);
+    }
+
+    /// Stops the disk right before the n-th call from now, the next one for 1: that call and all later ones
+    /// are refused and do nothing. It takes the place of another stop; for 0 none comes.
+    pub fn stop_at(&mut self, n: u32)
+        ensures stop { stop_in self.new ≡ calls_before n }
+        ensures fail { fail_in self.new ≡ fail_in self.old }
+        ensures moment { SameMoment self.old self.new }
+        ensures failures { failures_in self.new ≡ failures_in self.old }
+        ensures past_ends { past_ends_in self.new ≡ past_ends_in self.old }
+    {
+        self.plan.stop = n.checked_sub(1);
+    }
+
+    /// One of the contents that a stop may leave now. Calls that were refused since a stop did nothing, so
+    /// that it is as of the moment before them.
+    pub fn stop(&self, pick: Pick) -> Result<Vec<u8>, AllocError>
+        ensures left { IfOk result (λ c. MayLeave (state_in self.now) c.items) }
+        ensures picked { IfOk result (λ c. Picks pick (state_in self.now) c.items) }
+    {
+        match pick {
+            Pick::Old => base(&self.first, &self.log).to_vec(self.alloc),
+            Pick::New => self.content.to_vec(self.alloc),
+            Pick::Fill(byte) => filled(self.alloc, base(&self.first, &self.log), &self.log, byte),
+        }
+    }
+}
+
+impl Disk for MemoryDisk {
+    ghost use Rattle.state_file.specs.MemoryDisk.{SyncsInMemory, WritesInMemory, answer_of, fail_after, stop_after};
+    ghost use Rattle.state_file.specs.MemoryDisk.{is_honest, left_in, moment_in, state_in};
+    ghost use Rattle.state_file.specs.MemoryDisk.{fail_in, failures_in, next_fate, past_ends_in, stop_in};
+
+    ghost state = { state_in };
+
+    ghost moment = { moment_in };
+
+    ghost left_since = { left_in };
+
+    ghost failures = { failures_in };
+
+    ghost past_ends = { past_ends_in };
+
+    ghost honest = { is_honest };
+
+    ghost shows = { λ disk _. disk.shows };
+
+    ghost counts_now = { λ disk t c _ early left. left_now disk.first.items disk.log.items t c early left };
+
+    ghost only_now = { λ disk c _ since. left_only_now disk.first.items disk.log.items c since };
+
+    fn len(&mut self) -> Result<u64, DiskFault>
+        ensures value { result ≡ answer_of (next_fate self.old) (Ok (length (state_in self.old).content)) }
+        ensures length { IsTrue (is_honest self.old) → IfOk result (λ n. n ≡ length (state_in self.old).content) }
+        ensures stays { IsTrue (is_honest self.old) → state_in self.new ≡ state_in self.old }
+        ensures time { IsTrue (is_honest self.old) →
+            Elapses (moment_in self.old) (moment_in self.new) (left_in self.old) (left_in self.new)
+            (MayLeave (state_in self.new)) }
+        ensures failures { CountsFailure (failures_in self.old) (failures_in self.new) result }
+        ensures past_ends { past_ends_in self.new ≡ past_ends_in self.old }
+        ensures honest { is_honest self.new ≡ is_honest self.old }
+        ensures stop { stop_in self.new ≡ stop_after (stop_in self.old) }
+        ensures fail { fail_in self.new ≡ fail_after (fail_in self.old) }
+    {
+        if self.plan.next() != Fate::Runs {
+            return refuse(&mut self.failures, DiskFault::Failed);
+        }
+        Ok(self.content.len() as u64)
+    }
+
+    fn read_at(&mut self, at: u64, into: &mut [u8]) -> Result<(), DiskFault>
+        ensures value { result ≡ answer_of (next_fate self.old)
+            (if nat_le (at + length into.old) (length (state_in self.old).content) then Ok tt else Err
+            DiskFault.PastEnd) }
+        ensures within { IsTrue (is_honest self.old) → OnOk result (at + length into.old ≤ length (state_in self.old).content) }
+        ensures bytes { IsTrue (is_honest self.old) →
+            OnOk result (into.new ≡ slice_range (state_in self.old).content at (at + length into.old)) }
+        ensures past_end { IsTrue (is_honest self.old) → result ≡ Err DiskFault.PastEnd →
+            length (state_in self.old).content < at + length into.old }
+        ensures past_ends { CountsPastEnd (past_ends_in self.old) (past_ends_in self.new) result }
+        ensures stays { IsTrue (is_honest self.old) → state_in self.new ≡ state_in self.old }
+        ensures time { IsTrue (is_honest self.old) →
+            Elapses (moment_in self.old) (moment_in self.new) (left_in self.old) (left_in self.new)
+            (MayLeave (state_in self.new)) }
+        ensures failures { CountsFailure (failures_in self.old) (failures_in self.new) result }
+        ensures honest { is_honest self.new ≡ is_honest self.old }
+        ensures stop { stop_in self.new ≡ stop_after (stop_in self.old) }
+        ensures fail { fail_in self.new ≡ fail_after (fail_in self.old) }
+    {
+        if self.plan.next() != Fate::Runs {
+            return refuse(&mut self.failures, DiskFault::Failed);
+        }
+        match part(&self.content, at, into.len()) {
+            Some(part) => {
+                into.copy_from_slice(part);
+                Ok(())
+            }
+            None => {
+                self.past_ends.add_one();
+                refuse(&mut self.failures, DiskFault::PastEnd)
+            }
+        }
+    }
+
+    fn write_at(&mut self, at: u64, bytes: &[u8]) -> Result<(), DiskFault>
+        ensures stores { WritesInMemory at bytes.now (state_in self.old) (state_in self.new) (next_fate self.old) result }
+        ensures written { IsTrue (is_honest self.old) → Writes at bytes.now (state_in self.old) (state_in self.new) result }
+        ensures time { IsTrue (is_honest self.old) →
+            Elapses (moment_in self.old) (moment_in self.new) (left_in self.old) (left_in self.new)
+            (MayLeave (state_in self.new)) }
+        ensures failures { CountsFailure (failures_in self.old) (failures_in self.new) result }
+        ensures past_ends { past_ends_in self.new ≡ past_ends_in self.old }
+        ensures honest { is_honest self.new ≡ is_honest self.old }
+        ensures stop { stop_in self.new ≡ stop_after (stop_in self.old) }
+        ensures fail { fail_in self.new ≡ fail_after (fail_in self.old) }
+    {
+        match self.plan.next() {
+            Fate::Runs => match write(&mut self.content, &mut self.log, at, bytes, bytes.len()) {
+                Ok(()) => Ok(()),
+                Err(_) => refuse(&mut self.failures, DiskFault::OutOfMemory),
+            },
+            Fate::Fails => match write(
+                &mut self.content,
+                &mut self.log,
+                at,
+                bytes,
+                bytes.len() / 2,
+            ) {
+                Ok(()) => refuse(&mut self.failures, DiskFault::Failed),
+                Err(_) => refuse(&mut self.failures, DiskFault::OutOfMemory),
+            },
+            Fate::Stopped => refuse(&mut self.failures, DiskFault::Failed),
+        }
+    }
+
+    fn sync(&mut self) -> Result<(), DiskFault>
+        ensures flushes { SyncsInMemory (state_in self.old) (state_in self.new) (next_fate self.old) result }
+        ensures synced { IsTrue (is_honest self.old) → Syncs (state_in self.old) (state_in self.new) result }
+        ensures time { IsTrue (is_honest self.old) →
+            Elapses (moment_in self.old) (moment_in self.new) (left_in self.old) (left_in self.new)
+            (MayLeave (state_in self.new)) }
+        ensures failures { CountsFailure (failures_in self.old) (failures_in self.new) result }
+        ensures past_ends { past_ends_in self.new ≡ past_ends_in self.old }
+        ensures honest { is_honest self.new ≡ is_honest self.old }
+        ensures stop { stop_in self.new ≡ stop_after (stop_in self.old) }
+        ensures fail { fail_in self.new ≡ fail_after (fail_in self.old) }
+    {
+        if self.plan.next() != Fate::Runs {
+            return refuse(&mut self.failures, DiskFault::Failed);
+        }
+        match keep(self.alloc, &self.content, &mut self.log) {
+            Ok(()) => Ok(()),
+            Err(_) => refuse(&mut self.failures, DiskFault::OutOfMemory),
+        }
+    }
+}
+
+// Counts a refused call.
+fn refuse<T>(failures: &mut Count, fault: DiskFault) -> Result<T, DiskFault>
+    ensures fault { result ≡ Err fault }
+    ensures failures { failures.new ≡ failures.old + 1 }
+{
+    failures.add_one();
+    Err(fault)
+}

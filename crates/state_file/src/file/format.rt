@@ -1,0 +1,60 @@
+//! Preparing a place for the records of a key.
+
+ghost use Rattle.std.specs.Prelude.{◌≡◌, IsTrue, OnErr};
+ghost use Rattle.state_file.specs.Disk.{LeavesOnly};
+ghost use Rattle.state_file.specs.Format.{Formats, LeftByFormat, CountsDevice};
+
+use crate::disk::{Disk, DiskFault};
+use crate::file::gates::{SLOT, read_within, settle, write_synced};
+use crate::slot::is_open;
+use thiserror::Error;
+
+/// Why a place isn't prepared.
+#[derive(Clone, Copy, Debug, PartialEq, Eq, Error)]
+pub enum FormatFault {
+    /// 41: there are more than 257 bytes, and no key among them.
+    #[error("the file is no key file")]
+    NotKeyFile,
+    /// 45: the device failed.
+    #[error("the device failed")]
+    DeviceFailed,
+    /// 50: there is a key.
+    #[error("there is a key")]
+    KeyThere,
+}
+
+impl From<DiskFault> for FormatFault {
+    ghost use Rattle.state_file.specs.declared.file.format.FormatFault.TheVariants.{DeviceFailed};
+
+    ghost from_gives = { λ _ e. e ≡ DeviceFailed };
+
+    fn from(_: DiskFault) -> Self {
+        FormatFault::DeviceFailed
+    }
+}
+
+/// Prepares a place that has no key: it then holds no slot, and a closed gate. Of fewer than 257 bytes the
+/// first alone changes, and of 257 none.
+pub(crate) fn format<D: Disk>(disk: &mut D) -> Result<(), FormatFault>
+    ensures answer { IsTrue (D.honest disk.old) → Formats (D.state disk.old).content (D.state disk.new) result }
+    ensures any_moment { IsTrue (D.honest disk.old) →
+        LeavesOnly D.moment D.left_since disk.old disk.new (LeftByFormat (D.state disk.old)) }
+    ensures failures { CountsDevice (D.failures disk.old) (D.failures disk.new) result }
+    ensures past_ends { IsTrue (D.honest disk.old) → D.past_ends disk.new ≡ D.past_ends disk.old }
+    ensures honest { D.honest disk.new ≡ D.honest disk.old }
+{
+    let len = settle(disk)?;
+    if len < SLOT + 1 {
+        write_synced(disk, 0, &[0])?;
+        return Ok(());
+    }
+    let mut gate = [0];
+    read_within(disk, 0, &mut gate)?;
+    if is_open(gate[0]) {
+        Err(FormatFault::KeyThere)
+    } else if len > SLOT + 1 {
+        Err(FormatFault::NotKeyFile)
+    } else {
+        Ok(())
+    }
+}

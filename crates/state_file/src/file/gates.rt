@@ -1,0 +1,92 @@
+//! Slots on a disk, and how they are added so that a stop never leaves half a slot.
+
+ghost use Rattle.std.specs.Prelude.{◌≡◌, ◌⊎◌, ◌+◌, ◌*◌, ◌≤◌, ◌∷◌, [], ◌++◌, ℕ, List, IsTrue, length, slice_range, IfOk, OnOk};
+ghost use Rattle.state_file.specs.File.{open_value};
+ghost use Rattle.state_file.specs.Disk.{settled, range_of, ChangesOnly, IsSynced, LeavesOnly, MayLeave, CountsFailure};
+ghost use Rattle.state_file.specs.Gates.{AddsSlot, IsClosedAfter, IsAtRest, slot_and_gate};
+ghost use Rattle.state_file.specs.Opening.{OnlyReads};
+
+use crate::disk::{Disk, DiskFault};
+use crate::slot::OPEN;
+
+/// The bytes of a slot.
+pub(crate) const SLOT: u64 = 256;
+
+/// Reads bytes that are there.
+pub(crate) fn read_within<D: Disk>(disk: &mut D, at: u64, into: &mut [u8]) -> Result<(), DiskFault>
+    requires { IsTrue (D.honest disk.old) → at + length into.old ≤ length (D.state disk.old).content }
+    ensures bytes { IsTrue (D.honest disk.old) →
+        OnOk result (into.new ≡ slice_range (D.state disk.old).content at (at + length into.old)) }
+    ensures reads { IsTrue (D.honest disk.old) → OnlyReads D.state D.moment D.left_since disk.old disk.new }
+    ensures failures { CountsFailure (D.failures disk.old) (D.failures disk.new) result }
+    ensures past_ends { IsTrue (D.honest disk.old) → D.past_ends disk.new ≡ D.past_ends disk.old }
+    ensures honest { D.honest disk.new ≡ D.honest disk.old }
+{
+    disk.read_at(at, into)
+}
+
+/// Writes bytes and syncs.
+pub(crate) fn write_synced<D: Disk>(disk: &mut D, at: u64, bytes: &[u8]) -> Result<(), DiskFault>
+    ensures written { IsTrue (D.honest disk.old) →
+        OnOk result
+        (IsSynced (D.state disk.new) ×
+        ChangesOnly (range_of at bytes.now ∷ []) (D.state disk.old).content (D.state disk.new).content ×
+        (slice_range (D.state disk.new).content at (at + length bytes.now) ≡ bytes.now)) }
+    ensures any_moment { IsTrue (D.honest disk.old) → IsSynced (D.state disk.old) →
+        LeavesOnly D.moment D.left_since disk.old disk.new
+        (ChangesOnly (range_of at bytes.now ∷ []) (D.state disk.old).content) }
+    ensures failures { CountsFailure (D.failures disk.old) (D.failures disk.new) result }
+    ensures past_ends { D.past_ends disk.new ≡ D.past_ends disk.old }
+    ensures honest { D.honest disk.new ≡ D.honest disk.old }
+{
+    disk.write_at(at, bytes)?;
+    disk.sync()
+}
+
+/// Adds a slot behind those that are there. Its body, and a closed gate behind it, are synced before its
+/// gate is opened.
+pub(crate) fn add_slot<D: Disk>(disk: &mut D, slot: u32, body: &[u8; 255]) -> Result<(), DiskFault>
+    ensures added { (front : List ℕ) → IsTrue (D.honest disk.old) → IsAtRest front (D.state disk.old) →
+        length front ≡ 256 * slot → OnOk result (IsAtRest (front ++ open_value ∷ body.now) (D.state disk.new)) }
+    ensures adds { IsTrue (D.honest disk.old) →
+        OnOk result (AddsSlot slot (D.state disk.old).content (D.state disk.new)) }
+    ensures bytes { IsTrue (D.honest disk.old) → IsSynced (D.state disk.old) →
+        LeavesOnly D.moment D.left_since disk.old disk.new
+        (ChangesOnly (slot_and_gate slot ∷ []) (D.state disk.old).content) }
+    ensures any_moment { (front : List ℕ) → IsTrue (D.honest disk.old) → IsAtRest front (D.state disk.old) →
+        length front ≡ 256 * slot →
+        LeavesOnly D.moment D.left_since disk.old disk.new
+        (λ c. IsClosedAfter front c ⊎ IsClosedAfter (front ++ open_value ∷ body.now) c) }
+    ensures failures { CountsFailure (D.failures disk.old) (D.failures disk.new) result }
+    ensures past_ends { D.past_ends disk.new ≡ D.past_ends disk.old }
+    ensures honest { D.honest disk.new ≡ D.honest disk.old }
+{
+    let gate = SLOT * u64::from(slot);
+    write_synced(disk, gate + 1, &with_gate(body))?;
+    write_synced(disk, gate, &[OPEN])
+}
+
+// A body, and a closed gate behind it.
+fn with_gate(body: &[u8; 255]) -> [u8; 256]
+    ensures bytes { result ≡ body.now ++ 0 ∷ [] }
+    ensures body { length body.now ≡ 255 }
+{
+    let mut bytes = [0; 256];
+    bytes[..255].copy_from_slice(body);
+    bytes
+}
+
+/// Syncs, and tells the length. A stop in it leaves nothing that a stop just before it couldn't leave.
+pub(crate) fn settle<D: Disk>(disk: &mut D) -> Result<u64, DiskFault>
+    ensures settled { IsTrue (D.honest disk.old) →
+        IfOk result
+        (λ len. (D.state disk.new ≡ settled (D.state disk.old).content) × (len ≡ length (D.state disk.old).content)) }
+    ensures any_moment { IsTrue (D.honest disk.old) →
+        LeavesOnly D.moment D.left_since disk.old disk.new (MayLeave (D.state disk.old)) }
+    ensures failures { CountsFailure (D.failures disk.old) (D.failures disk.new) result }
+    ensures past_ends { D.past_ends disk.new ≡ D.past_ends disk.old }
+    ensures honest { D.honest disk.new ≡ D.honest disk.old }
+{
+    disk.sync()?;
+    disk.len()
+}

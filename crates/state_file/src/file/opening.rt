@@ -1,0 +1,301 @@
+//! What stands in a file: its slots are read one after the other, up to the first whose gate is closed.
+
+ghost use Rattle.std.specs.Prelude.{◌≡◌, ◌+◌, ◌*◌, ◌-◌, ◌^◌, ◌<◌, ◌≤◌, ◌==◌, ◌∷◌, [], ◌++◌, IsTrue, IfOk, IfErr, OnOk, MatchOption, length, replicate, slice_index};
+ghost use Rattle.typecodes.specs.Layout.{Spells};
+ghost use Rattle.state_file.specs.File.{fields_at, open_value, previous_tag, tag_at, tag_of};
+ghost use Rattle.state_file.specs.Slot.{slot_record};
+ghost use Rattle.state_file.specs.declared.record.Record.{Record as Entry};
+ghost use Rattle.state_file.specs.Disk.{settled, MayLeave, CountsFailure};
+ghost use Rattle.state_file.specs.Disk.{LeavesOnly};
+ghost use Rattle.state_file.specs.Opening.{CountsOpening, HasEntry, HasSlot, IsFound, KeepsContent, OnlyReads, StartsWithKey, Tells, TellsSlot};
+
+use crate::disk::{Disk, DiskFault};
+use crate::file::gates::{SLOT, read_within, settle};
+use crate::record::{Record, RecordList};
+use crate::slot::{begins_key, is_open, read_record, tag, version};
+use thiserror::Error;
+
+/// How many records a file has at most.
+pub(crate) const MOST: u32 = 1 << 31;
+
+/// Why a place isn't opened.
+#[derive(Clone, Copy, Debug, PartialEq, Eq, Error)]
+pub enum OpenFault {
+    /// 40: there is no key: under 257 bytes, or the first gate is closed.
+    #[error("there is no key")]
+    NoKey,
+    /// 41: the first slot holds no Key.
+    #[error("the file is no key file")]
+    NotKeyFile,
+    /// 42: the version of the Key isn't known.
+    #[error("the version of the key file is not known")]
+    Version,
+    /// 43: this slot, and none before it, is open and spells no record, or its tag is wrong, or the next gate
+    /// lies past the end.
+    #[error("slot {0} is damaged")]
+    Damaged(u32),
+    /// 45: the device failed.
+    #[error("the device failed")]
+    DeviceFailed,
+}
+
+impl From<DiskFault> for OpenFault {
+    ghost use Rattle.state_file.specs.declared.file.opening.OpenFault.TheVariants.{DeviceFailed};
+
+    ghost from_gives = { λ _ e. e ≡ DeviceFailed };
+
+    fn from(_: DiskFault) -> Self {
+        OpenFault::DeviceFailed
+    }
+}
+
+/// The records that stand in a file, and the tag of the last.
+#[derive(Drop)]
+pub(crate) struct Found {
+    pub(crate) count: u32,
+    pub(crate) tag: [u8; 32],
+    pub(crate) records: RecordList,
+}
+
+// A slot's record, and its tag.
+#[derive(Drop)]
+struct Slot {
+    entry: Record,
+    tag: [u8; 32],
+}
+
+// The bytes of a slot behind its gate.
+#[derive(Drop)]
+struct Body {
+    fields: [u8; 223],
+    tag: [u8; 32],
+}
+
+// Whether the gate of slot k is open.
+fn read_gate<D: Disk>(disk: &mut D, k: u32) -> Result<bool, DiskFault>
+    requires { IsTrue (D.honest disk.old) → 256 * k < length (D.state disk.old).content }
+    ensures gate { IsTrue (D.honest disk.old) →
+        IfOk result (λ opened. opened ≡ (slice_index (D.state disk.old).content (256 * k) == open_value)) }
+    ensures reads { IsTrue (D.honest disk.old) → OnlyReads D.state D.moment D.left_since disk.old disk.new }
+    ensures failures { CountsFailure (D.failures disk.old) (D.failures disk.new) result }
+    ensures past_ends { IsTrue (D.honest disk.old) → D.past_ends disk.new ≡ D.past_ends disk.old }
+    ensures honest { D.honest disk.new ≡ D.honest disk.old }
+{
+    let mut gate = [0];
+    read_within(disk, SLOT * u64::from(k), &mut gate)?;
+    Ok(is_open(gate[0]))
+}
+
+// The bytes 1 to 223 of slot k.
+fn read_fields<D: Disk>(disk: &mut D, k: u32) -> Result<[u8; 223], DiskFault>
+    requires { IsTrue (D.honest disk.old) → 256 * k + 224 ≤ length (D.state disk.old).content }
+    ensures fields { IsTrue (D.honest disk.old) →
+        IfOk result (λ fields. fields ≡ fields_at (D.state disk.old).content k) }
+    ensures reads { IsTrue (D.honest disk.old) → OnlyReads D.state D.moment D.left_since disk.old disk.new }
+    ensures failures { CountsFailure (D.failures disk.old) (D.failures disk.new) result }
+    ensures past_ends { IsTrue (D.honest disk.old) → D.past_ends disk.new ≡ D.past_ends disk.old }
+    ensures honest { D.honest disk.new ≡ D.honest disk.old }
+{
+    let mut fields = [0; 223];
+    read_within(disk, SLOT * u64::from(k) + 1, &mut fields)?;
+    Ok(fields)
+}
+
+/// The bytes 224 to 255 of slot k.
+pub(crate) fn read_tag<D: Disk>(disk: &mut D, k: u32) -> Result<[u8; 32], DiskFault>
+    requires { IsTrue (D.honest disk.old) → 256 * k + 256 ≤ length (D.state disk.old).content }
+    ensures tag { IsTrue (D.honest disk.old) → IfOk result (λ tag. tag ≡ tag_at (D.state disk.old).content k) }
+    ensures reads { IsTrue (D.honest disk.old) → OnlyReads D.state D.moment D.left_since disk.old disk.new }
+    ensures failures { CountsFailure (D.failures disk.old) (D.failures disk.new) result }
+    ensures past_ends { IsTrue (D.honest disk.old) → D.past_ends disk.new ≡ D.past_ends disk.old }
+    ensures honest { D.honest disk.new ≡ D.honest disk.old }
+{
+    let mut tag = [0; 32];
+    read_within(disk, SLOT * u64::from(k) + 224, &mut tag)?;
+    Ok(tag)
+}
+
+// The fields of slot k and its tag.
+fn read_body<D: Disk>(disk: &mut D, k: u32) -> Result<Body, DiskFault>
+    requires { IsTrue (D.honest disk.old) → 256 * k + 256 ≤ length (D.state disk.old).content }
+    ensures fields { IsTrue (D.honest disk.old) →
+        IfOk result (λ body. body.fields ≡ fields_at (D.state disk.old).content k) }
+    ensures tag { IsTrue (D.honest disk.old) → IfOk result (λ body. body.tag ≡ tag_at (D.state disk.old).content k) }
+    ensures reads { IsTrue (D.honest disk.old) → OnlyReads D.state D.moment D.left_since disk.old disk.new }
+    ensures failures { CountsFailure (D.failures disk.old) (D.failures disk.new) result }
+    ensures past_ends { IsTrue (D.honest disk.old) → D.past_ends disk.new ≡ D.past_ends disk.old }
+    ensures honest { D.honest disk.new ≡ D.honest disk.old }
+{
+    let fields = read_fields(disk, k)?;
+    let tag = read_tag(disk, k)?;
+    Ok(Body { fields, tag })
+}
+
+// The tag of the slot before slot k; 32 zeros before slot 0.
+fn read_previous_tag<D: Disk>(disk: &mut D, k: u32) -> Result<[u8; 32], DiskFault>
+    requires { IsTrue (D.honest disk.old) → 256 * k ≤ length (D.state disk.old).content }
+    ensures tag { IsTrue (D.honest disk.old) → IfOk result (λ tag. tag ≡ previous_tag (D.state disk.old).content k) }
+    ensures reads { IsTrue (D.honest disk.old) → OnlyReads D.state D.moment D.left_since disk.old disk.new }
+    ensures failures { CountsFailure (D.failures disk.old) (D.failures disk.new) result }
+    ensures past_ends { IsTrue (D.honest disk.old) → D.past_ends disk.new ≡ D.past_ends disk.old }
+    ensures honest { D.honest disk.new ≡ D.honest disk.old }
+{
+    match k.checked_sub(1) {
+        None => Ok([0; 32]),
+        Some(before) => read_tag(disk, before),
+    }
+}
+
+/// The record of slot k, if it spells one and its tag is right.
+pub(crate) fn read_entry<D: Disk>(disk: &mut D, k: u32) -> Result<Option<Record>, DiskFault>
+    requires { IsTrue (D.honest disk.old) → 256 * k + 256 ≤ length (D.state disk.old).content }
+    ensures entry { IsTrue (D.honest disk.old) → IfOk result (HasEntry (D.state disk.old).content k) }
+    ensures reads { IsTrue (D.honest disk.old) → OnlyReads D.state D.moment D.left_since disk.old disk.new }
+    ensures failures { CountsFailure (D.failures disk.old) (D.failures disk.new) result }
+    ensures past_ends { IsTrue (D.honest disk.old) → D.past_ends disk.new ≡ D.past_ends disk.old }
+    ensures honest { D.honest disk.new ≡ D.honest disk.old }
+{
+    let previous = read_previous_tag(disk, k)?;
+    let body = read_body(disk, k)?;
+    Ok(entry_of(&previous, &body))
+}
+
+// The record and the tag of slot k behind one of that tag, if the slot is whole.
+fn read_slot<D: Disk>(
+    disk: &mut D,
+    len: u64,
+    k: u32,
+    previous: &[u8; 32],
+) -> Result<Slot, OpenFault>
+    requires len { IsTrue (D.honest disk.old) → len ≡ length (D.state disk.old).content }
+    requires previous { IsTrue (D.honest disk.old) → previous.now ≡ previous_tag (D.state disk.old).content k }
+    ensures few { OnOk result (k < 2 ^ 31) }
+    ensures slot { IsTrue (D.honest disk.old) →
+        IfOk result (λ slot. HasSlot (D.state disk.old).content k slot.entry slot.tag) }
+    ensures fault { IsTrue (D.honest disk.old) → IfErr result (TellsSlot (D.state disk.old).content k) }
+    ensures reads { IsTrue (D.honest disk.old) → OnlyReads D.state D.moment D.left_since disk.old disk.new }
+    ensures failures { CountsOpening (D.failures disk.old) (D.failures disk.new) result }
+    ensures past_ends { IsTrue (D.honest disk.old) → D.past_ends disk.new ≡ D.past_ends disk.old }
+    ensures honest { D.honest disk.new ≡ D.honest disk.old }
+{
+    if k >= MOST || SLOT * (u64::from(k) + 1) >= len {
+        return Err(OpenFault::Damaged(k));
+    }
+    let body = read_body(disk, k)?;
+    match entry_of(previous, &body) {
+        Some(entry) => Ok(Slot {
+            entry,
+            tag: body.tag,
+        }),
+        None => Err(OpenFault::Damaged(k)),
+    }
+}
+
+// The record of a slot behind one of that tag, if it spells one and its tag is that of it.
+fn entry_of(previous: &[u8; 32], body: &Body) -> Option<Record>
+    ensures { MatchOption result
+        ((entry : Entry) → Spells slot_record entry body.now.fields →
+        body.now.tag ≡ tag_of previous.now body.now.fields → ⊥)
+        (λ entry. Spells slot_record entry body.now.fields × (body.now.tag ≡ tag_of previous.now body.now.fields)) }
+{
+    if body.tag == tag(previous, &body.fields) {
+        read_record(&body.fields)
+    } else {
+        None
+    }
+}
+
+// Whether the first slot is that of a Key of a known version.
+fn check_key<D: Disk>(disk: &mut D, len: u64) -> Result<(), OpenFault>
+    requires len { IsTrue (D.honest disk.old) → len ≡ length (D.state disk.old).content }
+    ensures key { IsTrue (D.honest disk.old) → OnOk result (StartsWithKey (D.state disk.old).content) }
+    ensures fault { IsTrue (D.honest disk.old) → IfErr result (Tells (D.state disk.old).content) }
+    ensures reads { IsTrue (D.honest disk.old) → OnlyReads D.state D.moment D.left_since disk.old disk.new }
+    ensures failures { CountsOpening (D.failures disk.old) (D.failures disk.new) result }
+    ensures past_ends { IsTrue (D.honest disk.old) → D.past_ends disk.new ≡ D.past_ends disk.old }
+    ensures honest { D.honest disk.new ≡ D.honest disk.old }
+{
+    if len < SLOT + 1 {
+        return Err(OpenFault::NoKey);
+    }
+    if !read_gate(disk, 0)? {
+        return Err(OpenFault::NoKey);
+    }
+    let fields = read_fields(disk, 0)?;
+    if !begins_key(&fields) {
+        Err(OpenFault::NotKeyFile)
+    } else if version(&fields).is_none() {
+        Err(OpenFault::Version)
+    } else {
+        Ok(())
+    }
+}
+
+impl Found {
+    // No record yet.
+    fn none() -> Self
+        ensures { (result.count ≡ 0) × (result.tag ≡ replicate 32 0) × (result.records ≡ []) }
+    {
+        Found {
+            count: 0,
+            tag: [0; 32],
+            records: RecordList::new(),
+        }
+    }
+
+    // One record more.
+    fn push(&mut self, slot: &Slot)
+        requires { self.old.count < 2 ^ 31 }
+        ensures count { self.new.count ≡ self.old.count + 1 }
+        ensures tag { self.new.tag ≡ slot.now.tag }
+        ensures records { self.new.records ≡ self.old.records ++ slot.now.entry ∷ [] }
+    {
+        self.count += 1;
+        self.tag = slot.tag;
+        self.records.push(&slot.entry);
+    }
+}
+
+// The records up to the first closed gate, of a file that starts with a Key.
+fn read_slots<D: Disk>(disk: &mut D, len: u64) -> Result<Found, OpenFault>
+    requires len { IsTrue (D.honest disk.old) → len ≡ length (D.state disk.old).content }
+    requires key { IsTrue (D.honest disk.old) → StartsWithKey (D.state disk.old).content }
+    ensures counted { IfOk result (λ found. found.count ≡ length found.records) }
+    ensures few { IfOk result (λ found. found.count ≤ 2 ^ 31) }
+    ensures found { IsTrue (D.honest disk.old) →
+        IfOk result (λ found. IsFound (D.state disk.old).content found.records found.tag) }
+    ensures fault { IsTrue (D.honest disk.old) → IfErr result (Tells (D.state disk.old).content) }
+    ensures reads { IsTrue (D.honest disk.old) → OnlyReads D.state D.moment D.left_since disk.old disk.new }
+    ensures failures { CountsOpening (D.failures disk.old) (D.failures disk.new) result }
+    ensures past_ends { IsTrue (D.honest disk.old) → D.past_ends disk.new ≡ D.past_ends disk.old }
+    ensures honest { D.honest disk.new ≡ D.honest disk.old }
+{
+    let mut found = Found::none();
+    while read_gate(disk, found.count)? {
+        let slot = read_slot(disk, len, found.count, &found.tag)?;
+        found.push(&slot);
+    }
+    Ok(found)
+}
+
+/// Syncs, and finds the records of a file. A stop in it leaves nothing that a stop just before it couldn't
+/// leave.
+pub(crate) fn find_records<D: Disk>(disk: &mut D) -> Result<Found, OpenFault>
+    ensures counted { IfOk result (λ found. found.count ≡ length found.records) }
+    ensures few { IfOk result (λ found. found.count ≤ 2 ^ 31) }
+    ensures found { IsTrue (D.honest disk.old) →
+        IfOk result (λ found. IsFound (D.state disk.old).content found.records found.tag) }
+    ensures fault { IsTrue (D.honest disk.old) → IfErr result (Tells (D.state disk.old).content) }
+    ensures synced { IsTrue (D.honest disk.old) → OnOk result (D.state disk.new ≡ settled (D.state disk.old).content) }
+    ensures kept { IsTrue (D.honest disk.old) →
+        IfErr result (KeepsContent (D.state disk.old).content (D.state disk.new)) }
+    ensures any_moment { IsTrue (D.honest disk.old) →
+        LeavesOnly D.moment D.left_since disk.old disk.new (MayLeave (D.state disk.old)) }
+    ensures failures { CountsOpening (D.failures disk.old) (D.failures disk.new) result }
+    ensures past_ends { IsTrue (D.honest disk.old) → D.past_ends disk.new ≡ D.past_ends disk.old }
+    ensures honest { D.honest disk.new ≡ D.honest disk.old }
+{
+    let len = settle(disk)?;
+    check_key(disk, len)?;
+    read_slots(disk, len)
+}

@@ -1,0 +1,78 @@
+//! The record of a name bound to a leaf: how it is read and written.
+
+ghost use Rattle.std.specs.Prelude.{◌≡◌, ◌<◌, ◌≤◌, ◌+◌, ◌^◌, true, false, length, MatchOption, OnOk};
+ghost use Rattle.arrayvec.specs.ArrayVec.{array_vec_len};
+ghost use Rattle.typecodes.specs.Cursor.{read, Gives};
+ghost use Rattle.state_file.specs.Fields.{AppendsSpelling};
+ghost use Rattle.state_file.specs.Slot.{are_visible, bound_fields, name_field};
+
+use crate::record::{Bound, Record};
+use crate::slot::fields::{Fields, no_record, put, put_array, put_byte_within, put_number, put_zeros};
+use crate::slot::fields::{read_byte_within, read_zeros};
+use typecodes::{Cursor, Name, ReadFault};
+
+// The name of these bytes, if each is a visible character.
+fn visible_name(bytes: &[u8]) -> Option<Name>
+    requires some { 1 ≤ length bytes.now }
+    requires few { length bytes.now ≤ 64 }
+    ensures { MatchOption result (are_visible bytes.now ≡ false) (λ name. (are_visible bytes.now ≡ true) × (name ≡ bytes.now)) }
+{
+    Name::new(bytes).ok()
+}
+
+// The name of a Bound, 65 bytes.
+#[tactic(auto, using(typecodes::proofs::Steps::reading), unfolding(crate::specs::Slot::name_field))]
+fn read_name(cursor: &mut Cursor<'_>) -> Result<Name, ReadFault>
+    requires { cursor.old.place + 65 < 2 ^ 32 }
+    ensures read { Gives (λ name. (name, cursor.new.place)) result (read name_field cursor.old.bytes.now cursor.old.place) }
+    ensures len { OnOk result (cursor.new.place ≡ cursor.old.place + 65) }
+    ensures bytes { cursor.new.bytes ≡ cursor.old.bytes }
+{
+    let count = u32::from(read_byte_within(cursor, 1, 64)?);
+    let place = cursor.place;
+    let bytes = cursor.block(count)?;
+    let name = visible_name(bytes).ok_or(no_record(place))?;
+    read_zeros(cursor, 64 - count)?;
+    Ok(name)
+}
+
+fn put_name(out: &mut Fields, name: &Name)
+    requires { array_vec_len out.old + 65 ≤ 223 }
+    ensures writes { AppendsSpelling name_field name.now out.old.items out.new.items }
+    ensures len { array_vec_len out.new ≡ array_vec_len out.old + 65 }
+{
+    let bytes = name.as_bytes();
+    put_byte_within(out, bytes.len() as u8, 1, 64);
+    put(out, bytes);
+    put_zeros(out, 64 - bytes.len());
+}
+
+/// The fields of a Bound, 222 bytes.
+#[tactic(auto, using(typecodes::proofs::Steps::reading), unfolding(crate::specs::Slot::bound_fields))]
+pub(crate) fn read_bound(cursor: &mut Cursor<'_>) -> Result<Record, ReadFault>
+    requires { cursor.old.place + 222 < 2 ^ 32 }
+    ensures read { Gives (λ entry. (entry, cursor.new.place)) result (read bound_fields cursor.old.bytes.now cursor.old.place) }
+    ensures len { OnOk result (cursor.new.place ≡ cursor.old.place + 222) }
+    ensures bytes { cursor.new.bytes ≡ cursor.old.bytes }
+{
+    let bound = Bound {
+        name: read_name(cursor)?,
+        leaf: cursor.number()?,
+        randomizer: *cursor.array()?,
+        digest: *cursor.array()?,
+    };
+    read_zeros(cursor, 89)?;
+    Ok(Record::Bound(bound))
+}
+
+pub(crate) fn put_bound(out: &mut Fields, bound: &Bound)
+    requires { array_vec_len out.old + 222 ≤ 223 }
+    ensures writes { AppendsSpelling bound_fields (Record.Bound bound.now) out.old.items out.new.items }
+    ensures len { array_vec_len out.new ≡ array_vec_len out.old + 222 }
+{
+    put_name(out, &bound.name);
+    put_number(out, bound.leaf);
+    put_array(out, &bound.randomizer);
+    put_array(out, &bound.digest);
+    put_zeros(out, 89);
+}

@@ -1,0 +1,90 @@
+//! The record of a key: how it is known, read and written.
+
+ghost use Rattle.std.specs.Prelude.{◌≡◌, ◌<◌, ◌≤◌, ◌+◌, ◌^◌, length, OnOk};
+ghost use Rattle.arrayvec.specs.ArrayVec.{array_vec_len};
+ghost use Rattle.typecodes.specs.Cursor.{read, Gives};
+ghost use Rattle.state_file.specs.Fields.{AppendsSpelling};
+ghost use Rattle.state_file.specs.File.{begins_key, version_of};
+ghost use Rattle.state_file.specs.Slot.{key_fields, version_code, version_field, versions};
+
+use crate::record::{Key, Record, Version};
+use crate::slot::fields::{Fields, no_record, put, put_array, put_byte, put_exactly, put_zeros};
+use crate::slot::fields::{read_byte, read_exactly, read_zeros};
+use crate::slot::secret::{put_secret, read_secret, scheme};
+use byteorder::{BigEndian, ByteOrder};
+use typecodes::{Cursor, ReadFault};
+
+/// What the fields of a Key begin with.
+pub(crate) const MAGIC: &[u8; 8] = b"HBSSTATE";
+
+/// Whether the bytes 1 to 223 of a slot begin with the kind of a Key and the magic.
+pub(crate) fn begins_key(fields: &[u8]) -> bool
+    requires { length fields.now ≡ 223 }
+    ensures { result ≡ begins_key fields.now }
+{
+    fields[0] == 1 && fields[1..9] == MAGIC[..]
+}
+
+/// The version that the fields of a Key tell, if it is known.
+pub(crate) fn version(fields: &[u8]) -> Option<Version>
+    requires { length fields.now ≡ 223 }
+    ensures { result ≡ version_of fields.now }
+{
+    Version::from_code(BigEndian::read_u16(&fields[9..]))
+}
+
+// A version that is known.
+#[tactic(auto, using(typecodes::proofs::Steps::reading), unfolding(crate::specs::Slot::version_field))]
+fn read_version(cursor: &mut Cursor<'_>) -> Result<Version, ReadFault>
+    requires { cursor.old.place + 2 < 2 ^ 32 }
+    ensures read { Gives (λ version. (version, cursor.new.place)) result (read version_field cursor.old.bytes.now cursor.old.place) }
+    ensures len { OnOk result (cursor.new.place ≡ cursor.old.place + 2) }
+    ensures bytes { cursor.new.bytes ≡ cursor.old.bytes }
+{
+    let place = cursor.place;
+    let code = BigEndian::read_u16(cursor.block(2)?);
+    Version::from_code(code).ok_or(no_record(place))
+}
+
+// Appends a version's code.
+fn put_version(out: &mut Fields, version: Version)
+    requires { array_vec_len out.old + 2 ≤ 223 }
+    ensures writes { AppendsSpelling version_field version out.old.items out.new.items }
+    ensures len { array_vec_len out.new ≡ array_vec_len out.old + 2 }
+{
+    put(out, &version.code().to_be_bytes());
+}
+
+/// The fields of a Key, 222 bytes.
+#[tactic(auto, using(typecodes::proofs::Steps::reading), unfolding(crate::specs::Slot::key_fields))]
+pub(crate) fn read_key(cursor: &mut Cursor<'_>) -> Result<Record, ReadFault>
+    requires { cursor.old.place + 222 < 2 ^ 32 }
+    ensures read { Gives (λ entry. (entry, cursor.new.place)) result (read key_fields cursor.old.bytes.now cursor.old.place) }
+    ensures len { OnOk result (cursor.new.place ≡ cursor.old.place + 222) }
+    ensures bytes { cursor.new.bytes ≡ cursor.old.bytes }
+{
+    read_exactly(cursor, MAGIC)?;
+    let version = read_version(cursor)?;
+    let scheme = read_byte(cursor)?;
+    let secret = read_secret(cursor, scheme)?;
+    let root = *cursor.array()?;
+    read_zeros(cursor, 2)?;
+    Ok(Record::Key(Key {
+        version,
+        secret,
+        root,
+    }))
+}
+
+pub(crate) fn put_key(out: &mut Fields, key: &Key)
+    requires { array_vec_len out.old + 222 ≤ 223 }
+    ensures writes { AppendsSpelling key_fields (Record.Key key.now) out.old.items out.new.items }
+    ensures len { array_vec_len out.new ≡ array_vec_len out.old + 222 }
+{
+    put_exactly(out, MAGIC);
+    put_version(out, key.version);
+    put_byte(out, scheme(&key.secret));
+    put_secret(out, &key.secret);
+    put_array(out, &key.root);
+    put_zeros(out, 2);
+}

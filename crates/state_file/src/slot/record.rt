@@ -1,0 +1,140 @@
+//! Records of every kind: how the bytes 1 to 223 of a slot are read and written.
+
+ghost use Rattle.std.specs.Prelude.{◌≡◌, ◌<◌, ◌≤◌, ◌+◌, ◌^◌, length, MatchOption, MatchResult, OnOk};
+ghost use Rattle.arrayvec.specs.ArrayVec.{array_vec_len};
+ghost use Rattle.typecodes.specs.Layout.{Spells};
+ghost use Rattle.typecodes.specs.Cursor.{read, Gives, Reads};
+ghost use Rattle.state_file.specs.declared.record.Record.{Record as Entry};
+ghost use Rattle.state_file.specs.Fields.{AppendsSpelling};
+ghost use Rattle.state_file.specs.Slot.{fields_of, kind_of, moved_fields, retire_fields, slot_record};
+
+use crate::record::Record;
+use crate::slot::bound::{put_bound, read_bound};
+use crate::slot::extend::{put_extend, read_extend};
+use crate::slot::fields::{Fields, no_record, put_byte, put_exactly, put_number, put_zeros};
+use crate::slot::fields::{read_byte, read_exactly, read_zeros};
+use crate::slot::key::{put_key, read_key};
+use arrayvec::ArrayVec;
+use typecodes::{Cursor, ReadFault};
+
+// The fields of a Retire, 222 bytes.
+#[tactic(auto, using(typecodes::proofs::Steps::reading), unfolding(crate::specs::Slot::retire_fields))]
+fn read_retire(cursor: &mut Cursor<'_>) -> Result<Record, ReadFault>
+    requires { cursor.old.place + 222 < 2 ^ 32 }
+    ensures read { Gives (λ entry. (entry, cursor.new.place)) result (read retire_fields cursor.old.bytes.now cursor.old.place) }
+    ensures len { OnOk result (cursor.new.place ≡ cursor.old.place + 222) }
+    ensures bytes { cursor.new.bytes ≡ cursor.old.bytes }
+{
+    let upto = cursor.number()?;
+    read_zeros(cursor, 218)?;
+    Ok(Record::Retire { upto })
+}
+
+fn put_retire(out: &mut Fields, upto: u32)
+    requires { array_vec_len out.old + 222 ≤ 223 }
+    ensures writes { AppendsSpelling retire_fields (Record.Retire upto) out.old.items out.new.items }
+    ensures len { array_vec_len out.new ≡ array_vec_len out.old + 222 }
+{
+    put_number(out, upto);
+    put_zeros(out, 218);
+}
+
+// The fields of a Moved, 222 bytes.
+#[tactic(auto, using(typecodes::proofs::Steps::reading), unfolding(crate::specs::Slot::moved_fields))]
+fn read_moved(cursor: &mut Cursor<'_>) -> Result<Record, ReadFault>
+    requires { cursor.old.place + 222 < 2 ^ 32 }
+    ensures read { Gives (λ entry. (entry, cursor.new.place)) result (read moved_fields cursor.old.bytes.now cursor.old.place) }
+    ensures len { OnOk result (cursor.new.place ≡ cursor.old.place + 222) }
+    ensures bytes { cursor.new.bytes ≡ cursor.old.bytes }
+{
+    read_exactly(cursor, &[0, 2])?;
+    read_zeros(cursor, 220)?;
+    Ok(Record::Moved)
+}
+
+fn put_moved(out: &mut Fields)
+    requires { array_vec_len out.old + 222 ≤ 223 }
+    ensures writes { AppendsSpelling moved_fields Record.Moved out.old.items out.new.items }
+    ensures len { array_vec_len out.new ≡ array_vec_len out.old + 222 }
+{
+    put_exactly(out, &[0, 2]);
+    put_zeros(out, 220);
+}
+
+// The number of a record's kind.
+fn kind(entry: &Record) -> u8
+    ensures { result ≡ kind_of entry.now }
+{
+    match entry {
+        Record::Key(_) => 1,
+        Record::Extend(_) => 2,
+        Record::Bound(_) => 3,
+        Record::Retire { upto: _ } => 4,
+        Record::Moved => 5,
+    }
+}
+
+// The fields of a record, by its kind, whose byte stands before the cursor.
+fn read_fields(cursor: &mut Cursor<'_>, kind: u8) -> Result<Record, ReadFault>
+    requires some { 1 ≤ cursor.old.place }
+    requires room { cursor.old.place + 222 < 2 ^ 32 }
+    ensures read { Gives (λ entry. (entry, cursor.new.place)) result (read (fields_of kind) cursor.old.bytes.now cursor.old.place) }
+    ensures len { OnOk result (cursor.new.place ≡ cursor.old.place + 222) }
+    ensures bytes { cursor.new.bytes ≡ cursor.old.bytes }
+{
+    match kind {
+        1 => read_key(cursor),
+        2 => read_extend(cursor),
+        3 => read_bound(cursor),
+        4 => read_retire(cursor),
+        5 => read_moved(cursor),
+        _ => Err(no_record(cursor.place - 1)),
+    }
+}
+
+// Appends the fields of a record, by its kind.
+fn put_fields(out: &mut Fields, entry: &Record)
+    requires { array_vec_len out.old + 222 ≤ 223 }
+    ensures writes { AppendsSpelling (fields_of (kind_of entry.now)) entry.now out.old.items out.new.items }
+    ensures len { array_vec_len out.new ≡ array_vec_len out.old + 222 }
+{
+    match entry {
+        Record::Key(key) => put_key(out, key),
+        Record::Extend(extend) => put_extend(out, extend),
+        Record::Bound(bound) => put_bound(out, bound),
+        Record::Retire { upto } => put_retire(out, *upto),
+        Record::Moved => put_moved(out),
+    }
+}
+
+// The record that the bytes spell, or their first fault.
+#[tactic(auto, using(typecodes::proofs::Steps::steps, typecodes::proofs::Steps::reading), unfolding(crate::specs::Slot::slot_record))]
+fn read_all(bytes: &[u8]) -> Result<Record, ReadFault>
+    ensures { Reads slot_record (λ entry. entry) bytes.now result }
+{
+    let mut cursor = Cursor::new(bytes);
+    let kind = read_byte(&mut cursor)?;
+    let entry = read_fields(&mut cursor, kind)?;
+    cursor.end()?;
+    Ok(entry)
+}
+
+/// The record that the bytes 1 to 223 of a slot spell, if they spell one.
+pub(crate) fn read_record(bytes: &[u8]) -> Option<Record>
+    ensures { MatchOption result ((entry : Entry) → Spells slot_record entry bytes.now → ⊥) (λ entry. Spells slot_record entry bytes.now) }
+{
+    read_all(bytes).ok()
+}
+
+/// The bytes 1 to 223 of a slot that spell the record.
+pub(crate) fn record_bytes(entry: &Record) -> [u8; 223]
+    ensures { Spells slot_record entry.now result }
+{
+    let mut out = ArrayVec::new();
+    put_byte(&mut out, kind(entry));
+    put_fields(&mut out, entry);
+    match out.into_inner() {
+        Ok(bytes) => bytes,
+        Err(_) => unreachable!(),
+    }
+}

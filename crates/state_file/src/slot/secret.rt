@@ -1,0 +1,253 @@
+//! What a key is made from, by its scheme, 177 bytes: how it is read and written.
+
+ghost use Rattle.std.specs.Prelude.{◌≡◌, ◌<◌, ◌≤◌, ◌+◌, ◌*◌, ◌^◌, length, take, OnOk};
+ghost use Rattle.arrayvec.specs.ArrayVec.{array_vec_len};
+ghost use Rattle.typecodes.specs.Cursor.{read, Gives};
+ghost use Rattle.state_file.specs.Fields.{AppendsSpelling};
+ghost use Rattle.state_file.specs.Slot.{hss_secret, levels_field, lms_secret, pair_field, pairs, scheme_of, secret_of, xmss_secret};
+
+use crate::record::Secret;
+use crate::slot::fields::{Fields, no_record, put_array, put_byte_within, put_exactly, put_number, put_zeros};
+use crate::slot::fields::{read_byte_within, read_exactly, read_zeros};
+use typecodes::{Cursor, Levels, LmsPair, LmsType, OtsType, ReadFault, XmssType};
+
+/// A pair, by its codes.
+#[tactic(auto, using(typecodes::proofs::Steps::reading), unfolding(crate::specs::Slot::pair_field))]
+pub(crate) fn read_pair(cursor: &mut Cursor<'_>) -> Result<LmsPair, ReadFault>
+    requires { cursor.old.place + 8 < 2 ^ 32 }
+    ensures read { Gives (λ pair. (pair, cursor.new.place)) result (read pair_field cursor.old.bytes.now cursor.old.place) }
+    ensures len { OnOk result (cursor.new.place ≡ cursor.old.place + 8) }
+    ensures bytes { cursor.new.bytes ≡ cursor.old.bytes }
+{
+    let tree = cursor.lms_type()?;
+    let ots = cursor.ots_type()?;
+    Ok(LmsPair { tree, ots })
+}
+
+// Appends a pair's codes.
+fn put_pair(out: &mut Fields, pair: LmsPair)
+    requires { array_vec_len out.old + 8 ≤ 223 }
+    ensures writes { AppendsSpelling pair_field pair out.old.items out.new.items }
+    ensures len { array_vec_len out.new ≡ array_vec_len out.old + 8 }
+{
+    put_number(out, pair.tree.code());
+    put_number(out, pair.ots.code());
+}
+
+// The next pairs, the first ones of the array.
+fn read_pairs(cursor: &mut Cursor<'_>, count: u8) -> Result<[LmsPair; 8], ReadFault>
+    requires few { count ≤ 8 }
+    requires room { cursor.old.place + 64 < 2 ^ 32 }
+    ensures read { Gives (λ all. (take count all, cursor.new.place)) result (read (pairs count) cursor.old.bytes.now cursor.old.place) }
+    ensures len { OnOk result (cursor.new.place ≡ cursor.old.place + 8 * count) }
+    ensures bytes { cursor.new.bytes ≡ cursor.old.bytes }
+{
+    let mut all = [LmsPair {
+        tree: LmsType::H5,
+        ots: OtsType::W1,
+    }; 8];
+    for i in 0..usize::from(count) {
+        all[i] = read_pair(cursor)?;
+    }
+    Ok(all)
+}
+
+// Appends pairs.
+fn put_pairs(out: &mut Fields, all: &[LmsPair])
+    requires { array_vec_len out.old + 8 * length all.now ≤ 223 }
+    ensures writes { AppendsSpelling (pairs (length all.now)) all.now out.old.items out.new.items }
+    ensures len { array_vec_len out.new ≡ array_vec_len out.old + 8 * length all.now }
+{
+    for pair in all {
+        put_pair(out, *pair);
+    }
+}
+
+/// The levels of an HSS key, 65 bytes: how many, and their pairs with zeros up to the eighth.
+#[tactic(auto, using(typecodes::proofs::Steps::reading), unfolding(crate::specs::Slot::levels_field))]
+pub(crate) fn read_levels(cursor: &mut Cursor<'_>) -> Result<Levels, ReadFault>
+    requires { cursor.old.place + 65 < 2 ^ 32 }
+    ensures read { Gives (λ levels. (levels, cursor.new.place)) result (read levels_field cursor.old.bytes.now cursor.old.place) }
+    ensures len { OnOk result (cursor.new.place ≡ cursor.old.place + 65) }
+    ensures bytes { cursor.new.bytes ≡ cursor.old.bytes }
+{
+    let count = read_byte_within(cursor, 1, 8)?;
+    let all = read_pairs(cursor, count)?;
+    read_zeros(cursor, 64 - 8 * u32::from(count))?;
+    match Levels::new(&all[..usize::from(count)]) {
+        Some(levels) => Ok(levels),
+        None => unreachable!(),
+    }
+}
+
+// Appends the levels of an HSS key.
+fn put_levels(out: &mut Fields, levels: &Levels)
+    requires { array_vec_len out.old + 65 ≤ 223 }
+    ensures writes { AppendsSpelling levels_field levels.now out.old.items out.new.items }
+    ensures len { array_vec_len out.new ≡ array_vec_len out.old + 65 }
+{
+    let all = levels.as_slice();
+    put_byte_within(out, all.len() as u8, 1, 8);
+    put_pairs(out, all);
+    put_zeros(out, 64 - 8 * all.len());
+}
+
+// What an LMS key is made from, 177 bytes.
+#[tactic(auto, using(typecodes::proofs::Steps::reading), unfolding(crate::specs::Slot::lms_secret))]
+fn read_lms(cursor: &mut Cursor<'_>) -> Result<Secret, ReadFault>
+    requires { cursor.old.place + 177 < 2 ^ 32 }
+    ensures read { Gives (λ secret. (secret, cursor.new.place)) result (read lms_secret cursor.old.bytes.now cursor.old.place) }
+    ensures len { OnOk result (cursor.new.place ≡ cursor.old.place + 177) }
+    ensures bytes { cursor.new.bytes ≡ cursor.old.bytes }
+{
+    read_exactly(cursor, &[1])?;
+    let pair = read_pair(cursor)?;
+    read_zeros(cursor, 56)?;
+    let identifier = *cursor.array()?;
+    let seed = *cursor.array()?;
+    read_zeros(cursor, 64)?;
+    Ok(Secret::Lms {
+        pair,
+        identifier,
+        seed,
+    })
+}
+
+fn put_lms(out: &mut Fields, pair: LmsPair, identifier: &[u8; 16], seed: &[u8; 32])
+    requires { array_vec_len out.old + 177 ≤ 223 }
+    ensures writes { AppendsSpelling lms_secret (Secret.Lms pair identifier.now seed.now) out.old.items out.new.items }
+    ensures len { array_vec_len out.new ≡ array_vec_len out.old + 177 }
+{
+    put_exactly(out, &[1]);
+    put_pair(out, pair);
+    put_zeros(out, 56);
+    put_array(out, identifier);
+    put_array(out, seed);
+    put_zeros(out, 64);
+}
+
+// What an HSS key is made from, 177 bytes.
+#[tactic(auto, using(typecodes::proofs::Steps::reading), unfolding(crate::specs::Slot::hss_secret))]
+fn read_hss(cursor: &mut Cursor<'_>) -> Result<Secret, ReadFault>
+    requires { cursor.old.place + 177 < 2 ^ 32 }
+    ensures read { Gives (λ secret. (secret, cursor.new.place)) result (read hss_secret cursor.old.bytes.now cursor.old.place) }
+    ensures len { OnOk result (cursor.new.place ≡ cursor.old.place + 177) }
+    ensures bytes { cursor.new.bytes ≡ cursor.old.bytes }
+{
+    let levels = read_levels(cursor)?;
+    let identifier = *cursor.array()?;
+    let seed = *cursor.array()?;
+    read_zeros(cursor, 64)?;
+    Ok(Secret::Hss {
+        levels,
+        identifier,
+        seed,
+    })
+}
+
+fn put_hss(out: &mut Fields, levels: &Levels, identifier: &[u8; 16], seed: &[u8; 32])
+    requires { array_vec_len out.old + 177 ≤ 223 }
+    ensures writes { AppendsSpelling hss_secret (Secret.Hss levels.now identifier.now seed.now) out.old.items out.new.items }
+    ensures len { array_vec_len out.new ≡ array_vec_len out.old + 177 }
+{
+    put_levels(out, levels);
+    put_array(out, identifier);
+    put_array(out, seed);
+    put_zeros(out, 64);
+}
+
+// What an XMSS key is made from, 177 bytes.
+#[tactic(auto, using(typecodes::proofs::Steps::reading), unfolding(crate::specs::Slot::xmss_secret))]
+fn read_xmss(cursor: &mut Cursor<'_>) -> Result<Secret, ReadFault>
+    requires { cursor.old.place + 177 < 2 ^ 32 }
+    ensures read { Gives (λ secret. (secret, cursor.new.place)) result (read xmss_secret cursor.old.bytes.now cursor.old.place) }
+    ensures len { OnOk result (cursor.new.place ≡ cursor.old.place + 177) }
+    ensures bytes { cursor.new.bytes ≡ cursor.old.bytes }
+{
+    read_exactly(cursor, &[1])?;
+    let tree = cursor.xmss_type()?;
+    read_zeros(cursor, 60)?;
+    read_zeros(cursor, 16)?;
+    let secret_seed = *cursor.array()?;
+    let prf_key = *cursor.array()?;
+    let public_seed = *cursor.array()?;
+    Ok(Secret::Xmss {
+        tree,
+        secret_seed,
+        prf_key,
+        public_seed,
+    })
+}
+
+fn put_xmss(
+    out: &mut Fields,
+    tree: XmssType,
+    secret_seed: &[u8; 32],
+    prf_key: &[u8; 32],
+    public_seed: &[u8; 32],
+)
+    requires { array_vec_len out.old + 177 ≤ 223 }
+    ensures writes { AppendsSpelling xmss_secret (Secret.Xmss tree secret_seed.now prf_key.now public_seed.now) out.old.items out.new.items }
+    ensures len { array_vec_len out.new ≡ array_vec_len out.old + 177 }
+{
+    put_exactly(out, &[1]);
+    put_number(out, tree.code());
+    put_zeros(out, 60);
+    put_zeros(out, 16);
+    put_array(out, secret_seed);
+    put_array(out, prf_key);
+    put_array(out, public_seed);
+}
+
+/// What a key is made from, by its scheme, whose byte stands before the cursor.
+pub(crate) fn read_secret(cursor: &mut Cursor<'_>, scheme: u8) -> Result<Secret, ReadFault>
+    requires some { 1 ≤ cursor.old.place }
+    requires room { cursor.old.place + 177 < 2 ^ 32 }
+    ensures read { Gives (λ secret. (secret, cursor.new.place)) result (read (secret_of scheme) cursor.old.bytes.now cursor.old.place) }
+    ensures len { OnOk result (cursor.new.place ≡ cursor.old.place + 177) }
+    ensures bytes { cursor.new.bytes ≡ cursor.old.bytes }
+{
+    match scheme {
+        1 => read_lms(cursor),
+        2 => read_hss(cursor),
+        3 => read_xmss(cursor),
+        _ => Err(no_record(cursor.place - 1)),
+    }
+}
+
+/// Appends what a key is made from, by its scheme, 177 bytes.
+pub(crate) fn put_secret(out: &mut Fields, secret: &Secret)
+    requires { array_vec_len out.old + 177 ≤ 223 }
+    ensures writes { AppendsSpelling (secret_of (scheme_of secret.now)) secret.now out.old.items out.new.items }
+    ensures len { array_vec_len out.new ≡ array_vec_len out.old + 177 }
+{
+    match secret {
+        Secret::Lms {
+            pair,
+            identifier,
+            seed,
+        } => put_lms(out, *pair, identifier, seed),
+        Secret::Hss {
+            levels,
+            identifier,
+            seed,
+        } => put_hss(out, levels, identifier, seed),
+        Secret::Xmss {
+            tree,
+            secret_seed,
+            prf_key,
+            public_seed,
+        } => put_xmss(out, *tree, secret_seed, prf_key, public_seed),
+    }
+}
+
+/// The number of a secret's scheme.
+pub(crate) fn scheme(secret: &Secret) -> u8
+    ensures { result ≡ scheme_of secret.now }
+{
+    match secret {
+        Secret::Lms { .. } => 1,
+        Secret::Hss { .. } => 2,
+        Secret::Xmss { .. } => 3,
+    }
+}

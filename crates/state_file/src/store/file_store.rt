@@ -1,0 +1,281 @@
+//! A store over a disk.
+
+ghost use Rattle.std.specs.Prelude.{◌≡◌, ◌≢◌, ◌⊎◌, ◌≤◌, ◌<◌, ◌+◌, ◌^◌, ◌∷◌, ℕ, List, [], ◌++◌, true, false, IsTrue, IfOk, IfErr, OnOk, OnErr, MatchResult, length, max, replicate};
+ghost use Rattle.typecodes.specs.Layout.{Spells};
+ghost use Rattle.state_file.specs.Disk.{Elapses, LeavesOnly};
+ghost use Rattle.state_file.specs.Disk.{State, settled, ChangesOnly, MayLeave, CountsFailure};
+ghost use Rattle.state_file.specs.File.{SpellsRecords, fields_at, tag_at, tag_of};
+ghost use Rattle.state_file.specs.File.{StandsFor, LeftLists, IsKept, IsKept-prop};
+ghost use Rattle.state_file.specs.Gates.{AddsSlot, slot_and_gate};
+ghost use Rattle.state_file.specs.Format.{CountsDevice, Formats, LeftByFormat};
+ghost use Rattle.state_file.specs.Opening.{CountsOpening, OnlyReads, Settles, Tells};
+ghost use Rattle.std.proofs.Common.{inl};
+ghost use Rattle.state_file.specs.Slot.{slot_record};
+ghost use Rattle.state_file.specs.Store.{Appends, CanFollow, Loads, ReadsTag};
+
+#[cfg(test)]
+mod tests;
+
+use crate::disk::Disk;
+use crate::file::{FormatFault, MOST, OpenFault, add_slot, find_records, format, read_entry, read_tag};
+use crate::record::{Record, RecordList};
+use crate::refused::Refused;
+use crate::slot::{record_bytes, tag};
+use crate::store::{Store, StoreFault};
+
+/// Records on a disk, each in a slot of 256 bytes.
+#[derive(Drop)]
+pub struct FileStore<D: Disk> {
+    disk: D,
+    count: u32,
+    // the tag of the last slot
+    tag: [u8; 32],
+    stopped: bool,
+    records: RecordList,
+    ghost counted: { count ≡ length records },
+    ghost few: { length records ≤ 2 ^ 31 },
+    ghost kept: { IsTrue (D.honest disk) → stopped ≡ false → IsKept records tag (D.state disk) } by { Prim.hlevel IsKept-prop },
+}
+
+impl<D: Disk + Drop> FileStore<D> {
+    ghost use Rattle.state_file.specs.FileStore.{disk_after, disk_of, has_stopped, records_of, told_by};
+
+    /// How many records there are.
+    pub fn count(&self) -> u32
+        ensures { result ≡ length (records_of self.now) }
+    {
+        self.count
+    }
+
+    /// Gives the disk back.
+    pub fn into_disk(self) -> D
+        ensures { result ≡ disk_of self }
+    {
+        self.disk
+    }
+
+    /// Prepares a place that has no key: it then holds no slot, and a closed gate. Of fewer than 257 bytes the
+    /// first alone changes, to zero; where there are 257 or more, nothing is written, whatever the answer. A
+    /// refusal hands the disk back.
+    pub fn format(disk: D) -> Result<Self, Refused<D, FormatFault>>
+        ensures records { IfOk result (λ store. (records_of store ≡ []) × (has_stopped store ≡ false)) }
+        ensures answer { IsTrue (D.honest disk) →
+            Formats (D.state disk).content (D.state (disk_after result)) (told_by result) }
+        ensures len { IsTrue (D.honest disk) →
+            OnOk result (length (D.state (disk_after result)).content ≡ max (length (D.state disk).content) 1) }
+        ensures any_moment { IsTrue (D.honest disk) →
+            LeavesOnly D.moment D.left_since disk (disk_after result) (LeftByFormat (D.state disk)) }
+        ensures failures { CountsDevice (D.failures disk) (D.failures (disk_after result)) (told_by result) }
+        ensures past_ends { IsTrue (D.honest disk) → D.past_ends (disk_after result) ≡ D.past_ends disk }
+        ensures honest { D.honest (disk_after result) ≡ D.honest disk }
+    {
+        let mut disk = disk;
+        match format(&mut disk) {
+            Ok(()) => Ok(FileStore {
+                disk,
+                count: 0,
+                tag: [0; 32],
+                stopped: false,
+                records: RecordList::new(),
+            }),
+            Err(fault) => Err(Refused { fault, given: disk }),
+        }
+    }
+
+    /// Opens the records of a key. It syncs before it reads, so that what it shows stays. The faults come in
+    /// the order of their numbers, and each hands the disk back, with its content as it was where the device
+    /// didn't fail.
+    pub fn open(disk: D) -> Result<Self, Refused<D, OpenFault>>
+        ensures records { IsTrue (D.honest disk) →
+            IfOk result (λ store. SpellsRecords (D.state disk).content (records_of store)) }
+        ensures running { IfOk result (λ store. has_stopped store ≡ false) }
+        ensures fault { IsTrue (D.honest disk) → IfErr result (λ refused. Tells (D.state disk).content refused.fault) }
+        ensures any_moment { IsTrue (D.honest disk) →
+            LeavesOnly D.moment D.left_since disk (disk_after result) (MayLeave (D.state disk)) }
+        ensures settled { IsTrue (D.honest disk) →
+            Settles (D.state disk).content (D.state (disk_after result)) (told_by result) }
+        ensures failures { CountsOpening (D.failures disk) (D.failures (disk_after result)) (told_by result) }
+        ensures past_ends { IsTrue (D.honest disk) → D.past_ends (disk_after result) ≡ D.past_ends disk }
+        ensures honest { D.honest (disk_after result) ≡ D.honest disk }
+    {
+        let mut disk = disk;
+        match find_records(&mut disk) {
+            Ok(found) => {
+                let tag = found.tag;
+                Ok(FileStore {
+                    disk,
+                    count: found.count,
+                    tag,
+                    stopped: false,
+                    records: found.records,
+                })
+            }
+            Err(fault) => Err(Refused { fault, given: disk }),
+        }
+    }
+}
+
+impl<D: Disk + Drop> FileStore<D> {
+    ghost use Rattle.state_file.specs.FileStore.{disk_of, has_stopped, records_of};
+
+    /// The tag of slot k, 32 bytes.
+    pub fn tag_at(&mut self, k: u32) -> Result<[u8; 32], StoreFault>
+        requires { k < length (records_of self.old) }
+        ensures answer { ReadsTag (has_stopped self.old) (has_stopped self.new) (D.failures (disk_of self.old))
+            (D.failures (disk_of self.new)) result }
+        ensures tag { IsTrue (D.honest (disk_of self.old)) →
+            IfOk result (λ tag. tag ≡ tag_at (D.state (disk_of self.old)).content k) }
+        ensures same { records_of self.new ≡ records_of self.old }
+        ensures reads { IsTrue (D.honest (disk_of self.old)) → has_stopped self.old ≡ false →
+            OnlyReads D.state D.moment D.left_since (disk_of self.old) (disk_of self.new) }
+        ensures any_moment { IsTrue (D.honest (disk_of self.old)) → has_stopped self.old ≡ false →
+            LeavesOnly D.moment D.left_since (disk_of self.old) (disk_of self.new) (StandsFor (records_of self.old)) }
+        ensures past_ends { IsTrue (D.honest (disk_of self.old)) →
+            D.past_ends (disk_of self.new) ≡ D.past_ends (disk_of self.old) }
+        ensures honest { D.honest (disk_of self.new) ≡ D.honest (disk_of self.old) }
+        ensures stays { has_stopped self.old ≡ true → self.new ≡ self.old }
+    {
+        if self.stopped {
+            return Err(StoreFault::Stopped);
+        }
+        match read_tag(&mut self.disk, k) {
+            Ok(tag) => Ok(tag),
+            Err(_) => {
+                self.stopped = true;
+                Err(StoreFault::DeviceFailed)
+            }
+        }
+    }
+}
+
+impl<D: Disk + Drop> Store for FileStore<D> {
+    ghost use Rattle.state_file.specs.FileStore.{disk_of, has_stopped, kept_list, kept_stands, records_of};
+
+    ghost list = { λ store. records_of store };
+
+    ghost stopped = { λ store. has_stopped store };
+
+    ghost failures = { λ store. D.failures (disk_of store) };
+
+    ghost honest = { λ store. D.honest (disk_of store) };
+
+    ghost most = { λ _. 2 ^ 31 };
+
+    ghost moment = { λ store. D.moment (disk_of store) };
+
+    ghost left_since = { λ store. LeftLists (D.left_since (disk_of store)) };
+
+    ghost few = { λ store. store.few };
+
+    ghost leaves_list = { λ store t honest running early. ((D.state store.disk).content, D.counts_now store.disk t (D.state store.disk).content honest early (D.shows store.disk honest), inl (kept_stands store.records store.tag (D.state store.disk) (store.kept honest running))) };
+
+    ghost leaves_nothing_else = { λ store list honest running since. kept_list store.records list store.tag (D.state store.disk) since.0 (store.kept honest running) (D.only_now store.disk since.0 honest since.1) since.2 };
+
+    /// Record k, or None behind the last. It takes no memory and writes nothing.
+    fn load(&mut self, k: u32) -> Result<Option<Record>, StoreFault>
+        ensures answer { Loads (D.honest (disk_of self.old)) (records_of self.old) (has_stopped self.old) k
+            (has_stopped self.new)
+            (D.failures (disk_of self.old)) (D.failures (disk_of self.new)) result }
+        ensures memory { result ≢ Err StoreFault.OutOfMemory }
+        ensures same { records_of self.new ≡ records_of self.old }
+        ensures reads { IsTrue (D.honest (disk_of self.old)) → has_stopped self.old ≡ false →
+            OnlyReads D.state D.moment D.left_since (disk_of self.old) (disk_of self.new) }
+        ensures any_moment { IsTrue (D.honest (disk_of self.old)) → has_stopped self.old ≡ false →
+            LeavesOnly (λ store. D.moment (disk_of store)) (λ store. LeftLists (D.left_since (disk_of store)))
+            self.old self.new (λ left. left ≡ records_of self.old) }
+        ensures stays { has_stopped self.old ≡ true → self.new ≡ self.old }
+        ensures past_ends { IsTrue (D.honest (disk_of self.old)) →
+            D.past_ends (disk_of self.new) ≡ D.past_ends (disk_of self.old) }
+        ensures honest { D.honest (disk_of self.new) ≡ D.honest (disk_of self.old) }
+    {
+        if self.stopped {
+            return Err(StoreFault::Stopped);
+        }
+        if k >= self.count {
+            return Ok(None);
+        }
+        match read_entry(&mut self.disk, k) {
+            Ok(found) => match found {
+                Some(record) => Ok(Some(record)),
+                None => Err(StoreFault::Damaged(k)),
+            },
+            Err(_) => {
+                self.stopped = true;
+                Err(StoreFault::DeviceFailed)
+            }
+        }
+    }
+
+    /// Adds a record at the end. It takes no memory. Where the store is full nothing changes. Whatever it answers, a stop
+    /// at any moment leaves a content that spells the old records, or these and the new one (`contents`), and that
+    /// differs from the old content at most in the new slot and the gate after it (`bytes`).
+    fn append(&mut self, new: &Record) -> Result<(), StoreFault>
+        requires { CanFollow (records_of self.old) new.now }
+        ensures any_moment { IsTrue (D.honest (disk_of self.old)) → has_stopped self.old ≡ false →
+            LeavesOnly (λ store. D.moment (disk_of store)) (λ store. LeftLists (D.left_since (disk_of store)))
+            self.old self.new
+            (λ left. (left ≡ records_of self.old) ⊎ (left ≡ records_of self.old ++ new.now ∷ [])) }
+        ensures stays { has_stopped self.old ≡ true → self.new ≡ self.old }
+        ensures contents { IsTrue (D.honest (disk_of self.old)) → has_stopped self.old ≡ false →
+            LeavesOnly D.moment D.left_since (disk_of self.old) (disk_of self.new)
+            (λ c. StandsFor (records_of self.old) c ⊎ StandsFor (records_of self.old ++ new.now ∷ []) c) }
+        ensures bytes { IsTrue (D.honest (disk_of self.old)) → has_stopped self.old ≡ false →
+            LeavesOnly D.moment D.left_since (disk_of self.old) (disk_of self.new)
+            (ChangesOnly (slot_and_gate (length (records_of self.old)) ∷ []) (D.state (disk_of self.old)).content) }
+        ensures answer { Appends (2 ^ 31) (records_of self.old) (has_stopped self.old) new.now (records_of self.new)
+            (has_stopped self.new) (D.failures (disk_of self.old)) (D.failures (disk_of self.new)) result }
+        ensures memory { result ≢ Err StoreFault.OutOfMemory }
+        ensures full { result ≡ Err StoreFault.Full → self.new ≡ self.old }
+        ensures adds { IsTrue (D.honest (disk_of self.old)) →
+            OnOk result
+            (AddsSlot (length (records_of self.old)) (D.state (disk_of self.old)).content
+            (D.state (disk_of self.new))) }
+        ensures past_ends { IsTrue (D.honest (disk_of self.old)) →
+            D.past_ends (disk_of self.new) ≡ D.past_ends (disk_of self.old) }
+        ensures honest { D.honest (disk_of self.new) ≡ D.honest (disk_of self.old) }
+    {
+        if self.stopped {
+            return Err(StoreFault::Stopped);
+        }
+        if self.count >= MOST {
+            return Err(StoreFault::Full);
+        }
+        let fields = record_bytes(new);
+        let next_tag = tag(&self.tag, &fields);
+        match add_slot(&mut self.disk, self.count, &joined(&fields, &next_tag)) {
+            Ok(()) => {
+                self.count += 1;
+                self.tag = next_tag;
+                self.records.push(new);
+                Ok(())
+            }
+            Err(_) => {
+                self.stopped = true;
+                Err(StoreFault::DeviceFailed)
+            }
+        }
+    }
+
+    fn limit(&self) -> u32 {
+        MOST
+    }
+}
+
+// The fields of a slot and its tag.
+fn joined(fields: &[u8; 223], tag: &[u8; 32]) -> [u8; 255]
+    ensures bytes { result ≡ fields.now ++ tag.now }
+    ensures fields { length fields.now ≡ 223 }
+    ensures tag { length tag.now ≡ 32 }
+{
+    let mut body = [0; 255];
+    fill(&mut body, fields, tag);
+    body
+}
+
+fn fill(into: &mut [u8], first: &[u8], second: &[u8])
+    requires { length into.old ≡ length first.now + length second.now }
+    ensures { into.new ≡ first.now ++ second.now }
+{
+    into[..first.len()].copy_from_slice(first);
+    into[first.len()..].copy_from_slice(second);
+}

@@ -1,0 +1,189 @@
+//! A store in memory.
+
+ghost use Rattle.std.specs.Prelude.{◌⊎◌, IsTrue, length, ◌≡◌, ◌≢◌, ◌≤◌, ◌<◌, ◌+◌, true, false, [], ◌∷◌, ◌++◌, IfErr, OnOk, OnErr, if◌then◌else◌, slice_get, vec_len, vec_capacity};
+ghost use Rattle.state_file.specs.Disk.{LeavesOnly};
+ghost use Rattle.state_file.specs.Store.{Appends, Loads};
+
+use crate::record::Record;
+use crate::store::{Store, StoreFault};
+use std::alloc::Global;
+use typecodes::Count;
+
+/// What a cut append leaves: the old records, or these and the new one.
+#[derive(Clone, Copy, Debug, PartialEq, Eq)]
+pub enum Cut {
+    Old,
+    New,
+}
+
+/// Records in memory. It is honest. `cut_at` makes a later append fail, as a device would.
+#[derive(Drop)]
+pub struct MemoryStore {
+    records: Vec<Record>,
+    limit: u32,
+    // how many appends come before the one that is cut, and what that one leaves
+    cut: Option<(u32, Cut)>,
+    stopped: bool,
+    failures: Count,
+    ghost few: { length records.items ≤ limit },
+}
+
+impl MemoryStore {
+    ghost use Rattle.state_file.specs.MemoryStore.{cut_of, cut_of_append, failures_of, has_stopped, limit_of, records_of};
+
+    /// An empty store that takes `limit` records.
+    pub fn with_limit(alloc: Global, limit: u32) -> Self
+        ensures records { records_of result ≡ [] }
+        ensures limit { limit_of result ≡ limit }
+        ensures cut { cut_of result ≡ None }
+        ensures stopped { has_stopped result ≡ false }
+        ensures failures { failures_of result ≡ 0 }
+    {
+        MemoryStore {
+            records: Vec::new(alloc),
+            limit,
+            cut: None,
+            stopped: false,
+            failures: Count::new(),
+        }
+    }
+
+    /// Cuts the n-th append from now, the next one for 1: it answers 45 and leaves what `cut` says. It
+    /// takes the place of a cut that didn't come yet; for 0 none comes.
+    ///
+    /// The appends that count are those that reach the device, not those that are answered 26, 46 or 52.
+    pub fn cut_at(&mut self, n: u32, cut: Cut)
+        ensures cut { cut_of self.new ≡ cut_of_append n cut }
+        ensures records { records_of self.new ≡ records_of self.old }
+        ensures limit { limit_of self.new ≡ limit_of self.old }
+        ensures stopped { has_stopped self.new ≡ has_stopped self.old }
+        ensures failures { failures_of self.new ≡ failures_of self.old }
+    {
+        self.cut = n.checked_sub(1).map(|before| (before, cut));
+    }
+
+    /// Opens the place again after a failure.
+    pub fn reopen(&mut self)
+        ensures stopped { has_stopped self.new ≡ false }
+        ensures records { records_of self.new ≡ records_of self.old }
+        ensures limit { limit_of self.new ≡ limit_of self.old }
+        ensures cut { cut_of self.new ≡ cut_of self.old }
+        ensures failures { failures_of self.new ≡ failures_of self.old }
+    {
+        self.stopped = false;
+    }
+
+    // Stops the store, as its device failed. The cut has come.
+    fn fail(&mut self) -> StoreFault
+        ensures fault { result ≡ StoreFault.DeviceFailed }
+        ensures stopped { has_stopped self.new ≡ true }
+        ensures failures { failures_of self.new ≡ failures_of self.old + 1 }
+        ensures cut { cut_of self.new ≡ None }
+        ensures records { records_of self.new ≡ records_of self.old }
+        ensures limit { limit_of self.new ≡ limit_of self.old }
+    {
+        self.cut = None;
+        self.stopped = true;
+        self.failures.add_one();
+        StoreFault::DeviceFailed
+    }
+}
+
+impl Store for MemoryStore {
+    ghost use Rattle.state_file.specs.MemoryStore.{Cuts, HadBeen, HasRoom, had_been_all, had_been_only};
+    ghost use Rattle.state_file.specs.MemoryStore.{cut_of, failures_of, has_stopped, limit_of};
+    ghost use Rattle.state_file.specs.MemoryStore.{records_of};
+
+    ghost list = { records_of };
+
+    ghost stopped = { has_stopped };
+
+    ghost failures = { failures_of };
+
+    ghost honest = { λ _. true };
+
+    ghost most = { limit_of };
+
+    ghost moment = { λ store. length (records_of store) };
+
+    ghost left_since = { λ store. HadBeen (records_of store) };
+
+    ghost few = { λ store. store.few };
+
+    ghost leaves_list = { λ store t _ _ early. had_been_all store.records.items t early };
+
+    ghost leaves_nothing_else = { λ store left _ _ since. had_been_only store.records.items left since };
+
+    /// Record k, or None behind the last. It fails only where the store has stopped.
+    fn load(&mut self, k: u32) -> Result<Option<Record>, StoreFault>
+        ensures answer { Loads true (records_of self.old) (has_stopped self.old) k (has_stopped self.new)
+            (failures_of self.old)
+            (failures_of self.new) result }
+        ensures same { records_of self.new ≡ records_of self.old }
+        ensures any_moment { IsTrue true → has_stopped self.old ≡ false →
+            LeavesOnly (λ store. length (records_of store)) (λ store. HadBeen (records_of store)) self.old self.new
+            (λ left. left ≡ records_of self.old) }
+        ensures stays { self.new ≡ self.old }
+        ensures value { result ≡
+            (if has_stopped self.old then Err StoreFault.Stopped else Ok (slice_get (records_of self.old) k)) }
+    {
+        if self.stopped {
+            Err(StoreFault::Stopped)
+        } else {
+            Ok(self.records.get(k as usize).map(Record::copied))
+        }
+    }
+
+    /// Adds a record at the end. Where memory for it is refused, a cut stays as far off as it was, and one
+    /// that is due comes with the next append. Memory is asked for only where the records have no room
+    /// left, and not for a cut that leaves the old records.
+    fn append(&mut self, new: &Record) -> Result<(), StoreFault>
+        ensures answer { Appends (limit_of self.old) (records_of self.old) (has_stopped self.old) new.now
+            (records_of self.new)
+            (has_stopped self.new) (failures_of self.old) (failures_of self.new) result }
+        ensures any_moment { IsTrue true → has_stopped self.old ≡ false →
+            LeavesOnly (λ store. length (records_of store)) (λ store. HadBeen (records_of store)) self.old self.new
+            (λ left. (left ≡ records_of self.old) ⊎ (left ≡ records_of self.old ++ new.now ∷ [])) }
+        ensures stays { has_stopped self.old ≡ true → self.new ≡ self.old }
+        ensures limit { limit_of self.new ≡ limit_of self.old }
+        ensures cut { Cuts (cut_of self.old) (records_of self.old) new.now (records_of self.new) (cut_of self.new)
+            result }
+        ensures room { HasRoom self.old → result ≢ Err StoreFault.OutOfMemory }
+    {
+        if self.stopped {
+            return Err(StoreFault::Stopped);
+        }
+        if self.records.len() >= self.limit as usize {
+            return Err(StoreFault::Full);
+        }
+        match self.cut {
+            None => push_copy(&mut self.records, new),
+            Some((0, Cut::Old)) => Err(self.fail()),
+            Some((0, Cut::New)) => {
+                push_copy(&mut self.records, new)?;
+                Err(self.fail())
+            }
+            Some((before, cut)) => {
+                push_copy(&mut self.records, new)?;
+                self.cut = Some((before - 1, cut));
+                Ok(())
+            }
+        }
+    }
+
+    fn limit(&self) -> u32 {
+        self.limit
+    }
+}
+
+// Adds a record at the end, or leaves the list as it is where memory is refused.
+fn push_copy(records: &mut Vec<Record>, new: &Record) -> Result<(), StoreFault>
+    ensures ok { OnOk result (records.new.items ≡ records.old.items ++ new.now ∷ []) }
+    ensures err { OnErr result (records.new.items ≡ records.old.items) }
+    ensures full { OnErr result (vec_capacity records.old ≤ vec_len records.old) }
+    ensures fault { IfErr result (λ e. e ≡ StoreFault.OutOfMemory) }
+{
+    records
+        .push(new.copied())
+        .map_err(|_| StoreFault::OutOfMemory)
+}
