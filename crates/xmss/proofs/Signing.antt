@@ -5,7 +5,7 @@ use Rattle.typecodes.specs.Types.{xmss_height_of}
 use Rattle.merkle.specs.Ascent.{at}
 use Rattle.merkle.proofs.Climb.{climbed_is_ascent, climbed_nodes, climbed_nodes_at}
 use Rattle.merkle.proofs.Leading.{climbed_to_root}
-use Rattle.wots_plus.specs.Key.{ends_of_secret, private_value, step_of}
+use Rattle.wots_plus.specs.Key.{ends_of_secret}
 use Rattle.wots_plus.proofs.Signing.{signed_climbs}
 use Rattle.xmss.specs.declared.secret.XmssSecret.{XmssSecret}
 use Rattle.xmss.specs.Secret.{digest_in, joins_of, leaves_of, path_in, public_of, root_in}
@@ -35,7 +35,7 @@ textbook_valid secret i message inside = record {
   height = path_long secret i;
   leads = record {
     ends = ends_of_secret secret.public_seed i secret.secret_seed;
-    climbed = signed_climbs (step_of secret.public_seed i) (private_value secret.public_seed i secret.secret_seed) 4 67 (digest_in secret (root_in secret) i message) refl;
+    climbed = signed_climbs secret.public_seed i secret.secret_seed (digest_in secret (root_in secret) i message);
     nodes = climbed_nodes (joins_of secret) i (leaves_of secret i) (path_in secret i);
     ascent = climbed_is_ascent (joins_of secret) i (leaves_of secret i) (path_in secret i);
     last = ap (at (climbed_nodes (joins_of secret) i (leaves_of secret i) (path_in secret i))) (path_long secret i) ∙ path_ends secret i inside;

@@ -15,9 +15,7 @@ use Rattle.typecodes.specs.Types.{named, xmss_code, xmss_height_of, xmss_of_code
 use Rattle.typecodes.specs.Layout.{Layout, Spells, done, ◌>>=◌}
 use Rattle.typecodes.specs.Fields.{block, known, number, values, xmss_type}
 use Rattle.typecodes.proofs.Spelling.{from_turn}
-use Rattle.winternitz.specs.Digest.{digits_of}
 use Rattle.wots_plus.specs.Hashes.{to_byte}
-use Rattle.wots_plus.specs.Key.{private_value, step_of}
 use Rattle.wots_plus.proofs.Signing.{signed_sizes}
 use Rattle.xmss.specs.declared.key.XmssPublic.{XmssPublic}
 use Rattle.xmss.specs.declared.secret.XmssSecret.{XmssSecret}
@@ -112,12 +110,11 @@ pub signed_spelled : (secret : XmssSecret) (i : ℕ) (digest : List ℕ) (path :
     → length path ≡ xmss_height_of secret.tree → ((k : ℕ) → k < xmss_height_of secret.tree → length (get_or path k []) ≡ 32)
     → Spells (signature secret.tree) (signed secret i digest path) (signature_bytes (signed secret i digest path))
 signed_spelled secret i digest path inside count sizes =
-    let seed = secret.public_seed in
     let sized : IsSized secret.tree (signed secret i digest path) = record {
       inside = inside;
       randomizer = length-sha256 _;
       chain_count = refl;
-      chains = signed_sizes (step_of seed i) (private_value seed i secret.secret_seed) (digits_of 4 digest) 67 (λ i j v. length-sha256 _) (λ i. length-sha256 _);
+      chains = signed_sizes secret.public_seed i secret.secret_seed digest;
       path_count = count;
       path = sizes;
     } in
