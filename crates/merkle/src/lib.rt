@@ -1,9 +1,10 @@
 //! Binary hash trees, over any leaves and any join (RFC 8554 5.3 and 5.4; RFC 8391 4.1.6 and 4.1.9).
 //!
-//! Its model is `specs/Tree.antt`, nodes, roots and authentication paths by recursion over whole trees, and
-//! `specs/Ascent.antt`, the nodes through which a path leads. Its contract for the crates above: `root` and `path` are
-//! those of the model, from as many leaves as they need; `root_from_path` gives the last node of the ascent, and the path
-//! of leaf q leads from it to the root.
+//! Its model is `specs/Tree.antt`, nodes, roots and authentication paths by recursion over whole
+//! trees, and `specs/Ascent.antt`, the nodes through which a path leads. Its contract for the
+//! crates above: `root` and `path` are those of the model, from as many leaves as they need;
+//! `root_from_path` gives the last node of the ascent, and the path of leaf q leads from it to the
+//! root.
 //!
 //! ```rust
 //! use merkle::{path, root, root_from_path};

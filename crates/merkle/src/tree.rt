@@ -68,8 +68,8 @@ pub fn root<T: TreeHash>(tree: &mut T, height: u8) -> [u8; 32]
     node_at(tree, height, 0)
 }
 
-/// The authentication path of leaf q of a tree (RFC 8554 5.4, RFC 8391 4.1.9), the leaf's sibling first. The caller keeps
-/// the tree's height at most 25, q below `2^height`, and `into` as long as the tree is high.
+/// The authentication path of leaf q of a tree (RFC 8554 5.4, RFC 8391 4.1.9), the leaf's sibling first. The caller
+/// keeps the tree's height at most 25, q below `2^height`, and `into` as long as the tree is high.
 pub fn path<T: TreeHash>(tree: &mut T, height: u8, q: u32, into: &mut [[u8; 32]])
     requires height { height ≤ 25 }
     requires inside { q < 2 ^ height }

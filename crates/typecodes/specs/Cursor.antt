@@ -1,25 +1,23 @@
 -- Reading by a layout, as a cursor does it: along the whole bytes, from a place on.
-use Rattle.std.specs.Prelude.{◌≡◌, ◌==◌, ℕ, ◌+◌, ◌-◌, List, length, take, drop, Result, Ok, Err, nat_le, if◌then◌else◌}
+use Rattle.std.specs.Prelude.{◌≡◌, ◌==◌, ℕ, ◌+◌, ◌-◌, List, ◌++◌, length, take, drop, Result, Ok, Err}
+use Rattle.std.specs.Prelude.{nat_le, if◌then◌else◌}
 use Rattle.typecodes.specs.declared.fault.Cause.TheVariants.{Truncated, Trailing}
 use Rattle.typecodes.specs.declared.fault.ReadFault.{ReadFault}
 use Rattle.typecodes.specs.Fault.{fault_at}
 use Rattle.typecodes.specs.Layout.{Layout, done, refuse, field, Spells, HasFault}
-
--- What a reader of a layout answers for the bytes: the value that they spell, or their first fault.
--- `view` shows the value of what the reader makes of it.
-abbrev pub Reads : {V X : Type 0} → Layout V → (X → V) → List ℕ → Result X ReadFault → Type 0
-Reads layout view bytes (Ok x) = Spells layout (view x) bytes
-Reads layout view bytes (Err fault) = HasFault layout bytes 0 fault
 
 -- the value that stands at a place, and the place after it; or the first fault
 abbrev pub read : {V : Type 0} → Layout V → List ℕ → ℕ → Result (V × ℕ) ReadFault
 read (done v) bytes place = Ok (v, place)
 read (refuse back cause) bytes place = Err (fault_at (place - back) cause)
 read (field n next) bytes place =
-    if nat_le (place + n) (length bytes) then read (next (take n (drop place bytes))) bytes (place + n) else Err (fault_at place Truncated)
+    if nat_le (place + n) (length bytes)
+    then read (next (take n (drop place bytes))) bytes (place + n)
+    else Err (fault_at place Truncated)
 
 -- what reading goes on with once a value has been read
-abbrev pub and_then : {V W : Type 0} → Result (V × ℕ) ReadFault → (V × ℕ → Result (W × ℕ) ReadFault) → Result (W × ℕ) ReadFault
+abbrev pub and_then : {V W : Type 0}
+    → Result (V × ℕ) ReadFault → (V × ℕ → Result (W × ℕ) ReadFault) → Result (W × ℕ) ReadFault
 and_then (Ok x) next = next x
 and_then (Err fault) next = Err fault
 
@@ -28,7 +26,22 @@ abbrev pub whole : {V : Type 0} → List ℕ → Result (V × ℕ) ReadFault →
 whole bytes (Ok x) = if length bytes == x.1 then Ok x.0 else Err (fault_at x.1 Trailing)
 whole bytes (Err fault) = Err fault
 
--- a call answered what reading gives, by view
+-- the same, read by a layout from the first byte to the end
+abbrev pub read_all : {V : Type 0} → Layout V → List ℕ → Result V ReadFault
+read_all layout bytes = whole bytes (read layout bytes 0)
+
+-- The bytes from a place to the next spell the value, whatever comes after them.
+abbrev pub StandsAt : {V : Type 0} → Layout V → V → List ℕ → ℕ → ℕ → Type 0
+StandsAt layout v bytes place next =
+    (own : List ℕ) × (after : List ℕ)
+    × (drop place bytes ≡ own ++ after) × (next ≡ place + length own) × Spells layout v own
+
+-- A call answered what reading gives, by `view`, which shows the value of what the call gave.
 abbrev pub Gives : {V X : Type 0} → (X → V) → Result X ReadFault → Result V ReadFault → Type 0
 Gives view (Ok x) reading = reading ≡ Ok (view x)
 Gives view (Err fault) reading = reading ≡ Err fault
+
+-- What a reader of a layout answers for the bytes: the value that they spell, or their first fault.
+abbrev pub Reads : {V X : Type 0} → Layout V → (X → V) → List ℕ → Result X ReadFault → Type 0
+Reads layout view bytes (Ok x) = Spells layout (view x) bytes
+Reads layout view bytes (Err fault) = HasFault layout bytes 0 fault

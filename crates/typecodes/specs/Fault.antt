@@ -1,7 +1,8 @@
 -- Faults, by their place and cause.
 use Rattle.std.specs.Prelude.{ℕ}
 use Rattle.typecodes.specs.declared.fault.Cause.{Cause}
-use Rattle.typecodes.specs.declared.fault.Cause.TheVariants.{Truncated, UnknownType, LevelCount, LeafOutOfRange, Trailing}
+use Rattle.typecodes.specs.declared.fault.Cause.TheVariants.{Truncated, UnknownType, LevelCount}
+use Rattle.typecodes.specs.declared.fault.Cause.TheVariants.{LeafOutOfRange, Trailing}
 use Rattle.typecodes.specs.declared.fault.ReadFault.{ReadFault}
 
 abbrev pub fault_at : ℕ → Cause → ReadFault

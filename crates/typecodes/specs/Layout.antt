@@ -46,7 +46,8 @@ HasFault (done v) bytes place fault = (0 < length bytes) × (fault ≡ fault_at 
 HasFault (refuse back cause) bytes place fault = fault ≡ fault_at (place - back) cause
 HasFault (field n next) bytes place fault =
     ((length bytes < n) × (fault ≡ fault_at place Truncated))
-    ⊎ ((front : List ℕ) × (rest : List ℕ) × (bytes ≡ front ++ rest) × (length front ≡ n) × HasFault (next front) rest (place + n) fault)
+    ⊎ ((front : List ℕ) × (rest : List ℕ) × (bytes ≡ front ++ rest) × (length front ≡ n)
+    × HasFault (next front) rest (place + n) fault)
 
 -- each number of the list is a byte
 abbrev pub AreBytes : List ℕ → Type 0

@@ -33,7 +33,8 @@ impl<'a> Cursor<'a> {
     /// The next n bytes, a field. A field that doesn't fit leaves the cursor where it is.
     pub fn block(&mut self, n: u32) -> Result<&'a [u8], ReadFault>
         requires { self.old.place + n < 2 ^ 32 }
-        ensures read { Gives (λ taken. (taken.now, self.new.place)) result (read (block n) self.old.bytes.now self.old.place) }
+        ensures read { Gives (λ taken. (taken.now, self.new.place)) result
+            (read (block n) self.old.bytes.now self.old.place) }
         ensures len { OnOk result (self.new.place ≡ self.old.place + n) }
         ensures bytes { self.new.bytes ≡ self.old.bytes }
         ensures err { OnErr result (self.new.place ≡ self.old.place) }
@@ -50,7 +51,8 @@ impl<'a> Cursor<'a> {
     /// The next N bytes, a field.
     pub fn array<const N: usize>(&mut self) -> Result<&'a [u8; N], ReadFault>
         requires { self.old.place + N < 2 ^ 32 }
-        ensures read { Gives (λ taken. (taken.now, self.new.place)) result (read (block N) self.old.bytes.now self.old.place) }
+        ensures read { Gives (λ taken. (taken.now, self.new.place)) result
+            (read (block N) self.old.bytes.now self.old.place) }
         ensures len { OnOk result (self.new.place ≡ self.old.place + N) }
         ensures bytes { self.new.bytes ≡ self.old.bytes }
         ensures err { OnErr result (self.new.place ≡ self.old.place) }
@@ -126,7 +128,8 @@ impl<'a> Cursor<'a> {
     /// The next count values of 32 bytes, each a field.
     pub fn values(&mut self, count: u32) -> Result<&'a [[u8; 32]], ReadFault>
         requires { self.old.place + 32 * count < 2 ^ 32 }
-        ensures read { Gives (λ taken. (taken.now, self.new.place)) result (read (values count) self.old.bytes.now self.old.place) }
+        ensures read { Gives (λ taken. (taken.now, self.new.place)) result
+            (read (values count) self.old.bytes.now self.old.place) }
         ensures count { IfOk result (λ taken. length taken.now ≡ count) }
         ensures len { OnOk result (self.new.place ≡ self.old.place + 32 * count) }
         ensures bytes { self.new.bytes ≡ self.old.bytes }
@@ -139,7 +142,8 @@ impl<'a> Cursor<'a> {
     // The bytes of the next count values.
     fn values_bytes(&mut self, count: u32) -> Result<&'a [u8], ReadFault>
         requires { self.old.place + 32 * count < 2 ^ 32 }
-        ensures read { Gives (λ taken. (first_chunks 32 (length taken.now / 32) taken.now, self.new.place)) result (read (values count) self.old.bytes.now self.old.place) }
+        ensures read { Gives (λ taken. (first_chunks 32 (length taken.now / 32) taken.now, self.new.place)) result
+            (read (values count) self.old.bytes.now self.old.place) }
         ensures count { IfOk result (λ taken. length taken.now / 32 ≡ count) }
         ensures len { OnOk result (self.new.place ≡ self.old.place + 32 * count) }
         ensures bytes { self.new.bytes ≡ self.old.bytes }
@@ -156,7 +160,8 @@ impl<'a> Cursor<'a> {
 
     /// Refuses bytes that follow the value.
     pub fn end(&self) -> Result<(), ReadFault>
-        ensures { MatchResult result (λ _. length self.now.bytes.now ≡ self.now.place) (λ e. (self.now.place < length self.now.bytes.now) × (e ≡ fault_at self.now.place Cause.Trailing)) }
+        ensures { MatchResult result (λ _. length self.now.bytes.now ≡ self.now.place)
+            (λ e. (self.now.place < length self.now.bytes.now) × (e ≡ fault_at self.now.place Cause.Trailing)) }
     {
         if self.place as usize == self.bytes.len() {
             Ok(())

@@ -1,5 +1,5 @@
-//! The laws of the fields that layouts are made of, which are described in `specs/Fields.antt`. The function does nothing:
-//! what its contract says is proved once.
+//! The laws of the fields that layouts are made of, which are described in `specs/Fields.antt`. The function does
+//! nothing: what its contract says is proved once.
 
 ghost use Rattle.std.specs.Prelude.{◌≡◌, ◌≢◌, All, ◌↔◌, ℕ, List, Some, None};
 ghost use Rattle.typecodes.specs.Layout.{OneSpelling};
@@ -18,5 +18,6 @@ pub fn field_laws<T>()
     ensures values { (n : ℕ) → OneSpelling (values n) }
     ensures typed { (code : T → ℕ) (types : List T) → OneSpelling (typed code types) }
     ensures named { (code : T → ℕ) (types : List T) (c : ℕ) (t : T) → named code types c ≡ Some t → code t ≡ c }
-    ensures unnamed { (code : T → ℕ) (types : List T) (c : ℕ) → named code types c ≡ None ↔ All (λ t. code t ≢ c) types }
+    ensures unnamed { (code : T → ℕ) (types : List T) (c : ℕ) →
+        (named code types c ≡ None) ↔ All (λ t. code t ≢ c) types }
 {}

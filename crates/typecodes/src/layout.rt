@@ -1,10 +1,10 @@
-//! The laws of layouts, which are described in `specs/Layout.antt`. These functions do nothing: what their contracts say
-//! is proved of every layout, so that no format proves it again.
+//! The laws of layouts, which are described in `specs/Layout.antt`. These functions do nothing: what their contracts
+//! say is proved of every layout, so that no format proves it again.
 
-ghost use Rattle.std.specs.Prelude.{◌≡◌, ◌≤◌, ◌+◌, ◌↔◌, ◌⊎◌, ℕ, List, [], ◌++◌, length, drop, Result, Ok, Err};
+ghost use Rattle.std.specs.Prelude.{◌≡◌, ◌≤◌, ◌+◌, ◌↔◌, ◌⊎◌, ℕ, List, [], ◌++◌, length, Result, Ok, Err};
 ghost use Rattle.typecodes.specs.declared.fault.ReadFault.{ReadFault};
 ghost use Rattle.typecodes.specs.Layout.{Layout, Spells, HasFault, InTurn, followed_by, OneSpelling, Shows};
-ghost use Rattle.typecodes.specs.Cursor.{read, whole, and_then, Gives, Reads};
+ghost use Rattle.typecodes.specs.Cursor.{read, read_all, and_then, Gives, Reads, StandsAt};
 
 /// What holds of every layout of values V.
 ///
@@ -16,15 +16,24 @@ ghost use Rattle.typecodes.specs.Cursor.{read, whole, and_then, Gives, Reads};
 /// - Reading in the middle of other bytes finds the value that stands at the place, and only such a
 ///   value (`found`, `stands`).
 pub fn layout_laws<V>()
-    ensures either { (layout : Layout V) (bytes : List ℕ) → ((v : V) × Spells layout v bytes) ⊎ ((fault : ReadFault) × HasFault layout bytes 0 fault) }
-    ensures not_both { (layout : Layout V) (v : V) (bytes : List ℕ) (fault : ReadFault) → Spells layout v bytes → HasFault layout bytes 0 fault → ⊥ }
-    ensures one_value { (layout : Layout V) (v w : V) (bytes : List ℕ) → Spells layout v bytes → Spells layout w bytes → v ≡ w }
-    ensures one_fault { (layout : Layout V) (bytes : List ℕ) (fault other : ReadFault) → HasFault layout bytes 0 fault → HasFault layout bytes 0 other → fault ≡ other }
-    ensures no_longer { (layout : Layout V) (v w : V) (a b : List ℕ) → Spells layout v a → Spells layout w (a ++ b) → (b ≡ []) × (v ≡ w) }
-    ensures value_read { (layout : Layout V) (v : V) (bytes : List ℕ) → Spells layout v bytes ↔ whole bytes (read layout bytes 0) ≡ Ok v }
-    ensures fault_read { (layout : Layout V) (fault : ReadFault) (bytes : List ℕ) → HasFault layout bytes 0 fault ↔ whole bytes (read layout bytes 0) ≡ Err fault }
-    ensures found { (layout : Layout V) (v : V) (before a after : List ℕ) → Spells layout v a → read layout (before ++ (a ++ after)) (length before) ≡ Ok (v, length before + length a) }
-    ensures stands { (layout : Layout V) (v : V) (bytes : List ℕ) (place next : ℕ) → place ≤ length bytes → read layout bytes place ≡ Ok (v, next) → (a : List ℕ) × (after : List ℕ) × (drop place bytes ≡ a ++ after) × (next ≡ place + length a) × Spells layout v a }
+    ensures either { (layout : Layout V) (bytes : List ℕ) →
+        ((v : V) × Spells layout v bytes) ⊎ ((fault : ReadFault) × HasFault layout bytes 0 fault) }
+    ensures not_both { (layout : Layout V) (v : V) (bytes : List ℕ) (fault : ReadFault) →
+        Spells layout v bytes → HasFault layout bytes 0 fault → ⊥ }
+    ensures one_value { (layout : Layout V) (v w : V) (bytes : List ℕ) →
+        Spells layout v bytes → Spells layout w bytes → v ≡ w }
+    ensures one_fault { (layout : Layout V) (bytes : List ℕ) (fault other : ReadFault) →
+        HasFault layout bytes 0 fault → HasFault layout bytes 0 other → fault ≡ other }
+    ensures no_longer { (layout : Layout V) (v w : V) (a b : List ℕ) →
+        Spells layout v a → Spells layout w (a ++ b) → (b ≡ []) × (v ≡ w) }
+    ensures value_read { (layout : Layout V) (v : V) (bytes : List ℕ) →
+        Spells layout v bytes ↔ (read_all layout bytes ≡ Ok v) }
+    ensures fault_read { (layout : Layout V) (fault : ReadFault) (bytes : List ℕ) →
+        HasFault layout bytes 0 fault ↔ (read_all layout bytes ≡ Err fault) }
+    ensures found { (layout : Layout V) (v : V) (before own after : List ℕ) → Spells layout v own →
+        read layout (before ++ (own ++ after)) (length before) ≡ Ok (v, length before + length own) }
+    ensures stands { (layout : Layout V) (v : V) (bytes : List ℕ) (place next : ℕ) → place ≤ length bytes →
+        read layout bytes place ≡ Ok (v, next) → StandsAt layout v bytes place next }
 {}
 
 /// What holds of a layout of values V, and of one of values W that follows it and depends on the
@@ -36,10 +45,15 @@ pub fn layout_laws<V>()
 ///   (`one_spelling`).
 /// - A reader that gives what reading to the end gives, seen as a V, reads the layout (`reader`).
 pub fn following_laws<V, W>()
-    ensures in_turn { (first : Layout V) (next : V → Layout W) (w : W) (bytes : List ℕ) → Spells (followed_by first next) w bytes ↔ InTurn first next w bytes }
-    ensures read_on { (first : Layout V) (next : V → Layout W) (bytes : List ℕ) (place : ℕ) → read (followed_by first next) bytes place ≡ and_then (read first bytes place) (λ x. read (next x.0) bytes x.1) }
-    ensures one_spelling { (first : Layout V) (next : V → Layout W) (of : W → V) → OneSpelling first → ((v : V) → OneSpelling (next v)) → ((v : V) → Shows (next v) of v) → OneSpelling (followed_by first next) }
-    ensures reader { (layout : Layout V) (view : W → V) (bytes : List ℕ) (result : Result W ReadFault) → Gives view result (whole bytes (read layout bytes 0)) → Reads layout view bytes result }
+    ensures in_turn { (first : Layout V) (next : V → Layout W) (w : W) (bytes : List ℕ) →
+        Spells (followed_by first next) w bytes ↔ InTurn first next w bytes }
+    ensures read_on { (first : Layout V) (next : V → Layout W) (bytes : List ℕ) (place : ℕ) →
+        read (followed_by first next) bytes place
+        ≡ and_then (read first bytes place) (λ x. read (next x.0) bytes x.1) }
+    ensures one_spelling { (first : Layout V) (next : V → Layout W) (of : W → V) → OneSpelling first →
+        ((v : V) → OneSpelling (next v)) → ((v : V) → Shows (next v) of v) → OneSpelling (followed_by first next) }
+    ensures reader { (layout : Layout V) (view : W → V) (bytes : List ℕ) (result : Result W ReadFault) →
+        Gives view result (read_all layout bytes) → Reads layout view bytes result }
 {}
 
 #[cfg(test)]

@@ -7,6 +7,16 @@
 //! Its contract for the crates above: a code names exactly one type, a cursor hands out exactly the
 //! field that the layout names, or its fault, levels are 1 to 8, and a text is that of one spec or of
 //! none.
+//!
+//! ```rust
+//! use typecodes::{Cursor, LmsType};
+//!
+//! // a type's code and a number
+//! let mut cursor = Cursor::new(&[0, 0, 0, 5, 0, 0, 1, 2]);
+//! assert_eq!(rt; cursor.lms_type(), Ok(LmsType::H5));
+//! assert_eq!(rt; cursor.number(), Ok(0x0102));
+//! assert_eq!(rt; cursor.end(), Ok(()));
+//! ```
 #![tactic(auto)]
 
 mod coefficient;

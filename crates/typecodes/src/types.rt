@@ -2,7 +2,8 @@
 //! for SHA-256 with n = 32.
 
 ghost use Rattle.std.specs.Prelude.{◌≡◌, ◌≢◌, ◌≤◌, ◌↔◌, All, IfSome};
-ghost use Rattle.typecodes.specs.Types.{IsWidth, chains_of, ots_code, ots_of_code, ots_types, signature_len_of, width_of};
+ghost use Rattle.typecodes.specs.Types.{IsWidth, chains_of, ots_code, ots_of_code, ots_types};
+ghost use Rattle.typecodes.specs.Types.{signature_len_of, width_of};
 ghost use Rattle.typecodes.specs.Types.{height_of, lms_code, lms_of_code, lms_signature_len_of, lms_types};
 ghost use Rattle.typecodes.specs.Types.{xmss_code, xmss_height_of, xmss_of_code, xmss_signature_len_of, xmss_types};
 

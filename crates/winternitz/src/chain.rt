@@ -13,7 +13,8 @@ pub trait Step {
         ensures { result ≡ step_of self.now chain at value.now };
 }
 
-/// The value after the steps from, .., to - 1 of a chain (RFC 8554 4.3, RFC 8391 3.1.2). The caller keeps from at most to.
+/// The value after the steps from, .., to - 1 of a chain (RFC 8554 4.3, RFC 8391 3.1.2). The caller keeps `from` at
+/// most `to`.
 pub fn climb<S: Step>(step: &S, chain: u16, from: u8, to: u8, value: &[u8; 32]) -> [u8; 32]
     requires { from ≤ to }
     ensures { result ≡ walk (S.step_of step.now) chain from to value.now }
@@ -24,3 +25,6 @@ pub fn climb<S: Step>(step: &S, chain: u16, from: u8, to: u8, value: &[u8; 32]) 
     }
     value
 }
+
+#[cfg(test)]
+mod tests;

@@ -15,3 +15,6 @@ pub fn chain_law()
     ensures lm_ots { (ots : OtsType) → chains_of ots ≡ digit_count (width_of ots) }
     ensures xmss { (t : XmssType) → xmss_signature_len_of t ≡ 4 + 32 + 32 * digit_count 4 + 32 * xmss_height_of t }
 {}
+
+#[cfg(test)]
+mod tests;

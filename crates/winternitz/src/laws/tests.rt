@@ -1,0 +1,6 @@
+use crate::chain_law;
+
+#[test]
+fn laws() {
+    chain_law();
+}
