@@ -19,7 +19,8 @@ use Rattle.typecodes.proofs.Steps.{ends-spelled}
 use Rattle.lms.specs.declared.key.LmsPublic.{LmsPublic}
 use Rattle.lms.specs.Signature.{Signature as LmsSignature, signature as lms_signature}
 use Rattle.lms.specs.Key.{public_key as lms_public_key}
-use Rattle.lms.proofs.Parts.{in_turn, laid_out, part_read}
+use Rattle.typecodes.proofs.Parts.{in_turn, part_read}
+use Rattle.lms.proofs.Parts.{laid_out}
 use Rattle.hss.specs.Bytes.{signature_size}
 use Rattle.hss.specs.Ends.{end_of}
 use Rattle.hss.specs.Spelled.{read_value, spelled_by}

@@ -1,6 +1,6 @@
 use Rattle.std.proofs.Common.{◌≡◌, ◌-◌, sym, ◌∙◌, subst, Err, arith, rules}
 use Rattle.typecodes.specs.Layout.{Spells}
-use Rattle.lms.proofs.Comparing.{read_spells}
+use Rattle.typecodes.proofs.WasRead.{read_spells}
 use Rattle.hss.specs.Layouts.{signature}
 use Rattle.hss.specs.Levels.{level_count}
 use Rattle.hss.specs.Verdict.{Verdict}
