@@ -3,10 +3,9 @@
 ghost use Rattle.std.specs.Prelude.{◌≡◌, ◌+◌, ◌<◌, ◌≤◌, ◌^◌, ℕ, List, ◌++◌, Some, length, take};
 ghost use Rattle.typecodes.specs.Layout.{Spells};
 ghost use Rattle.typecodes.specs.Types.{height_of, lms_code, lms_of_code, ots_code, ots_of_code};
-ghost use Rattle.lmots.specs.Key.{message_digest_of};
 ghost use Rattle.lms.specs.Key.{public_key};
 ghost use Rattle.lms.specs.Signature.{signature};
-ghost use Rattle.lms.specs.Secret.{path_in, public_of};
+ghost use Rattle.lms.specs.Secret.{digest_in, path_in, public_of};
 ghost use Rattle.lms.specs.Writing.{public_bytes, signature_bytes, signature_size, signed};
 ghost use Rattle.lms.specs.Verification.{IsValid};
 
@@ -45,9 +44,10 @@ pub fn write_signature(
     // They spell the signature.
     ensures spells { Spells signature (signed secret.now leaf randomizer.now digest.now path.now) into.new }
     // Where the digest is a message's and the path is the leaf's, the signature is valid.
-    ensures valid { (message : List ℕ) → digest.now ≡ message_digest_of secret.now.identifier leaf randomizer.now message
-        → path.now ≡ path_in secret.now leaf
-        → IsValid (public_of secret.now) message (signed secret.now leaf randomizer.now digest.now path.now) }
+    ensures valid { (message : List ℕ) →
+        digest.now ≡ digest_in secret.now leaf randomizer.now message →
+        path.now ≡ path_in secret.now leaf →
+        IsValid (public_of secret.now) message (signed secret.now leaf randomizer.now digest.now path.now) }
 {
     let key = LmOts {
         identifier: secret.identifier,

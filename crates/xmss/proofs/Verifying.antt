@@ -1,4 +1,4 @@
--- What a signature that was read tells of it.
+-- What is known of a signature that was read.
 use Rattle.std.proofs.Common.{◌≡◌, ◌<◌, ◌^◌, ℕ, List, Result, Ok, length, ap, subst, ◌∙◌}
 use Rattle.std.specs.Prelude.{IfOk, MatchResult}
 use Rattle.typecodes.specs.declared.fault.ReadFault.{ReadFault}

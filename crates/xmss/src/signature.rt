@@ -1,6 +1,7 @@
 //! Signatures, as views of their bytes.
 
-ghost use Rattle.std.specs.Prelude.{◌≡◌, ◌+◌, ◌*◌, ◌<◌, ◌^◌, [], length, take, drop, slice_index_or, OnErr, OnOk, IfOk, Ok};
+ghost use Rattle.std.specs.Prelude.{◌≡◌, ◌+◌, ◌*◌, ◌<◌, ◌^◌, IfOk, OnErr, OnOk, Ok};
+ghost use Rattle.std.specs.Prelude.{[], length, take, drop, slice_index_or};
 ghost use Rattle.byteorder.specs.Endian.{big_number};
 ghost use Rattle.typecodes.specs.Layout.{Spells};
 ghost use Rattle.typecodes.specs.Fields.{values_in};
@@ -60,7 +61,7 @@ impl<'a> XmssSigView<'a> {
         })
     }
 
-    /// idx, the index of its leaf.
+    /// idx, its leaf.
     pub fn index(&self) -> u32
         ensures value { result ≡ (signature_of self.now).index }
         ensures range { result ≡ big_number 4 (take 4 (bytes_of self.now)) }

@@ -13,9 +13,9 @@ use Rattle.xmss.proofs.writing.write_signature.Goals as goal
 pub returns : goal.returns
 returns c =
     let secret = c.args.secret.now in
-    let s : Signature = signed secret c.args.index c.args.digest.now c.args.path.now in
+    let s : Signature = signed secret c.args.leaf c.args.digest.now c.args.path.now in
     let end = c.put-place-2.result + 32 * 67 in
-    let values = c.sign_digest.ensures.value ∙ ap (λ seed. concat (signed_values seed c.args.index secret.secret_seed c.args.digest.now)) c.new-seed.ensures in
+    let values = c.sign_digest.ensures.value ∙ ap (λ seed. concat (signed_values seed c.args.leaf secret.secret_seed c.args.digest.now)) c.new-seed.ensures in
     let written : c.put.new.into ≡ signature_bytes s =
     let leaf = c.put-place.ensures.bytes ∙ c.to_be_bytes.ensures in
     let randomizer = next_part _ _ _ _ _ _ _ leaf c.put-place-2.ensures.bytes c.randomizer.ensures in
@@ -26,6 +26,6 @@ returns c =
     record {
       bytes = written;
       spells = subst (Spells (signature secret.tree) s) (sym written)
-          (signed_spelled secret c.args.index c.args.digest.now c.args.path.now c.requires.inside c.requires.path (λ i within. c.told-path i (omega arith)));
-      valid = λ message digest path. signed_valid secret c.args.index message _ _ c.requires.inside digest path;
+          (signed_spelled secret c.args.leaf c.args.digest.now c.args.path.now c.requires.inside c.requires.path (λ i within. c.told-path i (omega arith)));
+      valid = λ message digest path. signed_valid secret c.args.leaf message _ _ c.requires.inside digest path;
     }
