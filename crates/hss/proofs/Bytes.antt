@@ -18,7 +18,7 @@ use Rattle.lms.specs.declared.key.LmsPublic.{LmsPublic}
 use Rattle.lms.specs.Signature.{Signature as LmsSignature, signature as lms_signature}
 use Rattle.lms.specs.Key.{public_key as lms_public_key}
 use Rattle.lms.specs.Writing.{public_bytes as lms_public_bytes, signature_bytes as lms_signature_bytes}
-use Rattle.lms.proofs.SigningBytes.{last_field, number_spelled}
+use Rattle.typecodes.proofs.FieldBytes.{last_field, number_spelled}
 use Rattle.hss.specs.declared.key.HssPublic.{HssPublic}
 use Rattle.hss.specs.declared.secret.Level.{Level}
 use Rattle.hss.specs.Key.{level_number, public_key}

@@ -1,11 +1,11 @@
 -- The ends of chains, fed to a hasher one after the other.
-use Rattle.std.proofs.Common.{◌≡◌, ◌∙◌, sym, ℕ, ◌+◌, List, [], ◌∷◌, ◌++◌, map, length, refl, ap, arith, append_assoc}
+use Rattle.std.proofs.Common.{◌≡◌, ◌∙◌, sym, ℕ, ◌+◌, List, ◌++◌, map, length, refl, ap, append_assoc}
 use Rattle.std.specs.List.{concat, range_with_len}
 use Rattle.std.proofs.lemmas.List.{append-nil}
-use Rattle.std.proofs.lemmas.List.FromFn.{map-range_with_len_more}
 use Rattle.winternitz.specs.Chain.{end_of, ends_of, Steps}
+use Rattle.winternitz.proofs.Concatenated.{concat_more}
 
--- what a hasher holds, once it has taken n ends behind the head
+-- what a hasher contains, once it has taken n ends after the head
 pub fed : List ℕ → (ℕ → List ℕ) → ℕ → List ℕ
 fed head end n = head ++ concat (map end (range_with_len 0 n))
 
@@ -14,19 +14,13 @@ pub fed_none : (head : List ℕ) (end : ℕ → List ℕ) → head ≡ fed head 
 unfolding fed
 fed_none head end = sym (append-nil head)
 
--- a part put behind others stands last among the joined
-concat_more : (parts : List (List ℕ)) (part : List ℕ) → concat (parts ++ part ∷ []) ≡ concat parts ++ part
-concat_more [] part = append-nil part
-concat_more (first ∷ parts) part =
-    ap (λ rest. first ++ rest) (concat_more parts part) ∙ sym (append_assoc first (concat parts) part)
-
 -- one end more
 pub fed_more : (head : List ℕ) (end : ℕ → List ℕ) (n : ℕ) (part : List ℕ) → part ≡ end n
     → fed head end n ++ part ≡ fed head end (n + 1)
 unfolding fed
 fed_more head end n part e =
-    rw (map-range_with_len_more end 0 n n (omega arith), concat_more, ← e)
-    (append_assoc head (concat (map end (range_with_len 0 n))) part)
+    append_assoc head (concat (map end (range_with_len 0 n))) part
+    ∙ ap (λ rest. head ++ rest) (ap (λ last. concat (map end (range_with_len 0 n)) ++ last) e ∙ sym (concat_more end n))
 
 -- after the last one it is the head and all ends
 pub fed_all : (head : List ℕ) (end : ℕ → List ℕ) (n all : ℕ) → n ≡ all

@@ -1,9 +1,22 @@
 //! LM-OTS, the one-time signatures of RFC 8554, section 4, for SHA-256 with n = 32.
 //!
-//! Its model is `specs/Key.antt`: the standard's hashes, each as a formula over SHA-256. Its
-//! contract for the crates above: `hash_from_signature` gives the public hash of the chain ends to
-//! which a signature's values lead, and `public_hash` that of the ends to which a seed's do.
-//! `sign_digest` writes the values of a seed's signature, which climb to the seed's ends.
+//! Its model is `specs/Key.antt`: the standard's hashes, each as a formula over SHA-256. Its contract
+//! for the crates above: `hash_from_signature` gives the public hash of the chain ends to which a
+//! signature's values lead, and `public_hash` that of the ends to which a seed's do. `sign_digest`
+//! writes the values of a seed's signature, which climb to the seed's ends.
+//!
+//! ```rust
+//! use lmots::LmOts;
+//! use typecodes::OtsType;
+//!
+//! // the key of leaf 5 of the tree with this identifier
+//! let key = LmOts { identifier, leaf: 5 };
+//! let digest = key.message_digest(&randomizer, b"message");
+//! let mut values = [0; 32 * 34];
+//! key.sign_digest(OtsType::W8, &seed, &digest, &mut values);
+//! let hash = key.hash_from_signature(OtsType::W8, &digest, values.as_chunks().0);
+//! assert_eq!(rt; hash, key.public_hash(OtsType::W8, &seed));
+//! ```
 #![tactic(auto)]
 
 mod hashes;

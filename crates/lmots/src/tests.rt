@@ -187,7 +187,7 @@ fn a_real_signature_leads_to_the_public_hash(rt: HostRuntime) {
     );
 }
 
-// The values of the signature of a digest by the key of leaf 5, joined, have this digest: H(value 0 ||
+// The values of the signature of a digest by the key of leaf 5, concatenated, have this digest: H(value 0 ||
 // .. || value p-1), where value i is private value i after the steps 0, .., digit i - 1.
 fn assert_signs(rt: &impl Abort, ots: OtsType, expected: [u8; 32]) {
     let mut bytes = [0; 32 * 265];

@@ -1,23 +1,12 @@
--- What a signature that was read, and the comparison of its types, tell of it.
-use Rattle.std.proofs.Common.{◌≡◌, ℕ, Bool, true, false, List, Result, Ok, Err, refl, sym, ap, ap₂, subst, rules}
-use Rattle.std.specs.Prelude.{not, ◌&&◌, MatchResult}
+-- What the comparison of two pairs of types says of them.
+use Rattle.std.proofs.Common.{◌≡◌, Bool, true, false, refl, ap, ap₂, rules}
+use Rattle.std.specs.Prelude.{not, ◌&&◌}
 use denote.Enum.Bare.{same_true, sameb, true_same}
 use Rattle.typecodes.specs.contracts.types.LmsType.{the_type as tree_type}
 use Rattle.typecodes.specs.contracts.types.OtsType.{the_type as ots_type}
 use Rattle.typecodes.specs.declared.types.LmsPair.{LmsPair}
 use Rattle.typecodes.specs.declared.types.LmsType.{LmsType}
 use Rattle.typecodes.specs.declared.types.OtsType.{OtsType}
-use Rattle.typecodes.specs.declared.fault.ReadFault.{ReadFault}
-use Rattle.typecodes.specs.Layout.{Layout, Spells}
-use Rattle.typecodes.specs.Cursor.{Reads}
-
--- the bytes from which a value was read spell it, whatever was made of the reader's faults
-pub read_spells : {V X : Type 0} (E : Type 0) (layout : Layout V) (view : X → V) (bytes : List ℕ) (result : Result X ReadFault) (x : X) (Q : ReadFault → Type 0)
-    → Reads layout view bytes result → MatchResult result (λ y. ◌≡◌ {A = Result X E} (Ok x) (Ok y)) Q → ((fault : ReadFault) → Q fault → ⊥) → Spells layout (view x) bytes
-read_spells E layout view bytes (Ok y) x Q reads same never =
-    let e : x ≡ y = cc in
-    subst (λ z. Spells layout (view z) bytes) (sym e) reads
-read_spells E layout view bytes (Err fault) x Q reads same never = absurd (never fault same)
 
 -- where the test for a difference of two parts is false, both are the same
 both_true : (a b : Bool) → false ≡ not (a && b) → (a ≡ true) × (b ≡ true)

@@ -5,6 +5,6 @@ pub mod Comparing
 pub mod OneWay
 pub mod Verdicts
 pub mod Signing
-pub mod Behind
+pub mod After
 pub mod SigningBytes
 pub mod Parts

@@ -1,11 +1,9 @@
 -- The textbook signature is valid.
-use Rattle.std.proofs.Common.{◌≡◌, ◌∙◌, refl, ap, ℕ, ◌<◌, ◌^◌, List, length, arith}
+use Rattle.std.proofs.Common.{◌≡◌, refl, ℕ, ◌<◌, ◌^◌, List}
 use Rattle.std.proofs.lemmas.List.FromFn.{length-map-range_with_len}
 use Rattle.typecodes.specs.Types.{chains_of, height_of}
-use Rattle.merkle.specs.Ascent.{at}
-use Rattle.merkle.specs.Tree.{root_of}
-use Rattle.merkle.proofs.Climb.{climbed_is_ascent, climbed_nodes, climbed_nodes_at}
-use Rattle.merkle.proofs.Leading.{climbed_to_root}
+use Rattle.merkle.proofs.Climb.{climbed_is_ascent, climbed_nodes}
+use Rattle.merkle.proofs.Paths.{path_ends, path_long}
 use Rattle.lmots.specs.Key.{ends_of_seed, message_digest_of}
 use Rattle.lmots.proofs.Signing.{signed_climbs}
 use Rattle.lms.specs.declared.secret.LmsSecret.{LmsSecret}
@@ -13,33 +11,22 @@ use Rattle.lms.specs.Secret.{joins_of, leaves_of, path_in, public_of}
 use Rattle.lms.specs.Writing.{signed, textbook}
 use Rattle.lms.specs.Verification.{IsValid}
 
--- the nodes above leaf q along its path end at the root
-path_ends : (secret : LmsSecret) (q : ℕ) → q < 2 ^ height_of secret.pair.tree
-    → at (climbed_nodes (joins_of secret) q (leaves_of secret q) (path_in secret q)) (height_of secret.pair.tree)
-    ≡ root_of (leaves_of secret) (joins_of secret) (height_of secret.pair.tree)
-path_ends secret q inside =
-    let h = height_of secret.pair.tree in
-    let path = path_in secret q in
-    let long : length path ≡ h = length-map-range_with_len _ 0 h in
-    climbed_nodes_at (joins_of secret) q (leaves_of secret q) path h (omega arith)
-    ∙ climbed_to_root (leaves_of secret) (joins_of secret) h q (leaves_of secret q) path inside refl refl
-
 -- The textbook signature of a message is valid under the secret's public key.
 pub textbook_valid : (secret : LmsSecret) (q : ℕ) (randomizer message : List ℕ) → q < 2 ^ height_of secret.pair.tree
     → IsValid (public_of secret) message (textbook secret q randomizer (message_digest_of secret.identifier q randomizer message))
 textbook_valid secret q randomizer message inside =
-    let long : length (path_in secret q) ≡ height_of secret.pair.tree = length-map-range_with_len _ 0 (height_of secret.pair.tree) in
+    let h = height_of secret.pair.tree in
     record {
       types = refl;
       chains = length-map-range_with_len _ 0 (chains_of secret.pair.ots);
       leaf = inside;
-      height = long;
+      height = path_long (leaves_of secret) (joins_of secret) h q;
       leads = record {
         ends = ends_of_seed secret.identifier q secret.pair.ots secret.seed;
         climbed = signed_climbs secret.identifier q secret.pair.ots secret.seed (message_digest_of secret.identifier q randomizer message);
         nodes = climbed_nodes (joins_of secret) q (leaves_of secret q) (path_in secret q);
         ascent = climbed_is_ascent (joins_of secret) q (leaves_of secret q) (path_in secret q);
-        last = ap (at (climbed_nodes (joins_of secret) q (leaves_of secret q) (path_in secret q))) long ∙ path_ends secret q inside;
+        last = path_ends (leaves_of secret) (joins_of secret) h q inside;
       };
     }
 

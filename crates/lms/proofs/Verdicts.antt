@@ -1,4 +1,4 @@
--- The answers of verification are told by the key, the message and the bytes alone.
+-- The key, the message and the bytes alone decide the answers of verification.
 use Rattle.std.proofs.Common.{◌≡◌, ℕ, List, Result, Ok, Err, refl, sym, ap, subst, ◌∙◌}
 use Rattle.std.specs.Prelude.{IsOk}
 use Rattle.typecodes.specs.Layout.{Spells}

@@ -1,9 +1,9 @@
--- What a secret makes: the leaves of its tree, the nodes above them, its public key and the authentication paths
--- (RFC 8554 4.3, 5.2, 5.3 and Appendix A); and what callers see of its tree.
+-- What a secret makes: the leaves of its tree, the nodes above them, its public key, the authentication paths and the
+-- digests (RFC 8554 4.3, 4.5, 5.2, 5.3 and Appendix A); and what callers see of its tree.
 use Rattle.std.specs.Prelude.{ℕ, List}
 use Rattle.typecodes.specs.Types.{height_of}
 use Rattle.merkle.specs.Tree.{Joins, Leaves, path_of, root_of}
-use Rattle.lmots.specs.Key.{ends_of_seed, public_hash}
+use Rattle.lmots.specs.Key.{ends_of_seed, message_digest_of, public_hash}
 use Rattle.lms.specs.declared.key.LmsPublic.{LmsPublic}
 use Rattle.lms.specs.declared.secret.LmsSecret.{LmsSecret}
 use Rattle.lms.specs.declared.secret.LmsTree.{LmsTree}
@@ -18,17 +18,21 @@ leaves_of secret q = leaf_hash secret.identifier (height_of secret.pair.tree) q
 abbrev pub joins_of : LmsSecret → Joins
 joins_of secret = join_of secret.identifier (height_of secret.pair.tree)
 
+-- the root of the tree
+abbrev pub root_in : LmsSecret → List ℕ
+root_in secret = root_of (leaves_of secret) (joins_of secret) (height_of secret.pair.tree)
+
 -- the public key
 abbrev pub public_of : LmsSecret → LmsPublic
-public_of secret = record {
-  pair = secret.pair;
-  identifier = secret.identifier;
-  root = root_of (leaves_of secret) (joins_of secret) (height_of secret.pair.tree);
-}
+public_of secret = record { pair = secret.pair; identifier = secret.identifier; root = root_in secret }
 
 -- the authentication path of leaf q
 abbrev pub path_in : LmsSecret → ℕ → List (List ℕ)
 path_in secret q = path_of (leaves_of secret) (joins_of secret) (height_of secret.pair.tree) q
+
+-- the digest Q of a message that leaf q signs with the randomizer C
+abbrev pub digest_in : LmsSecret → ℕ → List ℕ → List ℕ → List ℕ
+digest_in secret q randomizer message = message_digest_of secret.identifier q randomizer message
 
 -- how many leaves of a tree were made
 abbrev pub leaves_made : LmsTree → ℕ

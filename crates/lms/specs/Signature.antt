@@ -20,12 +20,12 @@ abbrev pub signature_with : LmsPair → ℕ → List ℕ → List (List ℕ) →
 signature_with pair index randomizer chains path =
     record { pair = pair; index = index; randomizer = randomizer; chains = chains; path = path }
 
--- how many bytes the tree's type ends behind the start of a signature
+-- how many bytes after the start of a signature the tree's type ends
 abbrev pub type_end : OtsType → ℕ
 type_end ots = 4 + signature_len_of ots + 4
 
 -- A signature (5.4): q, the one-time signature (4.5) with its type, C and its values, the tree's
--- type, and the path. That q is a leaf of the tree is told once the tree's type is read, at q.
+-- type, and the path. That q is no leaf of the tree is a fault once the tree's type is read, at q.
 unfoldable pub signature : Layout Signature
 signature = do
   index ← number
@@ -34,4 +34,4 @@ signature = do
   chains ← values (chains_of ots)
   tree ← lms_type
   path ← if nat_lt index (2 ^ height_of tree) then values (height_of tree) else refuse (type_end ots) LeafOutOfRange
-  done (record { pair = record { tree = tree; ots = ots }; index = index; randomizer = randomizer; chains = chains; path = path })
+  done (signature_with (record { tree = tree; ots = ots }) index randomizer chains path)

@@ -24,17 +24,18 @@ impl LmsPublic {
     #[tactic(auto, using(typecodes::proofs::Steps::reading), unfolding(crate::specs::Key::public_key))]
     pub fn from_cursor(cursor: &mut Cursor<'_>) -> Result<Self, ReadFault>
         requires { cursor.old.place + 56 < 2 ^ 32 }
-        ensures read { Gives (λ key. (key, cursor.new.place)) result (read public_key cursor.old.bytes.now cursor.old.place) }
+        ensures read { Gives (λ key. (key, cursor.new.place)) result
+            (read public_key cursor.old.bytes.now cursor.old.place) }
         ensures len { OnOk result (cursor.new.place ≡ cursor.old.place + 56) }
         ensures bytes { cursor.new.bytes ≡ cursor.old.bytes }
         ensures err { OnErr result (cursor.new.place ≡ cursor.old.place) }
     {
-        let mut behind = *cursor;
-        let tree = behind.lms_type()?;
-        let ots = behind.ots_type()?;
-        let identifier = *behind.array()?;
-        let root = *behind.array()?;
-        *cursor = behind;
+        let mut rest = *cursor;
+        let tree = rest.lms_type()?;
+        let ots = rest.ots_type()?;
+        let identifier = *rest.array()?;
+        let root = *rest.array()?;
+        *cursor = rest;
         Ok(LmsPublic {
             pair: LmsPair { tree, ots },
             identifier,

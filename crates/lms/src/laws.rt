@@ -1,28 +1,29 @@
 //! Laws of spellings and of verdicts. The functions do nothing: what their contracts say is proved of
 //! every key and every signature.
 
-ghost use Rattle.std.specs.Prelude.{◌≡◌, List, [], ◌++◌, ℕ, Result, Err, IsOk};
-ghost use Rattle.typecodes.specs.Layout.{Spells, OneSpelling};
-ghost use Rattle.lms.specs.declared.key.LmsPublic.{LmsPublic};
+ghost use Rattle.std.specs.Prelude.{◌≡◌, List, ℕ, Result, Err, IsOk};
+ghost use Rattle.typecodes.specs.Layout.{Spells};
+ghost use Rattle.typecodes.specs.Unambiguous.{IsUnambiguous};
 ghost use Rattle.typecodes.specs.declared.refusal.Refusal.{Refusal};
-ghost use Rattle.lms.specs.Signature.{Signature, signature};
+ghost use Rattle.lms.specs.declared.key.LmsPublic.{LmsPublic};
 ghost use Rattle.lms.specs.Key.{public_key};
+ghost use Rattle.lms.specs.Signature.{Signature, signature};
 ghost use Rattle.lms.specs.Verification.{IsValid, Verdict};
 
 /// What holds of the spellings of public keys and of signatures: no value has two, no bytes spell two
 /// values, and no spelling begins another.
 pub fn spelling_laws()
-    ensures key_once { OneSpelling public_key }
-    ensures one_key { (key other : LmsPublic) (a : List ℕ) → Spells public_key key a → Spells public_key other a → key ≡ other }
-    ensures no_longer_key { (key other : LmsPublic) (a b : List ℕ) → Spells public_key key a → Spells public_key other (a ++ b) → b ≡ [] }
-    ensures signature_once { OneSpelling signature }
-    ensures one_signature { (s other : Signature) (a : List ℕ) → Spells signature s a → Spells signature other a → s ≡ other }
-    ensures no_longer_signature { (s other : Signature) (a b : List ℕ) → Spells signature s a → Spells signature other (a ++ b) → b ≡ [] }
+    ensures keys { IsUnambiguous public_key }
+    ensures signatures { IsUnambiguous signature }
 {}
 
 /// What holds of the answers of verification: bytes that spell a valid signature are refused by none
 /// (`accepted`), and no bytes have two refusals (`one_refusal`).
 pub fn verdict_laws()
-    ensures accepted { (key : LmsPublic) (message bytes : List ℕ) (result : Result (Unit {0}) Refusal) → Verdict key message bytes result → (s : Signature) → Spells signature s bytes → IsValid key message s → IsOk result }
-    ensures one_refusal { (key : LmsPublic) (message bytes : List ℕ) (first second : Refusal) → Verdict {A = Unit {0}} key message bytes (Err first) → Verdict {A = Unit {0}} key message bytes (Err second) → first ≡ second }
+    ensures accepted { (key : LmsPublic) (message bytes : List ℕ) (result : Result (Unit {0}) Refusal) →
+        Verdict key message bytes result →
+        (s : Signature) → Spells signature s bytes → IsValid key message s → IsOk result }
+    ensures one_refusal { (key : LmsPublic) (message bytes : List ℕ) (first second : Refusal) →
+        Verdict {A = Unit {0}} key message bytes (Err first) →
+        Verdict {A = Unit {0}} key message bytes (Err second) → first ≡ second }
 {}

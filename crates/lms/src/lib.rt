@@ -1,10 +1,22 @@
-//! LMS keys, signatures and their verification (RFC 8554, section 5), for SHA-256 with m = 32.
+//! LMS keys, signatures, verification and signing (RFC 8554, section 5), for SHA-256 with m = 32.
 //!
 //! Its model is `specs/Key.antt` and `specs/Signature.antt`, how keys and signatures are spelled, and
-//! `specs/Verification.antt`, which signatures are valid. Its contract for the crates above: `verify` is Ok exactly on the
-//! spellings of valid signatures, and else tells the first refusal; `LmsSigView::verify` does the same
-//! for a signature that was read, as that of a level of HSS. That keys and signatures are spelled in one
-//! way, and that an answer of `verify` is the only one, stands on `spelling_laws` and `verdict_laws`.
+//! `specs/Verification.antt`, which signatures are valid. Its contract for the crates above: `verify` is
+//! Ok exactly on the spellings of valid signatures, and else reports the first refusal;
+//! `LmsSigView::verify` does the same for a signature that was read, as that of a level of HSS; what
+//! `write_signature` writes is the textbook signature of `specs/Writing.antt`, which is valid. That keys
+//! and signatures are spelled in one way, and that an answer of `verify` is the only one, stands on
+//! `spelling_laws` and `verdict_laws`.
+//!
+//! ```rust
+//! use lms::{LmsPublic, verify};
+//! use typecodes::Refusal;
+//!
+//! // 56 bytes of a key; a message, and the bytes of its signature
+//! let key = LmsPublic::read(&public).map_err(Refusal::Unreadable)?;
+//! let mut rest: &[u8] = b"message";
+//! verify(&key, &mut rest, &signature)?;
+//! ```
 #![tactic(auto)]
 
 mod key;

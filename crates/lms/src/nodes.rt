@@ -21,11 +21,11 @@ pub struct Nodes {
 }
 
 impl Nodes {
-    /// Leaf q, of its one-time key's public hash.
-    pub fn leaf(&self, q: u32, public_hash: &[u8; 32]) -> [u8; 32]
-        ensures { result ≡ leaf_hash self.now.identifier self.now.height q public_hash.now }
+    /// The node of a leaf, of its one-time key's public hash.
+    pub fn leaf(&self, leaf: u32, public_hash: &[u8; 32]) -> [u8; 32]
+        ensures { result ≡ leaf_hash self.now.identifier self.now.height leaf public_hash.now }
     {
-        let mut hasher = self.hasher(self.number(0, q), LEAF);
+        let mut hasher = self.hasher(self.number(0, leaf), LEAF);
         hasher.update(public_hash);
         hasher.finalize()
     }

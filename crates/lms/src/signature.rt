@@ -1,6 +1,7 @@
 //! Signatures, as views of their bytes.
 
-ghost use Rattle.std.specs.Prelude.{◌≡◌, ◌+◌, ◌-◌, ◌*◌, ◌<◌, ◌^◌, [], length, take, drop, slice_index_or, IfOk, OnErr, Ok};
+ghost use Rattle.std.specs.Prelude.{◌≡◌, ◌+◌, ◌-◌, ◌*◌, ◌<◌, ◌^◌, IfOk, OnErr, Ok};
+ghost use Rattle.std.specs.Prelude.{[], length, take, drop, slice_index_or};
 ghost use Rattle.byteorder.specs.Endian.{big_number};
 ghost use Rattle.typecodes.specs.Layout.{Spells};
 ghost use Rattle.typecodes.specs.Fields.{values_in};
@@ -22,7 +23,8 @@ pub struct LmsSigView<'a> {
     ghost inside: { index < 2 ^ height_of pair.tree },
     ghost chain_count: { length chains.now ≡ chains_of pair.ots },
     ghost path_length: { length path.now ≡ height_of pair.tree },
-    ghost spelled: { read signature bytes.now 0 ≡ Ok (signature_with pair index randomizer.now chains.now path.now, length bytes.now) },
+    ghost spelled: { read signature bytes.now 0
+        ≡ Ok (signature_with pair index randomizer.now chains.now path.now, length bytes.now) },
     ghost size: { length bytes.now ≡ lms_signature_len_of pair },
     ghost index_at: { index ≡ big_number 4 (take 4 bytes.now) },
     ghost randomizer_at: { randomizer.now ≡ take 32 (drop 8 bytes.now) },
@@ -34,33 +36,35 @@ impl<'a> LmsSigView<'a> {
     ghost use Rattle.lms.specs.View.{bytes_of, lent_of, pair_of, signature_of};
 
     /// The signature at a cursor: q, the one-time type, C, a value for each chain, the tree's type and
-    /// the path. An index that is no leaf of the tree is told when the tree's type is read, at the
+    /// the path. An index that is no leaf of the tree is a fault once the tree's type is read, at the
     /// index. The caller keeps the place so low that the longest signature, 9324 bytes, ends below
     /// `2^32`. A fault leaves the cursor where it is.
     #[tactic(auto, using(crate::proofs::Fields::fields), unfolding(crate::specs::Signature::signature))]
     pub fn from_cursor(cursor: &mut Cursor<'a>) -> Result<Self, ReadFault>
         requires { cursor.old.place + 9324 < 2 ^ 32 }
-        ensures read { Gives (λ view. (signature_of view, cursor.new.place)) result (read signature cursor.old.bytes.now cursor.old.place) }
-        ensures len { IfOk result (λ view. cursor.new.place ≡ cursor.old.place + (4 + signature_len_of (pair_of view).ots + (4 + 32 * height_of (pair_of view).tree))) }
+        ensures read { Gives (λ view. (signature_of view, cursor.new.place)) result
+            (read signature cursor.old.bytes.now cursor.old.place) }
+        ensures len { IfOk result (λ view. cursor.new.place ≡ cursor.old.place + lms_signature_len_of (pair_of view)) }
         ensures bytes { cursor.new.bytes ≡ cursor.old.bytes }
-        ensures part { IfOk result (λ view. bytes_of view ≡ take (cursor.new.place - cursor.old.place) (drop cursor.old.place cursor.old.bytes.now)) }
+        ensures part { IfOk result (λ view. bytes_of view
+            ≡ take (cursor.new.place - cursor.old.place) (drop cursor.old.place cursor.old.bytes.now)) }
         ensures err { OnErr result (cursor.new.place ≡ cursor.old.place) }
     {
         let (all, start) = (cursor.bytes, cursor.place);
-        let mut behind = *cursor;
-        let index = behind.number()?;
-        let ots = behind.ots_type()?;
-        let randomizer = behind.array()?;
-        let chains = behind.values(u32::from(ots.chains()))?;
-        let tree = behind.lms_type()?;
+        let mut rest = *cursor;
+        let index = rest.number()?;
+        let ots = rest.ots_type()?;
+        let randomizer = rest.array()?;
+        let chains = rest.values(u32::from(ots.chains()))?;
+        let tree = rest.lms_type()?;
         if index >= 1 << tree.height() {
             return Err(ReadFault {
                 place: start,
                 cause: Cause::LeafOutOfRange,
             });
         }
-        let path = behind.values(u32::from(tree.height()))?;
-        *cursor = behind;
+        let path = rest.values(u32::from(tree.height()))?;
+        *cursor = rest;
         Ok(LmsSigView {
             pair: LmsPair { tree, ots },
             index,
@@ -84,7 +88,7 @@ impl<'a> LmsSigView<'a> {
         Ok(view)
     }
 
-    /// q, the index of its leaf.
+    /// q, its leaf.
     pub fn index(&self) -> u32
         ensures value { result ≡ (signature_of self.now).index }
         ensures range { result ≡ big_number 4 (take 4 (bytes_of self.now)) }
@@ -120,7 +124,8 @@ impl<'a> LmsSigView<'a> {
     pub fn node(&self, k: u8) -> &'a [u8; 32]
         requires { k < height_of (pair_of self.now).tree }
         ensures value { result.now ≡ slice_index_or (signature_of self.now).path k [] }
-        ensures range { result.now ≡ take 32 (drop (8 + signature_len_of (pair_of self.now).ots + 32 * k) (bytes_of self.now)) }
+        ensures range { result.now
+            ≡ take 32 (drop (8 + signature_len_of (pair_of self.now).ots + 32 * k) (bytes_of self.now)) }
     {
         &self.path[usize::from(k)]
     }

@@ -114,7 +114,7 @@ fn the_last_leaf_is_read(rt: HostRuntime) {
 
 // A signature that was read is refused as that of its level: the types come first, and leave the message.
 #[test]
-fn levels_are_told(rt: HostRuntime) -> Result<(), Fail> {
+fn levels_are_reported(rt: HostRuntime) -> Result<(), Fail> {
     let zeros = zero_signature();
     let view = LmsSigView::read(&zeros)?;
     let mut key = LmsPublic {

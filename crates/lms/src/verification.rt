@@ -58,7 +58,8 @@ fn leads_to_root(public: &LmsPublic, message: &[u8], view: &LmsSigView<'_>) -> b
 // The node to which a signature leads, and no other (RFC 8554 5.4.2, algorithm 6a).
 fn candidate(identifier: &[u8; 16], message: &[u8], view: &LmsSigView<'_>) -> [u8; 32]
     ensures leads { LeadsTo identifier.now message.now (signature_of view.now) result }
-    ensures only { (other : List ℕ) → LeadsTo identifier.now message.now (signature_of view.now) other → other ≡ result }
+    ensures only { (other : List ℕ) →
+        LeadsTo identifier.now message.now (signature_of view.now) other → other ≡ result }
 {
     let key = LmOts {
         identifier: *identifier,

@@ -3,10 +3,9 @@
 ghost use Rattle.std.specs.Prelude.{◌≡◌, ◌+◌, ◌<◌, ◌≤◌, ◌^◌, ℕ, List, ◌++◌, Some, length, take};
 ghost use Rattle.typecodes.specs.Layout.{Spells};
 ghost use Rattle.typecodes.specs.Types.{height_of, lms_code, lms_of_code, ots_code, ots_of_code};
-ghost use Rattle.lmots.specs.Key.{message_digest_of};
 ghost use Rattle.lms.specs.Key.{public_key};
 ghost use Rattle.lms.specs.Signature.{signature};
-ghost use Rattle.lms.specs.Secret.{path_in, public_of};
+ghost use Rattle.lms.specs.Secret.{digest_in, path_in, public_of};
 ghost use Rattle.lms.specs.Writing.{public_bytes, signature_bytes, signature_size, signed};
 ghost use Rattle.lms.specs.Verification.{IsValid};
 
@@ -27,33 +26,35 @@ pub fn write_public(public: &LmsPublic, into: &mut [u8])
     put(into, place, &public.root);
 }
 
-/// Writes the signature of the digest Q by leaf q, with the randomizer C and the leaf's
-/// authentication path (RFC 8554 4.5 and 5.4.1).
+/// Writes the signature of the digest Q by a leaf, with the randomizer C and the leaf's authentication
+/// path (RFC 8554 4.5 and 5.4.1). The caller keeps the leaf below `2^h`, and gives h nodes and as many
+/// bytes as the signature has.
 pub fn write_signature(
     secret: &LmsSecret,
-    q: u32,
+    leaf: u32,
     randomizer: &[u8; 32],
     digest: &[u8; 32],
     path: &[[u8; 32]],
     into: &mut [u8],
 )
-    requires inside { q < 2 ^ height_of secret.now.pair.tree }
+    requires inside { leaf < 2 ^ height_of secret.now.pair.tree }
     requires path { length path.now ≡ height_of secret.now.pair.tree }
     requires room { length into.old ≡ signature_size secret.now.pair }
-    ensures bytes { into.new ≡ signature_bytes (signed secret.now q randomizer.now digest.now path.now) }
+    ensures bytes { into.new ≡ signature_bytes (signed secret.now leaf randomizer.now digest.now path.now) }
     // They spell the signature.
-    ensures spells { Spells signature (signed secret.now q randomizer.now digest.now path.now) into.new }
+    ensures spells { Spells signature (signed secret.now leaf randomizer.now digest.now path.now) into.new }
     // Where the digest is a message's and the path is the leaf's, the signature is valid.
-    ensures valid { (message : List ℕ) → digest.now ≡ message_digest_of secret.now.identifier q randomizer.now message
-        → path.now ≡ path_in secret.now q
-        → IsValid (public_of secret.now) message (signed secret.now q randomizer.now digest.now path.now) }
+    ensures valid { (message : List ℕ) →
+        digest.now ≡ digest_in secret.now leaf randomizer.now message →
+        path.now ≡ path_in secret.now leaf →
+        IsValid (public_of secret.now) message (signed secret.now leaf randomizer.now digest.now path.now) }
 {
     let key = LmOts {
         identifier: secret.identifier,
-        leaf: q,
+        leaf,
     };
     let ots = secret.pair.ots;
-    let place = put(into, 0, &q.to_be_bytes());
+    let place = put(into, 0, &leaf.to_be_bytes());
     let place = put(into, place, &ots.code().to_be_bytes());
     let place = put(into, place, randomizer);
     let end = place + 32 * usize::from(ots.chains());
@@ -62,7 +63,7 @@ pub fn write_signature(
     put(into, place, path.as_flattened());
 }
 
-// Writes bytes at a place, and tells the place behind them.
+// Writes bytes at a place, and gives the place after them.
 fn put(into: &mut [u8], place: usize, bytes: &[u8]) -> usize
     requires { place + length bytes.now ≤ length into.old }
     ensures place { result ≡ place + length bytes.now }

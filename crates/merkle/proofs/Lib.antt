@@ -1,3 +1,4 @@
 pub mod Climb
 pub mod Leading
 pub mod Building
+pub mod Paths

@@ -9,3 +9,9 @@ pub mod Sizes
 pub mod Steps
 pub mod Values
 pub mod SpecTexts
+pub mod FieldBytes
+pub mod Parts
+pub mod Written
+pub mod Leaves
+pub mod Unambiguous
+pub mod WasRead

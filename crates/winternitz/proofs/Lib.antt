@@ -6,3 +6,4 @@ mod Checksums
 mod Apart
 pub mod Ends
 pub mod Concatenated
+pub mod Signing

@@ -13,7 +13,7 @@ use Rattle.wots_plus.specs.declared.address.Address.TheVariants.{OneTime, LTree,
 use Rattle.wots_plus.specs.Address.{address, address_of, bytes_of_words, words_of}
 use Rattle.wots_plus.specs.Hashes.{to_byte, xor}
 
--- the first i words are written, and the next one behind them
+-- the first i words are written, and the next one after them
 pub word_more : (words before part : List ℕ) (i k : ℕ) → i < length words → length part ≡ 4 → 4 * i ≤ length before
     → take (4 * i) before ≡ bytes_of_words (take i words) → part ≡ to_byte (get_or words i 0) 4
     → take (4 * (i + 1)) (put_mid (4 * i) k before part) ≡ bytes_of_words (take (i + 1) words)

@@ -4,86 +4,86 @@ use Rattle.std.proofs.lemmas.Bool.{cases_lt}
 use Rattle.std.proofs.lemmas.List.{get_or-set_other, get_or-set_same, get_or-take, length-set, length-take-le}
 use Rattle.std.proofs.lemmas.List.FromFn.{fill_by_all}
 use Rattle.std.proofs.Math.Logic.{⊎_elim}
-use Rattle.wots_plus.specs.LTree.{Joins, IsLTreeRoot, at_height, joined, l_tree_root}
+use Rattle.wots_plus.specs.LTree.{Joins, IsLTreeRoot, at_height, next_height, l_tree_root}
 
 -- as many values as there are pairs, and the odd one
-pub length-joined : (join : ℕ → List ℕ → List ℕ → List ℕ) (i : ℕ) (values : List (List ℕ))
-    → length (joined join i values) ≡ (length values + 1) / 2
-unfolding joined
-length-joined join i [] = refl
-length-joined join i (last ∷ []) = refl
-length-joined join i (left ∷ right ∷ rest) = omega (arith, length-joined join (i + 1) rest)
+pub length-next_height : (join : ℕ → List ℕ → List ℕ → List ℕ) (i : ℕ) (values : List (List ℕ))
+    → length (next_height join i values) ≡ (length values + 1) / 2
+unfolding next_height
+length-next_height join i [] = refl
+length-next_height join i (last ∷ []) = refl
+length-next_height join i (left ∷ right ∷ rest) = omega (arith, length-next_height join (i + 1) rest)
 
 -- the value over a pair
-pub joined_pair : (join : ℕ → List ℕ → List ℕ → List ℕ) (i : ℕ) (values : List (List ℕ)) (k : ℕ) → 2 * k + 1 < length values
-    → get_or (joined join i values) k [] ≡ join (i + k) (get_or values (2 * k) []) (get_or values (2 * k + 1) [])
-unfolding joined
-joined_pair join i [] k inside = absurd (omega arith)
-joined_pair join i (last ∷ []) k inside = absurd (omega arith)
-joined_pair join i (left ∷ right ∷ rest) zero inside = let here : i ≡ i + 0 = omega arith in ap (λ n. join n left right) here
-joined_pair join i (left ∷ right ∷ rest) (suc k) inside =
+pub next_height_pair : (join : ℕ → List ℕ → List ℕ → List ℕ) (i : ℕ) (values : List (List ℕ)) (k : ℕ) → 2 * k + 1 < length values
+    → get_or (next_height join i values) k [] ≡ join (i + k) (get_or values (2 * k) []) (get_or values (2 * k + 1) [])
+unfolding next_height
+next_height_pair join i [] k inside = absurd (omega arith)
+next_height_pair join i (last ∷ []) k inside = absurd (omega arith)
+next_height_pair join i (left ∷ right ∷ rest) zero inside = let here : i ≡ i + 0 = omega arith in ap (λ n. join n left right) here
+next_height_pair join i (left ∷ right ∷ rest) (suc k) inside =
     let here : i + 1 + k ≡ i + suc k = omega arith in
     let even : 2 * suc k ≡ suc (suc (2 * k)) = omega arith in
     let odd : 2 * suc k + 1 ≡ suc (suc (2 * k + 1)) = omega arith in
     let all = left ∷ right ∷ rest in
-    joined_pair join (i + 1) rest k (omega arith)
+    next_height_pair join (i + 1) rest k (omega arith)
     ∙ ap (λ n. join n (get_or rest (2 * k) []) (get_or rest (2 * k + 1) [])) here
     ∙ ap₂ (λ a b. join (i + suc k) (get_or all a []) (get_or all b [])) (sym even) (sym odd)
 
 -- an odd last value
-pub joined_odd : (join : ℕ → List ℕ → List ℕ → List ℕ) (i : ℕ) (values : List (List ℕ)) (k : ℕ) → length values ≡ 2 * k + 1
-    → get_or (joined join i values) k [] ≡ get_or values (2 * k) []
-unfolding joined
-joined_odd join i [] k last = absurd (omega arith)
-joined_odd join i (value ∷ []) k last = let first : k ≡ 0 = omega arith in rw first refl
-joined_odd join i (left ∷ right ∷ rest) zero last = absurd (omega arith)
-joined_odd join i (left ∷ right ∷ rest) (suc k) last =
+pub next_height_odd : (join : ℕ → List ℕ → List ℕ → List ℕ) (i : ℕ) (values : List (List ℕ)) (k : ℕ) → length values ≡ 2 * k + 1
+    → get_or (next_height join i values) k [] ≡ get_or values (2 * k) []
+unfolding next_height
+next_height_odd join i [] k last = absurd (omega arith)
+next_height_odd join i (value ∷ []) k last = let first : k ≡ 0 = omega arith in rw first refl
+next_height_odd join i (left ∷ right ∷ rest) zero last = absurd (omega arith)
+next_height_odd join i (left ∷ right ∷ rest) (suc k) last =
     let even : 2 * suc k ≡ suc (suc (2 * k)) = omega arith in
-    joined_odd join (i + 1) rest k (omega arith) ∙ ap (λ n. get_or (left ∷ right ∷ rest) n []) (sym even)
+    next_height_odd join (i + 1) rest k (omega arith) ∙ ap (λ n. get_or (left ∷ right ∷ rest) n []) (sym even)
 
 -- each value is the join of a pair or the odd one: these are all
-pub joined_all : (join : ℕ → List ℕ → List ℕ → List ℕ) (old new : List (List ℕ)) (pairs count : ℕ)
+pub next_height_all : (join : ℕ → List ℕ → List ℕ → List ℕ) (old new : List (List ℕ)) (pairs count : ℕ)
     → pairs ≡ length old / 2 → count ≡ (length old + 1) / 2 → length new ≡ length old
     → ((k : ℕ) → k < pairs → get_or new k [] ≡ join k (get_or old (2 * k) []) (get_or old (2 * k + 1) []))
     → (length old % 2 ≡ 1 → get_or new pairs [] ≡ get_or old (2 * pairs) [])
-    → take count new ≡ joined join 0 old
-joined_all join old new pairs count halves all long each odd =
-    let f : ℕ → List ℕ = λ k. get_or (joined join 0 old) k [] in
+    → take count new ≡ next_height join 0 old
+next_height_all join old new pairs count halves all long each odd =
+    let f : ℕ → List ℕ = λ k. get_or (next_height join 0 old) k [] in
     let below : (k : ℕ) → k < pairs → get_or new k [] ≡ f k = λ k within.
     let here : k ≡ 0 + k = omega arith in
     each k within
     ∙ ap (λ n. join n (get_or old (2 * k) []) (get_or old (2 * k + 1) [])) here
-    ∙ sym (joined_pair join 0 old k (omega arith)) in
+    ∙ sym (next_height_pair join 0 old k (omega arith)) in
     let last : (k : ℕ) → k < count → pairs ≤ k → get_or new k [] ≡ f k = λ k within past.
     let here : k ≡ pairs = omega arith in
     ap (λ n. get_or new n []) here
     ∙ odd (omega arith)
     ∙ ap (λ n. get_or old (2 * n) []) (sym here)
-    ∙ sym (joined_odd join 0 old k (omega arith)) in
+    ∙ sym (next_height_odd join 0 old k (omega arith)) in
     fill_by_all f (take count new) count [] (length-take-le count new (omega arith))
     (λ k within. get_or-take count new k [] within ∙ ⊎_elim (λ h. below k h) (λ h. last k within h) (cases_lt k pairs))
-    ∙ sym (fill_by_all f (joined join 0 old) count [] (length-joined join 0 old ∙ sym all) (λ k within. refl))
+    ∙ sym (fill_by_all f (next_height join 0 old) count [] (length-next_height join 0 old ∙ sym all) (λ k within. refl))
 
--- the same, once the odd one is moved behind the others
-pub joined_with_odd : (join : ℕ → List ℕ → List ℕ → List ℕ) (old new : List (List ℕ)) (pairs count : ℕ)
+-- the same, once the odd one is moved after the others
+pub next_height_with_odd : (join : ℕ → List ℕ → List ℕ → List ℕ) (old new : List (List ℕ)) (pairs count : ℕ)
     → pairs ≡ length old / 2 → count ≡ (length old + 1) / 2 → length new ≡ length old → length old % 2 ≡ 1
     → ((k : ℕ) → k < pairs → get_or new k [] ≡ join k (get_or old (2 * k) []) (get_or old (2 * k + 1) []))
     → ((k : ℕ) → 2 * pairs ≤ k → get_or new k [] ≡ get_or old k [])
-    → take count (set new pairs (get_or new (2 * pairs) [])) ≡ joined join 0 old
-joined_with_odd join old new pairs count halves all long odd each rest =
+    → take count (set new pairs (get_or new (2 * pairs) [])) ≡ next_height join 0 old
+next_height_with_odd join old new pairs count halves all long odd each rest =
     let last = get_or new (2 * pairs) [] in
-    joined_all join old (set new pairs last) pairs count halves all (length-set new pairs last ∙ long)
+    next_height_all join old (set new pairs last) pairs count halves all (length-set new pairs last ∙ long)
     (λ k within. let other : k ≢ pairs = omega arith in get_or-set_other new pairs k last [] other ∙ each k within)
     (λ _. get_or-set_same new pairs last [] (omega arith) ∙ rest (2 * pairs) (omega arith))
 
 -- one value stays alone
 pub alone : (join : Joins) (values : List (List ℕ)) (k n : ℕ) (root : List ℕ)
     → at_height join values k ≡ root ∷ [] → at_height join values (k + n) ≡ root ∷ []
-unfolding at_height joined
+unfolding at_height next_height
 alone join values k zero root is = let same : k + 0 ≡ k = omega arith in ap (at_height join values) same ∙ is
 alone join values k (suc n) root is =
     let more : k + suc n ≡ suc (k + n) = omega arith in
-    ap (at_height join values) more ∙ ap (joined (join (k + n)) 0) (alone join values k n root is)
+    ap (at_height join values) more ∙ ap (next_height (join (k + n)) 0) (alone join values k n root is)
 
 -- so the root is one
 pub one_root : (join : Joins) (values : List (List ℕ)) (root other : List ℕ)
@@ -93,7 +93,7 @@ one_root join values root other (k, is) (m, was) =
     ap (λ list. get_or list 0 [])
     (sym (alone join values m k other was) ∙ ap (at_height join values) both ∙ alone join values k m root is)
 
--- and it is left at the greatest height that is asked for
+-- and it is left at the greatest height
 pub root_is : (join : Joins) (values : List (List ℕ)) (k : ℕ) (root : List ℕ) → k ≤ length values
     → at_height join values k ≡ root ∷ [] → root ≡ l_tree_root join values
 root_is join values k root low is =
@@ -102,10 +102,10 @@ root_is join values k root low is =
 
 -- one height more
 pub height_more : (join : Joins) (values : List (List ℕ)) (k : ℕ) (before after : List (List ℕ))
-    → before ≡ at_height join values k → after ≡ joined (join k) 0 before → after ≡ at_height join values (k + 1)
+    → before ≡ at_height join values k → after ≡ next_height (join k) 0 before → after ≡ at_height join values (k + 1)
 unfolding at_height
 height_more join values k before after was is =
-    is ∙ ap (joined (join k) 0) was ∙ ap (at_height join values) (sym (add-one k))
+    is ∙ ap (next_height (join k) 0) was ∙ ap (at_height join values) (sym (add-one k))
 
 -- the values themselves have height 0
 pub height_none : (join : Joins) (values : List (List ℕ)) → values ≡ at_height join values 0

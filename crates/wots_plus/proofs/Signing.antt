@@ -1,83 +1,27 @@
--- What a signature carries of a key's chains climbs to the ends of these chains, for any step and any
--- private values.
-use Rattle.std.proofs.Common.{◌≡◌, ◌∙◌, sym, ap, ap₂, subst, ℕ, zero, suc, ◌+◌, ◌-◌, ◌*◌, ◌<◌, ◌^◌, List, [], map, length, get_or, take, arith}
-use Rattle.std.specs.List.{concat, range_with_len}
-use Rattle.std.proofs.lemmas.List.FromFn.{fill_by_all, get_or-map-range_with_len, length-map-range_with_len}
-use Rattle.std.proofs.lemmas.List.{take_all}
+-- What a signature carries of a key's chains climbs to the ends of these chains.
+use Rattle.std.proofs.Common.{◌≡◌, refl, ℕ, ◌<◌, List, [], length, get_or}
+use Rattle.std.specs.List.{concat}
+use Rattle.sha2.proofs.Facts256.{length-sha256}
 use Rattle.typecodes.specs.Fields.{values_in}
-use Rattle.winternitz.specs.Chain.{Steps, walk, walk_on, AreEnds, end_of, ends_of}
-use Rattle.winternitz.specs.Digest.{digit_count, digits_of}
-use Rattle.winternitz.proofs.Concatenated.{chunks_of_concat}
-use Rattle.winternitz.proofs.Walks.{walk-walk}
-use Rattle.winternitz.proofs.Coefs.{digit_most}
-
--- the private values, walked to the digits
-abbrev pub signed : Steps → (ℕ → List ℕ) → List ℕ → ℕ → List (List ℕ)
-signed step start digits n = map (λ i. walk step i 0 (get_or digits i 0) (start i)) (range_with_len 0 n)
-
--- and to the ends of their chains
-abbrev pub ends : Steps → (ℕ → List ℕ) → ℕ → ℕ → List (List ℕ)
-ends step start w n = map (λ i. walk step i 0 (2 ^ w - 1) (start i)) (range_with_len 0 n)
+use Rattle.winternitz.specs.Digest.{digits_of}
+use Rattle.winternitz.proofs.Signing as chains
+use Rattle.wots_plus.specs.Key.{ClimbTo, ends_of_secret, private_value, signed_values, step_of}
 
 -- the values of a signature climb to the ends of the key's chains
-pub signed_climbs : (step : Steps) (start : ℕ → List ℕ) (w n : ℕ) (digest : List ℕ) → n ≡ digit_count w
-    → AreEnds step w (digits_of w digest) (signed step start (digits_of w digest) n) (ends step start w n)
-signed_climbs step start w n digest all =
-    let digits = digits_of w digest in
-    let value = λ (i : ℕ). walk step i 0 (get_or digits i 0) (start i) in
-    let end = λ (i : ℕ). walk step i 0 (2 ^ w - 1) (start i) in
-    let count : length digits ≡ digit_count w = length-map-range_with_len _ 0 (digit_count w) in
-    record {
-      count = length-map-range_with_len end 0 n ∙ all ∙ sym count;
-      each = λ i within.
-          let inside : i < n = omega arith in
-          get_or-map-range_with_len end 0 n i i [] inside (omega arith)
-          ∙ sym (walk-walk step i 0 (get_or digits i 0) (2 ^ w - 1) (start i) (omega arith) (digit_most w digest i (omega arith)))
-          ∙ ap (walk step i (get_or digits i 0) (2 ^ w - 1)) (sym (get_or-map-range_with_len value 0 n i i [] inside (omega arith)));
-    }
+pub signed_climbs : (seed : List ℕ) (leaf : ℕ) (secret digest : List ℕ)
+    → ClimbTo seed leaf digest (signed_values seed leaf secret digest) (ends_of_secret seed leaf secret)
+signed_climbs seed leaf secret digest = chains.signed_climbs (step_of seed leaf) (private_value seed leaf secret) 4 67 digest refl
 
--- along its chain a value keeps 32 bytes
-walked_size : (step : Steps) (c a n : ℕ) (v : List ℕ) → ((i j : ℕ) (v : List ℕ) → length (step i j v) ≡ 32) → length v ≡ 32
-    → length (walk_on step c a n v) ≡ 32
-unfolding walk_on
-walked_size step c a zero v steps size = size
-walked_size step c a (suc n) v steps size = steps c (a + n) (walk_on step c a n v)
+-- each of them has 32 bytes
+pub signed_sizes : (seed : List ℕ) (leaf : ℕ) (secret digest : List ℕ) (i : ℕ) → i < 67
+    → length (get_or (signed_values seed leaf secret digest) i []) ≡ 32
+signed_sizes seed leaf secret digest =
+    chains.signed_sizes (step_of seed leaf) (private_value seed leaf secret) (digits_of 4 digest) 67
+    (λ i j v. length-sha256 _) (λ i. length-sha256 _)
 
--- so the values of a signature have
-pub signed_sizes : (step : Steps) (start : ℕ → List ℕ) (digits : List ℕ) (n : ℕ)
-    → ((i j : ℕ) (v : List ℕ) → length (step i j v) ≡ 32) → ((i : ℕ) → length (start i) ≡ 32)
-    → (i : ℕ) → i < n → length (get_or (signed step start digits n) i []) ≡ 32
-signed_sizes step start digits n steps starts i within =
-    let value = λ (i : ℕ). walk step i 0 (get_or digits i 0) (start i) in
-    ap length (get_or-map-range_with_len value 0 n i i [] within (omega arith))
-    ∙ walked_size step i 0 (get_or digits i 0 - 0) (start i) steps (starts i)
-
--- once the values of all n chains are written, the bytes are those
-pub written_all : (step : Steps) (start : ℕ → List ℕ) (read digits bytes : List ℕ) (chain n : ℕ)
-    → take (32 * chain) bytes ≡ concat (signed step start read chain) → chain ≡ n → length bytes ≡ 32 * n → read ≡ digits
-    → bytes ≡ concat (signed step start digits n)
-written_all step start read digits bytes chain n written all size digits_are =
-    sym (take_all (32 * chain) bytes (omega arith))
-    ∙ written
-    ∙ ap₂ (λ digits n. concat (signed step start digits n)) digits_are all
-
--- values that are the ends of all chains are the ends
-pub ends_filled : (step : Steps) (w n : ℕ) (read digits : List ℕ) (values filled : List (List ℕ)) → length filled ≡ n → length read ≡ n
-    → read ≡ digits → ((k : ℕ) → k < n → get_or filled k [] ≡ end_of step w read values k) → filled ≡ ends_of step w digits values
-ends_filled step w n read digits values filled long all digits_are each =
-    fill_by_all (end_of step w read values) filled (length read) [] (long ∙ sym all) (λ k within. each k (omega arith))
-    ∙ ap (λ digits. ends_of step w digits values) digits_are
-
--- what bytes that hold the values of a signature climb to
-pub bytes_climb : (step : Steps) (start : ℕ → List ℕ) (w n : ℕ) (digest bytes : List ℕ) → n ≡ digit_count w
-    → ((i j : ℕ) (v : List ℕ) → length (step i j v) ≡ 32) → ((i : ℕ) → length (start i) ≡ 32)
-    → bytes ≡ concat (signed step start (digits_of w digest) n)
-    → AreEnds step w (digits_of w digest) (values_in n bytes) (ends step start w n)
-bytes_climb step start w n digest bytes all steps starts are =
-    let digits = digits_of w digest in
-    let value = λ (i : ℕ). walk step i 0 (get_or digits i 0) (start i) in
-    let values = signed step start digits n in
-    let sizes = signed_sizes step start digits n steps starts in
-    let held : values_in n bytes ≡ values =
-    ap (values_in n) are ∙ chunks_of_concat n values (length-map-range_with_len value 0 n) sizes in
-    subst (λ held. AreEnds step w digits held (ends step start w n)) (sym held) (signed_climbs step start w n digest all)
+-- what bytes that contain the values of a signature climb to
+pub bytes_climb : (seed : List ℕ) (leaf : ℕ) (secret digest bytes : List ℕ) → bytes ≡ concat (signed_values seed leaf secret digest)
+    → ClimbTo seed leaf digest (values_in 67 bytes) (ends_of_secret seed leaf secret)
+bytes_climb seed leaf secret digest bytes are =
+    chains.bytes_climb (step_of seed leaf) (private_value seed leaf secret) 4 67 digest bytes
+    refl (λ i j v. length-sha256 _) (λ i. length-sha256 _) are

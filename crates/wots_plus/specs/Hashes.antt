@@ -51,4 +51,5 @@ private_value_at secret seed adrs = sha256 (to_byte 4 32 ++ secret ++ seed ++ ad
 -- What a hasher holds is a fact: two proofs that it holds a message are one.
 pub Holds256-prop : (hasher : Sha256) (message : List ℕ) → IsProp (Holds256 hasher message)
 unfolding Holds
-Holds256-prop hasher message = ×_prop (Coded-set coded_ℕ _ _) (×_prop (Coded-set (coded_list coded_ℕ) _ _) (Coded-set (coded_list coded_ℕ) _ _))
+Holds256-prop hasher message =
+    ×_prop (Coded-set coded_ℕ _ _) (×_prop (Coded-set (coded_list coded_ℕ) _ _) (Coded-set (coded_list coded_ℕ) _ _))

@@ -9,15 +9,15 @@ Joins = ℕ → ℕ → List ℕ → List ℕ → List ℕ
 
 -- the values of the next height: neighbours joined, the nodes above them numbered from i, and an odd
 -- last value as it is
-unfoldable pub joined : (ℕ → List ℕ → List ℕ → List ℕ) → ℕ → List (List ℕ) → List (List ℕ)
-joined join i [] = []
-joined join i (last ∷ []) = last ∷ []
-joined join i (left ∷ right ∷ rest) = join i left right ∷ joined join (i + 1) rest
+unfoldable pub next_height : (ℕ → List ℕ → List ℕ → List ℕ) → ℕ → List (List ℕ) → List (List ℕ)
+next_height join i [] = []
+next_height join i (last ∷ []) = last ∷ []
+next_height join i (left ∷ right ∷ rest) = join i left right ∷ next_height join (i + 1) rest
 
 -- the values of height k, over those of height 0
 unfoldable pub at_height : Joins → List (List ℕ) → ℕ → List (List ℕ)
 at_height join values zero = values
-at_height join values (suc k) = joined (join k) 0 (at_height join values k)
+at_height join values (suc k) = next_height (join k) 0 (at_height join values k)
 
 -- at some height the root alone is left
 abbrev pub IsLTreeRoot : Joins → List (List ℕ) → List ℕ → Type 0

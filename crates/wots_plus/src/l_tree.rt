@@ -1,7 +1,7 @@
 //! The L-tree of a leaf.
 
 ghost use Rattle.std.specs.Prelude.{◌≡◌, ℕ, ◌<◌, ◌≤◌, ◌+◌, ◌/◌, List, length, take};
-ghost use Rattle.wots_plus.specs.LTree.{IsLTreeRoot, joined, l_tree_join, l_tree_root};
+ghost use Rattle.wots_plus.specs.LTree.{IsLTreeRoot, next_height, l_tree_join, l_tree_root};
 
 use crate::address::Address;
 use crate::hashes::rand_hash;
@@ -16,7 +16,8 @@ impl Wots<'_> {
         ensures value { result ≡ l_tree_root (l_tree_join self.now.seed.now.key self.now.leaf) values.old }
         // The values, replaced height by height, leave it alone in the end, and nothing else.
         ensures root { IsLTreeRoot (l_tree_join self.now.seed.now.key self.now.leaf) values.old result }
-        ensures only { (root : List ℕ) → IsLTreeRoot (l_tree_join self.now.seed.now.key self.now.leaf) values.old root → root ≡ result }
+        ensures only { (root : List ℕ) →
+            IsLTreeRoot (l_tree_join self.now.seed.now.key self.now.leaf) values.old root → root ≡ result }
     {
         let mut count = values.len();
         let mut height = 0;
@@ -27,11 +28,12 @@ impl Wots<'_> {
         values[0]
     }
 
-    // Replaces the values of a height by those of the next, at the front, and tells how many these are.
+    // Replaces the values of a height by those of the next, at the front, and counts these.
     fn join_neighbours(&self, height: u32, values: &mut [[u8; 32]]) -> usize
         requires { length values.old ≤ 67 }
         ensures count { result ≡ (length values.old + 1) / 2 }
-        ensures values { take result values.new ≡ joined (l_tree_join self.now.seed.now.key self.now.leaf height) 0 values.old }
+        ensures values { take result values.new
+            ≡ next_height (l_tree_join self.now.seed.now.key self.now.leaf height) 0 values.old }
     {
         let pairs = values.len() / 2;
         for i in 0..pairs {

@@ -2,12 +2,24 @@
 //! n = 32 and w = 16.
 //!
 //! Its model is `specs/Hashes.antt`, the standard's hashes, each as a formula over SHA-256,
-//! `specs/Address.antt`, the addresses that go into them, and `specs/LTree.antt`: a list of values
-//! that is replaced by its joined neighbours until one is left. Its contract for the crates above:
-//! `hash_from_signature` gives the public hash of the chain ends to which a signature's values
-//! lead, and `public_hash` that of the ends to which a secret's do. `sign_digest` writes the values
-//! of a secret's signature, which climb to the secret's ends. `rand_hash` joins the nodes of the hash
-//! tree above.
+//! `specs/Address.antt`, the addresses that go into them, `specs/Key.antt`, the chains of a key, and
+//! `specs/LTree.antt`: a list of values in which neighbours are joined until one is left. Its contract
+//! for the crates above: `hash_from_signature` gives the public hash of the chain ends to which a
+//! signature's values lead, and `public_hash` that of the ends to which a secret's do. `sign_digest`
+//! writes the values of a secret's signature, which climb to the secret's ends. `rand_hash` joins the
+//! nodes of the hash tree above.
+//!
+//! ```rust
+//! use wots_plus::{Prf, Wots};
+//!
+//! // the key of leaf 5 of the tree with this public seed
+//! let seed = Prf::new(public_seed);
+//! let key = Wots { seed: &seed, leaf: 5 };
+//! let mut values = [0; 32 * 67];
+//! key.sign_digest(&secret, &digest, &mut values);
+//! let hash = key.hash_from_signature(&digest, values.as_chunks().0);
+//! assert_eq!(rt; hash, key.public_hash(&secret));
+//! ```
 #![tactic(auto)]
 
 mod address;

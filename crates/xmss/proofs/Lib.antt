@@ -1,5 +1,5 @@
 pub mod Fields
-pub mod Behind
+pub mod After
 pub mod OneWay
 pub mod Verdicts
 pub mod Leading

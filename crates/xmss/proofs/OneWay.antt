@@ -9,14 +9,14 @@ use Rattle.typecodes.proofs.OneWay.{one_way-bind, one_way-block, one_way-done, o
 use Rattle.typecodes.proofs.Ways.{Way, way-bind, way-done, one_way-if}
 use Rattle.xmss.specs.Signature.{leaf_index, signature}
 use Rattle.xmss.specs.Key.{public_key}
-use Rattle.xmss.proofs.Behind.{behind_chains, behind_index, behind_randomizer, behind_root, behind_tree, checked}
+use Rattle.xmss.proofs.After.{after_chains, after_index, after_randomizer, after_root, after_tree, checked}
 
 pub one_way-public_key : OneSpelling public_key
 unfolding public_key
 one_way-public_key =
     let way : Way public_key (λ _. Unit {0}) =
-    way-bind xmss_type behind_tree (λ key. key.tree) _ one_way-xmss_type (λ tree.
-    way-bind (block 32) (behind_root tree) (λ key. key.root) _ (one_way-block 32) (λ root.
+    way-bind xmss_type after_tree (λ key. key.tree) _ one_way-xmss_type (λ tree.
+    way-bind (block 32) (after_root tree) (λ key. key.root) _ (one_way-block 32) (λ root.
     way-bind (block 32) (λ seed. done (record { tree = tree; root = root; seed = seed })) (λ key. key.seed) _ (one_way-block 32) (λ seed.
     way-done _ _ (refl, (refl, (refl, tt)))))) in
     way.one
@@ -41,9 +41,9 @@ unfolding signature
 one_way-signature tree =
     let h = xmss_height_of tree in
     let way : Way (signature tree) (λ _. Unit {0}) =
-    way-bind (leaf_index h) (behind_index tree) (λ s. s.index) _ (one_way-leaf_index h) (λ index.
-    way-bind (block 32) (behind_randomizer tree index) (λ s. s.randomizer) _ (one_way-block 32) (λ randomizer.
-    way-bind (values 67) (behind_chains tree index randomizer) (λ s. s.chains) _ (one_way-values 67) (λ chains.
+    way-bind (leaf_index h) (after_index tree) (λ s. s.index) _ (one_way-leaf_index h) (λ index.
+    way-bind (block 32) (after_randomizer tree index) (λ s. s.randomizer) _ (one_way-block 32) (λ randomizer.
+    way-bind (values 67) (after_chains tree index randomizer) (λ s. s.chains) _ (one_way-values 67) (λ chains.
     way-bind (values h) (λ path. done (record { index = index; randomizer = randomizer; chains = chains; path = path })) (λ s. s.path) _ (one_way-values h) (λ path.
     way-done _ _ (refl, (refl, (refl, (refl, tt)))))))) in
     way.one

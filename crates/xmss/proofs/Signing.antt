@@ -1,30 +1,14 @@
 -- The textbook signature is valid.
-use Rattle.std.proofs.Common.{◌≡◌, ◌∙◌, refl, ap, ℕ, ◌<◌, ◌^◌, List, length, arith, subst, sym}
-use Rattle.std.proofs.lemmas.List.FromFn.{length-map-range_with_len}
+use Rattle.std.proofs.Common.{◌≡◌, refl, ℕ, ◌<◌, ◌^◌, List, subst, sym}
 use Rattle.typecodes.specs.Types.{xmss_height_of}
-use Rattle.merkle.specs.Ascent.{at}
-use Rattle.merkle.proofs.Climb.{climbed_is_ascent, climbed_nodes, climbed_nodes_at}
-use Rattle.merkle.proofs.Leading.{climbed_to_root}
-use Rattle.wots_plus.specs.Key.{ends_of_secret, private_value, step_of}
+use Rattle.merkle.proofs.Climb.{climbed_is_ascent, climbed_nodes}
+use Rattle.merkle.proofs.Paths.{path_ends, path_long}
+use Rattle.wots_plus.specs.Key.{ends_of_secret}
 use Rattle.wots_plus.proofs.Signing.{signed_climbs}
 use Rattle.xmss.specs.declared.secret.XmssSecret.{XmssSecret}
 use Rattle.xmss.specs.Secret.{digest_in, joins_of, leaves_of, path_in, public_of, root_in}
 use Rattle.xmss.specs.Writing.{signed, textbook}
 use Rattle.xmss.specs.Verification.{IsValid}
-
--- the path of a leaf is as long as the tree is high
-path_long : (secret : XmssSecret) (i : ℕ) → length (path_in secret i) ≡ xmss_height_of secret.tree
-path_long secret i = length-map-range_with_len _ 0 (xmss_height_of secret.tree)
-
--- the nodes above leaf i along its path end at the root
-path_ends : (secret : XmssSecret) (i : ℕ) → i < 2 ^ xmss_height_of secret.tree
-    → at (climbed_nodes (joins_of secret) i (leaves_of secret i) (path_in secret i)) (xmss_height_of secret.tree) ≡ root_in secret
-path_ends secret i inside =
-    let h = xmss_height_of secret.tree in
-    let path = path_in secret i in
-    let long : length path ≡ h = path_long secret i in
-    climbed_nodes_at (joins_of secret) i (leaves_of secret i) path h (omega arith)
-    ∙ climbed_to_root (leaves_of secret) (joins_of secret) h i (leaves_of secret i) path inside refl refl
 
 -- The textbook signature of a message is valid under the secret's public key.
 textbook_valid : (secret : XmssSecret) (i : ℕ) (message : List ℕ) → i < 2 ^ xmss_height_of secret.tree
@@ -32,13 +16,13 @@ textbook_valid : (secret : XmssSecret) (i : ℕ) (message : List ℕ) → i < 2 
 textbook_valid secret i message inside = record {
   chains = refl;
   leaf = inside;
-  height = path_long secret i;
+  height = path_long (leaves_of secret) (joins_of secret) (xmss_height_of secret.tree) i;
   leads = record {
     ends = ends_of_secret secret.public_seed i secret.secret_seed;
-    climbed = signed_climbs (step_of secret.public_seed i) (private_value secret.public_seed i secret.secret_seed) 4 67 (digest_in secret (root_in secret) i message) refl;
+    climbed = signed_climbs secret.public_seed i secret.secret_seed (digest_in secret (root_in secret) i message);
     nodes = climbed_nodes (joins_of secret) i (leaves_of secret i) (path_in secret i);
     ascent = climbed_is_ascent (joins_of secret) i (leaves_of secret i) (path_in secret i);
-    last = ap (at (climbed_nodes (joins_of secret) i (leaves_of secret i) (path_in secret i))) (path_long secret i) ∙ path_ends secret i inside;
+    last = path_ends (leaves_of secret) (joins_of secret) (xmss_height_of secret.tree) i inside;
   };
 }
 

@@ -1,21 +1,16 @@
--- What a signature that was read tells of it.
-use Rattle.std.proofs.Common.{◌≡◌, ◌<◌, ◌^◌, ℕ, List, Result, Ok, Err, length, ap, subst, ◌∙◌}
+-- What is known of a signature that was read.
+use Rattle.std.proofs.Common.{◌≡◌, ◌<◌, ◌^◌, ℕ, List, Result, Ok, length, ap, subst, ◌∙◌}
 use Rattle.std.specs.Prelude.{IfOk, MatchResult}
 use Rattle.typecodes.specs.declared.fault.ReadFault.{ReadFault}
 use Rattle.typecodes.specs.Types.{xmss_height_of}
 use Rattle.typecodes.specs.Layout.{Spells}
 use Rattle.typecodes.specs.Cursor.{Reads}
+use Rattle.typecodes.proofs.WasRead.{was_read}
 use Rattle.xmss.specs.declared.key.XmssPublic.{XmssPublic}
 use Rattle.xmss.specs.declared.signature.XmssSigView.{XmssSigView}
 use Rattle.xmss.specs.Signature.{signature}
 use Rattle.xmss.specs.Verification.{IsValid, LeadsTo}
 use Rattle.xmss.specs.View.{signature_of}
-
--- a reader's answer, whatever was made of its faults
-was_read : {X : Type 0} (E : Type 0) (result : Result X ReadFault) (x : X) (Q : ReadFault → Type 0)
-    → MatchResult result (λ y. ◌≡◌ {A = Result X E} (Ok x) (Ok y)) Q → ((fault : ReadFault) → Q fault → ⊥) → result ≡ Ok x
-was_read E (Ok y) x Q same never = let e : y ≡ x = cc in ap Ok e
-was_read E (Err fault) x Q same never = absurd (never fault same)
 
 -- The bytes spell what the view shows, it has a value for each chain, and its index and path are of the key's tree.
 pub record IsRead (key : XmssPublic) (bytes : List ℕ) (view : XmssSigView) : Type 0 where

@@ -22,7 +22,7 @@ signature_with index randomizer chains path =
 unfoldable pub chains_in : List ℕ → List (List ℕ)
 chains_in bytes = values_in 67 bytes
 
--- the index of a leaf of a tree of height h: any other is told at once, where it stands
+-- the index of a leaf of a tree of height h: any other is a fault, where it stands
 unfoldable pub leaf_index : ℕ → Layout ℕ
 leaf_index h = do
   index ← number
@@ -35,4 +35,4 @@ signature tree = do
   randomizer ← block 32
   chains ← values 67
   path ← values (xmss_height_of tree)
-  done (record { index = index; randomizer = randomizer; chains = chains; path = path })
+  done (signature_with index randomizer chains path)

@@ -7,27 +7,27 @@ ghost use Rattle.xmss.specs.Digest.{message_digest_of};
 use crate::writing::put;
 use wots_plus::hash_message;
 
-/// M', the digest of a message that leaf `index` signs in the tree with this root, by the randomizer r
+/// M', the digest of a message that a leaf signs in the tree with this root, by the randomizer r
 /// of the signature (RFC 8391 4.1.9).
 pub fn message_digest(
     randomizer: &[u8; 32],
     root: &[u8; 32],
-    index: u32,
+    leaf: u32,
     message: &[u8],
 ) -> [u8; 32]
-    ensures { result ≡ message_digest_of randomizer.now root.now index message.now }
+    ensures { result ≡ message_digest_of randomizer.now root.now leaf message.now }
 {
-    hash_message(&digest_key(randomizer, root, index), message)
+    hash_message(&digest_key(randomizer, root, leaf), message)
 }
 
 // r || root || toByte(idx, 32), the key of the digest.
-fn digest_key(randomizer: &[u8; 32], root: &[u8; 32], index: u32) -> [u8; 96]
-    ensures { result ≡ randomizer.now ++ root.now ++ spec.index_bytes index }
+fn digest_key(randomizer: &[u8; 32], root: &[u8; 32], leaf: u32) -> [u8; 96]
+    ensures { result ≡ randomizer.now ++ root.now ++ spec.index_bytes leaf }
 {
     let mut key = [0; 96];
     let place = put(&mut key, 0, randomizer);
     let place = put(&mut key, place, root);
-    put(&mut key, place, &index_bytes(index));
+    put(&mut key, place, &index_bytes(leaf));
     key
 }
 

@@ -1,6 +1,6 @@
 //! Public keys.
 
-ghost use Rattle.std.specs.Prelude.{◌≡◌, ◌+◌, ◌<◌, ◌^◌, OnOk};
+ghost use Rattle.std.specs.Prelude.{◌≡◌, ◌+◌, ◌<◌, ◌^◌, OnErr, OnOk};
 ghost use Rattle.typecodes.specs.Cursor.{Gives, Reads, read};
 
 use typecodes::{Cursor, ReadFault, XmssType};
@@ -19,8 +19,25 @@ pub struct XmssPublic {
 impl XmssPublic {
     ghost use Rattle.xmss.specs.Key.{public_key};
 
-    /// The key that the bytes spell, 68 bytes and no more: its type, the root and SEED. Otherwise their
-    /// first fault (1, 2 or 5).
+    // The key at a cursor, 68 bytes: its type, the root and SEED. A fault leaves the cursor where it is.
+    #[tactic(auto, using(typecodes::proofs::Steps::reading), unfolding(crate::specs::Key::public_key))]
+    fn from_cursor(cursor: &mut Cursor<'_>) -> Result<Self, ReadFault>
+        requires { cursor.old.place + 68 < 2 ^ 32 }
+        ensures read { Gives (λ key. (key, cursor.new.place)) result
+            (read public_key cursor.old.bytes.now cursor.old.place) }
+        ensures len { OnOk result (cursor.new.place ≡ cursor.old.place + 68) }
+        ensures bytes { cursor.new.bytes ≡ cursor.old.bytes }
+        ensures err { OnErr result (cursor.new.place ≡ cursor.old.place) }
+    {
+        let mut rest = *cursor;
+        let tree = rest.xmss_type()?;
+        let root = *rest.array()?;
+        let seed = *rest.array()?;
+        *cursor = rest;
+        Ok(XmssPublic { tree, root, seed })
+    }
+
+    /// The key that the bytes spell, 68 bytes and no more. Otherwise their first fault (1, 2 or 5).
     #[tactic(auto, using(typecodes::proofs::Steps::steps))]
     pub fn read(bytes: &[u8]) -> Result<Self, ReadFault>
         ensures { Reads public_key (λ key. key) bytes.now result }
@@ -29,19 +46,5 @@ impl XmssPublic {
         let key = Self::from_cursor(&mut cursor)?;
         cursor.end()?;
         Ok(key)
-    }
-
-    // The key at a cursor.
-    #[tactic(auto, using(typecodes::proofs::Steps::reading), unfolding(crate::specs::Key::public_key))]
-    fn from_cursor(cursor: &mut Cursor<'_>) -> Result<Self, ReadFault>
-        requires { cursor.old.place + 68 < 2 ^ 32 }
-        ensures read { Gives (λ key. (key, cursor.new.place)) result (read public_key cursor.old.bytes.now cursor.old.place) }
-        ensures len { OnOk result (cursor.new.place ≡ cursor.old.place + 68) }
-        ensures bytes { cursor.new.bytes ≡ cursor.old.bytes }
-    {
-        let tree = cursor.xmss_type()?;
-        let root = *cursor.array()?;
-        let seed = *cursor.array()?;
-        Ok(XmssPublic { tree, root, seed })
     }
 }

@@ -1,29 +1,30 @@
 //! Laws of spellings and of verdicts. The functions do nothing: what their contracts say is proved of
 //! every key and every signature.
 
-ghost use Rattle.std.specs.Prelude.{◌≡◌, List, [], ◌++◌, ℕ, Result, Err, IsOk};
-ghost use Rattle.typecodes.specs.Layout.{Spells, OneSpelling};
+ghost use Rattle.std.specs.Prelude.{◌≡◌, List, ℕ, Result, Err, IsOk};
+ghost use Rattle.typecodes.specs.Layout.{Spells};
+ghost use Rattle.typecodes.specs.Unambiguous.{IsUnambiguous};
 ghost use Rattle.typecodes.specs.declared.refusal.Refusal.{Refusal};
 ghost use Rattle.typecodes.specs.declared.types.XmssType.{XmssType};
 ghost use Rattle.xmss.specs.declared.key.XmssPublic.{XmssPublic};
-ghost use Rattle.xmss.specs.Signature.{Signature, signature};
 ghost use Rattle.xmss.specs.Key.{public_key};
+ghost use Rattle.xmss.specs.Signature.{Signature, signature};
 ghost use Rattle.xmss.specs.Verification.{IsValid, Verdict};
 
 /// What holds of the spellings of public keys and of each type's signatures: no value has two, no
 /// bytes spell two values, and no spelling begins another.
 pub fn spelling_laws()
-    ensures key_once { OneSpelling public_key }
-    ensures one_key { (key other : XmssPublic) (a : List ℕ) → Spells public_key key a → Spells public_key other a → key ≡ other }
-    ensures no_longer_key { (key other : XmssPublic) (a b : List ℕ) → Spells public_key key a → Spells public_key other (a ++ b) → b ≡ [] }
-    ensures signature_once { (tree : XmssType) → OneSpelling (signature tree) }
-    ensures one_signature { (tree : XmssType) (s other : Signature) (a : List ℕ) → Spells (signature tree) s a → Spells (signature tree) other a → s ≡ other }
-    ensures no_longer_signature { (tree : XmssType) (s other : Signature) (a b : List ℕ) → Spells (signature tree) s a → Spells (signature tree) other (a ++ b) → b ≡ [] }
+    ensures keys { IsUnambiguous public_key }
+    ensures signatures { (tree : XmssType) → IsUnambiguous (signature tree) }
 {}
 
 /// What holds of the answers of verification: bytes that spell a valid signature of the key's type are
 /// refused by none (`accepted`), and no bytes have two refusals (`one_refusal`).
 pub fn verdict_laws()
-    ensures accepted { (key : XmssPublic) (message bytes : List ℕ) (result : Result (Unit {0}) Refusal) → Verdict key message bytes result → (s : Signature) → Spells (signature key.tree) s bytes → IsValid key message s → IsOk result }
-    ensures one_refusal { (key : XmssPublic) (message bytes : List ℕ) (first second : Refusal) → Verdict {A = Unit {0}} key message bytes (Err first) → Verdict {A = Unit {0}} key message bytes (Err second) → first ≡ second }
+    ensures accepted { (key : XmssPublic) (message bytes : List ℕ) (result : Result (Unit {0}) Refusal) →
+        Verdict key message bytes result →
+        (s : Signature) → Spells (signature key.tree) s bytes → IsValid key message s → IsOk result }
+    ensures one_refusal { (key : XmssPublic) (message bytes : List ℕ) (first second : Refusal) →
+        Verdict {A = Unit {0}} key message bytes (Err first) →
+        Verdict {A = Unit {0}} key message bytes (Err second) → first ≡ second }
 {}

@@ -1,11 +1,21 @@
-//! XMSS keys, signatures and their verification (RFC 8391 4.1), for SHA-256 with n = 32 and w = 16.
+//! XMSS keys, signatures, verification and signing (RFC 8391 4.1), for SHA-256 with n = 32 and w = 16.
 //!
 //! Its model is `specs/Key.antt` and `specs/Signature.antt`, how keys and signatures are spelled, and
-//! `specs/Verification.antt`, which signatures are valid. Its contract for the crates above: `verify` is Ok exactly on the
-//! spellings of valid signatures, and else tells the first refusal; what `write_signature` writes is
-//! the textbook signature of `specs/Writing.antt`, which is valid. That keys and signatures are
-//! spelled in one way, and that an answer of `verify` is the only one, stands on `spelling_laws` and
-//! `verdict_laws`.
+//! `specs/Verification.antt`, which signatures are valid. Its contract for the crates above: `verify` is
+//! Ok exactly on the spellings of valid signatures, and else reports the first refusal; what
+//! `write_signature` writes is the textbook signature of `specs/Writing.antt`, which is valid. That keys
+//! and signatures are spelled in one way, and that an answer of `verify` is the only one, stands on
+//! `spelling_laws` and `verdict_laws`.
+//!
+//! ```rust
+//! use typecodes::Refusal;
+//! use xmss::{XmssPublic, verify};
+//!
+//! // 68 bytes of a key; a message, and the bytes of its signature
+//! let key = XmssPublic::read(&public).map_err(Refusal::Unreadable)?;
+//! let mut rest: &[u8] = b"message";
+//! verify(&key, &mut rest, &signature)?;
+//! ```
 #![tactic(auto)]
 
 mod digest;

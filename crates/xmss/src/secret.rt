@@ -24,19 +24,19 @@ pub struct XmssSecret {
 impl XmssSecret {
     ghost use Rattle.xmss.specs.Secret.{digest_in, randomizer_of};
 
-    /// r, the randomizer of leaf `index`'s signature, 32 bytes (RFC 8391 4.1.9).
-    pub fn randomizer(&self, index: u32) -> [u8; 32]
-        ensures { result ≡ randomizer_of self.now.prf_key index }
+    /// r, the randomizer of a leaf's signature, 32 bytes (RFC 8391 4.1.9).
+    pub fn randomizer(&self, leaf: u32) -> [u8; 32]
+        ensures { result ≡ randomizer_of self.now.prf_key leaf }
     {
-        Prf::new(self.prf_key).hash(&index_bytes(index))
+        Prf::new(self.prf_key).hash(&index_bytes(leaf))
     }
 
-    /// M', the digest of a message that leaf `index` signs in the tree with this root, by the leaf's
+    /// M', the digest of a message that a leaf signs in the tree with this root, by the leaf's
     /// randomizer (RFC 8391 4.1.9).
-    pub fn message_digest(&self, root: &[u8; 32], index: u32, message: &[u8]) -> [u8; 32]
-        ensures { result ≡ digest_in self.now root.now index message.now }
+    pub fn message_digest(&self, root: &[u8; 32], leaf: u32, message: &[u8]) -> [u8; 32]
+        ensures { result ≡ digest_in self.now root.now leaf message.now }
     {
-        message_digest(&self.randomizer(index), root, index, message)
+        message_digest(&self.randomizer(leaf), root, leaf, message)
     }
 }
 

@@ -1,6 +1,7 @@
 //! Signatures, as views of their bytes.
 
-ghost use Rattle.std.specs.Prelude.{◌≡◌, ◌+◌, ◌*◌, ◌<◌, ◌^◌, [], length, take, drop, slice_index_or, OnOk, IfOk, Ok};
+ghost use Rattle.std.specs.Prelude.{◌≡◌, ◌+◌, ◌*◌, ◌<◌, ◌^◌, IfOk, OnErr, OnOk, Ok};
+ghost use Rattle.std.specs.Prelude.{[], length, take, drop, slice_index_or};
 ghost use Rattle.byteorder.specs.Endian.{big_number};
 ghost use Rattle.typecodes.specs.Layout.{Spells};
 ghost use Rattle.typecodes.specs.Fields.{values_in};
@@ -23,7 +24,8 @@ pub struct XmssSigView<'a> {
     ghost inside: { index < 2 ^ xmss_height_of tree },
     ghost chain_count: { length chains.now ≡ 67 },
     ghost path_length: { length path.now ≡ xmss_height_of tree },
-    ghost spelled: { read (signature tree) bytes.now 0 ≡ Ok (signature_with index randomizer.now chains.now path.now, length bytes.now) },
+    ghost spelled: { read (signature tree) bytes.now 0
+        ≡ Ok (signature_with index randomizer.now chains.now path.now, length bytes.now) },
     ghost size: { length bytes.now ≡ xmss_signature_len_of tree },
     ghost index_at: { index ≡ big_number 4 (take 4 bytes.now) },
     ghost randomizer_at: { randomizer.now ≡ take 32 (drop 4 bytes.now) },
@@ -35,8 +37,8 @@ impl<'a> XmssSigView<'a> {
     ghost use Rattle.xmss.specs.View.{bytes_of, lent_of, signature_of, tree_of};
 
     /// The signature of a type that the bytes spell, and no more: 2500, 2692 or 2820 bytes. Otherwise
-    /// their first fault (1, 4 or 5). An index that is no leaf of the tree is told before what follows
-    /// it is read.
+    /// their first fault (1, 4 or 5). An index that is no leaf of the tree is a fault before what
+    /// follows it is read.
     #[tactic(auto, using(crate::proofs::Fields::fields), unfolding(crate::specs::Signature::signature))]
     pub fn read(tree: XmssType, bytes: &'a [u8]) -> Result<Self, ReadFault>
         ensures reads { Reads (signature tree) signature_of bytes.entry.now result }
@@ -59,7 +61,7 @@ impl<'a> XmssSigView<'a> {
         })
     }
 
-    /// idx, the index of its leaf.
+    /// idx, its leaf.
     pub fn index(&self) -> u32
         ensures value { result ≡ (signature_of self.now).index }
         ensures range { result ≡ big_number 4 (take 4 (bytes_of self.now)) }
@@ -104,23 +106,27 @@ impl<'a> XmssSigView<'a> {
     }
 }
 
-// The index of a leaf of a tree at a cursor, a field of 4 bytes. Any other index is told at once.
+// The index of a leaf of a tree at a cursor, a field of 4 bytes. Any other index is a fault. A fault leaves
+// the cursor where it is.
 #[tactic(auto, using(crate::proofs::Fields::fields), unfolding(crate::specs::Signature::leaf_index))]
 fn leaf_index(cursor: &mut Cursor<'_>, tree: XmssType) -> Result<u32, ReadFault>
     requires { cursor.old.place + 4 < 2 ^ 32 }
-    ensures read { Gives (λ index. (index, cursor.new.place)) result (read (spec.leaf_index (xmss_height_of tree)) cursor.old.bytes.now cursor.old.place) }
+    ensures read { Gives (λ index. (index, cursor.new.place)) result
+        (read (spec.leaf_index (xmss_height_of tree)) cursor.old.bytes.now cursor.old.place) }
     ensures inside { IfOk result (λ index. index < 2 ^ xmss_height_of tree) }
     ensures range { IfOk result (λ index. index ≡ big_number 4 (take 4 (drop cursor.old.place cursor.old.bytes.now))) }
     ensures len { OnOk result (cursor.new.place ≡ cursor.old.place + 4) }
     ensures bytes { cursor.new.bytes ≡ cursor.old.bytes }
+    ensures err { OnErr result (cursor.new.place ≡ cursor.old.place) }
 {
-    let place = cursor.place;
-    let index = cursor.number()?;
+    let mut rest = *cursor;
+    let index = rest.number()?;
     if index >= 1 << tree.height() {
         return Err(ReadFault {
-            place,
+            place: cursor.place,
             cause: Cause::LeafOutOfRange,
         });
     }
+    *cursor = rest;
     Ok(index)
 }

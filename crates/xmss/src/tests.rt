@@ -93,7 +93,7 @@ fn signatures_are_refused(rt: HostRuntime) {
     }
 }
 
-// The index 1024 is told when it was read: alone, with what follows, and with a byte too many.
+// The index 1024 is reported once it was read: alone, with what follows, and with a byte too many.
 #[test]
 fn indices_are_refused_at_once(rt: HostRuntime) {
     let mut bytes = [0; 2501];
@@ -110,7 +110,7 @@ fn indices_are_refused_at_once(rt: HostRuntime) {
 }
 
 // Zeros of a type's length are a signature, and with one byte less they are none. Its last leaf is
-// read, and the one behind is none.
+// read, and the one after it is none.
 fn assert_read(rt: &impl Abort, tree: XmssType, last: u32, zeros: &mut [u8]) -> Result<(), Fail> {
     let len = zeros.len();
     assert!(rt; 2500 <= len);

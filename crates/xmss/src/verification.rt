@@ -41,7 +41,8 @@ fn leads_to_root(public: &XmssPublic, message: &[u8], view: &XmssSigView<'_>) ->
 // The root to which a signature leads, and no other (RFC 8391 4.1.10, algorithm 13).
 fn candidate(public: &XmssPublic, message: &[u8], view: &XmssSigView<'_>) -> [u8; 32]
     ensures leads { LeadsTo public.now message.now (signature_of view.now) result }
-    ensures only { (other : List ℕ) → LeadsTo public.now message.now (signature_of view.now) other → other ≡ result }
+    ensures only { (other : List ℕ) →
+        LeadsTo public.now message.now (signature_of view.now) other → other ≡ result }
 {
     let digest = message_digest(view.randomizer, &public.root, view.index, message);
     let seed = Prf::new(public.seed);

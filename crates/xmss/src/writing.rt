@@ -25,40 +25,41 @@ pub fn write_public(public: &XmssPublic, into: &mut [u8])
     put(into, place, &public.seed);
 }
 
-/// Writes the signature of the digest M' by leaf `index`, with the leaf's randomizer and its
-/// authentication path (RFC 8391 4.1.9): 2500, 2692 or 2820 bytes by the type. The caller keeps the
-/// index below `2^h`, and gives h nodes and as many bytes as the signature has.
+/// Writes the signature of the digest M' by a leaf, with the leaf's randomizer and its authentication
+/// path (RFC 8391 4.1.9): 2500, 2692 or 2820 bytes by the type. The caller keeps the leaf below `2^h`,
+/// and gives h nodes and as many bytes as the signature has.
 pub fn write_signature(
     secret: &XmssSecret,
-    index: u32,
+    leaf: u32,
     digest: &[u8; 32],
     path: &[[u8; 32]],
     into: &mut [u8],
 )
-    requires inside { index < 2 ^ xmss_height_of secret.now.tree }
+    requires inside { leaf < 2 ^ xmss_height_of secret.now.tree }
     requires path { length path.now ≡ xmss_height_of secret.now.tree }
     requires room { length into.old ≡ xmss_signature_len_of secret.now.tree }
-    ensures bytes { into.new ≡ signature_bytes (signed secret.now index digest.now path.now) }
+    ensures bytes { into.new ≡ signature_bytes (signed secret.now leaf digest.now path.now) }
     // They spell the signature.
-    ensures spells { Spells (signature secret.now.tree) (signed secret.now index digest.now path.now) into.new }
+    ensures spells { Spells (signature secret.now.tree) (signed secret.now leaf digest.now path.now) into.new }
     // Where the digest is a message's and the path is the leaf's, the signature is valid.
-    ensures valid { (message : List ℕ) → digest.now ≡ digest_in secret.now (root_in secret.now) index message
-        → path.now ≡ path_in secret.now index
-        → IsValid (public_of secret.now) message (signed secret.now index digest.now path.now) }
+    ensures valid { (message : List ℕ) →
+        digest.now ≡ digest_in secret.now (root_in secret.now) leaf message →
+        path.now ≡ path_in secret.now leaf →
+        IsValid (public_of secret.now) message (signed secret.now leaf digest.now path.now) }
 {
-    let place = put(into, 0, &index.to_be_bytes());
-    let place = put(into, place, &secret.randomizer(index));
+    let place = put(into, 0, &leaf.to_be_bytes());
+    let place = put(into, place, &secret.randomizer(leaf));
     let end = place + 32 * 67;
     let seed = Prf::new(secret.public_seed);
     let key = Wots {
         seed: &seed,
-        leaf: index,
+        leaf,
     };
     key.sign_digest(&secret.secret_seed, digest, &mut into[place..end]);
     put(into, end, path.as_flattened());
 }
 
-// Writes bytes at a place, and tells the place behind them.
+// Writes bytes at a place, and gives the place after them.
 pub(crate) fn put(into: &mut [u8], place: usize, bytes: &[u8]) -> usize
     requires { place + length bytes.now ≤ length into.old }
     ensures place { result ≡ place + length bytes.now }

@@ -1,6 +1,6 @@
 use Rattle.lms.specs.Signature.{signature}
 use Rattle.lms.specs.View.{signature_of}
-use Rattle.lms.proofs.Comparing.{read_spells}
+use Rattle.typecodes.proofs.WasRead.{read_spells}
 use Rattle.lms.proofs.Verdicts.{whole_verdict}
 use Rattle.lms.proofs.verification.verify.Goals as goal
 

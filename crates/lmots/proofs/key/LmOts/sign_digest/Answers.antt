@@ -1,11 +1,11 @@
-use Rattle.std.proofs.Common.{◌≡◌, ◌∙◌, refl, sym, ap, arith, ◌*◌, ◌≤◌, length}
-use Rattle.std.proofs.lemmas.List.{take_all}
+use Rattle.std.proofs.Common.{◌≡◌, ◌∙◌, ap, arith, length}
 use Rattle.std.specs.List.{concat}
-use Rattle.lmots.specs.Key.{signed_values}
+use Rattle.lmots.specs.Key.{private_value, signed_values, step_of}
 use Rattle.typecodes.specs.Types.{chains_of}
 use Rattle.winternitz.specs.Digest.{digit_count, digits_of}
 use Rattle.lmots.proofs.Counts.{digits_are_chains}
 use Rattle.lmots.proofs.Signing.{bytes_climb}
+use Rattle.winternitz.proofs.Signing.{written_all}
 use Rattle.winternitz.proofs.Concatenated.{written_more}
 use Rattle.lmots.proofs.key.LmOts.sign_digest.Goals as goal
 
@@ -21,10 +21,9 @@ written c =
     let digits = read ∙ c.digits-digits.ensures.computed ∙ ap (λ w. digits_of w c.args.digest.now) c.width.ensures.value in
     let chains = c.digits-digits.ensures.count ∙ ap digit_count c.width.ensures.value ∙ digits_are_chains c.args.ots in
     let all : c.loop-chain.chain ≡ chains_of c.args.ots = omega (arith, chains, ap length read) in
-    let filled : length c.loop-chain.into ≤ 32 * c.loop-chain.chain = omega arith in
-    sym (take_all (32 * c.loop-chain.chain) c.loop-chain.into filled)
-    ∙ c.loop-chain.invariant
-    ∙ rw (all, digits) refl
+    let key = c.args.self.now in
+    written_all (step_of key.identifier key.leaf) (private_value key.identifier key.leaf c.args.seed.now)
+    _ _ c.loop-chain.into c.loop-chain.chain (chains_of c.args.ots) c.loop-chain.invariant all (omega arith) digits
 
 pub returns-clause-value : goal.returns-clause-value
 returns-clause-value c = written c

@@ -1,5 +1,5 @@
 use Rattle.typecodes.specs.Types.{chains_of}
-use Rattle.lms.proofs.Parts.{values_at}
+use Rattle.typecodes.proofs.Parts.{values_at}
 use Rattle.lms.proofs.signature.LmsSigView.chain.Goals as goal
 
 pub returns-clause-range : goal.returns-clause-range

@@ -2,7 +2,8 @@ use Rattle.std.proofs.Common.{◌≡◌, ◌-◌, Ok, arith, rules, take, drop}
 use Rattle.typecodes.specs.Cursor.{read}
 use Rattle.lms.specs.Signature.{Signature, signature, signature_with}
 use Rattle.lms.proofs.Fields.{fields}
-use Rattle.lms.proofs.Parts.{laid_out, part_read}
+use Rattle.typecodes.proofs.Parts.{part_read}
+use Rattle.lms.proofs.Parts.{laid_out}
 use Rattle.lms.proofs.signature.LmsSigView.from_cursor.Goals as goal
 
 pub invariant_of-result : goal.invariant_of-result

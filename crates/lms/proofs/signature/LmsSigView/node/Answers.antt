@@ -1,6 +1,6 @@
 use Rattle.std.proofs.Common.{◌+◌}
 use Rattle.typecodes.specs.Types.{height_of, signature_len_of}
-use Rattle.lms.proofs.Parts.{values_at}
+use Rattle.typecodes.proofs.Parts.{values_at}
 use Rattle.lms.proofs.signature.LmsSigView.node.Goals as goal
 
 pub returns-clause-range : goal.returns-clause-range

@@ -17,8 +17,8 @@ pub returns : goal.returns
 returns c =
     let eight : length c.words.result ≡ 8 = ap length c.words.ensures ∙ words_count _ _ in
     let all : c.loop-i.i ≡ 8 = omega arith in
-    let filled : length c.loop-i.bytes ≤ 4 * c.loop-i.i = omega arith in
-    sym (take_all (4 * c.loop-i.i) c.loop-i.bytes filled)
+    let full : length c.loop-i.bytes ≤ 4 * c.loop-i.i = omega arith in
+    sym (take_all (4 * c.loop-i.i) c.loop-i.bytes full)
     ∙ c.loop-i.invariant.written
     ∙ ap bytes_of_words (take_all c.loop-i.i c.words.result (omega arith) ∙ c.words.ensures)
     ∙ bytes_are _ _

@@ -2,7 +2,7 @@ use Rattle.std.proofs.Common.{◌≡◌, ◌∙◌, ◌<◌, ℕ, List, [], get_
 use Rattle.std.proofs.lemmas.List.Edits.{fill_by_more}
 use Rattle.winternitz.specs.Chain.{end_of}
 use Rattle.wots_plus.specs.Key.{step_of}
-use Rattle.wots_plus.proofs.Signing.{ends_filled}
+use Rattle.winternitz.proofs.Signing.{ends_written}
 use Rattle.wots_plus.proofs.key.Wots.ends_from_signature.Goals as goal
 
 -- each digit stands on its chain
@@ -26,5 +26,5 @@ pub returns : goal.returns
 returns c =
     let read = c.deref-digit-items.ensures.0 in
     let count : length c.deref-digit-items.result.now ≡ 67 = ap length read ∙ c.digits.ensures.count in
-    ends_filled _ 4 67 _ _ _ c.loop-chain.ends c.loop-chain.invariant.long count (read ∙ c.digits.ensures.computed)
+    ends_written _ 4 67 _ _ _ c.loop-chain.ends c.loop-chain.invariant.long count (read ∙ c.digits.ensures.computed)
     (λ k within. c.loop-chain.invariant.each k (omega arith))

@@ -1,9 +1,9 @@
-use Rattle.std.proofs.Common.{◌≡◌, ◌∙◌, refl, ap, arith, length}
+use Rattle.std.proofs.Common.{◌≡◌, ◌∙◌, ap, arith, length}
 use Rattle.std.specs.List.{concat}
-use Rattle.sha2.proofs.Facts256.{length-sha256}
 use Rattle.winternitz.specs.Digest.{digits_of}
 use Rattle.wots_plus.specs.Key.{private_value, signed_values, step_of}
-use Rattle.wots_plus.proofs.Signing.{bytes_climb, written_all}
+use Rattle.winternitz.proofs.Signing.{written_all}
+use Rattle.wots_plus.proofs.Signing.{bytes_climb}
 use Rattle.winternitz.proofs.Concatenated.{written_more}
 use Rattle.wots_plus.proofs.key.Wots.sign_digest.Goals as goal
 use Rattle.wots_plus.proofs.key.Wots.sign_digest.Goals.{After-loop-chain}
@@ -25,8 +25,4 @@ pub returns-clause-value : goal.returns-clause-value
 returns-clause-value c = written c
 
 pub returns-clause-climbs : goal.returns-clause-climbs
-returns-clause-climbs c =
-    let key = c.args.self.now.seed.now.key in
-    let leaf = c.args.self.now.leaf in
-    bytes_climb (step_of key leaf) (private_value key leaf c.args.secret.now) 4 67 c.args.digest.now c.loop-chain.into
-    refl (λ i j v. length-sha256 _) (λ i. length-sha256 _) (written c)
+returns-clause-climbs c = bytes_climb _ _ _ c.args.digest.now _ (written c)

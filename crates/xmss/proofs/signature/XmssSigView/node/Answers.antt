@@ -1,5 +1,5 @@
 use Rattle.typecodes.specs.Types.{xmss_height_of}
-use Rattle.xmss.proofs.Parts.{values_at}
+use Rattle.typecodes.proofs.Parts.{values_at}
 use Rattle.xmss.proofs.signature.XmssSigView.node.Goals as goal
 
 pub returns-clause-range : goal.returns-clause-range

@@ -3,7 +3,8 @@ use Rattle.typecodes.specs.Cursor.{read}
 use Rattle.typecodes.specs.Types.{xmss_height_of}
 use Rattle.xmss.specs.Signature.{Signature, signature, signature_with}
 use Rattle.xmss.proofs.Fields.{fields}
-use Rattle.xmss.proofs.Parts.{array_at, chains_read_at, values_read_at}
+use Rattle.typecodes.proofs.Parts.{array_at, values_read_at}
+use Rattle.xmss.proofs.Parts.{chains_read_at}
 use Rattle.xmss.proofs.signature.XmssSigView.read.Goals as goal
 
 pub invariant_of-result : goal.invariant_of-result

@@ -1,0 +1,12 @@
+-- A layout whose values are spelled in one way is unambiguous.
+use Rattle.std.proofs.Common.{◌≡◌, ℕ, List}
+use Rattle.typecodes.specs.Layout.{Layout, OneSpelling}
+use Rattle.typecodes.specs.Unambiguous.{IsUnambiguous}
+use Rattle.typecodes.proofs.Spelling.{no_longer, one_value}
+
+pub unambiguous : {V : Type 0} (layout : Layout V) → OneSpelling layout → IsUnambiguous layout
+unambiguous layout one = record {
+  one_spelling = one;
+  one_value = one_value layout;
+  no_longer = λ v w a b first second. (no_longer layout v w a b first second).0;
+}

@@ -1,0 +1,83 @@
+-- What a signature carries of a key's chains climbs to the ends of these chains, for any step and any
+-- private values.
+use Rattle.std.proofs.Common.{◌≡◌, ◌∙◌, sym, ap, ap₂, subst, ℕ, zero, suc, ◌+◌, ◌-◌, ◌*◌, ◌<◌, ◌^◌, List, [], map, length, get_or, take, arith}
+use Rattle.std.specs.List.{concat, range_with_len}
+use Rattle.std.proofs.lemmas.List.FromFn.{fill_by_all, get_or-map-range_with_len, length-map-range_with_len}
+use Rattle.std.proofs.lemmas.List.{take_all}
+use Rattle.typecodes.specs.Fields.{values_in}
+use Rattle.winternitz.specs.Chain.{Steps, walk, walk_on, AreEnds, end_of, ends_of}
+use Rattle.winternitz.specs.Digest.{digit_count, digits_of}
+use Rattle.winternitz.proofs.Concatenated.{chunks_of_concat}
+use Rattle.winternitz.proofs.Walks.{walk-walk}
+use Rattle.winternitz.proofs.Coefs.{digit_most}
+
+-- the private values, walked to the digits
+abbrev pub signed : Steps → (ℕ → List ℕ) → List ℕ → ℕ → List (List ℕ)
+signed step start digits n = map (λ i. walk step i 0 (get_or digits i 0) (start i)) (range_with_len 0 n)
+
+-- and to the ends of their chains
+abbrev pub ends : Steps → (ℕ → List ℕ) → ℕ → ℕ → List (List ℕ)
+ends step start w n = map (λ i. walk step i 0 (2 ^ w - 1) (start i)) (range_with_len 0 n)
+
+-- the values of a signature climb to the ends of the key's chains
+pub signed_climbs : (step : Steps) (start : ℕ → List ℕ) (w n : ℕ) (digest : List ℕ) → n ≡ digit_count w
+    → AreEnds step w (digits_of w digest) (signed step start (digits_of w digest) n) (ends step start w n)
+signed_climbs step start w n digest all =
+    let digits = digits_of w digest in
+    let value = λ (i : ℕ). walk step i 0 (get_or digits i 0) (start i) in
+    let end = λ (i : ℕ). walk step i 0 (2 ^ w - 1) (start i) in
+    let count : length digits ≡ digit_count w = length-map-range_with_len _ 0 (digit_count w) in
+    record {
+      count = length-map-range_with_len end 0 n ∙ all ∙ sym count;
+      each = λ i within.
+          let inside : i < n = omega arith in
+          get_or-map-range_with_len end 0 n i i [] inside (omega arith)
+          ∙ sym (walk-walk step i 0 (get_or digits i 0) (2 ^ w - 1) (start i) (omega arith) (digit_most w digest i (omega arith)))
+          ∙ ap (walk step i (get_or digits i 0) (2 ^ w - 1)) (sym (get_or-map-range_with_len value 0 n i i [] inside (omega arith)));
+    }
+
+-- along its chain a value keeps 32 bytes
+walked_size : (step : Steps) (c a n : ℕ) (v : List ℕ) → ((i j : ℕ) (v : List ℕ) → length (step i j v) ≡ 32) → length v ≡ 32
+    → length (walk_on step c a n v) ≡ 32
+unfolding walk_on
+walked_size step c a zero v steps size = size
+walked_size step c a (suc n) v steps size = steps c (a + n) (walk_on step c a n v)
+
+-- so do the values of a signature
+pub signed_sizes : (step : Steps) (start : ℕ → List ℕ) (digits : List ℕ) (n : ℕ)
+    → ((i j : ℕ) (v : List ℕ) → length (step i j v) ≡ 32) → ((i : ℕ) → length (start i) ≡ 32)
+    → (i : ℕ) → i < n → length (get_or (signed step start digits n) i []) ≡ 32
+signed_sizes step start digits n steps starts i within =
+    let value = λ (i : ℕ). walk step i 0 (get_or digits i 0) (start i) in
+    ap length (get_or-map-range_with_len value 0 n i i [] within (omega arith))
+    ∙ walked_size step i 0 (get_or digits i 0 - 0) (start i) steps (starts i)
+
+-- once the values of all n chains are written, the bytes are those
+pub written_all : (step : Steps) (start : ℕ → List ℕ) (read digits bytes : List ℕ) (chain n : ℕ)
+    → take (32 * chain) bytes ≡ concat (signed step start read chain) → chain ≡ n → length bytes ≡ 32 * n → read ≡ digits
+    → bytes ≡ concat (signed step start digits n)
+written_all step start read digits bytes chain n written all size digits_are =
+    sym (take_all (32 * chain) bytes (omega arith))
+    ∙ written
+    ∙ ap₂ (λ digits n. concat (signed step start digits n)) digits_are all
+
+-- values that are the ends of all chains are the ends
+pub ends_written : (step : Steps) (w n : ℕ) (read digits : List ℕ) (values written : List (List ℕ)) → length written ≡ n → length read ≡ n
+    → read ≡ digits → ((k : ℕ) → k < n → get_or written k [] ≡ end_of step w read values k) → written ≡ ends_of step w digits values
+ends_written step w n read digits values written long all digits_are each =
+    fill_by_all (end_of step w read values) written (length read) [] (long ∙ sym all) (λ k within. each k (omega arith))
+    ∙ ap (λ digits. ends_of step w digits values) digits_are
+
+-- what bytes that contain the values of a signature climb to
+pub bytes_climb : (step : Steps) (start : ℕ → List ℕ) (w n : ℕ) (digest bytes : List ℕ) → n ≡ digit_count w
+    → ((i j : ℕ) (v : List ℕ) → length (step i j v) ≡ 32) → ((i : ℕ) → length (start i) ≡ 32)
+    → bytes ≡ concat (signed step start (digits_of w digest) n)
+    → AreEnds step w (digits_of w digest) (values_in n bytes) (ends step start w n)
+bytes_climb step start w n digest bytes all steps starts are =
+    let digits = digits_of w digest in
+    let value = λ (i : ℕ). walk step i 0 (get_or digits i 0) (start i) in
+    let values = signed step start digits n in
+    let sizes = signed_sizes step start digits n steps starts in
+    let contained : values_in n bytes ≡ values =
+    ap (values_in n) are ∙ chunks_of_concat n values (length-map-range_with_len value 0 n) sizes in
+    subst (λ vs. AreEnds step w digits vs (ends step start w n)) (sym contained) (signed_climbs step start w n digest all)
