@@ -2,7 +2,7 @@
 use Rattle.std.proofs.Common.{◌≡◌, ℕ, ◌<◌, ◌≤◌, true, false, nat_le, le-leb, refl}
 use Rattle.std.specs.Prelude.{◌&&◌}
 use Rattle.std.proofs.lemmas.Bool.{lt-leb}
-use Rattle.typecodes.proofs.Steps.{reading}
+use Rattle.typecodes.proofs.Steps.{reading, steps}
 
 -- a number within the bounds
 pub number-within : (low high n : ℕ) → low ≤ n → n ≤ high → (nat_le low n && nat_le n high) ≡ true
@@ -16,3 +16,6 @@ pub number-above : (low high n : ℕ) → low ≤ n → high < n → (nat_le low
 number-above low high n above past = rw (le-leb low n above, lt-leb n high past) refl
 
 pub ruleset numbers = (reading, number-within, number-below, number-above)
+
+-- for a function that reads all of its bytes as one layout, call by call
+pub ruleset whole = (reading, steps)

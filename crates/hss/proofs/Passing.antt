@@ -11,6 +11,7 @@ use Rattle.typecodes.specs.Cursor.{and_then, read}
 use Rattle.typecodes.proofs.Read.{read-bind}
 use Rattle.lms.specs.Signature.{Signature as LmsSignature, signature as lms_signature}
 use Rattle.lms.specs.Key.{public_key as lms_public_key}
+use Rattle.typecodes.proofs.Steps.{reading}
 use Rattle.lms.proofs.Parts.{in_turn}
 use Rattle.hss.specs.SignedKey.{SignedKey, signed_key, signed_keys}
 
@@ -102,4 +103,4 @@ signed_key-faulty bytes place middle s fault s_read key_faulty =
     ∙ read-bind lms_public_key (λ key. done (record { signature = s; key = key })) bytes middle
     ∙ ap (λ r. and_then r (λ x. Ok (record { signature = s; key = x.0 }, x.1))) key_faulty
 
-pub ruleset one = (ots_most, height_most, signed_key-faulty)
+pub ruleset one = (reading, ots_most, height_most, signed_key-faulty)

@@ -1,5 +1,5 @@
 -- What slots and a signature at the bottom show of a signature's levels.
-use Rattle.std.proofs.Common.{◌≡◌, ◌∙◌, refl, sym, ap, ap₂, ℕ, suc, ◌+◌, ◌-◌, ◌<◌, ◌≤◌, inl, inr, List, [], ◌∷◌, ◌++◌, length, take, drop, Option, Some, None, Ok, arith, subst, take_at, drop_at, append-nil}
+use Rattle.std.proofs.Common.{◌≡◌, ◌∙◌, refl, sym, ap, ℕ, suc, ◌+◌, ◌-◌, ◌<◌, ◌≤◌, inl, inr, List, ◌∷◌, ◌++◌, length, take, drop, Option, Some, None, Ok, arith, subst, take_at, drop_at, append-nil}
 use Rattle.std.specs.Prelude.{IfSome, IsSome, ◌↔◌}
 use Rattle.std.proofs.lemmas.Bool.{cases_lt}
 use Rattle.typecodes.specs.Layout.{Spells}
@@ -8,9 +8,9 @@ use Rattle.typecodes.specs.Types.{lms_signature_len_of}
 use Rattle.lms.specs.declared.key.LmsPublic.{LmsPublic}
 use Rattle.lms.specs.declared.signature.LmsSigView.{LmsSigView}
 use Rattle.lms.specs.Key.{public_key as lms_public_key}
-use Rattle.lms.specs.View.{bytes_of as lms_bytes_of, pair_of as lms_pair_of, signature_of as lms_signature_of}
+use Rattle.lms.specs.View.{pair_of as lms_pair_of, signature_of as lms_signature_of}
 use Rattle.hss.specs.declared.signed_key.SignedKeyView.{SignedKeyView}
-use Rattle.hss.specs.SignedKey.{AreFirst, SignedKey, StandInTurn, StandsAt, signed_in, signed_key_of, slot, taken_by}
+use Rattle.hss.specs.SignedKey.{AreFirst, StandInTurn, StandsAt, signed_in, signed_key_of, slot, taken_by}
 use Rattle.hss.specs.Signature.{key_at, level_count, shown_by, signature, signature_at, start_of}
 use Rattle.hss.proofs.Slots.{in-use, none-after, shown-count, signed-at, signed-cut}
 use Rattle.hss.proofs.Walking.{key_at-below, key_spelled, signature_at-above, start-more, starts}

@@ -5,7 +5,7 @@ use Rattle.std.proofs.lemmas.Bool.{cases_lt, cases_order}
 use Rattle.std.proofs.lemmas.List.{get_or-drop, get_or-set_other, get_or-set_same, take-append-drop, take-set-le, take_more_set}
 use Rattle.std.proofs.lemmas.List.Concat.{flat_map-append}
 use Rattle.hss.specs.declared.signed_key.SignedKeyView.{SignedKeyView}
-use Rattle.hss.specs.SignedKey.{AreFirst, SignedKey, StandInTurn, StandsAt, shown, signed_in, signed_key_of, slot, taken_by}
+use Rattle.hss.specs.SignedKey.{AreFirst, StandInTurn, StandsAt, shown, signed_in, signed_key_of, slot, taken_by}
 
 -- slots that show nothing are empty
 none-in : (slots : List (Option SignedKeyView)) (i : ℕ) (view : SignedKeyView) → signed_in slots ≡ [] → slot slots i ≡ Some view → ⊥

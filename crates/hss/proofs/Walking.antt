@@ -1,5 +1,5 @@
 -- Where the levels of a signature stand in the bytes that spell it.
-use Rattle.std.proofs.Common.{◌≡◌, ◌∙◌, refl, sym, ap, ap₂, ℕ, zero, suc, ◌+◌, ◌-◌, ◌*◌, ◌<◌, ◌≤◌, inl, inr, Bool, true, false, cond, nat_le, List, [], ◌∷◌, length, map, take, drop, get_or, Ok, Err, subst, arith, add-zero, length-append, length-drop, add-one, length-take-le}
+use Rattle.std.proofs.Common.{◌≡◌, ◌∙◌, refl, sym, ap, ap₂, ℕ, zero, suc, ◌+◌, ◌-◌, ◌*◌, ◌<◌, ◌≤◌, inl, inr, Bool, true, false, cond, nat_le, List, [], ◌∷◌, length, map, take, drop, get_or, Ok, subst, arith, add-zero, length-append, length-drop, add-one, length-take-le}
 use Rattle.std.specs.Prelude.{◌&&◌, sum_by}
 use Rattle.std.proofs.lemmas.Bool.{cases_lt, lt-leb}
 use Rattle.std.proofs.lemmas.List.Sums.{sum_by-cons, sum_by_push}
@@ -8,12 +8,11 @@ use Rattle.std.proofs.Math.Bool.{and-false}
 use Rattle.std.proofs.Math.Nat.{sub-zero}
 use Rattle.byteorder.specs.Endian.{big_number}
 use Rattle.typecodes.specs.declared.fault.Cause.TheVariants.{LevelCount}
-use Rattle.typecodes.specs.declared.fault.ReadFault.{ReadFault}
 use Rattle.typecodes.specs.Types.{lms_code, lms_signature_len_of, lms_types, ots_code, ots_types}
 use Rattle.typecodes.specs.Layout.{Layout, done, refuse, ◌>>=◌, Spells}
 use Rattle.typecodes.specs.Fields.{block, lms_type, number, ots_type}
-use Rattle.typecodes.specs.Cursor.{and_then, read}
-use Rattle.typecodes.proofs.Read.{read-bind, read-cut, read-fits, read-stands}
+use Rattle.typecodes.specs.Cursor.{read}
+use Rattle.typecodes.proofs.Read.{read-cut, read-fits, read-stands}
 use Rattle.typecodes.proofs.Sizes.{HasSize, size-bind, size-block, size-done, size-typed}
 use Rattle.typecodes.proofs.Steps.{ends-spelled}
 use Rattle.lms.specs.declared.key.LmsPublic.{LmsPublic}

@@ -20,7 +20,7 @@ impl HssPublic {
 
     /// The key that the bytes spell, 60 bytes and no more; it has 1 to 8 levels. Otherwise their first fault
     /// (1, 2, 3 or 5).
-    #[tactic(auto, using(typecodes::proofs::Steps::steps, typecodes::proofs::Steps::reading), unfolding(crate::specs::Key::public_key))]
+    #[tactic(auto, using(crate::proofs::Numbers::whole), unfolding(crate::specs::Key::public_key))]
     pub fn read(bytes: &[u8]) -> Result<Self, ReadFault>
         ensures read { Reads public_key (λ key. key) bytes.now result }
         ensures least { IfOk result (λ key. 1 ≤ key.levels) }

@@ -21,13 +21,13 @@ pub fn spelling_laws()
     ensures key_once { OneSpelling public_key }
     ensures one_key { (key other : HssPublic) (a : List ℕ) → Spells public_key key a → Spells public_key other a
         → key ≡ other }
-    ensures no_longer_key { (key other : HssPublic) (a b : List ℕ) → Spells public_key key a → Spells public_key other (a ++ b)
-        → b ≡ [] }
+    ensures no_longer_key { (key other : HssPublic) (a b : List ℕ) → Spells public_key key a
+        → Spells public_key other (a ++ b) → b ≡ [] }
     ensures signature_once { OneSpelling signature }
     ensures one_signature { (s other : Signature) (a : List ℕ) → Spells signature s a → Spells signature other a
         → s ≡ other }
-    ensures no_longer_signature { (s other : Signature) (a b : List ℕ) → Spells signature s a → Spells signature other (a ++ b)
-        → b ≡ [] }
+    ensures no_longer_signature { (s other : Signature) (a b : List ℕ) → Spells signature s a
+        → Spells signature other (a ++ b) → b ≡ [] }
 {}
 
 /// What holds of the answers of verification: bytes that spell a valid signature are refused by none

@@ -36,7 +36,7 @@ impl<'a> HssSigView<'a> {
 
     /// The signature that the bytes spell, and no more: 2644 bytes for two levels of H5/W8. Otherwise
     /// their first fault (1 to 5).
-    #[tactic(auto, using(typecodes::proofs::Steps::steps, typecodes::proofs::Steps::reading), unfolding(crate::specs::Signature::signature))]
+    #[tactic(auto, using(crate::proofs::Numbers::whole), unfolding(crate::specs::Signature::signature))]
     pub fn read(bytes: &'a [u8]) -> Result<Self, ReadFault>
         ensures reads { Reads signature signature_of bytes.entry.now result }
         ensures whole { IfOk result (λ view. lent_of view ≡ bytes.entry) }
@@ -80,8 +80,10 @@ impl<'a> HssSigView<'a> {
     /// bottom.
     pub fn signed_key(&self, i: u8) -> Option<SignedKeyView<'a>>
         ensures some { IsSome result ↔ (i + 1 < level_count (signature_of self.now)) }
-        ensures signature { IfSome result (λ view. lms_signature_of view.signature ≡ signature_at (signature_of self.now) i) }
-        ensures key { (top : LmsPublic) → IfSome result (λ view. view.key ≡ key_at top (signature_of self.now) (i + 1)) }
+        ensures signature { IfSome result (λ view.
+            lms_signature_of view.signature ≡ signature_at (signature_of self.now) i) }
+        ensures key { (top : LmsPublic) → IfSome result (λ view.
+            view.key ≡ key_at top (signature_of self.now) (i + 1)) }
         ensures range { IfSome result (StandsAt (start_of (signature_of self.now) i) (bytes_of self.now)) }
         ensures spells { IfSome result (λ view. Spells lms_public_key view.key view.key_bytes.now) }
     {

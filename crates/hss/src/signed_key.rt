@@ -28,7 +28,7 @@ impl<'a> SignedKeyView<'a> {
 
     /// The signature and the key at a cursor, at most 9324 bytes and 56. The caller keeps their end below
     /// `2^32`. A fault leaves the cursor where it is.
-    #[tactic(auto, using(crate::proofs::Passing::one, typecodes::proofs::Steps::reading), unfolding(crate::specs::SignedKey::signed_key))]
+    #[tactic(auto, using(crate::proofs::Passing::one), unfolding(crate::specs::SignedKey::signed_key))]
     pub fn from_cursor(cursor: &mut Cursor<'a>) -> Result<Self, ReadFault>
         requires { cursor.old.place + 9380 < 2 ^ 32 }
         ensures read { Gives (λ view. (signed_key_of view, cursor.new.place)) result
@@ -54,7 +54,8 @@ impl<'a> SignedKeyView<'a> {
     /// Verifies that the signature signs the key under this level's key. The first refusal comes of: other
     /// types than the level's key's (10, with the level), another root than its (12, with the level).
     pub fn verify(&self, public: &LmsPublic, level: u8) -> Result<(), Refusal>
-        ensures { LevelVerdict public.now (public_bytes self.now.key) (lms_signature_of self.now.signature) level result }
+        ensures { LevelVerdict public.now (public_bytes self.now.key)
+            (lms_signature_of self.now.signature) level result }
     {
         let mut message = self.key_bytes;
         self.signature.verify(public, &mut message, level)

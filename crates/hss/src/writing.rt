@@ -11,7 +11,8 @@ ghost use Rattle.hss.specs.Signature.{signature, signature_size};
 ghost use Rattle.hss.specs.Verification.{IsValid};
 ghost use Rattle.hss.specs.Secret.{key_of, signing_of};
 ghost use Rattle.hss.specs.Writing.{AreDigests, FromSecrets, level_in, pairs_of, part_size, public_by};
-ghost use Rattle.hss.specs.Writing.{public_bytes, signature_bytes, signed_by, signed_key_by, signed_key_bytes, textbook};
+ghost use Rattle.hss.specs.Writing.{public_bytes, signature_bytes, signed_by, signed_key_by, signed_key_bytes};
+ghost use Rattle.hss.specs.Writing.{textbook};
 
 use crate::key::HssPublic;
 use crate::secret::Level;
@@ -85,7 +86,8 @@ fn write_above(above: &[Level<'_>], bottom: &Level<'_>, into: &mut [u8]) -> usiz
     requires few { length above.now ≤ 7 }
     requires room { length into.old ≡ 4 + sum_by part_size above.now + lms_signature_len_of bottom.now.secret.pair }
     ensures place { result ≡ 4 + sum_by part_size above.now }
-    ensures bytes { take result into.new ≡ take 4 into.old ++ flat_map signed_key_bytes (signed_by above.now bottom.now).signed }
+    ensures bytes { take result into.new
+        ≡ take 4 into.old ++ flat_map signed_key_bytes (signed_by above.now bottom.now).signed }
     ensures spells { let signed = (signed_by above.now bottom.now).signed in
         Spells (signed_keys (length above.now)) signed (flat_map signed_key_bytes signed) }
 {

@@ -1,4 +1,4 @@
-use Rattle.std.proofs.Common.{◌≡◌, ◌+◌, ◌-◌, ◌∙◌, sym, ap, arith, take, drop}
+use Rattle.std.proofs.Common.{◌+◌, arith}
 use Rattle.lms.specs.Key.{public_key as lms_public_key}
 use Rattle.hss.proofs.Walking.{ends-within}
 use Rattle.hss.proofs.KeyBytes.{public-read}

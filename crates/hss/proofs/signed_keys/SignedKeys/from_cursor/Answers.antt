@@ -1,7 +1,7 @@
-use Rattle.std.proofs.Common.{◌≡◌, ◌+◌, ◌<◌, ◌∙◌, refl, sym, ap, ℕ, [], Option, Some, Ok, Err, arith, rules, length, subst, length-set, ◌++◌, ◌∷◌}
-use Rattle.std.specs.Prelude.{set, drop, take}
+use Rattle.std.proofs.Common.{◌≡◌, ◌+◌, ◌<◌, ◌∙◌, refl, sym, ap, [], Some, Ok, Err, arith, rules, length, subst, length-set, ◌++◌, ◌∷◌}
+use Rattle.std.specs.Prelude.{set, take}
 use Rattle.typecodes.specs.Cursor.{read}
-use Rattle.hss.specs.SignedKey.{AreFirst, StandInTurn, StandsAt, signed_in, signed_key, signed_key_of, signed_keys, taken_by}
+use Rattle.hss.specs.SignedKey.{AreFirst, StandInTurn, StandsAt, signed_in, signed_key, signed_key_of, taken_by}
 use Rattle.hss.proofs.Passing.{keys-faulty, keys-next, keys-none}
 use Rattle.hss.proofs.Slots.{filled-first, filled-shows, filled-stand, shown-front, unused-first, unused-stand}
 use Rattle.hss.proofs.Walking.{keys-end}
