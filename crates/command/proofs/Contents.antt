@@ -1,5 +1,5 @@
 -- What is told of contents, and which answers are right for it.
-use Rattle.std.proofs.Common.{◌≡◌, ◌∙◌, ℕ, ◌≤◌, ◌<◌, ◌⊎◌, List, [], ◌∷◌, ◌++◌, length, take, Option, Some, None, Result, Ok, Err, IfOk, IfErr, IsErrAnd, inl, inr, refl, sym, subst, ap, append-nil, arith, length-take-le, take_all, take_at}
+use Rattle.std.proofs.Common.{◌≡◌, ◌∙◌, ℕ, ◌≤◌, ◌<◌, ◌⊎◌, List, [], ◌++◌, length, take, Option, Some, None, Result, Ok, Err, IfOk, IfErr, IsErrAnd, inl, inr, refl, sym, subst, ap, append-nil, arith, length-take-le, take_all, take_at}
 use Rattle.std.proofs.lemmas.Bool.{cases_lt}
 use Rattle.std.specs.Io.KnownBytes.{Consumes, IsAtEnd}
 use Rattle.std.specs.declared.io.ErrorKind.{ErrorKind}
@@ -8,12 +8,9 @@ use Rattle.sign_core.specs.declared.key.AnyPublic.{AnyPublic}
 use Rattle.sign_core.specs.declared.key.KeyFault.{KeyFault}
 use Rattle.sign_core.specs.Key.{KeyHasFault, SpellsKey}
 use Rattle.command.specs.Judgement.{Answers, AnswersOf, ReadsKey, refusal_of}
-use Rattle.command.specs.Lines.{Tells, TellsOf, TellsRightly}
 use Rattle.command.specs.Opening.{IsContent, Shows}
-use Rattle.command.specs.Outputs.{Taken}
 use Rattle.command.specs.declared.refusal.Refusal.{Refusal}
 use Rattle.command.specs.declared.refusal.Refusal.TheVariants.{OutOfMemory, FileFailed}
-use Rattle.command.specs.declared.answer.Done.{Done}
 
 -- some bytes fit whatever is told
 pub some_content : (told : Option (List ℕ)) → (bytes : List ℕ) × IsContent told bytes
@@ -52,20 +49,11 @@ same_content : (content left : Option (List ℕ)) (bytes : List ℕ) → Shows c
 same_content None left bytes shows fits = tt
 same_content (Some content) left bytes shows fits = subst (λ l. IsContent l bytes) shows fits
 
--- an answer that is right for what readers tell is right for what is told of their files
-pub tells_of_files : (p m s p_left m_left s_left : Option (List ℕ)) (old new : Taken) (status : ℕ)
-    → Shows p p_left → Shows m m_left → Shows s s_left → TellsOf p_left m_left s_left old new status → TellsOf p m s old new status
-tells_of_files p m s p_left m_left s_left old new status p_shows m_shows s_shows (answer, (a, b, c, a_fits, b_fits, c_fits, right), told) =
-    (answer, (a, b, c, same_content p p_left a p_shows a_fits, same_content m m_left b m_shows b_fits, same_content s s_left c s_shows c_fits, right), told)
-
--- and for some contents
-pub tells_rightly : (p m s : Option (List ℕ)) (old new : Taken) (status : ℕ) → TellsOf p m s old new status → TellsRightly old new status
-tells_rightly p m s old new status (answer, (a, b, c, a_fits, b_fits, c_fits, right), told) = (answer, (a, b, c, tt, tt, tt, right), told)
-
--- a failure that was told
-pub tells_failure : (p m s : Option (List ℕ)) (old new : Taken) (status : ℕ) (refusal : Refusal) → IsFailure refusal
-    → Tells (Err refusal) old new status → TellsOf p m s old new status
-tells_failure p m s old new status refusal failure told = (Err refusal, failed_answer Done p m s refusal failure, told)
+-- an answer that is right for what readers have left is right for what is known of their files
+pub answers_of_files : {A : Type 0} (p m s p_left m_left s_left : Option (List ℕ)) (answer : Result A Refusal)
+    → Shows p p_left → Shows m m_left → Shows s s_left → AnswersOf p_left m_left s_left answer → AnswersOf p m s answer
+answers_of_files p m s p_left m_left s_left answer p_shows m_shows s_shows (a, b, d, a_fits, b_fits, d_fits, right) =
+    (a, b, d, same_content p p_left a p_shows a_fits, same_content m m_left b m_shows b_fits, same_content s s_left d s_shows d_fits, right)
 
 -- what was read to the end is the content
 pub content_at_end : (old new : Option (List ℕ)) (bytes : List ℕ) → Consumes old new bytes → IsAtEnd new → IsContent old bytes
@@ -95,19 +83,3 @@ first_of count n (Some xs) (Some ys) buffer size within read end = elim (cases_l
       let long : count ≡ length (take n buffer) = omega (arith, size, full, within, length-take-le n buffer within) in
       (xs, refl, sym (take_at (take n buffer) ys count (sym long)) ∙ ap (take count) (sym read))
 ]
-
--- the answer on the files of a line is that on the paths of the same line
-pub tells_of_line : (content : List ℕ → Option (List ℕ)) (a b d p m s : List ℕ) (old new : Taken) (status : ℕ) → ◌≡◌ {A = List (List ℕ)} (a ∷ b ∷ d ∷ []) (p ∷ m ∷ s ∷ [])
-    → TellsOf (content a) (content b) (content d) old new status → TellsOf (content p) (content m) (content s) old new status
-tells_of_line content a b d p m s old new status same told =
-    let first : a ≡ p = cc in
-    let second : b ≡ m = cc in
-    let third : d ≡ s = cc in
-    subst (λ x. TellsOf (content p) (content m) (content x) old new status) third
-    (subst (λ x. TellsOf (content p) (content x) (content d) old new status) second
-    (subst (λ x. TellsOf (content x) (content b) (content d) old new status) first told))
-
--- the status of the answer that there is no memory
-pub memory_status : (old new : Taken) (status : ℕ) → Tells (Err OutOfMemory) old new status → status ≡ 3
-memory_status old new status (inl (is, written)) = is
-memory_status old new status (inr (is, failed)) = is

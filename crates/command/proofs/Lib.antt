@@ -3,7 +3,8 @@ pub mod Deciding
 pub mod Explaining
 pub mod Finding
 pub mod Judging
+pub mod Reading
 pub mod Taking
-pub mod Turns
+pub mod Visiting
 pub mod Walking
 pub mod Walks

@@ -1,4 +1,4 @@
--- A step of the walks of `src/paths.rt`.
+-- A step of the walks of `src/trace.rt`.
 use Rattle.std.proofs.Common.{List, [], ◌∷◌, refl}
 use seplogic.Ra.Ura.{Ura}
 use mir.Val.{Val, vstruct, vnil}

@@ -1,11 +1,14 @@
 -- What the bytes of three files come to: which refusal comes first, or that the signature is the key's.
-use Rattle.std.specs.Prelude.{ℕ, ⊤, List, Option, Result, Ok, Err}
+use Rattle.std.specs.Prelude.{◌≡◌, ℕ, ⊤, ◌⊎◌, List, ◌++◌, Option, Result, Ok, Err, IsErrAnd}
 use Rattle.std.specs.declared.io.ErrorKind.{ErrorKind}
 use Rattle.std.specs.declared.io.ErrorKind.TheVariants as kind
-use Rattle.sign_core.specs.declared.key.AnyPublic.{AnyPublic}
-use Rattle.sign_core.specs.declared.key.KeyFault.{KeyFault}
+use Rattle.sign_core.specs.declared.public.AnyPublic.{AnyPublic}
+use Rattle.sign_core.specs.declared.public.KeyFault.{KeyFault}
 use Rattle.sign_core.specs.Key.{KeyHasFault, KeyVerdict, SpellsKey}
-use Rattle.command.specs.Opening.{IsContent}
+use Rattle.command.specs.Opening.{FailsToCollect, FailsToOpen, FailsToRead, IsContent, all_opened}
+use Rattle.command.specs.Trace.{Happening, ReadsSome}
+use Rattle.command.specs.declared.trace.Role.{Role}
+use Rattle.command.specs.declared.trace.Role.TheVariants as role
 use Rattle.command.specs.declared.refusal.Refusal.{Refusal}
 use Rattle.command.specs.declared.refusal.Refusal.TheVariants.{Key, Signature, OutOfMemory, FileFailed}
 
@@ -33,6 +36,14 @@ abbrev pub AnswersOf : {A : Type 0} → Option (List ℕ) → Option (List ℕ) 
 AnswersOf public message signature answer =
     (p : List ℕ) × (m : List ℕ) × (s : List ℕ) × IsContent public p × IsContent message m × IsContent signature s × Answers p m s answer
 
+-- The answer is a verdict, and no failure.
+abbrev pub IsVerdict : {A : Type 0} → Result A Refusal → Type 0
+IsVerdict (Ok a) = ⊤
+IsVerdict (Err (Key fault)) = ⊤
+IsVerdict (Err (Signature refusal)) = ⊤
+IsVerdict (Err OutOfMemory) = ⊥
+IsVerdict (Err FileFailed) = ⊥
+
 -- Bytes were read as a public key: they spell this one, or this is wrong with them.
 abbrev pub ReadsKey : List ℕ → Result AnyPublic KeyFault → Type 0
 ReadsKey bytes (Ok key) = SpellsKey key bytes
@@ -46,3 +57,32 @@ decisive = 74989
 abbrev pub refusal_of : ErrorKind → Refusal
 refusal_of kind.OutOfMemory = OutOfMemory
 refusal_of _ = FileFailed
+
+-- The answer is this failure, reported by its number.
+abbrev pub Reports : {A : Type 0} → ErrorKind → Result A Refusal → Type 0
+Reports kind answer = IsErrAnd answer (λ refusal. refusal ≡ refusal_of kind)
+
+-- The files of these roles were read one after the other. A verdict was given after all had been read; the first that
+-- failed was reported, and nothing was read after it.
+abbrev pub ReadsInTurn : {A : Type 0} → Role → Role → Role → Result A Refusal → List Happening → List Happening → Type 0
+ReadsInTurn public message signature answer old new =
+    ((kind : ErrorKind) × Reports kind answer × FailsToRead public kind old new)
+    ⊎ ((first : List Happening) × ReadsSome public old first
+    × ((kind : ErrorKind) × Reports kind answer × FailsToCollect message kind first new))
+    ⊎ ((first : List Happening) × (second : List Happening) × ReadsSome public old first × ReadsSome message first second
+    × ((kind : ErrorKind) × Reports kind answer × FailsToCollect signature kind second new))
+    ⊎ ((first : List Happening) × (second : List Happening) × ReadsSome public old first × ReadsSome message first second
+    × ReadsSome signature second new × IsVerdict answer)
+
+-- The files of these paths were opened one after the other, up to one that couldn't be, which was reported; then they
+-- were read in turn.
+abbrev pub Visits : {A : Type 0} → List ℕ → List ℕ → List ℕ → Result A Refusal → List Happening → List Happening → Type 0
+Visits public message signature answer old new =
+    (IsErrAnd answer (λ refusal. refusal ≡ FileFailed) × FailsToOpen public message signature old new)
+    ⊎ ReadsInTurn role.Public role.Message role.Signature answer (old ++ all_opened public message signature) new
+
+-- `verify` of these paths answers so: rightly for what is known of the files, which it opens and reads in turn.
+abbrev pub Verifies : {A : Type 0} → (List ℕ → Option (List ℕ)) → List ℕ → List ℕ → List ℕ → Result A Refusal
+    → List Happening → List Happening → Type 0
+Verifies content public message signature answer old new =
+    AnswersOf (content public) (content message) (content signature) answer × Visits public message signature answer old new

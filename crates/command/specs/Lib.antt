@@ -4,3 +4,4 @@ pub mod Lines
 pub mod Opening
 pub mod Outputs
 pub mod Requests
+pub mod Trace

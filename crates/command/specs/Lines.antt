@@ -10,7 +10,8 @@ use Rattle.clap.specs.Words.{IsAmong, Kinds, fault_of}
 use Rattle.clap.specs.declared.error.kind.ErrorKind.{ErrorKind}
 use Rattle.clap.specs.declared.error.kind.ErrorKind.TheVariants as kind
 use Rattle.command.specs.Commands.{hbsign_app}
-use Rattle.command.specs.Judgement.{AnswersOf}
+use Rattle.command.specs.Judgement.{Verifies}
+use Rattle.command.specs.Trace.{Happening}
 use Rattle.command.specs.Outputs.{Taken, Writes, Fails}
 use Rattle.command.specs.declared.refusal.Refusal.{Refusal}
 use Rattle.command.specs.declared.refusal.Refusal.TheVariants.{Key, Signature, OutOfMemory, FileFailed}
@@ -80,14 +81,12 @@ status_of (Err (Signature refusal)) = 1
 abbrev pub Tells : Result Done Refusal → Taken → Taken → ℕ → Type 0
 Tells answer old new status = ((status ≡ status_of answer) × Writes (answer_line answer) old new) ⊎ ((status ≡ 3) × Fails old new)
 
--- An answer was told that is right for what is told of the three files.
-abbrev pub TellsOf : Option (List ℕ) → Option (List ℕ) → Option (List ℕ) → Taken → Taken → ℕ → Type 0
-TellsOf public message signature old new status =
-    (answer : Result Done Refusal) × AnswersOf public message signature answer × Tells answer old new status
-
--- An answer was told that is right for some contents of the three files.
-abbrev pub TellsRightly : Taken → Taken → ℕ → Type 0
-TellsRightly old new status = TellsOf None None None old new status
+-- `verify` of these paths is answered, and the answer told.
+abbrev pub TellsVerify : (List ℕ → Option (List ℕ)) → List ℕ → List ℕ → List ℕ → List Happening → List Happening
+    → Taken → Taken → ℕ → Type 0
+TellsVerify content public message signature before after old new status =
+    (answer : Result Done Refusal) × Verifies content public message signature answer before after
+    × Tells answer old new status
 
 -- A text that was asked for was written, with status 0, or the output failed.
 abbrev pub Helps : List ℕ → Taken → Taken → ℕ → Type 0
@@ -126,11 +125,20 @@ Explains other old new status = (status ≡ 2) × (new ≡ old)
 abbrev pub line_faults : List (List ℕ) → Kinds
 line_faults words = kind.MissingSubcommand ∷ fault_of hbsign_app words
 
--- What a run of the program on these words leaves on the output: of words without a fault an answer that is right for
--- some contents of the files; of others what their fault asks for; or, where memory was refused to the reader of the
--- line, the answer that there is none.
-abbrev pub Runs : List (List ℕ) → Type 0 → Taken → Taken → ℕ → Type 0
-Runs words refused old new status =
-    ((fault_of hbsign_app words ≡ []) × TellsRightly old new status)
-    ⊎ ((fault : ErrorKind) × IsAmong fault (line_faults words) × Explains fault old new status)
-    ⊎ (refused × Tells (Err OutOfMemory) old new status)
+-- Memory was refused to the reader of the line: this is told, and no file was opened.
+abbrev pub TellsNoMemory : Type 0 → List Happening → List Happening → Taken → Taken → ℕ → Type 0
+TellsNoMemory refused before after old new status = refused × (after ≡ before) × Tells (Err OutOfMemory) old new status
+
+-- What a run of the program on these words does to files and the output: of words without a fault it answers `verify`
+-- of some paths; of others it does what their fault asks for, and opens no file; or there is no memory.
+abbrev pub Runs : List (List ℕ) → (List ℕ → Option (List ℕ)) → Type 0 → List Happening → List Happening → Taken → Taken → ℕ → Type 0
+Runs words content refused before after old new status =
+    ((fault_of hbsign_app words ≡ []) × ((p : List ℕ) × (m : List ℕ) × (s : List ℕ)
+    × TellsVerify content p m s before after old new status))
+    ⊎ ((fault : ErrorKind) × IsAmong fault (line_faults words) × (after ≡ before) × Explains fault old new status)
+    ⊎ TellsNoMemory refused before after old new status
+
+-- Of a line `verify p m s` it answers for these paths, unless there is no memory.
+abbrev pub RunsVerify : (List ℕ → Option (List ℕ)) → List ℕ → List ℕ → List ℕ → Type 0 → List Happening → List Happening → Taken → Taken → ℕ → Type 0
+RunsVerify content p m s refused before after old new status =
+    TellsVerify content p m s before after old new status ⊎ TellsNoMemory refused before after old new status

@@ -1,24 +1,69 @@
--- Which files are opened and read, in which order, and what is told of what they hold.
-use Rattle.std.specs.Prelude.{◌≡◌, ℕ, ⊤, ◌⊎◌, List, ◌++◌, Option, Some, None, IfSome}
-use Rattle.std.specs.Io.KnownBytes.{IsAtEnd}
+-- What is read of files, and how reading them fails.
+use Rattle.std.specs.Prelude.{◌≡◌, ◌≢◌, ℕ, ⊤, ◌⊎◌, List, [], ◌∷◌, ◌++◌, Option, Some, None, Result, Ok, Err, IfSome}
+use Rattle.std.specs.IoError.{error_kind}
+use Rattle.std.specs.declared.io.Error.{Error}
+use Rattle.std.specs.declared.io.ErrorKind.{ErrorKind}
+use Rattle.std.specs.declared.io.ErrorKind.TheVariants.{OutOfMemory}
+use Rattle.command.specs.Trace.{Happening, Reads, ReadsForever, ReadsSome, ReadsToFailure, failed, given, not_opened, opened}
+use Rattle.command.specs.declared.trace.Role.{Role}
+use Rattle.command.specs.declared.trace.Role.TheVariants.{Public, Message, Signature}
 
--- Of these paths the first were opened, in this order, and no other: all of them, or those up to one.
-abbrev pub OpensInTurn : List (List ℕ) → List (List ℕ) → List (List ℕ) → Type 0
-OpensInTurn paths old new =
-    (first : List (List ℕ)) × (others : List (List ℕ)) × (paths ≡ first ++ others) × (new ≡ old ++ first)
+-- what a call that opens a file does to it
+abbrev pub opening : {A E : Type 0} → Role → List ℕ → Result A E → Happening
+opening role path (Ok file) = opened role path
+opening role path (Err error) = not_opened role path
 
--- The bytes are what is there, where that is told.
+-- what a call that reads a file does to it
+abbrev pub reading : Role → Result ℕ Error → Happening
+reading role (Ok count) = given role count
+reading role (Err error) = failed role (error_kind error)
+
+-- The bytes are what the file holds, where that is known.
 abbrev pub IsContent : Option (List ℕ) → List ℕ → Type 0
 IsContent None bytes = ⊤
 IsContent (Some content) bytes = bytes ≡ content
 
--- Where it is told what a file holds, a reader of it tells the same.
+-- Where it is known what a file holds, these bytes are before a reader of it.
 abbrev pub Shows : Option (List ℕ) → Option (List ℕ) → Type 0
 Shows content left = IfSome content (λ bytes. left ≡ Some bytes)
 
--- Three readers were read in turn: one is as it was, unless those before it were read to their ends.
-abbrev pub ReadsInTurn : {F : Type 0} → (F → Option (List ℕ)) → F → F → F → F → F → Type 0
-ReadsInTurn left first_after second_before second_after third_before third_after =
-    ((second_after ≡ second_before) × (third_after ≡ third_before))
-    ⊎ (IsAtEnd (left first_after) × (third_after ≡ third_before))
-    ⊎ (IsAtEnd (left first_after) × IsAtEnd (left second_after))
+-- Reading failed with this kind of error: a read failed so; or there was no end of reads and bytes, and the kind names
+-- no memory.
+abbrev pub FailsToRead : Role → ErrorKind → List Happening → List Happening → Type 0
+FailsToRead role kind old new = ReadsToFailure role kind old new ⊎ ((kind ≢ OutOfMemory) × ReadsForever role old new)
+
+-- A file was read, and so many bytes were given; or reading failed.
+abbrev pub FillsOrFails : Role → Result ℕ Error → List Happening → List Happening → Type 0
+FillsOrFails role (Ok count) old new = Reads role count old new
+FillsOrFails role (Err error) old new = FailsToRead role (error_kind error) old new
+
+-- A file was read, or reading failed.
+abbrev pub ReadsOrFails : {A : Type 0} → Role → Result A Error → List Happening → List Happening → Type 0
+ReadsOrFails role (Ok value) old new = ReadsSome role old new
+ReadsOrFails role (Err error) old new = FailsToRead role (error_kind error) old new
+
+-- Reading into memory failed with this kind of error: reading failed; or memory was refused, and no read failed.
+abbrev pub FailsToCollect : Role → ErrorKind → List Happening → List Happening → Type 0
+FailsToCollect role kind old new = FailsToRead role kind old new ⊎ ((kind ≡ OutOfMemory) × ReadsSome role old new)
+
+-- A file was read into memory, or this failed.
+abbrev pub CollectsOrFails : {A : Type 0} → Role → Result A Error → List Happening → List Happening → Type 0
+CollectsOrFails role (Ok value) old new = ReadsSome role old new
+CollectsOrFails role (Err error) old new = FailsToCollect role (error_kind error) old new
+
+-- the three files of a line were opened in turn
+abbrev pub all_opened : List ℕ → List ℕ → List ℕ → List Happening
+all_opened public message signature =
+    opened Public public ∷ opened Message message ∷ opened Signature signature ∷ []
+
+-- One of them couldn't be opened, and none after it was.
+abbrev pub FailsToOpen : List ℕ → List ℕ → List ℕ → List Happening → List Happening → Type 0
+FailsToOpen public message signature old new =
+    (new ≡ old ++ not_opened Public public ∷ [])
+    ⊎ (new ≡ old ++ opened Public public ∷ not_opened Message message ∷ [])
+    ⊎ (new ≡ old ++ opened Public public ∷ opened Message message ∷ not_opened Signature signature ∷ [])
+
+-- They were opened in turn, up to one that couldn't be.
+abbrev pub OpensInTurn : {A E : Type 0} → List ℕ → List ℕ → List ℕ → Result A E → List Happening → List Happening → Type 0
+OpensInTurn public message signature (Ok files) old new = new ≡ old ++ all_opened public message signature
+OpensInTurn public message signature (Err error) old new = FailsToOpen public message signature old new

@@ -4,6 +4,9 @@ use Rattle.clap.specs.Words.{Row, Text, first_of, kind_of}
 use Rattle.clap.specs.declared.error.Error.{Error}
 use Rattle.clap.specs.declared.error.kind.ErrorKind.{ErrorKind}
 use Rattle.clap.specs.declared.error.kind.ErrorKind.TheVariants.{OutOfMemory}
+use Rattle.command.specs.Judgement.{Verifies}
+use Rattle.command.specs.Trace.{Happening}
+use Rattle.command.specs.declared.refusal.Refusal.{Refusal}
 use Rattle.command.specs.declared.verify.Verify.{Verify as VerifyFiles}
 use Rattle.command.specs.declared.line.Request.{Request}
 use Rattle.command.specs.declared.line.Request.TheVariants.{Verify}
@@ -12,9 +15,14 @@ use Rattle.command.specs.declared.line.Request.TheVariants.{Verify}
 abbrev pub paths_of : VerifyFiles → List Text
 paths_of files = files.public.now ∷ files.message.now ∷ files.signature.now ∷ []
 
--- the files of a request
-abbrev pub request_paths : Request → List Text
-request_paths (Verify files) = paths_of files
+-- the words that a request stands for
+abbrev pub line_of : Request → List Text
+line_of (Verify files) = codes "verify" ∷ paths_of files
+
+-- A request is answered so.
+abbrev pub Serves : {A : Type 0} → Request → (Text → Option Text) → Result A Refusal → List Happening → List Happening → Type 0
+Serves (Verify files) content answer old new =
+    Verifies content files.public.now files.message.now files.signature.now answer old new
 
 -- the command's name
 abbrev pub command_of : Request → Text

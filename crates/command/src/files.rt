@@ -1,67 +1,125 @@
-//! The files that a line names: where they are opened, and what is read of them.
+//! The files that a line names: how they are opened, and what is read of them.
 
 ghost use Rattle.std.specs.Prelude.{◌≡◌, ◌++◌, ◌∷◌, ◌<◌, ◌≤◌, ◌^◌, [], ℕ, List, None, length, take, IfErr, IfOk, OnOk};
-ghost use Rattle.std.specs.Io.KnownBytes.{Consumes, IsAtEnd};
+ghost use Rattle.std.specs.Io.{ReadsAtMost};
+ghost use Rattle.std.specs.Io.KnownBytes.{Consumes, IsAtEnd, ReadConsumes};
 ghost use Rattle.std.specs.declared.option.Option.{Option};
+ghost use Rattle.command.specs.Opening.{CollectsOrFails, FillsOrFails, IsContent, ReadsOrFails, Shows, opening, reading};
 ghost use Rattle.command.specs.Judgement.{ReadsKey};
-ghost use Rattle.command.specs.Opening.{IsContent, Shows};
+ghost use Rattle.command.specs.Trace.{Happening};
+ghost use Rattle.command.specs.declared.trace.Role.{Role as FileRole};
 
-use crate::paths::{Entry, PathLog};
 use crate::refusal::Refusal;
+use crate::trace::{Event, Role, Trace};
 use sign_core::{AnyPublic, KeyFault};
 use std::alloc::Global;
 use std::fs::Files;
 use std::io::{ErrorKind, Read};
+use std::marker::Model;
 use std::{fs, io};
 
-/// Where files are opened, for reading alone.
+/// A file that was opened.
+pub trait Source {
+    // which of the command's files it is
+    ghost role: { Self → FileRole };
+
+    // the bytes that reads will give from here on, where they are known
+    ghost remaining: { Self → Option (List ℕ) };
+}
+
+/// Where files are opened and read, and never written.
 pub trait Folder {
     /// A file that was opened.
-    type File: Read + Drop;
+    type File: Source + Drop;
 
-    // the paths that were opened, also where that failed, in order
-    ghost opened: { Self → List (List ℕ) };
+    // what happened to files, in order
+    ghost trace: { Self → List Happening };
 
-    // what the file at a path holds, where it is told
+    // what the file at a path holds, where it is known
     ghost content: { Self → List ℕ → Option (List ℕ) };
 
     /// Opens the file at this very path for reading.
-    fn open(&mut self, path: &str) -> Result<Self::File, Refusal>
-        ensures opened { opened self.new ≡ opened self.old ++ path.now ∷ [] }
+    fn open(&mut self, role: Role, path: &str) -> Result<Self::File, Refusal>
+        ensures trace { trace self.new ≡ trace self.old ++ opening role path.now result ∷ [] }
         ensures content { (other : List ℕ) → content self.new other ≡ content self.old other }
+        ensures role { IfOk result (λ file. Self.File.role file ≡ role) }
         ensures shows { IfOk result (λ file. Shows (content self.old path.now) (Self.File.remaining file)) }
         ensures err { IfErr result (λ refusal. refusal ≡ Refusal.FileFailed) };
+
+    /// Reads into the buffer, as `Read::read` does.
+    fn read(&mut self, file: &mut Self::File, buffer: &mut [u8]) -> io::Result<usize>
+        ensures trace { trace self.new ≡ trace self.old ++ reading (Self.File.role file.old) result ∷ [] }
+        ensures role { Self.File.role file.new ≡ Self.File.role file.old }
+        ensures bound { ReadsAtMost result buffer.new }
+        ensures bytes { ReadConsumes (Self.File.remaining file.old) (Self.File.remaining file.new) result buffer.new };
 }
 
-/// The files of a machine. What they hold isn't told.
+/// The files of a machine. What they hold isn't known.
 #[derive(Drop)]
 pub struct Machine<R> {
     rt: R,
-    log: PathLog,
+    trace: Trace,
+}
+
+// Contracts see what happened to its files.
+impl<R> Model for Machine<R> {
+    ghost Value = { List Happening };
+
+    ghost view = { λ machine. machine.trace.events };
+}
+
+/// A file of a machine.
+#[derive(Drop)]
+pub struct MachineFile<F> {
+    role: Role,
+    file: F,
+}
+
+impl<F: Read> Source for MachineFile<F> {
+    ghost role = { λ file. file.role };
+
+    ghost remaining = { λ file. F.remaining file.file };
 }
 
 impl<R: Files> Machine<R> {
-    /// The files of a runtime, of which none was opened yet.
+    /// The files of a runtime, to which nothing happened yet.
     pub fn new(rt: R) -> Self
-        ensures { result.log.paths ≡ [] }
+        ensures { result ≡ [] }
     {
         Machine {
             rt,
-            log: PathLog::new(),
+            trace: Trace::new(),
         }
     }
 }
 
 impl<R: Files> Folder for Machine<R> {
-    type File = R::File;
+    type File = MachineFile<R::File>;
 
-    ghost opened = { λ machine. machine.log.paths };
+    ghost trace = { λ machine. machine };
 
     ghost content = { λ _ _. None };
 
-    fn open(&mut self, path: &str) -> Result<R::File, Refusal> {
-        self.log = self.log.and(&Entry { path });
-        fs::open(&self.rt, path).map_err(|_| Refusal::FileFailed)
+    fn open(&mut self, role: Role, path: &str) -> Result<MachineFile<R::File>, Refusal> {
+        match fs::open(&self.rt, path) {
+            Ok(file) => {
+                self.trace = self.trace.and(&Event::Opened(role, path));
+                Ok(MachineFile { role, file })
+            }
+            Err(_) => {
+                self.trace = self.trace.and(&Event::NotOpened(role, path));
+                Err(Refusal::FileFailed)
+            }
+        }
+    }
+
+    fn read(&mut self, file: &mut MachineFile<R::File>, buffer: &mut [u8]) -> io::Result<usize> {
+        let outcome = file.file.read(buffer);
+        self.trace = self.trace.and(&match &outcome {
+            Ok(n) => Event::Given(file.role, *n),
+            Err(error) => Event::Failed(file.role, error.kind()),
+        });
+        outcome
     }
 }
 
@@ -69,54 +127,80 @@ impl<R: Files> Folder for Machine<R> {
 /// H25/W1.
 pub const DECISIVE: usize = 74_989;
 
-// More bytes than any file has. A reader that goes on behind them counts as failed.
+// More bytes than any file has. A file that goes on after them counts as failed.
 const MOST: usize = 1 << 60;
 
 /// Reads to the end.
-pub fn read_whole<F: Read>(alloc: Global, file: &mut F) -> io::Result<Vec<u8>>
-    ensures whole { IfOk result (λ bytes. IsContent (F.remaining file.old) bytes.items) }
-    ensures end { OnOk result (IsAtEnd (F.remaining file.new)) }
+pub fn read_whole<D: Folder>(
+    alloc: Global,
+    folder: &mut D,
+    file: &mut D::File,
+) -> io::Result<Vec<u8>>
+    ensures whole { IfOk result (λ bytes. IsContent (D.File.remaining file.old) bytes.items) }
+    ensures trace { CollectsOrFails (D.File.role file.old) result (D.trace folder.old) (D.trace folder.new) }
 {
     let mut bytes = Vec::new(alloc);
-    file.read_to_end(&mut bytes)?;
-    Ok(bytes)
+    let mut piece = [0; 4096];
+    for turn in 0..u64::MAX {
+        let n = fill(folder, file, &mut piece)?;
+        bytes.extend_from_slice(&piece[..n])?;
+        if n < piece.len() {
+            return Ok(bytes);
+        }
+        if bytes.len() >= MOST {
+            break;
+        }
+    }
+    Err(io::Error::from(ErrorKind::FileTooLarge))
 }
 
 /// Reads the first bytes, so many or all.
-pub fn read_first<F: Read>(alloc: Global, file: &mut F, count: usize) -> io::Result<Vec<u8>>
-    ensures { IfOk result (λ bytes. (whole : List ℕ) × IsContent (F.remaining file.old) whole × (bytes.items ≡ take count whole)) }
+pub fn read_first<D: Folder>(
+    alloc: Global,
+    folder: &mut D,
+    file: &mut D::File,
+    count: usize,
+) -> io::Result<Vec<u8>>
+    ensures first { IfOk result (λ bytes. (whole : List ℕ) × IsContent (D.File.remaining file.old) whole
+        × (bytes.items ≡ take count whole)) }
+    ensures trace { CollectsOrFails (D.File.role file.old) result (D.trace folder.old) (D.trace folder.new) }
 {
     let mut bytes = vec![in alloc; 0; count]?;
-    let n = fill(file, &mut bytes)?;
+    let n = fill(folder, file, &mut bytes)?;
     bytes.truncate(n);
     Ok(bytes)
 }
 
-/// Reads a public key's file to its end, and tells which key its bytes spell, or why they spell none. It keeps
+/// Reads a public key's file to its end, and gives the key that its bytes spell, or why they spell none. It keeps
 /// 69 bytes, one more than any key has, and counts the others.
-pub fn read_key<F: Read>(file: &mut F) -> io::Result<Result<AnyPublic, KeyFault>>
-    ensures key { IfOk result (λ key. (bytes : List ℕ) × IsContent (F.remaining file.old) bytes × ReadsKey bytes key) }
-    ensures end { OnOk result (IsAtEnd (F.remaining file.new)) }
+pub fn read_key<D: Folder>(
+    folder: &mut D,
+    file: &mut D::File,
+) -> io::Result<Result<AnyPublic, KeyFault>>
+    ensures key { IfOk result (λ key. (bytes : List ℕ) × IsContent (D.File.remaining file.old) bytes × ReadsKey bytes key) }
+    ensures trace { ReadsOrFails (D.File.role file.old) result (D.trace folder.old) (D.trace folder.new) }
 {
     let mut bytes = [0; 69];
-    let n = fill(file, &mut bytes)?;
+    let n = fill(folder, file, &mut bytes)?;
     if n < bytes.len() {
         return Ok(AnyPublic::read(&bytes[..n]));
     }
-    let length = n + count_rest(file)?;
+    let length = n + count_rest(folder, file)?;
     Ok(Err(KeyFault::Length(length)))
 }
 
 // Counts the bytes that are left, in pieces that it doesn't keep.
-fn count_rest<F: Read>(file: &mut F) -> io::Result<usize>
-    ensures counts { IfOk result (λ n. (rest : List ℕ) × Consumes (F.remaining file.old) (F.remaining file.new) rest × (n ≡ length rest)) }
-    ensures end { OnOk result (IsAtEnd (F.remaining file.new)) }
+fn count_rest<D: Folder>(folder: &mut D, file: &mut D::File) -> io::Result<usize>
+    ensures counts { IfOk result (λ n. (rest : List ℕ)
+        × Consumes (D.File.remaining file.old) (D.File.remaining file.new) rest × (n ≡ length rest)) }
+    ensures end { OnOk result (IsAtEnd (D.File.remaining file.new)) }
     ensures bound { IfOk result (λ n. n < 2 ^ 61) }
+    ensures trace { FillsOrFails (D.File.role file.old) result (D.trace folder.old) (D.trace folder.new) }
 {
     let mut piece = [0; 4096];
     let mut count = 0;
-    for _ in 0..u64::MAX {
-        let n = fill(file, &mut piece)?;
+    for turn in 0..u64::MAX {
+        let n = fill(folder, file, &mut piece)?;
         count += n;
         if n < piece.len() {
             return Ok(count);
@@ -128,18 +212,20 @@ fn count_rest<F: Read>(file: &mut F) -> io::Result<usize>
     Err(io::Error::from(ErrorKind::FileTooLarge))
 }
 
-// Reads until the buffer is full or the reader ends, and tells how many bytes that were.
-fn fill<F: Read>(file: &mut F, buffer: &mut [u8]) -> io::Result<usize>
+// Reads until the buffer is full or the file ends, and gives how many bytes that were.
+fn fill<D: Folder>(folder: &mut D, file: &mut D::File, buffer: &mut [u8]) -> io::Result<usize>
     ensures within { IfOk result (λ n. n ≤ length buffer.new) }
-    ensures bytes { IfOk result (λ n. Consumes (F.remaining file.old) (F.remaining file.new) (take n buffer.new)) }
-    ensures end { IfOk result (λ n. n < length buffer.new → IsAtEnd (F.remaining file.new)) }
+    ensures bytes { IfOk result (λ n. Consumes (D.File.remaining file.old) (D.File.remaining file.new) (take n buffer.new)) }
+    ensures end { IfOk result (λ n. n < length buffer.new → IsAtEnd (D.File.remaining file.new)) }
+    ensures role { D.File.role file.new ≡ D.File.role file.old }
+    ensures trace { FillsOrFails (D.File.role file.old) result (D.trace folder.old) (D.trace folder.new) }
 {
     let mut at = 0;
-    for _ in 0..u64::MAX {
+    for turn in 0..u64::MAX {
         if at >= buffer.len() {
             return Ok(at);
         }
-        match file.read(&mut buffer[at..]) {
+        match folder.read(file, &mut buffer[at..]) {
             Ok(0) => return Ok(at),
             Ok(n) => at += n,
             Err(error) => {

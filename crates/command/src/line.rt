@@ -4,8 +4,10 @@ ghost use Rattle.std.specs.Prelude.{◌≡◌, ℕ, List, ◌∷◌, [], IfErr, 
 ghost use Rattle.clap.specs.Words.{HasKind, app_of, fault_of, kind_of, subcommand_name_of, subcommand_rows_of};
 ghost use Rattle.command.specs.Commands.{IsVerifyLine, hbsign_app};
 ghost use Rattle.command.specs.Lines.{line_faults};
-ghost use Rattle.command.specs.Requests.{CountsRefusals, command_of, named_files, paths_of, request_paths};
+ghost use Rattle.command.specs.Requests.{CountsRefusals, command_of, line_of, named_files, paths_of};
 
+use crate::answer::Answer;
+use crate::files::Folder;
 use crate::verify::Verify;
 use clap::error::ErrorKind;
 use clap::{ArgMatches, Command, Error};
@@ -21,9 +23,18 @@ pub enum Request<'a> {
 }
 
 impl<'a> Request<'a> {
-    /// The files of a request to verify.
-    pub fn files(&self) -> Verify<'a>
-        ensures { paths_of result ≡ request_paths self.now }
+    ghost use Rattle.command.specs.Requests.{Serves};
+
+    /// Does what is asked for, and gives the answer.
+    pub fn answer<D: Folder>(&self, alloc: Global, folder: &mut D) -> Answer
+        ensures { Serves self.now (D.content folder.old) result (D.trace folder.old) (D.trace folder.new) }
+    {
+        self.files().answer(alloc, folder)
+    }
+
+    // The files of a request to verify.
+    fn files(&self) -> Verify<'a>
+        ensures { line_of self.now ≡ codes "verify" ∷ paths_of result }
     {
         match self {
             Request::Verify(files) => *files,
@@ -43,7 +54,7 @@ pub trait LineReader {
     /// these words, or there is no memory.
     fn read<'a, S: AsStr>(&mut self, words: &'a [S]) -> Result<Request<'a>, Error>
         ensures verifies { (p m s : List ℕ) → IsVerifyLine (map S.text words.now) p m s
-            → MatchResult result (λ request. request_paths request ≡ p ∷ m ∷ s ∷ [])
+            → MatchResult result (λ request. line_of request ≡ codes "verify" ∷ p ∷ m ∷ s ∷ [])
             (λ error. kind_of error ≡ ErrorKind.OutOfMemory) }
         ensures ok { IfOk result (λ _. fault_of hbsign_app (map S.text words.now) ≡ []) }
         ensures err { IfErr result (HasKind (line_faults (map S.text words.now))) }
@@ -84,7 +95,7 @@ impl LineReader for ClapReader {
 // Reads the words of a line.
 fn read<'a, S: AsStr>(alloc: Global, words: &'a [S]) -> Result<Request<'a>, Error>
     ensures verifies { (p m s : List ℕ) → IsVerifyLine (map S.text words.now) p m s
-        → MatchResult result (λ request. request_paths request ≡ p ∷ m ∷ s ∷ [])
+        → MatchResult result (λ request. line_of request ≡ codes "verify" ∷ p ∷ m ∷ s ∷ [])
         (λ error. kind_of error ≡ ErrorKind.OutOfMemory) }
     ensures ok { IfOk result (λ _. fault_of hbsign_app (map S.text words.now) ≡ []) }
     ensures err { IfErr result (HasKind (line_faults (map S.text words.now))) }
@@ -116,7 +127,7 @@ fn asked<'a>(matches: &ArgMatches<'a>) -> Option<Request<'a>>
     ensures named { IfSome result (λ request. subcommand_name_of matches.now ≡ Some (command_of request)) }
     ensures files { (p m s : List ℕ)
         → named_files (subcommand_rows_of matches.now) ≡ Some (codes "verify", (Some p, Some m, Some s))
-        → IsSomeAnd result (λ request. request_paths request ≡ p ∷ m ∷ s ∷ []) }
+        → IsSomeAnd result (λ request. line_of request ≡ codes "verify" ∷ p ∷ m ∷ s ∷ []) }
 {
     let (name, words) = matches.subcommand()?;
     match name {

@@ -9,11 +9,11 @@ mod answer;
 mod files;
 mod line;
 mod output;
-mod paths;
 mod program;
 mod refusal;
 #[cfg(test)]
 mod tests;
+mod trace;
 mod verify;
 
 use files::Machine;

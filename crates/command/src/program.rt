@@ -1,19 +1,16 @@
 //! The whole program.
 
-ghost use Rattle.std.specs.Prelude.{◌≡◌, ◌≢◌, ◌+◌, ◌++◌, ◌∷◌, ◌<◌, ◌⊎◌, ℕ, List, [], length, map};
+ghost use Rattle.std.specs.Prelude.{◌≡◌, ◌≢◌, ◌+◌, ◌<◌, ◌⊎◌, ℕ, List, [], length, map};
 ghost use Rattle.clap.specs.Words.{fault_of, kind_of};
 ghost use Rattle.command.specs.Commands.{IsVerifyLine, hbsign_app};
-ghost use Rattle.command.specs.Lines.{Explains, Helps, Refuses, Runs, TellsOf};
-ghost use Rattle.command.specs.Opening.{OpensInTurn};
+ghost use Rattle.command.specs.Lines.{Explains, Helps, Refuses, Runs, RunsVerify};
 ghost use Rattle.command.specs.Outputs.{Fails, Writes};
-ghost use Rattle.command.specs.Requests.{paths_of};
 
 use crate::answer::{OUTPUT_FAILED, tell};
 use crate::files::Folder;
 use crate::line::LineReader;
 use crate::output::Output;
 use crate::refusal::Refusal;
-use crate::verify::Verify;
 use clap::error::ErrorKind;
 use std::alloc::Global;
 use std::convert::AsStr;
@@ -63,40 +60,19 @@ where
     I: Read,
     O: Output,
     E: Output,
-    ensures runs { Runs (map S.text words.now) (L.refusals lines.new ≡ L.refusals lines.old + 1)
-        (O.taken output.old) (O.taken output.new) result }
-    ensures input { _input.new ≡ _input.old }
+    ensures runs { Runs (map S.text words.now) (D.content folder.old) (L.refusals lines.new ≡ L.refusals lines.old + 1)
+        (D.trace folder.old) (D.trace folder.new) (O.taken output.old) (O.taken output.new) result }
     ensures verifies { (p m s : List ℕ) → IsVerifyLine (map S.text words.now) p m s
-        → TellsOf (D.content folder.old p) (D.content folder.old m) (D.content folder.old s)
-        (O.taken output.old) (O.taken output.new) result }
-    ensures opens { (p m s : List ℕ) → IsVerifyLine (map S.text words.now) p m s
-        → OpensInTurn (p ∷ m ∷ s ∷ []) (D.opened folder.old) (D.opened folder.new) }
-    ensures opens_all { (p m s : List ℕ) → IsVerifyLine (map S.text words.now) p m s → result ≢ 3
-        → D.opened folder.new ≡ D.opened folder.old ++ p ∷ m ∷ s ∷ [] }
-    ensures opens_none { fault_of hbsign_app (map S.text words.now) ≢ [] → D.opened folder.new ≡ D.opened folder.old }
+        → RunsVerify (D.content folder.old) p m s (L.refusals lines.new ≡ L.refusals lines.old + 1)
+        (D.trace folder.old) (D.trace folder.new) (O.taken output.old) (O.taken output.new) result }
+    ensures input { _input.new ≡ _input.old }
+    ensures opens_none { fault_of hbsign_app (map S.text words.now) ≢ [] → D.trace folder.new ≡ D.trace folder.old }
     ensures refuses { result ≡ 2 → Refuses (O.taken output.old) (O.taken output.new) (E.taken errors.old) (E.taken errors.new) }
     ensures silent { result ≢ 2 → E.taken errors.new ≡ E.taken errors.old }
 {
     match lines.read(words) {
-        Ok(request) => perform(alloc, folder, &request.files(), output),
+        Ok(request) => tell(&request.answer(alloc, folder), output),
         Err(error) => explain(alloc, &error, output, errors),
-    }
-}
-
-// Opens the files and tells what they come to.
-fn perform<D: Folder, O: Output>(
-    alloc: Global,
-    folder: &mut D,
-    verify: &Verify<'_>,
-    output: &mut O,
-) -> u8
-    ensures tells { TellsOf (D.content folder.old verify.now.public.now) (D.content folder.old verify.now.message.now) (D.content folder.old verify.now.signature.now) (O.taken output.old) (O.taken output.new) result }
-    ensures opens { OpensInTurn (paths_of verify.now) (D.opened folder.old) (D.opened folder.new) }
-    ensures opens_all { result ≢ 3 → D.opened folder.new ≡ D.opened folder.old ++ paths_of verify.now }
-{
-    match verify.open(folder) {
-        Ok(mut opened) => opened.tell(alloc, output),
-        Err(refusal) => tell(&Err(refusal), output),
     }
 }
 

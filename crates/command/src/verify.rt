@@ -1,22 +1,20 @@
 //! `verify PUBLIC MESSAGE SIGNATURE`.
 
-ghost use Rattle.std.specs.Prelude.{◌≡◌, ◌↔◌, ◌++◌, ℕ, List, Some, take, codes, IfErr, IfOk, IfSome, IsSome, OnOk};
+ghost use Rattle.std.specs.Prelude.{◌≡◌, ◌↔◌, ℕ, List, Some, take, codes, IfErr, IfOk, IfSome, IsSome};
 ghost use Rattle.clap.specs.declared.builder.command.Command.{Command as ClapCommand};
 ghost use Rattle.clap.specs.Words.{AddsSubcommand, app_of, first_value, found_of, with_subcommand};
 ghost use Rattle.command.specs.Commands.{verify_app};
-ghost use Rattle.command.specs.Judgement.{AnswersOf, Judgement, ReadsKey, decisive};
-ghost use Rattle.command.specs.Lines.{TellsOf};
-ghost use Rattle.command.specs.Opening.{OpensInTurn, ReadsInTurn, Shows};
+ghost use Rattle.command.specs.Judgement.{AnswersOf, Judgement, ReadsInTurn, ReadsKey, Verifies, decisive};
+ghost use Rattle.command.specs.Opening.{OpensInTurn, Shows};
 
-use crate::answer::{Answer, Done, tell};
+use crate::answer::{Answer, Done};
 use crate::files;
 use crate::files::{DECISIVE, Folder};
-use crate::output::Output;
 use crate::refusal::Refusal;
+use crate::trace::Role;
 use clap::{Arg, ArgMatches, Command};
 use sign_core::{AnyPublic, KeyFault, verify_any};
 use std::alloc::{AllocError, Global};
-use std::io::Read;
 
 /// The files of the line, by their paths.
 #[derive(Clone, Copy, Debug)]
@@ -41,8 +39,6 @@ pub struct Opened<F> {
 }
 
 impl<'a> Verify<'a> {
-    ghost use Rattle.command.specs.Requests.{paths_of};
-
     /// The command's name on the line.
     pub const NAME: &'static str = "verify";
 
@@ -83,61 +79,57 @@ impl<'a> Verify<'a> {
         })
     }
 
-    /// Opens the files in the order of the line, each for reading.
+    /// Opens the files in the order of the line, up to one that can't be opened.
     pub fn open<D: Folder>(&self, folder: &mut D) -> Result<Opened<D::File>, Refusal>
-        ensures all { OnOk result (D.opened folder.new ≡ D.opened folder.old ++ paths_of self.now) }
-        ensures opens { OpensInTurn (paths_of self.now) (D.opened folder.old) (D.opened folder.new) }
-        ensures public { IfOk result (λ files. Shows (D.content folder.old self.now.public.now) (D.File.remaining files.public)) }
-        ensures message { IfOk result (λ files. Shows (D.content folder.old self.now.message.now) (D.File.remaining files.message)) }
-        ensures signature { IfOk result (λ files. Shows (D.content folder.old self.now.signature.now) (D.File.remaining files.signature)) }
+        ensures opens { OpensInTurn self.now.public.now self.now.message.now self.now.signature.now result
+            (D.trace folder.old) (D.trace folder.new) }
+        ensures public { IfOk result (λ files. (D.File.role files.public ≡ Role.Public)
+            × Shows (D.content folder.old self.now.public.now) (D.File.remaining files.public)) }
+        ensures message { IfOk result (λ files. (D.File.role files.message ≡ Role.Message)
+            × Shows (D.content folder.old self.now.message.now) (D.File.remaining files.message)) }
+        ensures signature { IfOk result (λ files. (D.File.role files.signature ≡ Role.Signature)
+            × Shows (D.content folder.old self.now.signature.now) (D.File.remaining files.signature)) }
         ensures err { IfErr result (λ refusal. refusal ≡ Refusal.FileFailed) }
     {
         Ok(Opened {
-            public: folder.open(self.public)?,
-            message: folder.open(self.message)?,
-            signature: folder.open(self.signature)?,
+            public: folder.open(Role::Public, self.public)?,
+            message: folder.open(Role::Message, self.message)?,
+            signature: folder.open(Role::Signature, self.signature)?,
         })
     }
-}
 
-impl<F: Read> Opened<F> {
-    /// Tells what the files come to, as `tell_files` does.
-    pub fn tell<O: Output>(&mut self, alloc: Global, output: &mut O) -> u8
-        ensures { TellsOf (F.remaining self.old.public) (F.remaining self.old.message) (F.remaining self.old.signature) (O.taken output.old) (O.taken output.new) result }
+    /// Opens the files, reads them, and judges what they hold.
+    pub fn answer<D: Folder>(&self, alloc: Global, folder: &mut D) -> Answer
+        ensures { Verifies (D.content folder.old) self.now.public.now self.now.message.now self.now.signature.now result
+            (D.trace folder.old) (D.trace folder.new) }
     {
-        tell_files(
+        let mut files = self.open(folder)?;
+        judge_files(
             alloc,
-            &mut self.public,
-            &mut self.message,
-            &mut self.signature,
-            output,
+            folder,
+            &mut files.public,
+            &mut files.message,
+            &mut files.signature,
         )
     }
 }
 
-/// Reads the files in this order, judges what they hold, and prints the answer's line. Gives the exit
-/// status of the program.
-pub fn tell_files<F: Read, O: Output>(
+// Reads the files in this order, and then judges what they hold.
+fn judge_files<D: Folder>(
     alloc: Global,
-    public: &mut F,
-    message: &mut F,
-    signature: &mut F,
-    output: &mut O,
-) -> u8
-    ensures tells { TellsOf (F.remaining public.old) (F.remaining message.old) (F.remaining signature.old) (O.taken output.old) (O.taken output.new) result }
-    ensures order { ReadsInTurn F.remaining public.new message.old message.new signature.old signature.new }
+    folder: &mut D,
+    public: &mut D::File,
+    message: &mut D::File,
+    signature: &mut D::File,
+) -> Answer
+    ensures answers { AnswersOf (D.File.remaining public.old) (D.File.remaining message.old)
+        (D.File.remaining signature.old) result }
+    ensures order { ReadsInTurn (D.File.role public.old) (D.File.role message.old) (D.File.role signature.old) result
+        (D.trace folder.old) (D.trace folder.new) }
 {
-    tell(&judge_files(alloc, public, message, signature), output)
-}
-
-// Reads the files in this order, and judges what they hold.
-fn judge_files<F: Read>(alloc: Global, public: &mut F, message: &mut F, signature: &mut F) -> Answer
-    ensures answers { AnswersOf (F.remaining public.old) (F.remaining message.old) (F.remaining signature.old) result }
-    ensures order { ReadsInTurn F.remaining public.new message.old message.new signature.old signature.new }
-{
-    let key = files::read_key(public)?;
-    let message = files::read_whole(alloc, message)?;
-    let signature = files::read_first(alloc, signature, DECISIVE)?;
+    let key = files::read_key(folder, public)?;
+    let message = files::read_whole(alloc, folder, message)?;
+    let signature = files::read_first(alloc, folder, signature, DECISIVE)?;
     judge(key, &message, &signature)?;
     Ok(Done::Verified)
 }

@@ -1,4 +1,4 @@
-use Rattle.std.proofs.Common.{◌≡◌, ◌∙◌, refl, sym, ap, codes, Some, IsSome, subst}
+use Rattle.std.proofs.Common.{◌≡◌, ◌∙◌, ◌∷◌, refl, sym, ap, codes, Some, IsSome, subst}
 use Rattle.clap.specs.Words.{found_of, rows_of, subcommand_rows_of}
 use Rattle.clap.proofs.WalkLemmas.{first_value-rows}
 use Rattle.command.specs.Requests.{Files, files_of}
@@ -23,4 +23,4 @@ returns-in_ok-of-in-verify-clause-files c p m s named =
     let message = sym (first_value-rows found (codes "MESSAGE")) ∙ c.in_ok-of-in-verify.ensures.message in
     let signature = sym (first_value-rows found (codes "SIGNATURE")) ∙ c.in_ok-of-in-verify.ensures.signature in
     let these : files_of (rows_of found) ≡ (Some c.in_ok-of-in-verify.field-0.public.now, Some c.in_ok-of-in-verify.field-0.message.now, Some c.in_ok-of-in-verify.field-0.signature.now) = rw (public, message, signature) refl in
-    same_files _ _ _ p m s (files_of (rows_of found)) these those
+    ap (λ paths. codes "verify" ∷ paths) (same_files _ _ _ p m s (files_of (rows_of found)) these those)

@@ -1,0 +1,156 @@
+//! Files, readers and outputs that fail.
+
+use super::place::{Place, run_words};
+use super::sample::Sample;
+use super::shelf::{After, Content, Shelf, verify};
+use crate::files::Machine;
+use crate::line::ClapReader;
+use crate::output::Printer;
+use crate::program::run;
+use std::io;
+use std::io::Write;
+use std::test::Fail;
+
+#[test]
+fn refuses_a_file_that_is_missing_or_a_folder(rt: HostRuntime) -> Result<(), Fail> {
+    let folder = Place::new(&rt, "files")?;
+    let first = folder.verify(&rt, b"", b"", b"")?;
+    assert!(rt; first.is("refused 6 KeyLength of 0", 1));
+    let missing = folder.path.join(rt.alloc(), "missing")?;
+    for word in 1..4usize {
+        let mut line = folder.line();
+        line[word] = missing.as_str();
+        let outcome = run_words(&rt, line.as_slice());
+        assert!(rt; outcome.is("refused 53 FileFailed", 3), "{word}");
+        line[word] = folder.path.as_str();
+        let outcome = run_words(&rt, line.as_slice());
+        assert!(rt; outcome.is("refused 53 FileFailed", 3), "{word}");
+    }
+    folder.remove(&rt)
+}
+
+const MEMORY: After = After::Failure(io::ErrorKind::OutOfMemory);
+
+const PIPE: After = After::Failure(io::ErrorKind::BrokenPipe);
+
+#[test]
+fn reports_the_first_failure(rt: HostRuntime) -> Result<(), Fail> {
+    for (public, message, signature, line) in [
+        (After::End, MEMORY, PIPE, "refused 46 OutOfMemory"),
+        (After::End, PIPE, MEMORY, "refused 53 FileFailed"),
+        (MEMORY, PIPE, PIPE, "refused 46 OutOfMemory"),
+        (PIPE, MEMORY, MEMORY, "refused 53 FileFailed"),
+        (After::End, After::End, PIPE, "refused 53 FileFailed"),
+        (After::End, After::End, MEMORY, "refused 46 OutOfMemory"),
+    ] {
+        let outcome = verify(
+            &rt,
+            Content {
+                bytes: b"some bytes",
+                after: public,
+            },
+            Content {
+                bytes: b"more",
+                after: message,
+            },
+            Content {
+                bytes: b"",
+                after: signature,
+            },
+        );
+        assert!(rt; outcome.is(line, 3), "{line}");
+    }
+    Ok(())
+}
+
+// Takes one byte, and then fails.
+#[derive(Drop)]
+struct Broken {
+    is_full: bool,
+}
+
+impl Write for Broken {
+    fn write(&mut self, buf: &[u8]) -> io::Result<usize> {
+        if self.is_full {
+            return Err(io::Error::from(io::ErrorKind::BrokenPipe));
+        }
+        self.is_full = true;
+        Ok(buf.len().min(1))
+    }
+
+    fn flush(&mut self) -> io::Result<()> {
+        Ok(())
+    }
+}
+
+#[test]
+fn ends_with_3_where_an_output_fails(rt: HostRuntime) -> Result<(), Fail> {
+    for (words, status) in [
+        (
+            ["verify", "/missing/a", "/missing/b", "/missing/c"].as_slice(),
+            3,
+        ),
+        (["--help"].as_slice(), 3),
+        (["--version"].as_slice(), 3),
+        (["--nonsense"].as_slice(), 2),
+    ] {
+        let mut output = Printer::new(Broken { is_full: false });
+        let mut errors = Printer::new(Broken { is_full: false });
+        let mut input: &[u8] = &[];
+        let ended = run(
+            rt.alloc(),
+            &mut ClapReader::new(rt.alloc()),
+            &mut Machine::new(&rt),
+            words,
+            &mut input,
+            &mut output,
+            &mut errors,
+        );
+        assert_eq!(rt; ended, status, "{words:?}");
+    }
+    Ok(())
+}
+
+// Takes every text, and can't pass it on.
+#[derive(Drop)]
+struct Stuck {
+    taken: Vec<u8>,
+}
+
+impl Write for Stuck {
+    fn write(&mut self, buf: &[u8]) -> io::Result<usize> {
+        self.taken.extend_from_slice(buf)?;
+        Ok(buf.len())
+    }
+
+    fn flush(&mut self) -> io::Result<()> {
+        Err(io::Error::from(io::ErrorKind::StorageFull))
+    }
+}
+
+#[test]
+fn ends_with_3_where_an_output_fails_at_its_end(rt: HostRuntime) -> Result<(), Fail> {
+    let Sample { public, signature } = Sample::new(rt.alloc(), b"a message")?;
+    let files = [
+        ("p", Content::of(&public)),
+        ("m", Content::of(b"a message")),
+        ("s", Content::of(&signature)),
+    ];
+    let mut output = Printer::new(Stuck {
+        taken: Vec::new(rt.alloc()),
+    });
+    let mut errors = Printer::new(Vec::new(rt.alloc()));
+    let mut input: &[u8] = &[];
+    let status = run(
+        rt.alloc(),
+        &mut ClapReader::new(rt.alloc()),
+        &mut Shelf::new(&rt, &files),
+        &["verify", "p", "m", "s"],
+        &mut input,
+        &mut output,
+        &mut errors,
+    );
+    assert_eq!(rt; output.writer.taken.as_slice(), b"verified\n".as_slice());
+    assert_eq!(rt; status, 3);
+    Ok(())
+}

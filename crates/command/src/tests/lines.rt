@@ -1,0 +1,147 @@
+//! Lines, and what they ask for.
+
+use super::place::{Place, run_in, run_words};
+use super::sample::Sample;
+use super::shelf::{Content, Shelf};
+use std::test::Fail;
+
+#[test]
+fn takes_two_hyphens_before_the_files(rt: HostRuntime) -> Result<(), Fail> {
+    let folder = Place::new(&rt, "hyphens")?;
+    let Sample { public, signature } = Sample::new(rt.alloc(), b"a message")?;
+    let outcome = folder.verify(&rt, &public, b"a message", &signature)?;
+    assert!(rt; outcome.is("verified", 0));
+    let [verify, public, message, signature] = folder.line();
+    for (line, printed, status) in [
+        ([verify, "--", public, message, signature], "verified", 0),
+        ([verify, public, "--", message, signature], "verified", 0),
+        ([verify, public, message, signature, "--"], "verified", 0),
+        (
+            [verify, "--", message, public, signature],
+            "refused 6 KeyLength of 9",
+            1,
+        ),
+        (
+            [verify, "--", signature, message, public],
+            "refused 6 KeyLength of 1292",
+            1,
+        ),
+        (
+            [verify, public, "--", signature, message],
+            "refused 2 UnknownType at 4",
+            1,
+        ),
+    ] {
+        assert!(rt;
+            run_words(&rt, line.as_slice()).is(printed, status),
+            "{line:?}"
+        );
+    }
+    folder.remove(&rt)
+}
+
+#[test]
+fn explains_a_wrong_line(rt: HostRuntime) -> Result<(), Fail> {
+    for line in [
+        "",
+        "verify",
+        "verify a b",
+        "verify a b c d",
+        "verify a b c --nonsense",
+        "sign",
+        "--nonsense",
+    ] {
+        let words: Vec<&str> = line.split_whitespace().collect(rt.alloc())?;
+        let outcome = run_words(&rt, &words);
+        assert!(rt; outcome.output.is_empty(), "{line}");
+        assert!(rt; has_usage(&outcome.errors), "{line}");
+        assert_eq!(rt; outcome.status, 2, "{line}");
+    }
+    Ok(())
+}
+
+#[test]
+fn helps(rt: HostRuntime) -> Result<(), Fail> {
+    for line in [
+        "--help",
+        "-h",
+        "help",
+        "help verify",
+        "verify --help",
+        "verify a --help b",
+    ] {
+        let words: Vec<&str> = line.split_whitespace().collect(rt.alloc())?;
+        let outcome = run_words(&rt, &words);
+        assert!(rt; has_usage(&outcome.output), "{line}");
+        assert!(rt; outcome.errors.is_empty(), "{line}");
+        assert_eq!(rt; outcome.status, 0, "{line}");
+    }
+    Ok(())
+}
+
+// Whether a text shows how the program is called.
+fn has_usage(text: &[u8]) -> bool {
+    let usage = b"Usage: hbsign";
+    text.windows(usage.len())
+        .any(|window| window == usage.as_slice())
+}
+
+#[test]
+fn prints_its_version(rt: HostRuntime) -> Result<(), Fail> {
+    for word in ["--version", "-V"] {
+        assert!(rt; run_words(&rt, &[word]).is("hbsign 0.1.0", 0), "{word}");
+    }
+    Ok(())
+}
+
+#[test]
+fn opens_the_files_of_the_words_in_turn(rt: HostRuntime) -> Result<(), Fail> {
+    let Sample { public, signature } = Sample::new(rt.alloc(), b"a message")?;
+    let files = [
+        (" key ", Content::of(&public)),
+        ("message\t", Content::of(b"a message")),
+        (" ", Content::of(&signature)),
+        ("key", Content::of(b"")),
+        ("message", Content::of(b"")),
+    ];
+    for (line, printed, status, opened) in [
+        (
+            ["verify", " key ", "message\t", " "],
+            "verified",
+            0,
+            b" key |message\t| |".as_slice(),
+        ),
+        (
+            ["verify", "key", "message", " "],
+            "refused 6 KeyLength of 0",
+            1,
+            b"key|message| |",
+        ),
+        (
+            ["verify", " key ", "message\t", "  "],
+            "refused 53 FileFailed",
+            3,
+            b" key |message\t|  |",
+        ),
+        (
+            ["verify", " key ", "message ", " "],
+            "refused 53 FileFailed",
+            3,
+            b" key |message |",
+        ),
+        (
+            ["verify", " key", "message\t", " "],
+            "refused 53 FileFailed",
+            3,
+            b" key|",
+        ),
+    ] {
+        let mut shelf = Shelf::new(&rt, &files);
+        assert!(rt;
+            run_in(&rt, &mut shelf, &line).is(printed, status),
+            "{line:?}"
+        );
+        assert_eq!(rt; shelf.opened.as_slice(), opened, "{line:?}");
+    }
+    Ok(())
+}

@@ -1,0 +1,132 @@
+//! Files in memory.
+ghost use Rattle.std.specs.Prelude.{None};
+
+use super::place::{Outcome, run_in};
+use crate::files::{Folder, Source};
+use crate::refusal::Refusal;
+use crate::trace::{Event, Role, Trace};
+use std::io;
+
+// Some bytes, and after them an end, zeros without end, or a failure.
+#[derive(Clone, Copy)]
+pub struct Content<'a> {
+    pub bytes: &'a [u8],
+    pub after: After,
+}
+
+#[derive(Clone, Copy)]
+pub enum After {
+    End,
+    Zeros,
+    Failure(io::ErrorKind),
+}
+
+impl<'a> Content<'a> {
+    pub fn of(bytes: &'a [u8]) -> Content<'a> {
+        Content {
+            bytes,
+            after: After::End,
+        }
+    }
+
+    fn read(&mut self, buffer: &mut [u8]) -> io::Result<usize> {
+        let bytes = self.bytes;
+        let n = bytes.len().min(buffer.len());
+        if n > 0 {
+            buffer[..n].copy_from_slice(&bytes[..n]);
+            self.bytes = &bytes[n..];
+            return Ok(n);
+        }
+        match self.after {
+            After::End => Ok(0),
+            After::Zeros => {
+                buffer.fill(0);
+                Ok(buffer.len())
+            }
+            After::Failure(kind) => Err(io::Error::from(kind)),
+        }
+    }
+}
+
+// Files in memory by their paths, and the paths that were opened.
+#[derive(Drop)]
+pub struct Shelf<'a> {
+    files: &'a [(&'a str, Content<'a>)],
+    pub opened: Vec<u8>,
+    trace: Trace,
+}
+
+impl<'a> Shelf<'a> {
+    pub fn new(rt: &HostRuntime, files: &'a [(&'a str, Content<'a>)]) -> Shelf<'a> {
+        Shelf {
+            files,
+            opened: Vec::new(rt.alloc()),
+            trace: Trace::new(),
+        }
+    }
+
+    // What the path holds, which is noted.
+    fn find(&mut self, path: &str) -> Option<Content<'a>> {
+        self.opened.extend_from_slice(path.as_bytes()).ok()?;
+        self.opened.push(b'|').ok()?;
+        for (name, content) in self.files {
+            if *name == path {
+                return Some(*content);
+            }
+        }
+        None
+    }
+}
+
+#[derive(Drop)]
+pub struct ShelfFile<'a> {
+    role: Role,
+    content: Content<'a>,
+}
+
+impl Source for ShelfFile<'_> {
+    ghost role = { λ file. file.role };
+
+    ghost remaining = { λ _. None };
+}
+
+impl<'a> Folder for Shelf<'a> {
+    type File = ShelfFile<'a>;
+
+    ghost trace = { λ shelf. shelf.trace.events };
+
+    ghost content = { λ _ _. None };
+
+    fn open(&mut self, role: Role, path: &str) -> Result<ShelfFile<'a>, Refusal> {
+        match self.find(path) {
+            Some(content) => {
+                self.trace = self.trace.and(&Event::Opened(role, path));
+                Ok(ShelfFile { role, content })
+            }
+            None => {
+                self.trace = self.trace.and(&Event::NotOpened(role, path));
+                Err(Refusal::FileFailed)
+            }
+        }
+    }
+
+    fn read(&mut self, file: &mut ShelfFile<'a>, buffer: &mut [u8]) -> io::Result<usize> {
+        let outcome = file.content.read(buffer);
+        self.trace = self.trace.and(&match &outcome {
+            Ok(n) => Event::Given(file.role, *n),
+            Err(error) => Event::Failed(file.role, error.kind()),
+        });
+        outcome
+    }
+}
+
+// What comes of verifying these.
+pub fn verify(
+    rt: &HostRuntime,
+    public: Content<'_>,
+    message: Content<'_>,
+    signature: Content<'_>,
+) -> Outcome {
+    let files = [("p", public), ("m", message), ("s", signature)];
+    run_in(rt, &mut Shelf::new(rt, &files), &["verify", "p", "m", "s"])
+}
