@@ -8,7 +8,7 @@ use Rattle.typecodes.specs.declared.types.OtsType.{OtsType}
 use Rattle.winternitz.specs.Digest.{digits_of}
 use Rattle.winternitz.proofs.Signing as chains
 use Rattle.lmots.specs.Key.{ClimbTo, ends_of_seed, private_value, signed_values, step_of}
-use Rattle.lmots.proofs.Counts.{digits_are_chains}
+use Rattle.winternitz.proofs.Chains.{digits_are_chains}
 
 -- the values of a signature climb to the ends of the key's chains
 pub signed_climbs : (identifier : List ℕ) (q : ℕ) (ots : OtsType) (seed digest : List ℕ)

@@ -7,3 +7,4 @@ mod Apart
 pub mod Ends
 pub mod Concatenated
 pub mod Signing
+pub mod Chains

@@ -9,12 +9,7 @@ use wots_plus::hash_message;
 
 /// M', the digest of a message that a leaf signs in the tree with this root, by the randomizer r
 /// of the signature (RFC 8391 4.1.9).
-pub fn message_digest(
-    randomizer: &[u8; 32],
-    root: &[u8; 32],
-    leaf: u32,
-    message: &[u8],
-) -> [u8; 32]
+pub fn message_digest(randomizer: &[u8; 32], root: &[u8; 32], leaf: u32, message: &[u8]) -> [u8; 32]
     ensures { result ≡ message_digest_of randomizer.now root.now leaf message.now }
 {
     hash_message(&digest_key(randomizer, root, leaf), message)

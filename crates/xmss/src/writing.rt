@@ -51,10 +51,7 @@ pub fn write_signature(
     let place = put(into, place, &secret.randomizer(leaf));
     let end = place + 32 * 67;
     let seed = Prf::new(secret.public_seed);
-    let key = Wots {
-        seed: &seed,
-        leaf,
-    };
+    let key = Wots { seed: &seed, leaf };
     key.sign_digest(&secret.secret_seed, digest, &mut into[place..end]);
     put(into, end, path.as_flattened());
 }

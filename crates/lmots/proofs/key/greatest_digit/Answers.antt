@@ -1,15 +1,13 @@
-use Rattle.std.proofs.Common.{◌≡◌, ℕ, ◌-◌, ◌*◌, ◌%◌, ◌^◌, refl}
-use Rattle.typecodes.specs.declared.types.OtsType.{OtsType}
-use Rattle.typecodes.specs.declared.types.OtsType.TheVariants.{W1, W2, W4, W8}
-use Rattle.typecodes.specs.Types.{width_of}
+use Rattle.std.proofs.Common.{◌≡◌, ◌∙◌, ◌-◌, ◌*◌, ◌%◌, ◌^◌, ℕ, inl, inr, refl, ap}
+use Rattle.typecodes.specs.Types.{IsWidth}
 use Rattle.lmots.proofs.key.greatest_digit.Goals as goal
 
--- type by type
-greatest_is : (ots : OtsType) (w : ℕ) → w ≡ width_of ots → 1 * 2 ^ w % 65536 - 1 ≡ 2 ^ width_of ots - 1
-greatest_is W1 w e = rw e refl
-greatest_is W2 w e = rw e refl
-greatest_is W4 w e = rw e refl
-greatest_is W8 w e = rw e refl
+-- width by width
+greatest_is : (w : ℕ) → IsWidth w → 1 * 2 ^ w % 65536 - 1 ≡ 2 ^ w - 1
+greatest_is w (inl e) = rw e refl
+greatest_is w (inr (inl e)) = rw e refl
+greatest_is w (inr (inr (inl e))) = rw e refl
+greatest_is w (inr (inr (inr e))) = rw e refl
 
 pub returns : goal.returns
-returns c = greatest_is c.args.ots c.width.result c.width.ensures.value
+returns c = greatest_is c.width.result c.width.ensures.is_width ∙ ap (λ w. 2 ^ w - 1) c.width.ensures.value

@@ -5,7 +5,7 @@ use Rattle.winternitz.specs.Digest.{digit_count, digits_of}
 use Rattle.lmots.specs.Key.{ends_of_signature, public_hash}
 use Rattle.winternitz.proofs.Ends.{are_ends, same_ends}
 use Rattle.lmots.proofs.Ends.{fed_none, fed_more, fed_all_ends}
-use Rattle.lmots.proofs.Counts.{digits_are_chains}
+use Rattle.winternitz.proofs.Chains.{digits_are_chains}
 use Rattle.lmots.proofs.key.LmOts.hash_from_signature.Goals as goal
 
 pub loop-chain-init : goal.loop-chain-init

@@ -3,7 +3,7 @@ use Rattle.std.specs.List.{concat}
 use Rattle.lmots.specs.Key.{private_value, signed_values, step_of}
 use Rattle.typecodes.specs.Types.{chains_of}
 use Rattle.winternitz.specs.Digest.{digit_count, digits_of}
-use Rattle.lmots.proofs.Counts.{digits_are_chains}
+use Rattle.winternitz.proofs.Chains.{digits_are_chains}
 use Rattle.lmots.proofs.Signing.{bytes_climb}
 use Rattle.winternitz.proofs.Signing.{written_all}
 use Rattle.winternitz.proofs.Concatenated.{written_more}
