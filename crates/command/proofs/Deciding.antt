@@ -26,7 +26,7 @@ use Rattle.xmss.specs.Verdict.{Verdict as XmssVerdict}
 use Rattle.sign_core.specs.declared.public.AnyPublic.{AnyPublic}
 use Rattle.sign_core.specs.declared.public.AnyPublic.TheVariants.{Lms, Hss, Xmss}
 use Rattle.sign_core.specs.AnyKey.{KeyVerdict}
-use Rattle.command.specs.Judgement.{Judgement, decisive}
+use Rattle.command.specs.Verify.{Judgement, decisive}
 use Rattle.command.specs.declared.refusal.Refusal.{Refusal}
 use Rattle.command.specs.declared.refusal.Refusal.TheVariants.{Key, Signature, OutOfMemory, FileFailed}
 use Rattle.command.proofs.Taking.{TakesAtMost, Any, most-greater, most-bind, most-if, most-done, most-refuse, most-number, most-block, most-typed, most-values, spells-first, fault-first}
