@@ -1,19 +1,20 @@
--- What is told of contents, and which answers are right for it.
+-- What is known of contents, and which answers are right for it.
 use Rattle.std.proofs.Common.{◌≡◌, ◌∙◌, ℕ, ◌≤◌, ◌<◌, ◌⊎◌, List, [], ◌++◌, length, take, Option, Some, None, Result, Ok, Err, IfOk, IfErr, IsErrAnd, inl, inr, refl, sym, subst, ap, append-nil, arith, length-take-le, take_all, take_at}
 use Rattle.std.proofs.lemmas.Bool.{cases_lt}
 use Rattle.std.specs.Io.KnownBytes.{Consumes, IsAtEnd}
 use Rattle.std.specs.declared.io.ErrorKind.{ErrorKind}
 use Rattle.std.specs.declared.io.ErrorKind.TheVariants as kind
-use Rattle.sign_core.specs.declared.key.AnyPublic.{AnyPublic}
-use Rattle.sign_core.specs.declared.key.KeyFault.{KeyFault}
+use Rattle.sign_core.specs.declared.public.AnyPublic.{AnyPublic}
+use Rattle.sign_core.specs.declared.public.KeyFault.{KeyFault}
 use Rattle.sign_core.specs.Key.{KeyHasFault, SpellsKey}
-use Rattle.command.specs.Judgement.{Answers, AnswersOf, ReadsKey, refusal_of}
-use Rattle.command.specs.Opening.{IsContent, Shows}
+use Rattle.command.specs.Verify.{Answers, AnswersOf}
+use Rattle.command.specs.Files.{IsContent, ReadsKey, Shows}
+use Rattle.command.specs.Refusal.{refusal_of}
 use Rattle.command.specs.declared.refusal.Refusal.{Refusal}
 use Rattle.command.specs.declared.refusal.Refusal.TheVariants.{OutOfMemory, FileFailed}
 
--- some bytes fit whatever is told
-pub some_content : (told : Option (List ℕ)) → (bytes : List ℕ) × IsContent told bytes
+-- some bytes fit whatever is known
+pub some_content : (known : Option (List ℕ)) → (bytes : List ℕ) × IsContent known bytes
 some_content None = ([], tt)
 some_content (Some bytes) = (bytes, refl)
 
@@ -61,7 +62,7 @@ content_at_end None new bytes read end = tt
 content_at_end (Some xs) None bytes read end = absurd read
 content_at_end (Some xs) (Some ys) bytes read end = sym (read ∙ ap (λ l. bytes ++ l) end ∙ append-nil bytes)
 
--- what reading a key told
+-- what reading a key known
 pub reads_key : (bytes : List ℕ) (key : Result AnyPublic KeyFault) → IfOk key (λ k. SpellsKey k bytes) → IfErr key (KeyHasFault bytes) → ReadsKey bytes key
 reads_key bytes (Ok key) spelled fault = spelled
 reads_key bytes (Err fault) spelled is = is

@@ -3,13 +3,13 @@ use Rattle.std.proofs.Common.{◌≡◌, ◌+◌, ℕ, List, Option, inl, inr, r
 use Rattle.clap.specs.Words.{HasKind, kind_of}
 use Rattle.clap.specs.declared.error.Error.{Error}
 use Rattle.clap.specs.declared.error.kind.ErrorKind.TheVariants.{OutOfMemory}
-use Rattle.command.specs.Lines.{Explains, Runs, TellsNoMemory, line_faults}
-use Rattle.command.specs.Outputs.{Taken}
-use Rattle.command.specs.Requests.{CountsKind}
+use Rattle.command.specs.Program.{Explains, Runs, ReportsNoMemory}
+use Rattle.command.specs.Line.{CountsKind, line_faults}
+use Rattle.command.specs.Output.{Taken}
 use Rattle.command.specs.Trace.{Happening}
 
 pub explains_memory : (error : Error) (before after : ℕ) (trace : List Happening) (old new : Taken) (status : ℕ) → kind_of error ≡ OutOfMemory
-    → CountsKind (kind_of error) before after → Explains (kind_of error) old new status → TellsNoMemory (after ≡ before + 1) trace trace old new status
+    → CountsKind (kind_of error) before after → Explains (kind_of error) old new status → ReportsNoMemory (after ≡ before + 1) trace trace old new status
 explains_memory error before after trace old new status memory counts explains =
     (subst (λ k. CountsKind k before after) memory counts, refl, subst (λ k. Explains k old new status) memory explains)
 

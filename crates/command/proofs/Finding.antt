@@ -1,10 +1,10 @@
--- From what a parse says to what is asked for.
+-- From what a parse says to what is requested.
 use Rattle.std.proofs.Common.{◌≡◌, ◌∙◌, List, [], ◌∷◌, Option, Some, None, Result, Ok, Err, MatchResult, IfErr, IsErrAnd, inl, inr, ap, sym, subst, option_map, unwrap_or}
 use Rattle.clap.specs.Words.{HasKind, Kinds, Row, Text, kind_of}
 use Rattle.clap.specs.declared.error.Error.{Error}
 use Rattle.clap.specs.declared.error.kind.ErrorKind.{ErrorKind}
 use Rattle.clap.specs.declared.error.kind.ErrorKind.TheVariants.{OutOfMemory}
-use Rattle.command.specs.Requests.{Files, files_of, named_files}
+use Rattle.command.specs.Line.{Files, files_of, named_files}
 
 -- the rows of the subcommand that was met have its files
 pub rows_have : (met : Option (Text × List Row)) (rows : List Row) (name : Text) (files : Files)

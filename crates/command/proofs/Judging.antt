@@ -2,11 +2,12 @@
 use Rattle.std.proofs.Common.{◌≡◌, ◌∙◌, ℕ, List, Result, Ok, Err, MatchResult, IsErrAnd, sym, subst}
 use Rattle.std.specs.Prelude.{⊤}
 use Rattle.typecodes.specs.declared.refusal.Refusal.{Refusal as SignatureRefusal}
-use Rattle.sign_core.specs.declared.key.AnyPublic.{AnyPublic}
-use Rattle.sign_core.specs.declared.key.AnyPublic.TheVariants.{Lms, Hss, Xmss}
-use Rattle.sign_core.specs.declared.key.KeyFault.{KeyFault}
+use Rattle.sign_core.specs.declared.public.AnyPublic.{AnyPublic}
+use Rattle.sign_core.specs.declared.public.AnyPublic.TheVariants.{Lms, Hss, Xmss}
+use Rattle.sign_core.specs.declared.public.KeyFault.{KeyFault}
 use Rattle.sign_core.specs.Key.{KeyVerdict, SpellsKey}
-use Rattle.command.specs.Judgement.{Answers, Judgement, ReadsKey}
+use Rattle.command.specs.Verify.{Answers, Judgement}
+use Rattle.command.specs.Files.{ReadsKey}
 use Rattle.command.specs.declared.refusal.Refusal.{Refusal}
 use Rattle.command.specs.declared.refusal.Refusal.TheVariants.{Key, Signature, OutOfMemory, FileFailed}
 
@@ -14,17 +15,17 @@ use Rattle.command.specs.declared.refusal.Refusal.TheVariants.{Key, Signature, O
 pub read_key : (bytes : List ℕ) (key : AnyPublic) (read : Result AnyPublic KeyFault) (r : Result AnyPublic Refusal)
     → ReadsKey bytes read → MatchResult read (λ k. r ≡ Ok k) (λ fault. IsErrAnd r (λ e. e ≡ Key fault)) → r ≡ Ok key
     → SpellsKey key bytes
-read_key bytes key (Ok k) r spelled told was = let same : k ≡ key = cc (told, was) in subst (λ k. SpellsKey k bytes) same spelled
-read_key bytes key (Err fault) r _ told was = absurd (subst (λ r. IsErrAnd r (λ e. e ≡ Key fault)) was told)
+read_key bytes key (Ok k) r spelled mapped was = let same : k ≡ key = cc (mapped, was) in subst (λ k. SpellsKey k bytes) same spelled
+read_key bytes key (Err fault) r _ mapped was = absurd (subst (λ r. IsErrAnd r (λ e. e ≡ Key fault)) was mapped)
 
 -- the fault of bytes that spell no key is the judgement
 pub no_key : {A : Type 0} (bytes message signature : List ℕ) (read : Result AnyPublic KeyFault) (r : Result AnyPublic Refusal) (e : Refusal) (answer : Result A Refusal)
     → ReadsKey bytes read → MatchResult read (λ k. r ≡ Ok k) (λ fault. IsErrAnd r (λ e. e ≡ Key fault)) → r ≡ Err e → IsErrAnd answer (λ x. x ≡ e)
     → Judgement bytes message signature answer
-no_key bytes message signature read r e (Ok a) reads told was is = absurd is
-no_key bytes message signature (Ok k) r e (Err x) reads told was is = cc
-no_key {A = A} bytes message signature (Err fault) r e (Err x) reads told was is =
-    let of_fault : e ≡ Key fault = subst (λ r. IsErrAnd r (λ e. e ≡ Key fault)) was told in
+no_key bytes message signature read r e (Ok a) reads mapped was is = absurd is
+no_key bytes message signature (Ok k) r e (Err x) reads mapped was is = cc
+no_key {A = A} bytes message signature (Err fault) r e (Err x) reads mapped was is =
+    let of_fault : e ≡ Key fault = subst (λ r. IsErrAnd r (λ e. e ≡ Key fault)) was mapped in
     let same : x ≡ Key fault = is ∙ of_fault in
     subst (λ y. Judgement {A = A} bytes message signature (Err y)) (sym same) reads
 
@@ -32,9 +33,9 @@ no_key {A = A} bytes message signature (Err fault) r e (Err x) reads told was is
 pub judged : {A : Type 0} (public message signature : List ℕ) (key : AnyPublic) (given : Result A SignatureRefusal) (r : Result A Refusal)
     → SpellsKey key public → KeyVerdict key message signature given
     → MatchResult given (λ a. r ≡ Ok a) (λ refusal. IsErrAnd r (λ e. e ≡ Signature refusal)) → Judgement public message signature r
-judged public message signature key (Ok a) r spelled verdict told = rw told (key, spelled, verdict)
-judged public message signature key (Err refusal) (Ok a) spelled verdict told = absurd told
-judged public message signature key (Err refusal) (Err e) spelled verdict told = rw told (key, spelled, verdict)
+judged public message signature key (Ok a) r spelled verdict mapped = rw mapped (key, spelled, verdict)
+judged public message signature key (Err refusal) (Ok a) spelled verdict mapped = absurd mapped
+judged public message signature key (Err refusal) (Err e) spelled verdict mapped = rw mapped (key, spelled, verdict)
 
 -- a verdict that a signature is valid says nothing else
 same_verdict : {A B : Type 0} (key : AnyPublic) (message signature : List ℕ) (a : A) (b : B) → KeyVerdict key message signature (Ok a) → KeyVerdict key message signature (Ok b)

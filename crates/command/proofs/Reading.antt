@@ -6,7 +6,7 @@ use Rattle.std.proofs.KnownBytes.{Consumes-trans}
 use Rattle.std.specs.IoError.{error_kind}
 use Rattle.std.specs.declared.io.Error.{Error}
 use Rattle.std.specs.declared.io.ErrorKind.TheVariants.{FileTooLarge, Interrupted, OutOfMemory, TimedOut}
-use Rattle.command.specs.Opening.{CollectsOrFails, FailsToCollect, FailsToRead, FillsOrFails, ReadsOrFails}
+use Rattle.command.specs.Files.{CollectsOrFails, FailsToCollect, FailsToRead, FillsOrFails, ReadsOrFails}
 use Rattle.command.specs.Trace.{Happening, Read, Reads, ReadsSome, failed, given, not_opened, opened}
 use Rattle.command.specs.declared.trace.Role.{Role}
 

@@ -1,4 +1,4 @@
--- How many bytes a layout takes, and what bytes behind them change: nothing.
+-- How many bytes a layout takes, and what bytes after them change: nothing.
 use Rattle.std.proofs.Common.{◌≡◌, ◌∙◌, ℕ, zero, suc, ◌∷◌, ◌+◌, ◌*◌, ◌<◌, ◌≤◌, Bool, true, false, cond, List, [], ◌++◌, length, take, drop, Option, Some, None, refl, ap, subst, inl, inr, arith, append_assoc, length-append, length-take-le, take_all, take-append-drop}
 use Rattle.std.specs.Prelude.{⊤}
 use Rattle.std.proofs.lemmas.Bool.{cases_lt}

@@ -1,8 +1,8 @@
 -- Files that are opened and read in turn.
 use Rattle.std.proofs.Common.{◌≡◌, ◌∙◌, ℕ, List, [], ◌∷◌, ◌++◌, Option, Result, Ok, Err, IsErrAnd, codes, inl, inr, refl, sym, ap, subst, append_assoc}
-use Rattle.command.specs.Judgement.{AnswersOf, IsVerdict, Judgement, ReadsInTurn, Verifies}
-use Rattle.command.specs.Opening.{FailsToOpen, OpensInTurn, Shows, all_opened}
-use Rattle.command.specs.Requests.{Serves, line_of, paths_of}
+use Rattle.command.specs.Verify.{AnswersOf, FailsToOpen, IsVerdict, Judgement, OpensInTurn, ReadsInTurn, Verifies, all_opened}
+use Rattle.command.specs.Files.{Shows}
+use Rattle.command.specs.Line.{Serves, line_of, paths_of}
 use Rattle.command.specs.Trace.{Happening}
 use Rattle.command.specs.declared.line.Request.{Request}
 use Rattle.command.specs.declared.line.Request.TheVariants.{Verify}

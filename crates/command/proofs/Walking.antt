@@ -8,10 +8,10 @@ use Rattle.clap.specs.Faults.{turn_fault, step_fault, word_fault, walk_fault, se
 use Rattle.clap.specs.Kinds.{Kinds, or_else}
 use Rattle.clap.specs.Words.{Rule, is_simple, subcommand_of, fault_of, is_simple_and_free}
 use Rattle.clap.proofs.OnLiterals.{clap_on_literals}
-use Rattle.command.specs.Requests.{files_of, named_files}
-use Rattle.command.specs.Commands.{AreFileWords, IsFileWord, IsVerifyLine, NamesFiles, hbsign_app, verify_app}
+use Rattle.command.specs.Line.{AreFileWords, IsFileWord, IsVerifyLine, NamesFiles, files_of, hbsign_app, named_files}
+use Rattle.command.specs.Verify.{verify_app}
 
--- the program is one whose matches and faults `clap` tells
+-- the program is one whose matches and faults `clap` gives
 pub simple : is_simple hbsign_app ≡ true
 unfolding clap_on_literals
 simple = refl
@@ -89,17 +89,17 @@ goes from next to word words step well (ends, passes) = (
       ∙ ap (λ w. walk_fault leaf [] w words) step ∙ passes,
 )
 
--- what is held after the first file,
-abbrev held_1 : List ℕ → Held
-held_1 p = record nothing_held { pending = Some (codes "PUBLIC", p ∷ []) }
+-- what the parser has after the first file,
+abbrev after_1 : List ℕ → Held
+after_1 p = record nothing_held { pending = Some (codes "PUBLIC", p ∷ []) }
 
 -- after the second,
-abbrev held_2 : List ℕ → List ℕ → Held
-held_2 p m = (to_positional leaf.rules (arg_by_index leaf.rules 2) m (at false (held_1 p) 2) (held_1 p)).held
+abbrev after_2 : List ℕ → List ℕ → Held
+after_2 p m = (to_positional leaf.rules (arg_by_index leaf.rules 2) m (at false (after_1 p) 2) (after_1 p)).held
 
 -- and after the third
-abbrev held_3 : List ℕ → List ℕ → List ℕ → Held
-held_3 p m s = (to_positional leaf.rules (arg_by_index leaf.rules 3) s (at false (held_2 p m) 3) (held_2 p m)).held
+abbrev after_3 : List ℕ → List ℕ → List ℕ → Held
+after_3 p m s = (to_positional leaf.rules (arg_by_index leaf.rules 3) s (at false (after_2 p m) 3) (after_2 p m)).held
 
 -- the walk goes on after `--`
 over_hyphens : (h : Held) (position : ℕ) (words : List (List ℕ)) (to : Walk) → Goes (at true h position) words to
@@ -108,30 +108,30 @@ unfolding walked
 over_hyphens h position words to rest = goes _ (at true h position) to (codes "--") words refl refl rest
 
 -- and over each file
-over_1 : (b : Bool) (p : List ℕ) (words : List (List ℕ)) (to : Walk) → IsTaken b p → Goes (at b (held_1 p) 2) words to
+over_1 : (b : Bool) (p : List ℕ) (words : List (List ℕ)) (to : Walk) → IsTaken b p → Goes (at b (after_1 p) 2) words to
     → Goes (at b nothing_held 1) (p ∷ words) to
 over_1 true p words to taken rest =
     goes _ _ to p words (word_walks leaf.rules true 1 p nothing_held taken) (turn_passes leaf true 1 p nothing_held taken) rest
 over_1 false p words to taken rest =
     goes _ _ to p words (word_walks leaf.rules false 1 p nothing_held taken) (turn_passes leaf false 1 p nothing_held taken) rest
 
-over_2 : (b : Bool) (p m : List ℕ) (words : List (List ℕ)) (to : Walk) → IsTaken b m → Goes (at b (held_2 p m) 3) words to
-    → Goes (at b (held_1 p) 2) (m ∷ words) to
+over_2 : (b : Bool) (p m : List ℕ) (words : List (List ℕ)) (to : Walk) → IsTaken b m → Goes (at b (after_2 p m) 3) words to
+    → Goes (at b (after_1 p) 2) (m ∷ words) to
 over_2 true p m words to taken rest =
-    goes _ _ to m words (word_walks leaf.rules true 2 m (held_1 p) taken) (turn_passes leaf true 2 m (held_1 p) taken) rest
+    goes _ _ to m words (word_walks leaf.rules true 2 m (after_1 p) taken) (turn_passes leaf true 2 m (after_1 p) taken) rest
 over_2 false p m words to taken rest =
-    goes _ _ to m words (word_walks leaf.rules false 2 m (held_1 p) taken) (turn_passes leaf false 2 m (held_1 p) taken) rest
+    goes _ _ to m words (word_walks leaf.rules false 2 m (after_1 p) taken) (turn_passes leaf false 2 m (after_1 p) taken) rest
 
-over_3 : (b : Bool) (p m s : List ℕ) (words : List (List ℕ)) (to : Walk) → IsTaken b s → Goes (at b (held_3 p m s) 4) words to
-    → Goes (at b (held_2 p m) 3) (s ∷ words) to
+over_3 : (b : Bool) (p m s : List ℕ) (words : List (List ℕ)) (to : Walk) → IsTaken b s → Goes (at b (after_3 p m s) 4) words to
+    → Goes (at b (after_2 p m) 3) (s ∷ words) to
 over_3 true p m s words to taken rest =
-    goes _ _ to s words (word_walks leaf.rules true 3 s (held_2 p m) taken) (turn_passes leaf true 3 s (held_2 p m) taken) rest
+    goes _ _ to s words (word_walks leaf.rules true 3 s (after_2 p m) taken) (turn_passes leaf true 3 s (after_2 p m) taken) rest
 over_3 false p m s words to taken rest =
-    goes _ _ to s words (word_walks leaf.rules false 3 s (held_2 p m) taken) (turn_passes leaf false 3 s (held_2 p m) taken) rest
+    goes _ _ to s words (word_walks leaf.rules false 3 s (after_2 p m) taken) (turn_passes leaf false 3 s (after_2 p m) taken) rest
 
 -- The walk over words that name three files ends with the three.
 abbrev Takes : List (List ℕ) → List ℕ → List ℕ → List ℕ → Type 0
-Takes words p m s = (b : Bool) × Goes (walk_from nothing_held) words (at b (held_3 p m s) 4)
+Takes words p m s = (b : Bool) × Goes (walk_from nothing_held) words (at b (after_3 p m s) 4)
 
 takes_with_hyphens : (p m s : List ℕ) (before after : List (List ℕ)) → p ∷ m ∷ s ∷ [] ≡ before ++ after
     → AreFileWords before → Takes (before ++ codes "--" ∷ after) p m s
@@ -172,7 +172,7 @@ takes_all names p m s (inr (before, after, same, files, plain)) =
     subst (λ l. Takes l p m s) (sym same) (takes_with_hyphens p m s before after files plain)
 
 -- the rows at its end have the three files
-finds_all : (p m s : List ℕ) → files_of (finished leaf.rules (held_3 p m s)) ≡ (Some p, Some m, Some s)
+finds_all : (p m s : List ℕ) → files_of (finished leaf.rules (after_3 p m s)) ≡ (Some p, Some m, Some s)
 finds_all p m s = refl
 
 -- where the walk over the line stops: at the word `verify`, with these words after it
@@ -228,7 +228,7 @@ end_fault w = or_else (settle_fault leaf.rules leaf.args_override_self w.held)
     (or_else (defaults_fault (settled leaf.rules w.held).rows leaf.rules) (check_fault leaf (finished leaf.rules w.held) false))
 
 -- none is at the end of the line
-ends_well : (b : Bool) (p m s : List ℕ) → end_fault (at b (held_3 p m s) 4) ≡ []
+ends_well : (b : Bool) (p m s : List ℕ) → end_fault (at b (after_3 p m s) 4) ≡ []
 unfolding clap_on_literals
 ends_well b p m s = refl
 

@@ -1,7 +1,8 @@
-pub mod Commands
-pub mod Judgement
-pub mod Lines
-pub mod Opening
-pub mod Outputs
-pub mod Requests
+pub mod Answer
+pub mod Files
+pub mod Line
+pub mod Output
+pub mod Program
+pub mod Refusal
 pub mod Trace
+pub mod Verify

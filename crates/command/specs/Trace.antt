@@ -1,10 +1,10 @@
--- What a program does to files.
-use Rattle.std.specs.Prelude.{◌≡◌, ◌≢◌, ◌+◌, ◌≤◌, ◌^◌, ℕ, ⊤, ◌⊎◌, List, [], ◌∷◌, ◌++◌, length}
+-- What happens to files.
+use Rattle.std.specs.Prelude.{ℕ, List, ◌≡◌, ◌+◌, [], ◌∷◌, ◌++◌, ◌≢◌, ◌≤◌, ◌^◌, length}
 use Rattle.std.specs.declared.io.ErrorKind.{ErrorKind}
-use Rattle.std.specs.declared.io.ErrorKind.TheVariants.{Interrupted}
 use Rattle.command.specs.declared.trace.Role.{Role}
 use Rattle.command.specs.declared.trace.Event.{Event}
 use Rattle.command.specs.declared.trace.Event.TheVariants as event
+use Rattle.std.specs.declared.io.ErrorKind.TheVariants.{Interrupted}
 
 -- A file was opened by this path, or couldn't be; a read of it gave so many bytes, or failed.
 pub data Happening : Type 0 where
@@ -37,9 +37,11 @@ ReadsSome role old new = (count : ℕ) × Reads role count old new
 -- It was read until a read failed, by this kind of error.
 abbrev pub ReadsToFailure : Role → ErrorKind → List Happening → List Happening → Type 0
 ReadsToFailure role kind old new =
-    (before : List Happening) × ReadsSome role old before × (new ≡ before ++ failed role kind ∷ []) × (kind ≢ Interrupted)
+    (before : List Happening) × ReadsSome role old before × (new ≡ before ++ failed role kind ∷ [])
+    × (kind ≢ Interrupted)
 
 -- It was read without end: there were 2^60 reads and bytes.
 abbrev pub ReadsForever : Role → List Happening → List Happening → Type 0
 ReadsForever role old new =
-    (reads : List Happening) × (count : ℕ) × (new ≡ old ++ reads) × Read role reads count × (2 ^ 60 ≤ length reads + count)
+    (reads : List Happening) × (count : ℕ) × (new ≡ old ++ reads) × Read role reads count
+    × (2 ^ 60 ≤ length reads + count)

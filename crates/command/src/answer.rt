@@ -1,7 +1,7 @@
-//! What a command answers, and how it is told.
+//! What a command answers, and how this is reported.
 
 ghost use Rattle.std.specs.Prelude.{◌≡◌, Some};
-ghost use Rattle.command.specs.Lines.{Tells, answer_line, done_line, status_of};
+ghost use Rattle.command.specs.Answer.{Reports, answer_line, done_line, status_of};
 
 use crate::output::Output;
 use crate::refusal::Refusal;
@@ -14,7 +14,7 @@ pub enum Done {
     Verified,
 }
 
-/// Writes the line that tells it, without its end.
+/// Writes its line, without the end.
 impl fmt::Display for Done {
     ghost output = { λ done. Some (done_line done) };
 
@@ -50,8 +50,8 @@ impl fmt::Display for Line<'_> {
 }
 
 /// Prints the answer's line, and gives the exit status of the program.
-pub fn tell<O: Output>(answer: &Answer, output: &mut O) -> u8
-    ensures { Tells answer.now (O.taken output.old) (O.taken output.new) result }
+pub fn report<O: Output>(answer: &Answer, output: &mut O) -> u8
+    ensures { Reports answer.now (O.taken output.old) (O.taken output.new) result }
 {
     match output.print(Line { answer }) {
         Ok(()) => status(answer),

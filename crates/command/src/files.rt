@@ -4,8 +4,8 @@ ghost use Rattle.std.specs.Prelude.{◌≡◌, ◌++◌, ◌∷◌, ◌<◌, ◌
 ghost use Rattle.std.specs.Io.{ReadsAtMost};
 ghost use Rattle.std.specs.Io.KnownBytes.{Consumes, IsAtEnd, ReadConsumes};
 ghost use Rattle.std.specs.declared.option.Option.{Option};
-ghost use Rattle.command.specs.Opening.{CollectsOrFails, FillsOrFails, IsContent, ReadsOrFails, Shows, opening, reading};
-ghost use Rattle.command.specs.Judgement.{ReadsKey};
+ghost use Rattle.command.specs.Files.{CollectsOrFails, FillsOrFails, IsContent, ReadsKey};
+ghost use Rattle.command.specs.Files.{ReadsOrFails, Shows, opening, reading};
 ghost use Rattle.command.specs.Trace.{Happening};
 ghost use Rattle.command.specs.declared.trace.Role.{Role as FileRole};
 
@@ -177,7 +177,8 @@ pub fn read_key<D: Folder>(
     folder: &mut D,
     file: &mut D::File,
 ) -> io::Result<Result<AnyPublic, KeyFault>>
-    ensures key { IfOk result (λ key. (bytes : List ℕ) × IsContent (D.File.remaining file.old) bytes × ReadsKey bytes key) }
+    ensures key { IfOk result (λ key.
+        (bytes : List ℕ) × IsContent (D.File.remaining file.old) bytes × ReadsKey bytes key) }
     ensures trace { ReadsOrFails (D.File.role file.old) result (D.trace folder.old) (D.trace folder.new) }
 {
     let mut bytes = [0; 69];
@@ -215,7 +216,8 @@ fn count_rest<D: Folder>(folder: &mut D, file: &mut D::File) -> io::Result<usize
 // Reads until the buffer is full or the file ends, and gives how many bytes that were.
 fn fill<D: Folder>(folder: &mut D, file: &mut D::File, buffer: &mut [u8]) -> io::Result<usize>
     ensures within { IfOk result (λ n. n ≤ length buffer.new) }
-    ensures bytes { IfOk result (λ n. Consumes (D.File.remaining file.old) (D.File.remaining file.new) (take n buffer.new)) }
+    ensures bytes { IfOk result (λ n.
+        Consumes (D.File.remaining file.old) (D.File.remaining file.new) (take n buffer.new)) }
     ensures end { IfOk result (λ n. n < length buffer.new → IsAtEnd (D.File.remaining file.new)) }
     ensures role { D.File.role file.new ≡ D.File.role file.old }
     ensures trace { FillsOrFails (D.File.role file.old) result (D.trace folder.old) (D.trace folder.new) }

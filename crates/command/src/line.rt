@@ -1,10 +1,10 @@
 //! The words of a command line, as `clap` reads them.
 
-ghost use Rattle.std.specs.Prelude.{◌≡◌, ℕ, List, ◌∷◌, [], IfErr, IfOk, IfSome, IsSomeAnd, MatchResult, Some, codes, map};
+ghost use Rattle.std.specs.Prelude.{◌≡◌, ℕ, List, ◌∷◌, [], IfErr, IfOk};
+ghost use Rattle.std.specs.Prelude.{IfSome, IsSomeAnd, MatchResult, Some, codes, map};
 ghost use Rattle.clap.specs.Words.{HasKind, app_of, fault_of, kind_of, subcommand_name_of, subcommand_rows_of};
-ghost use Rattle.command.specs.Commands.{IsVerifyLine, hbsign_app};
-ghost use Rattle.command.specs.Lines.{line_faults};
-ghost use Rattle.command.specs.Requests.{CountsRefusals, command_of, line_of, named_files, paths_of};
+ghost use Rattle.command.specs.Line.{CountsRefusals, IsVerifyLine, command_of, hbsign_app};
+ghost use Rattle.command.specs.Line.{line_faults, line_of, named_files, paths_of};
 
 use crate::answer::Answer;
 use crate::files::Folder;
@@ -15,7 +15,7 @@ use std::alloc::{AllocError, Global};
 use std::convert::AsStr;
 use typecodes::Count;
 
-/// What a line asks for.
+/// What a line requests.
 #[derive(Clone, Copy, Debug)]
 pub enum Request<'a> {
     /// To verify a signature.
@@ -23,9 +23,9 @@ pub enum Request<'a> {
 }
 
 impl<'a> Request<'a> {
-    ghost use Rattle.command.specs.Requests.{Serves};
+    ghost use Rattle.command.specs.Line.{Serves};
 
-    /// Does what is asked for, and gives the answer.
+    /// Does what is requested, and gives the answer.
     pub fn answer<D: Folder>(&self, alloc: Global, folder: &mut D) -> Answer
         ensures { Serves self.now (D.content folder.old) result (D.trace folder.old) (D.trace folder.new) }
     {
@@ -102,7 +102,7 @@ fn read<'a, S: AsStr>(alloc: Global, words: &'a [S]) -> Result<Request<'a>, Erro
 {
     let mut command = hbsign(alloc)?;
     let matches = command.try_get_matches_from_mut(words)?;
-    match asked(&matches) {
+    match find_request(&matches) {
         Some(request) => Ok(request),
         None => Err(command.error(ErrorKind::MissingSubcommand, "no command was given")?),
     }
@@ -122,8 +122,8 @@ fn hbsign<'a>(alloc: Global) -> Result<Command<'a>, AllocError>
         .subcommand(Verify::command(alloc)?)
 }
 
-// What is asked for: the subcommand that was used, with its words.
-fn asked<'a>(matches: &ArgMatches<'a>) -> Option<Request<'a>>
+// The request: the subcommand that was used, with its words.
+fn find_request<'a>(matches: &ArgMatches<'a>) -> Option<Request<'a>>
     ensures named { IfSome result (λ request. subcommand_name_of matches.now ≡ Some (command_of request)) }
     ensures files { (p m s : List ℕ)
         → named_files (subcommand_rows_of matches.now) ≡ Some (codes "verify", (Some p, Some m, Some s))

@@ -1,8 +1,15 @@
 //! `hbsign`: hash-based signatures on files (RFC 8554, RFC 8391).
 //!
-//! `program::run` is the whole program, over a folder of files, a reader and two outputs. It reads the
-//! line (`line`), does what is asked (a module for each command, as `verify`) and tells what came of it
-//! (`answer`, `refusal`). `files` and `output` are where it meets the machine.
+//! ```text
+//! $ hbsign verify -- public message signature
+//! verified
+//! ```
+//!
+//! `program::run` is the whole program, over a reader of lines, a folder of files, an input and two outputs. It reads
+//! the line (`line`), does what is requested (a module for each command, as `verify`) and reports what came of it
+//! (`answer`, `refusal`). `files` and `output` are where it meets the machine, and `trace` is what contracts see of
+//! what it does to files. Its contract: which files are opened and read, in which order, and that the line printed and
+//! the exit status are those of the right answer.
 #![tactic(auto)]
 
 mod answer;
@@ -38,7 +45,7 @@ fn main(rt: HostRuntime) -> ExitCode {
             &mut errors,
         ),
         Err(error) if error.kind() == io::ErrorKind::OutOfMemory => {
-            answer::tell(&Err(Refusal::OutOfMemory), &mut output)
+            answer::report(&Err(Refusal::OutOfMemory), &mut output)
         }
         Err(_) => {
             let _ = errors.print("error: a word of the line isn't UTF-8\n");

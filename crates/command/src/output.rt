@@ -2,7 +2,7 @@
 
 ghost use Rattle.std.specs.Prelude.{◌≡◌, IfSome, OnOk};
 ghost use Rattle.std.specs.Io.KnownBytes.{Appends};
-ghost use Rattle.command.specs.Outputs.{Prints, Taken};
+ghost use Rattle.command.specs.Output.{Prints, Taken};
 
 use std::fmt::Display;
 use std::io;
@@ -11,7 +11,7 @@ use typecodes::Count;
 
 /// What takes the texts of the program.
 pub trait Output {
-    // the bytes that it took, where it tells them, and how many texts it couldn't write
+    // the bytes that it took, where they are known, and how many texts it couldn't write
     ghost taken: { Self → Taken };
 
     /// Writes a text to its end, and passes it on.

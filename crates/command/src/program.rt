@@ -2,11 +2,11 @@
 
 ghost use Rattle.std.specs.Prelude.{◌≡◌, ◌≢◌, ◌+◌, ◌<◌, ◌⊎◌, ℕ, List, [], length, map};
 ghost use Rattle.clap.specs.Words.{fault_of, kind_of};
-ghost use Rattle.command.specs.Commands.{IsVerifyLine, hbsign_app};
-ghost use Rattle.command.specs.Lines.{Explains, Helps, Refuses, Runs, RunsVerify};
-ghost use Rattle.command.specs.Outputs.{Fails, Writes};
+ghost use Rattle.command.specs.Line.{IsVerifyLine, hbsign_app};
+ghost use Rattle.command.specs.Program.{Explains, Helps, Refuses, Runs, RunsVerify, Says};
+ghost use Rattle.command.specs.Output.{Fails, Writes};
 
-use crate::answer::{OUTPUT_FAILED, tell};
+use crate::answer::{OUTPUT_FAILED, report};
 use crate::files::Folder;
 use crate::line::LineReader;
 use crate::output::Output;
@@ -19,7 +19,7 @@ use std::io::Read;
 /// The exit status of a line that is refused.
 pub const LINE_REFUSED: u8 = 2;
 
-// What is told of a refused line where there is no memory for more.
+// What is printed of a refused line where there is no memory for more.
 const REFUSED_LINE: &str = "error: this line can't be read\n";
 
 // How the program is called.
@@ -30,7 +30,7 @@ Usage: hbsign verify [--] PUBLIC MESSAGE SIGNATURE
        hbsign --help | --version
 
 Commands:
-  verify  Tells whether SIGNATURE is the signature of MESSAGE under the key PUBLIC
+  verify  Reports whether SIGNATURE is the signature of MESSAGE under the key PUBLIC
 
 Options:
   -h, --help     Print this text
@@ -40,9 +40,9 @@ Options:
 // The program's name and version.
 const VERSION_LINE: &str = "hbsign 0.1.0\n";
 
-/// Does what the words of a line ask for, without the program's name, and gives the exit status.
+/// Does what the words of a line request, without the program's name, and gives the exit status.
 ///
-/// A line on the output tells what came of it. A line that is refused is explained on `errors`
+/// A line on the output reports what came of it. A line that is refused is explained on `errors`
 /// alone.
 pub fn run<L, D, S, I, O, E>(
     alloc: Global,
@@ -67,16 +67,17 @@ where
         (D.trace folder.old) (D.trace folder.new) (O.taken output.old) (O.taken output.new) result }
     ensures input { _input.new ≡ _input.old }
     ensures opens_none { fault_of hbsign_app (map S.text words.now) ≢ [] → D.trace folder.new ≡ D.trace folder.old }
-    ensures refuses { result ≡ 2 → Refuses (O.taken output.old) (O.taken output.new) (E.taken errors.old) (E.taken errors.new) }
+    ensures refuses { result ≡ 2
+        → Refuses (O.taken output.old) (O.taken output.new) (E.taken errors.old) (E.taken errors.new) }
     ensures silent { result ≢ 2 → E.taken errors.new ≡ E.taken errors.old }
 {
     match lines.read(words) {
-        Ok(request) => tell(&request.answer(alloc, folder), output),
+        Ok(request) => report(&request.answer(alloc, folder), output),
         Err(error) => explain(alloc, &error, output, errors),
     }
 }
 
-// Tells why `clap` gives no request: the help or the version that was asked for, what is wrong with the
+// Reports why `clap` gives no request: the help or the version that was requested, what is wrong with the
 // line, or that there is no memory.
 fn explain<O: Output, E: Output>(
     alloc: Global,
@@ -85,11 +86,12 @@ fn explain<O: Output, E: Output>(
     errors: &mut E,
 ) -> u8
     ensures explains { Explains (kind_of error.now) (O.taken output.old) (O.taken output.new) result }
-    ensures refuses { result ≡ 2 → Refuses (O.taken output.old) (O.taken output.new) (E.taken errors.old) (E.taken errors.new) }
+    ensures refuses { result ≡ 2
+        → Refuses (O.taken output.old) (O.taken output.new) (E.taken errors.old) (E.taken errors.new) }
     ensures silent { result ≢ 2 → E.taken errors.new ≡ E.taken errors.old }
 {
     match error.kind() {
-        ErrorKind::OutOfMemory => tell(&Err(Refusal::OutOfMemory), output),
+        ErrorKind::OutOfMemory => report(&Err(Refusal::OutOfMemory), output),
         ErrorKind::DisplayHelp => print(HELP, output),
         ErrorKind::DisplayVersion => print(VERSION_LINE, output),
         _ => {
@@ -99,7 +101,7 @@ fn explain<O: Output, E: Output>(
     }
 }
 
-// Prints a text that was asked for.
+// Prints a text that was requested.
 fn print<O: Output>(text: &str, output: &mut O) -> u8
     ensures { Helps text.now (O.taken output.old) (O.taken output.new) result }
 {
@@ -111,7 +113,7 @@ fn print<O: Output>(text: &str, output: &mut O) -> u8
 
 // Says what is wrong with a line.
 fn refuse<E: Output>(alloc: Global, error: &clap::Error, errors: &mut E)
-    ensures { ((text : List ℕ) × (0 < length text) × Writes text (E.taken errors.old) (E.taken errors.new)) ⊎ Fails (E.taken errors.old) (E.taken errors.new) }
+    ensures { Says (E.taken errors.old) (E.taken errors.new) }
 {
     let _ = match format!(in alloc; "{error}") {
         Ok(text) => errors.print(text_or_refusal(&text)),

@@ -2,15 +2,14 @@
 
 ghost use Rattle.std.specs.Prelude.{◌≡◌, Some};
 ghost use Rattle.std.specs.IoError.{error_kind};
-ghost use Rattle.command.specs.Lines.{fault_name_of, name_of, number_of, refusal_line};
-ghost use Rattle.command.specs.Judgement.{refusal_of};
+ghost use Rattle.command.specs.Refusal.{fault_name_of, name_of, number_of, refusal_line, refusal_of};
 
 use sign_core::KeyFault;
 use std::io::ErrorKind;
 use std::{error, fmt, io};
 use typecodes::{Cause, Refusal as SignatureRefusal};
 
-/// Why a command doesn't do what it was asked.
+/// Why a command doesn't do what was requested.
 #[derive(Clone, Copy, Debug, PartialEq, Eq)]
 pub enum Refusal {
     /// 2, 3 and 6: the bytes of a public key spell none.
@@ -24,7 +23,7 @@ pub enum Refusal {
 }
 
 impl Refusal {
-    // The number by which the refusal is told.
+    // The number by which the refusal is reported.
     fn number(&self) -> u8
         ensures { result ≡ number_of self.now }
     {
@@ -67,7 +66,7 @@ fn fault_name(cause: Cause) -> &'static str
     }
 }
 
-/// Writes the line that tells the refusal, without its end.
+/// Writes the refusal's line, without the end.
 impl fmt::Display for Refusal {
     ghost output = { λ refusal. Some (refusal_line refusal) };
 

@@ -3,9 +3,8 @@
 ghost use Rattle.std.specs.Prelude.{◌≡◌, ◌↔◌, ℕ, List, Some, take, codes, IfErr, IfOk, IfSome, IsSome};
 ghost use Rattle.clap.specs.declared.builder.command.Command.{Command as ClapCommand};
 ghost use Rattle.clap.specs.Words.{AddsSubcommand, app_of, first_value, found_of, with_subcommand};
-ghost use Rattle.command.specs.Commands.{verify_app};
-ghost use Rattle.command.specs.Judgement.{AnswersOf, Judgement, ReadsInTurn, ReadsKey, Verifies, decisive};
-ghost use Rattle.command.specs.Opening.{OpensInTurn, Shows};
+ghost use Rattle.command.specs.Verify.{AnswersOf, Judgement, OpensInTurn, ReadsInTurn, Verifies, decisive, verify_app};
+ghost use Rattle.command.specs.Files.{ReadsKey, Shows};
 
 use crate::answer::{Answer, Done};
 use crate::files;
@@ -44,7 +43,8 @@ impl<'a> Verify<'a> {
 
     /// The command, for `clap`.
     pub fn command(alloc: Global) -> Result<Command<'a>, AllocError>
-        ensures { IfOk result (λ command. (old new : ClapCommand) → AddsSubcommand old command new → app_of new ≡ with_subcommand (app_of old) verify_app.top) }
+        ensures { IfOk result (λ command. (old new : ClapCommand) → AddsSubcommand old command new
+            → app_of new ≡ with_subcommand (app_of old) verify_app.top) }
     {
         Command::new(alloc, Verify::NAME)
             .about("Verifies a signature of a message")
@@ -67,10 +67,15 @@ impl<'a> Verify<'a> {
 
     /// The files that the words name.
     pub fn of(matches: &ArgMatches<'a>) -> Option<Self>
-        ensures found { IsSome result ↔ (IsSome (first_value (found_of matches.now) (codes "PUBLIC"))) × (IsSome (first_value (found_of matches.now) (codes "MESSAGE"))) × (IsSome (first_value (found_of matches.now) (codes "SIGNATURE"))) }
-        ensures public { IfSome result (λ files. first_value (found_of matches.now) (codes "PUBLIC") ≡ Some files.public.now) }
-        ensures message { IfSome result (λ files. first_value (found_of matches.now) (codes "MESSAGE") ≡ Some files.message.now) }
-        ensures signature { IfSome result (λ files. first_value (found_of matches.now) (codes "SIGNATURE") ≡ Some files.signature.now) }
+        ensures found { IsSome result ↔ (IsSome (first_value (found_of matches.now) (codes "PUBLIC")))
+            × (IsSome (first_value (found_of matches.now) (codes "MESSAGE")))
+            × (IsSome (first_value (found_of matches.now) (codes "SIGNATURE"))) }
+        ensures public { IfSome result (λ files.
+            first_value (found_of matches.now) (codes "PUBLIC") ≡ Some files.public.now) }
+        ensures message { IfSome result (λ files.
+            first_value (found_of matches.now) (codes "MESSAGE") ≡ Some files.message.now) }
+        ensures signature { IfSome result (λ files.
+            first_value (found_of matches.now) (codes "SIGNATURE") ≡ Some files.signature.now) }
     {
         Some(Verify {
             public: matches.get_str("PUBLIC")?,

@@ -2,7 +2,7 @@ use Rattle.std.proofs.Common.{◌≡◌, ◌∙◌, ℕ, List, ◌++◌, length,
 use Rattle.command.proofs.Contents.{first_of}
 use Rattle.command.proofs.files.read_first.Goals as goal
 
--- what stood behind the bytes that were read is cut off
+-- what stood after the bytes that were read is cut off
 cut_off : (n len : ℕ) (buffer rest : List ℕ) → length buffer ≡ len → take n (take len (buffer ++ rest)) ≡ take n buffer
 cut_off n len buffer rest size = ap (take n) (take_at buffer rest len size)
 

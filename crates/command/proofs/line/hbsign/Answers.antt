@@ -1,7 +1,8 @@
 use Rattle.std.proofs.Common.{rules, ap, ◌≡◌, ◌∙◌}
 use Rattle.std.proofs.lemmas.Result.{IfOk-weaker}
 use Rattle.clap.specs.Words.{app_of, with_subcommand}
-use Rattle.command.specs.Commands.{bare_app, verify_app}
+use Rattle.command.specs.Line.{bare_app}
+use Rattle.command.specs.Verify.{verify_app}
 use Rattle.command.proofs.line.hbsign.Goals as goal
 
 pub returns : goal.returns

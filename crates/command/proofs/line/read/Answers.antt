@@ -1,6 +1,6 @@
 use Rattle.std.proofs.Common.{ap, ◌∙◌, map, sym, subst}
 use Rattle.clap.specs.Words.{HasKind, fault_of, is_simple, is_simple_and_free, subcommand_of}
-use Rattle.command.specs.Requests.{named_files}
+use Rattle.command.specs.Line.{named_files}
 use Rattle.command.proofs.Finding.{handed_err, handed_on, only_memory, or_another}
 use Rattle.command.proofs.Walking.{finds_line, no_fault, simple, simple_and_free}
 use Rattle.command.proofs.line.read.Goals as goal

@@ -1,5 +1,6 @@
 use Rattle.std.proofs.Common.{List, ℕ, subst}
-use Rattle.command.specs.Judgement.{Judgement, ReadsKey}
+use Rattle.command.specs.Verify.{Judgement}
+use Rattle.command.specs.Files.{ReadsKey}
 use Rattle.command.proofs.Deciding.{decided}
 use Rattle.command.proofs.Judging.{judged, read_key}
 use Rattle.command.proofs.verify.judge.Goals as goal

@@ -1,6 +1,6 @@
 use Rattle.std.proofs.Common.{◌∙◌, inl, inr, take, ap, sym, subst}
 use Rattle.std.specs.IoError.{error_kind}
-use Rattle.command.specs.Opening.{IsContent}
+use Rattle.command.specs.Files.{IsContent}
 use Rattle.command.specs.declared.answer.Done.TheVariants.{Verified}
 use Rattle.command.proofs.Contents.{failed_read}
 use Rattle.command.proofs.Deciding.{decisive_is}

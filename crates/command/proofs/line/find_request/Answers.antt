@@ -1,9 +1,9 @@
 use Rattle.std.proofs.Common.{◌≡◌, ◌∙◌, ◌∷◌, refl, sym, ap, codes, Some, IsSome, subst}
 use Rattle.clap.specs.Words.{found_of, rows_of, subcommand_rows_of}
 use Rattle.clap.proofs.WalkLemmas.{first_value-rows}
-use Rattle.command.specs.Requests.{Files, files_of}
+use Rattle.command.specs.Line.{Files, files_of}
 use Rattle.command.proofs.Finding.{rows_have, same_files}
-use Rattle.command.proofs.line.asked.Goals as goal
+use Rattle.command.proofs.line.find_request.Goals as goal
 
 pub returns-in_err-of-in-verify-clause-files : goal.returns-in_err-of-in-verify-clause-files
 returns-in_err-of-in-verify-clause-files c p m s named =

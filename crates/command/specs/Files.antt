@@ -1,12 +1,20 @@
 -- What is read of files, and how reading them fails.
-use Rattle.std.specs.Prelude.{◌≡◌, ◌≢◌, ℕ, ⊤, ◌⊎◌, List, [], ◌∷◌, ◌++◌, Option, Some, None, Result, Ok, Err, IfSome}
+use Rattle.std.specs.Prelude.{ℕ, List, Result, Ok, Err, ◌≡◌, ⊤, Option, Some, None, IfSome, ◌≢◌, ◌⊎◌}
+use Rattle.sign_core.specs.declared.public.AnyPublic.{AnyPublic}
+use Rattle.sign_core.specs.declared.public.KeyFault.{KeyFault}
+use Rattle.sign_core.specs.Key.{KeyHasFault, SpellsKey}
+use Rattle.command.specs.declared.trace.Role.{Role}
 use Rattle.std.specs.IoError.{error_kind}
 use Rattle.std.specs.declared.io.Error.{Error}
 use Rattle.std.specs.declared.io.ErrorKind.{ErrorKind}
 use Rattle.std.specs.declared.io.ErrorKind.TheVariants.{OutOfMemory}
-use Rattle.command.specs.Trace.{Happening, Reads, ReadsForever, ReadsSome, ReadsToFailure, failed, given, not_opened, opened}
-use Rattle.command.specs.declared.trace.Role.{Role}
-use Rattle.command.specs.declared.trace.Role.TheVariants.{Public, Message, Signature}
+use Rattle.command.specs.Trace.{Happening, opened, not_opened, given, failed}
+use Rattle.command.specs.Trace.{Reads, ReadsSome, ReadsToFailure, ReadsForever}
+
+-- Bytes were read as a public key: they spell this one, or this is wrong with them.
+abbrev pub ReadsKey : List ℕ → Result AnyPublic KeyFault → Type 0
+ReadsKey bytes (Ok key) = SpellsKey key bytes
+ReadsKey bytes (Err fault) = KeyHasFault bytes fault
 
 -- what a call that opens a file does to it
 abbrev pub opening : {A E : Type 0} → Role → List ℕ → Result A E → Happening
@@ -50,20 +58,3 @@ FailsToCollect role kind old new = FailsToRead role kind old new ⊎ ((kind ≡ 
 abbrev pub CollectsOrFails : {A : Type 0} → Role → Result A Error → List Happening → List Happening → Type 0
 CollectsOrFails role (Ok value) old new = ReadsSome role old new
 CollectsOrFails role (Err error) old new = FailsToCollect role (error_kind error) old new
-
--- the three files of a line were opened in turn
-abbrev pub all_opened : List ℕ → List ℕ → List ℕ → List Happening
-all_opened public message signature =
-    opened Public public ∷ opened Message message ∷ opened Signature signature ∷ []
-
--- One of them couldn't be opened, and none after it was.
-abbrev pub FailsToOpen : List ℕ → List ℕ → List ℕ → List Happening → List Happening → Type 0
-FailsToOpen public message signature old new =
-    (new ≡ old ++ not_opened Public public ∷ [])
-    ⊎ (new ≡ old ++ opened Public public ∷ not_opened Message message ∷ [])
-    ⊎ (new ≡ old ++ opened Public public ∷ opened Message message ∷ not_opened Signature signature ∷ [])
-
--- They were opened in turn, up to one that couldn't be.
-abbrev pub OpensInTurn : {A E : Type 0} → List ℕ → List ℕ → List ℕ → Result A E → List Happening → List Happening → Type 0
-OpensInTurn public message signature (Ok files) old new = new ≡ old ++ all_opened public message signature
-OpensInTurn public message signature (Err error) old new = FailsToOpen public message signature old new

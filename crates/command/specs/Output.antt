@@ -1,13 +1,13 @@
 -- What an output has taken, and what printing a text does to it.
-use Rattle.std.specs.Prelude.{◌≡◌, ℕ, ◌+◌, List, Option, Result, Ok, Err, IfSome}
+use Rattle.std.specs.Prelude.{ℕ, List, Option, ◌≡◌, ◌+◌, Result, Ok, Err, IfSome}
 use Rattle.std.specs.Io.KnownBytes.{Appends}
 
--- the bytes that an output took, where it tells them, and how many texts it couldn't write
+-- the bytes that an output took, where they are known, and how many texts it couldn't write
 pub record Taken : Type 0 where
   pub contents : Option (List ℕ)
   pub failures : ℕ
 
--- The text was written behind what was there.
+-- The text was written after what was there.
 abbrev pub Writes : List ℕ → Taken → Taken → Type 0
 Writes text old new = (new.failures ≡ old.failures) × Appends old.contents new.contents text
 

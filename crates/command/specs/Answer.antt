@@ -1,0 +1,30 @@
+-- The line that reports each answer, and the exit status.
+use Rattle.std.specs.Prelude.{ℕ, List, codes, ◌++◌, Result, Ok, Err, ◌≡◌, ◌⊎◌}
+use Rattle.command.specs.declared.answer.Done.{Done}
+use Rattle.command.specs.declared.answer.Done.TheVariants.{Verified}
+use Rattle.command.specs.declared.refusal.Refusal.{Refusal}
+use Rattle.command.specs.declared.refusal.Refusal.TheVariants.{Key, Signature, OutOfMemory, FileFailed}
+use Rattle.command.specs.Refusal.{refusal_line}
+use Rattle.command.specs.Output.{Taken, Writes, Fails}
+
+abbrev pub done_line : Done → List ℕ
+done_line Verified = codes "verified"
+
+-- the line with its end
+abbrev pub answer_line : Result Done Refusal → List ℕ
+answer_line (Ok done) = done_line done ++ codes "\n"
+answer_line (Err refusal) = refusal_line refusal ++ codes "\n"
+
+-- 0 for what is done, 3 where the machine fails, and 1 for every other refusal
+abbrev pub status_of : Result Done Refusal → ℕ
+status_of (Ok done) = 0
+status_of (Err OutOfMemory) = 3
+status_of (Err FileFailed) = 3
+status_of (Err (Key fault)) = 1
+status_of (Err (Signature refusal)) = 1
+
+-- The answer was reported: its line was written, and the status is its own; or the output failed, and the status
+-- is 3. What an output has taken stands before and after.
+abbrev pub Reports : Result Done Refusal → Taken → Taken → ℕ → Type 0
+Reports answer old new status =
+    ((status ≡ status_of answer) × Writes (answer_line answer) old new) ⊎ ((status ≡ 3) × Fails old new)

@@ -1,0 +1,115 @@
+-- What `verify` answers to three files: the judgement of their bytes, and what it does to the files for it.
+use Rattle.std.specs.Prelude.{ℕ, true, List, codes, [], ◌∷◌, ◌≡◌, ◌⊎◌, ◌++◌, Result, Ok, Err, ⊤, Option, IsErrAnd}
+use Rattle.clap.specs.Words.{Rule, new_rule, App, new_app, with_rule}
+use Rattle.command.specs.declared.trace.Role.TheVariants as role
+use Rattle.sign_core.specs.declared.public.AnyPublic.{AnyPublic}
+use Rattle.sign_core.specs.Key.{KeyHasFault, KeyVerdict, SpellsKey}
+use Rattle.command.specs.declared.refusal.Refusal.{Refusal}
+use Rattle.command.specs.declared.refusal.Refusal.TheVariants.{Key, Signature, OutOfMemory, FileFailed}
+use Rattle.std.specs.declared.io.ErrorKind.{ErrorKind}
+use Rattle.command.specs.declared.trace.Role.{Role}
+use Rattle.command.specs.Refusal.{refusal_of}
+use Rattle.command.specs.Files.{IsContent, FailsToRead, FailsToCollect}
+use Rattle.command.specs.Trace.{Happening, opened, not_opened, ReadsSome}
+
+-- a file that has to be named
+abbrev pub file_rule : List ℕ → Rule
+file_rule name = record (new_rule name) { required = true }
+
+-- `verify PUBLIC MESSAGE SIGNATURE`
+abbrev pub verify_app : App
+verify_app =
+    with_rule (with_rule (with_rule (new_app (codes "verify")) (file_rule (codes "PUBLIC")))
+    (file_rule (codes "MESSAGE"))) (file_rule (codes "SIGNATURE"))
+
+-- the three files of a line were opened in turn
+abbrev pub all_opened : List ℕ → List ℕ → List ℕ → List Happening
+all_opened public message signature =
+    opened role.Public public ∷ opened role.Message message ∷ opened role.Signature signature ∷ []
+
+-- One of them couldn't be opened, and none after it was.
+abbrev pub FailsToOpen : List ℕ → List ℕ → List ℕ → List Happening → List Happening → Type 0
+FailsToOpen public message signature old new =
+    (new ≡ old ++ not_opened role.Public public ∷ [])
+    ⊎ (new ≡ old ++ opened role.Public public ∷ not_opened role.Message message ∷ [])
+    ⊎ (new ≡ old ++ opened role.Public public ∷ opened role.Message message ∷ not_opened role.Signature signature ∷ [])
+
+-- They were opened in turn, up to one that couldn't be.
+abbrev pub OpensInTurn : {A E : Type 0} → List ℕ → List ℕ → List ℕ → Result A E → List Happening → List Happening
+    → Type 0
+OpensInTurn public message signature (Ok files) old new = new ≡ old ++ all_opened public message signature
+OpensInTurn public message signature (Err error) old new = FailsToOpen public message signature old new
+
+-- Ok: the public bytes spell a key, for which the signature's bytes are valid. Else the public bytes
+-- spell no key, and this is wrong with them; or they spell a key, for which the signature's bytes are
+-- refused so. Contents alone are judged.
+abbrev pub Judgement : {A : Type 0} → List ℕ → List ℕ → List ℕ → Result A Refusal → Type 0
+Judgement public message signature (Ok a) =
+    (key : AnyPublic) × SpellsKey key public × KeyVerdict key message signature (Ok a)
+Judgement public message signature (Err (Key fault)) = KeyHasFault public fault
+Judgement {A = A} public message signature (Err (Signature refusal)) =
+    (key : AnyPublic) × SpellsKey key public × KeyVerdict {A = A} key message signature (Err refusal)
+Judgement public message signature (Err OutOfMemory) = ⊥
+Judgement public message signature (Err FileFailed) = ⊥
+
+-- The same of files: one may also fail, or there may be no memory for its bytes.
+abbrev pub Answers : {A : Type 0} → List ℕ → List ℕ → List ℕ → Result A Refusal → Type 0
+Answers public message signature (Ok a) = Judgement public message signature (Ok a)
+Answers public message signature (Err (Key fault)) = Judgement {A = ⊤} public message signature (Err (Key fault))
+Answers public message signature (Err (Signature refusal)) =
+    Judgement {A = ⊤} public message signature (Err (Signature refusal))
+Answers public message signature (Err OutOfMemory) = ⊤
+Answers public message signature (Err FileFailed) = ⊤
+
+-- Of what is known of three files, this is the answer for some contents that fit: for the contents, where all are
+-- known.
+abbrev pub AnswersOf : {A : Type 0} → Option (List ℕ) → Option (List ℕ) → Option (List ℕ) → Result A Refusal → Type 0
+AnswersOf public message signature answer =
+    (p : List ℕ) × (m : List ℕ) × (s : List ℕ) × IsContent public p × IsContent message m × IsContent signature s
+    × Answers p m s answer
+
+-- The answer is a verdict, and no failure.
+abbrev pub IsVerdict : {A : Type 0} → Result A Refusal → Type 0
+IsVerdict (Ok a) = ⊤
+IsVerdict (Err (Key fault)) = ⊤
+IsVerdict (Err (Signature refusal)) = ⊤
+IsVerdict (Err OutOfMemory) = ⊥
+IsVerdict (Err FileFailed) = ⊥
+
+-- how many bytes decide of a signature: one more than the greatest has, of eight levels of H25/W1
+unfoldable pub decisive : ℕ
+decisive = 74989
+
+-- The answer is this failure, reported by its number.
+abbrev pub IsRefusalOf : {A : Type 0} → ErrorKind → Result A Refusal → Type 0
+IsRefusalOf kind answer = IsErrAnd answer (λ refusal. refusal ≡ refusal_of kind)
+
+-- The files of these roles were read one after the other. A verdict was given after all had been read; the first that
+-- failed was reported, and nothing was read after it.
+abbrev pub ReadsInTurn : {A : Type 0} → Role → Role → Role → Result A Refusal → List Happening → List Happening
+    → Type 0
+ReadsInTurn public message signature answer old new =
+    ((kind : ErrorKind) × IsRefusalOf kind answer × FailsToRead public kind old new)
+    ⊎ ((first : List Happening) × ReadsSome public old first
+    × ((kind : ErrorKind) × IsRefusalOf kind answer × FailsToCollect message kind first new))
+    ⊎ ((first : List Happening) × (second : List Happening)
+    × ReadsSome public old first × ReadsSome message first second
+    × ((kind : ErrorKind) × IsRefusalOf kind answer × FailsToCollect signature kind second new))
+    ⊎ ((first : List Happening) × (second : List Happening)
+    × ReadsSome public old first × ReadsSome message first second
+    × ReadsSome signature second new × IsVerdict answer)
+
+-- The files of these paths were opened one after the other, up to one that couldn't be, which was reported; then they
+-- were read in turn.
+abbrev pub Visits : {A : Type 0} → List ℕ → List ℕ → List ℕ → Result A Refusal → List Happening → List Happening
+    → Type 0
+Visits public message signature answer old new =
+    (IsErrAnd answer (λ refusal. refusal ≡ FileFailed) × FailsToOpen public message signature old new)
+    ⊎ ReadsInTurn role.Public role.Message role.Signature answer (old ++ all_opened public message signature) new
+
+-- `verify` of these paths answers so: rightly for what is known of the files, which it opens and reads in turn.
+abbrev pub Verifies : {A : Type 0} → (List ℕ → Option (List ℕ)) → List ℕ → List ℕ → List ℕ → Result A Refusal
+    → List Happening → List Happening → Type 0
+Verifies content public message signature answer old new =
+    AnswersOf (content public) (content message) (content signature) answer
+    × Visits public message signature answer old new
