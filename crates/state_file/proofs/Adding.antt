@@ -33,15 +33,15 @@ block_size body bytes body_len is = omega (arith, ap length is, length-append bo
 pub slot_added : (k : ℕ) (body bytes content mid : List ℕ) (new : State) → length body ≡ 255 → bytes ≡ body ++ 0 ∷ [] → ChangesOnly (range_of (256 * k + 1) bytes ∷ []) content mid
     → slice_range mid (256 * k + 1) (256 * k + 1 + length bytes) ≡ bytes → IsSynced new → ChangesOnly (range_of (256 * k) (165 ∷ []) ∷ []) mid new.content → AddsSlot k content new
 slot_added k body bytes content mid new body_len is first put synced second =
-    let behind = drop (256 * k + 1) mid in
+    let tail = drop (256 * k + 1) mid in
     let size = block_size body bytes body_len is in
     let width : 256 * k + 1 + length bytes - (256 * k + 1) ≡ length bytes = omega arith in
-    let part : take (length bytes) behind ≡ bytes = ap (λ n. take n behind) (sym width) ∙ put in
-    let reaches : 256 * k + 257 ≤ length mid = omega (arith, ap length part, length-take (length bytes) behind, length-drop (256 * k + 1) mid, size) in
+    let part : take (length bytes) tail ≡ bytes = ap (λ n. take n tail) (sym width) ∙ put in
+    let reaches : 256 * k + 257 ≤ length mid = omega (arith, ap length part, length-take (length bytes) tail, length-drop (256 * k + 1) mid, size) in
     let last : slice_index bytes 255 ≡ 0 = ap (λ (l : List ℕ). slice_index l 255) is ∙ get_or_at body 0 [] 0 255 body_len in
     let place : 256 * (k + 1) ≡ 256 * k + 1 + 255 = omega arith in
     let gate : slice_index mid (256 * (k + 1)) ≡ 0 =
-    ap (λ n. slice_index mid n) place ∙ sym (get_or-drop (256 * k + 1) mid 255 0) ∙ sym (get_or-take (length bytes) behind 255 0 (omega (arith, size))) ∙ ap (λ (l : List ℕ). slice_index l 255) part ∙ last in
+    ap (λ n. slice_index mid n) place ∙ sym (get_or-drop (256 * k + 1) mid 255 0) ∙ sym (get_or-take (length bytes) tail 255 0 (omega (arith, size))) ∙ ap (λ (l : List ℕ). slice_index l 255) part ∙ last in
     let shut : slice_index new.content (256 * (k + 1)) ≡ 0 = second.kept (256 * (k + 1)) (omega (arith, reaches)) (inr (omega arith), tt) ∙ gate in
     record {
       synced = synced;

@@ -1,4 +1,4 @@
--- What opening tells of a content: something, and one thing.
+-- What opening finds in a content: something, and one thing.
 use Rattle.std.proofs.Common.{◌≡◌, ◌⊎◌, inl, inr, ℕ, zero, suc, ◌+◌, ◌*◌, ◌<◌, true, List, [], ◌∷◌, ◌++◌, length, get_or, Option, Some, None, refl, sym, ap, ◌∙◌, subst, arith, true≢false, length-append}
 use Rattle.std.specs.Prelude.{◌==◌, slice_get}
 use Rattle.std.specs.Cmp.Lexicographic.{bytes_decides, pointwise}
@@ -51,9 +51,9 @@ held_or_not content k =
     elim (either slot_record fields) [
       | inl (entry, is) ↦ elim (cases_Bool (pointwise (λ a b. a == b) (tag_at content k) tag)) [
         | inl same ↦ inl (entry, record { spelled = is; tagged = (bytes_decides (tag_at content k) tag).0 same })
-        | inr other ↦ inr (λ _ held. true≢false (sym ((bytes_decides (tag_at content k) tag).1 held.tagged) ∙ other))
+        | inr other ↦ inr (λ _ holds. true≢false (sym ((bytes_decides (tag_at content k) tag).1 holds.tagged) ∙ other))
       ]
-      | inr (fault, faulty) ↦ inr (λ entry held. no_value slot_record entry fields 0 fault held.spelled faulty)
+      | inr (fault, faulty) ↦ inr (λ entry holds. no_value slot_record entry fields 0 fault holds.spelled faulty)
     ]
 
 -- an open slot is whole or not
@@ -62,8 +62,8 @@ whole_or_not content k opened =
     elim (cases_lt k most_records) [
       | inl few ↦ elim (cases_lt (256 * (k + 1)) (length content)) [
         | inl ends ↦ elim (held_or_not content k) [
-          | inl (entry, held) ↦ inl (record { opened = opened; few = few; ends = ends; entry = entry; held = held })
-          | inr none ↦ inr (λ whole. none whole.entry whole.held)
+          | inl (entry, holds) ↦ inl (record { opened = opened; few = few; ends = ends; entry = entry; holds = holds })
+          | inr none ↦ inr (λ whole. none whole.entry whole.holds)
         ]
         | inr short ↦ inr (λ whole. omega (arith, short, whole.ends))
       ]
@@ -78,7 +78,7 @@ begins-none content may = record {
   few = omega arith;
   ends = omega (arith, may.long);
   opened = λ k below. absurd (omega (arith, below));
-  held = λ k entry is. absurd (omega (arith, slice_get_within {A = Record} [] k entry is));
+  holds = λ k entry is. absurd (omega (arith, slice_get_within {A = Record} [] k entry is));
 }
 
 -- the last of more records, or one before it
@@ -98,9 +98,9 @@ begins-more content records begins whole =
         | inl before ↦ begins.opened k before
         | inr last ↦ let same : length records ≡ k = omega (arith, below, count, last) in subst (IsOpen content) same whole.opened
       ];
-      held = λ k entry is. elim (snoc_get records whole.entry k entry is) [
-        | inl there ↦ begins.held k entry there
-        | inr last ↦ subst (λ (p : ℕ × Record). Holds content p.0 p.1) (λ i. (sym last.0 i, last.1 i)) whole.held
+      holds = λ k entry is. elim (snoc_get records whole.entry k entry is) [
+        | inl there ↦ begins.holds k entry there
+        | inr last ↦ subst (λ (p : ℕ × Record). Holds content p.0 p.1) (λ i. (sym last.0 i, last.1 i)) whole.holds
       ];
     }
 
@@ -113,7 +113,7 @@ begins-whole content records k begins below =
         few = omega (arith, begins.few, below);
         ends = omega (arith, begins.ends, below);
         entry = entry;
-        held = begins.held k entry is;
+        holds = begins.holds k entry is;
       }
       | inr (past, _) ↦ absurd (omega (arith, past, below))
     ]
@@ -122,12 +122,12 @@ begins-whole content records k begins below =
 pub begins-all : (content : List ℕ) (records : List Record) → Begins content records → MayHaveKey content → begins_key (fields_at content 0) ≡ true → IsClosed content (length records) → SpellsRecords content records
 begins-all content records begins may key closed =
     elim (slice_get_cases records 0).1 [
-      | inl (entry, _, is, _) ↦ let (first, same) = key-first entry (fields_at content 0) (begins.held 0 entry is).spelled key in record {
+      | inl (entry, _, is, _) ↦ let (first, same) = key-first entry (fields_at content 0) (begins.holds 0 entry is).spelled key in record {
         few = begins.few;
         opened = begins.opened;
         closed = closed;
         first = (first, is ∙ ap Some same);
-        held = begins.held;
+        holds = begins.holds;
       }
       | inr (past, _) ↦
           let none : length records ≡ 0 = omega (arith, past) in
@@ -140,12 +140,12 @@ spelled-begins content records is = record {
   few = is.few;
   ends = closed-reaches content (length records) is.closed;
   opened = is.opened;
-  held = is.held;
+  holds = is.holds;
 }
 
--- ---- something is told
+-- ---- something is reported
 
--- what the next gate tells, where a whole slot leads on
+-- what the next gate says, where a whole slot leads on
 judged : (content : List ℕ) (records : List Record) → Begins content records → MayHaveKey content → begins_key (fields_at content 0) ≡ true
     → ((version : Version) × (version_of (fields_at content 0) ≡ Some version)) → (IsWhole content (length records) → (opening : Opening) × OpensAs content opening) → (opening : Opening) × OpensAs content opening
 judged content records begins may key version more =
@@ -186,7 +186,7 @@ told_key content may =
       | inr other ↦ (no_key_file, record { may = may; other = other })
     ]
 
--- every content tells something
+-- every content opens as something
 pub some_opening : (content : List ℕ) → (opening : Opening) × OpensAs content opening
 some_opening content =
     elim (cases_lt (length content) 257) [
@@ -212,7 +212,7 @@ spelled-may content records is =
 
 -- its first slot is a Key's, of a known version
 spelled-key : (content : List ℕ) (records : List Record) → SpellsRecords content records → (begins_key (fields_at content 0) ≡ true) × ((version : Version) × (version_of (fields_at content 0) ≡ Some version))
-spelled-key content records is = key-begins is.first.0 (fields_at content 0) (is.held 0 (KeyRecord is.first.0) is.first.1).spelled
+spelled-key content records is = key-begins is.first.0 (fields_at content 0) (is.holds 0 (KeyRecord is.first.0) is.first.1).spelled
 
 -- lists of records that are spelled have one length
 not_shorter : (content : List ℕ) (xs ys : List Record) → SpellsRecords content xs → SpellsRecords content ys → length xs < length ys → ⊥
@@ -232,8 +232,8 @@ one_list content xs ys first second =
     let count = one_length content xs ys first second in
     same_lists xs ys count (λ k d below.
     one_held content k (get_or xs k d) (get_or ys k d)
-    (first.held k (get_or xs k d) (slice_get-get_or xs k d below))
-    (second.held k (get_or ys k d) (slice_get-get_or ys k d (omega (arith, below, count)))))
+    (first.holds k (get_or xs k d) (slice_get-get_or xs k d below))
+    (second.holds k (get_or ys k d) (slice_get-get_or ys k d (omega (arith, below, count)))))
 
 -- where records are spelled, no slot is damaged
 spelled-whole : (content : List ℕ) (records : List Record) (k : ℕ) → SpellsRecords content records → IsDamagedAt content k → ⊥

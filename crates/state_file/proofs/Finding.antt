@@ -3,10 +3,10 @@ use Rattle.std.proofs.Common.{◌≡◌, ℕ, ◌+◌, ◌*◌, ◌<◌, Bool, t
 use Rattle.std.specs.Prelude.{◌==◌, IfErr, slice_get}
 use Rattle.std.proofs.lemmas.Option.{slice_get-get_or, slice_get_within, get_or_from_slice_get}
 use Rattle.typecodes.specs.Layout.{Spells}
-use Rattle.state_file.specs.File.{Begins, Holds, IsClosed, IsDamagedAt, IsOpen, IsWhole, SpellsRecords, fields_at, most_records, previous_tag, tag_at, tag_of, IsFileOf, IsKept}
+use Rattle.state_file.specs.File.{Begins, Holds, IsClosed, IsDamagedAt, IsOpen, IsWhole, SpellsRecords, fields_at, most_records, previous_tag, tag_at, tag_of, IsFileOf, IsSyncedFile}
 use Rattle.state_file.specs.Disk.{State, MayLeave, settled, Elapses, LeavesOnly}
 use Rattle.state_file.specs.FileStore.{closed_gate, fields_length}
-use Rattle.state_file.specs.Opening.{HasEntry, HasSlot, IsFound, OnlyReads, StartsWithKey, Tells, TellsSlot}
+use Rattle.state_file.specs.Opening.{HasEntry, HasSlot, IsFound, OnlyReads, StartsWithKey, Reports, ReportsSlot}
 use Rattle.state_file.specs.Slot.{slot_record}
 use Rattle.state_file.specs.Store.{begins_with_key}
 use Rattle.state_file.specs.declared.file.opening.OpenFault.{OpenFault}
@@ -15,8 +15,8 @@ use Rattle.state_file.specs.declared.record.Record.{Record}
 use Rattle.state_file.specs.declared.record.Record.TheVariants.{Key as KeyRecord}
 use Rattle.state_file.proofs.Contents.{begins-all, begins-more, begins-none, begins-whole}
 use Rattle.state_file.proofs.Kept.{read_record}
-use Rattle.state_file.proofs.Moments.{goes_on, joined, started, weaker}
-use Rattle.state_file.proofs.Ranges.{synced_leaves}
+use Rattle.state_file.proofs.Moments.{goes_on, combined, started, weaker}
+use Rattle.state_file.specs.FileStore.{synced_left}
 
 -- ---- calls that only read
 
@@ -38,7 +38,7 @@ module _ {D : Type 0} (state : D → State) (moment : D → ℕ) (left_since : D
   pub reads_on : (old mid new : D) → OnlyReads state moment left_since old mid → OnlyReads state moment left_since mid new → OnlyReads state moment left_since old new
   reads_on old mid new first second = record {
     stays = second.stays ∙ first.stays;
-    leaves = joined moment left_since old mid new (MayLeave (state old)) first.leaves
+    leaves = combined moment left_since old mid new (MayLeave (state old)) first.leaves
         (weaker moment left_since mid new (MayLeave (state mid)) (MayLeave (state old)) (λ c left. subst (λ (s : State). MayLeave s c) first.stays left) second.leaves);
   }
 
@@ -46,10 +46,10 @@ module _ {D : Type 0} (state : D → State) (moment : D → ℕ) (left_since : D
   pub reads_settled : (old mid new : D) → MayLeave (state old) (state old).content → state mid ≡ settled (state old).content → LeavesOnly moment left_since old mid (MayLeave (state old)) → OnlyReads state moment left_since mid new
       → LeavesOnly moment left_since old new (MayLeave (state old))
   reads_settled old mid new shows settled_now first second =
-      joined moment left_since old mid new (MayLeave (state old)) first
+      combined moment left_since old mid new (MayLeave (state old)) first
       (weaker moment left_since mid new (MayLeave (state mid)) (MayLeave (state old))
       (λ c left.
-      let same : c ≡ (state old).content = synced_leaves (state old).content c (subst (λ (s : State). MayLeave s c) settled_now left) in
+      let same : c ≡ (state old).content = synced_left (state old).content c (subst (λ (s : State). MayLeave s c) settled_now left) in
       subst (MayLeave (state old)) (sym same) shows)
       second.leaves)
 
@@ -65,15 +65,15 @@ gate_shut content k within other = closed_gate content k within (λ is_open. tru
 
 -- a slot that is read is whole
 pub has_whole : (content : List ℕ) (k : ℕ) (entry : Record) (tag : List ℕ) → IsOpen content k → HasSlot content k entry tag → IsWhole content k
-has_whole content k entry tag opened slot = record { opened = opened; few = slot.few; ends = slot.ends; entry = entry; held = slot.held }
+has_whole content k entry tag opened slot = record { opened = opened; few = slot.few; ends = slot.ends; entry = entry; holds = slot.holds }
 
--- one that tells a record by its bytes
+-- one whose bytes spell a record
 pub slot_found : (content previous fields tag : List ℕ) (k : ℕ) (entry : Record) → k < most_records → 256 * (k + 1) < length content → previous ≡ previous_tag content k → fields ≡ fields_at content k → tag ≡ tag_at content k
     → Spells slot_record entry fields → tag ≡ tag_of previous fields → HasSlot content k entry tag
 slot_found content previous fields tag k entry few ends before fields_are tag_is spelled tagged = record {
   few = few;
   ends = ends;
-  held = record {
+  holds = record {
     spelled = subst (Spells slot_record entry) fields_are spelled;
     tagged = sym tag_is ∙ tagged ∙ ap (λ (l : List ℕ). tag_of l fields) before ∙ ap (λ (l : List ℕ). tag_of (previous_tag content k) l) fields_are;
   };
@@ -87,12 +87,12 @@ holds_entry content k found entry has is = subst (HasEntry content k) is has
 pub holds_none : (content : List ℕ) (k : ℕ) (found : Option Record) → HasEntry content k found → found ≡ None → (entry : Record) → Holds content k entry → ⊥
 holds_none content k found has is = subst (HasEntry content k) is has
 
--- one that tells none isn't whole
+-- one whose bytes spell none isn't whole
 pub slot_harmed : (content previous fields tag : List ℕ) (k : ℕ) → previous ≡ previous_tag content k → fields ≡ fields_at content k → tag ≡ tag_at content k
     → ((entry : Record) → Spells slot_record entry fields → tag ≡ tag_of previous fields → ⊥) → IsWhole content k → ⊥
 slot_harmed content previous fields tag k before fields_are tag_is none whole =
-    none whole.entry (subst (Spells slot_record whole.entry) (sym fields_are) whole.held.spelled)
-    (tag_is ∙ whole.held.tagged ∙ sym (ap (λ (l : List ℕ). tag_of l fields) before ∙ ap (λ (l : List ℕ). tag_of (previous_tag content k) l) fields_are))
+    none whole.entry (subst (Spells slot_record whole.entry) (sym fields_are) whole.holds.spelled)
+    (tag_is ∙ whole.holds.tagged ∙ sym (ap (λ (l : List ℕ). tag_of l fields) before ∙ ap (λ (l : List ℕ). tag_of (previous_tag content k) l) fields_are))
 
 -- ---- from slot to slot
 
@@ -124,20 +124,20 @@ found_all content count records tag found counted key closed = record {
 }
 
 -- where the next slot is open and isn't whole, it is damaged
-pub found_harm : (content : List ℕ) (count : ℕ) (records : List Record) (tag : List ℕ) (fault : OpenFault) → BeginsFound content count records tag → count ≡ length records → StartsWithKey content → IsOpen content count → TellsSlot content count fault
-    → Tells content fault
-found_harm content count records tag NoKey found counted key opened told = absurd told
-found_harm content count records tag NotKeyFile found counted key opened told = absurd told
-found_harm content count records tag VersionFault found counted key opened told = absurd told
-found_harm content count records tag (Damaged k) found counted key opened told = subst (λ n. IsDamagedAt content n) (sym told.0) (record {
+pub found_harm : (content : List ℕ) (count : ℕ) (records : List Record) (tag : List ℕ) (fault : OpenFault) → BeginsFound content count records tag → count ≡ length records → StartsWithKey content → IsOpen content count → ReportsSlot content count fault
+    → Reports content fault
+found_harm content count records tag NoKey found counted key opened reported = absurd reported
+found_harm content count records tag NotKeyFile found counted key opened reported = absurd reported
+found_harm content count records tag VersionFault found counted key opened reported = absurd reported
+found_harm content count records tag (Damaged k) found counted key opened reported = subst (λ n. IsDamagedAt content n) (sym reported.0) (record {
   may = key.may;
   key = key.key;
   version = key.version;
   before = λ j below. begins-whole content records j found.begins (omega (arith, below, counted));
   opened = opened;
-  damaged = told.1;
+  damaged = reported.1;
 })
-found_harm content count records tag DeviceFailed found counted key opened told = tt
+found_harm content count records tag DeviceFailed found counted key opened reported = tt
 
 -- ---- the store
 
@@ -156,9 +156,9 @@ spelled_file records content is =
       closed = is.closed;
       spelled = λ k entry there.
           let below : k < length records = slice_get_within records k entry there in
-          read_record entry (fields_at content k) (fields_length content k (omega (arith, within, below))) (is.held k entry there).spelled;
+          read_record entry (fields_at content k) (fields_length content k (omega (arith, within, below))) (is.holds k entry there).spelled;
       tagged = λ k below. elim (slice_get records k) as (λ (found : Option Record). slice_get records k ≡ found → tag_at content k ≡ tag_of (previous_tag content k) (fields_at content k)) [
-        | Some entry ↦ λ there. (is.held k entry there).tagged
+        | Some entry ↦ λ there. (is.holds k entry there).tagged
         | None ↦ λ past. absurd (missing records k below past)
       ] refl;
     }
@@ -168,8 +168,8 @@ spelled_file records content is =
     missing (entry ∷ rest) k below past = let clash = sym (slice_get-get_or (entry ∷ rest) k entry below) ∙ past in cc
 
 -- what is found is kept
-pub found_kept : (records : List Record) (tag content : List ℕ) (after : State) → after ≡ settled content → IsFound content records tag → IsKept records tag after
-found_kept records tag content after same found = subst (IsKept records tag) (sym same) (record {
+pub found_kept : (records : List Record) (tag content : List ℕ) (after : State) → after ≡ settled content → IsFound content records tag → IsSyncedFile records tag after
+found_kept records tag content after same found = subst (IsSyncedFile records tag) (sym same) (record {
   synced = refl;
   file = spelled_file records content found.spelled;
   last = found.last;
@@ -177,8 +177,8 @@ found_kept records tag content after same found = subst (IsKept records tag) (sy
 
 -- ---- a step of the loop, by the states of the disk
 
-pub fault_told : {A : Type 0} (P : OpenFault → Type 0) (result : Result A OpenFault) (fault : OpenFault) → result ≡ Err fault → P fault → IfErr result P
-fault_told P result fault is told = subst (λ (r : Result _ OpenFault). IfErr r P) (sym is) told
+pub fault_reported : {A : Type 0} (P : OpenFault → Type 0) (result : Result A OpenFault) (fault : OpenFault) → result ≡ Err fault → P fault → IfErr result P
+fault_reported P result fault is reported = subst (λ (r : Result _ OpenFault). IfErr r P) (sym is) reported
 
 -- the next gate lies in the content
 pub gate_within : (first now : State) (count : ℕ) (records : List Record) (tag : List ℕ) → now ≡ first → count ≡ length records → BeginsFound first.content count records tag → 256 * count < length now.content

@@ -7,7 +7,7 @@ use Rattle.typecodes.proofs.Read.{spelled-read}
 use Rattle.typecodes.proofs.Steps.{ends-spelled}
 use Rattle.typecodes.specs.Layout.{Spells}
 use Rattle.typecodes.specs.Cursor.{read}
-use Rattle.state_file.specs.File.{Holds, fields_at, tag_at, previous_tag, tag_of, most_records, StandsFor, IsFileOf, IsKept}
+use Rattle.state_file.specs.File.{Holds, fields_at, tag_at, previous_tag, tag_of, most_records, StandsFor, IsFileOf, IsSyncedFile}
 use Rattle.state_file.specs.FileStore.{fields_length, file_stands}
 use Rattle.state_file.specs.Store.{begins_with_key, is_key}
 use Rattle.state_file.specs.Disk.{State}
@@ -84,7 +84,7 @@ module _ (records : List Record) (content c : List ℕ) (entry : Record) (fields
   unfolding whole front
   begins = ap (λ m. take m c) (sym whole_len) ∙ ends.begins
 
-  -- behind the new slot all is as in the whole
+  -- after the new slot all is as in the whole
   same_whole : take (n + 256) c ≡ take (n + 256) whole
   same_whole = begins ∙ sym (take_all (n + 256) whole (omega (arith, whole_len)))
 
@@ -199,22 +199,22 @@ pub read_record : (entry : Record) (fields : List ℕ) → length fields ≡ 223
 read_record entry fields len spelled =
     spelled-read slot_record entry fields [] fields 0 (omega arith) (sym (append-nil fields)) spelled ∙ ap (λ (m : ℕ). Ok (entry, m)) (let end : 0 + length fields ≡ 223 = omega arith in end)
 
--- a disk at rest behind a file's slots
-pub kept_rests : (records : List Record) (tag : List ℕ) (state : State) → IsKept records tag state → IsAtRest (take (256 * length records) state.content) state
+-- a disk at rest after a file's slots
+pub kept_rests : (records : List Record) (tag : List ℕ) (state : State) → IsSyncedFile records tag state → IsAtRest (take (256 * length records) state.content) state
 kept_rests records tag state kept = record { synced = kept.synced; ends = file_ends records state.content kept.file }
 
-pub kept_size : (records : List Record) (tag : List ℕ) (state : State) (count : ℕ) → IsKept records tag state → count ≡ length records → length (take (256 * length records) state.content) ≡ 256 * count
+pub kept_size : (records : List Record) (tag : List ℕ) (state : State) (count : ℕ) → IsSyncedFile records tag state → count ≡ length records → length (take (256 * length records) state.content) ≡ 256 * count
 kept_size records tag state count kept counted = length-take-le (256 * length records) state.content (omega (arith, kept.file.closed.0)) ∙ ap (λ m. 256 * m) (sym counted)
 
 -- a slot is added to what is kept
 module _ (records : List Record) (last : List ℕ) (state : State) (count : ℕ) (entry : Record) (fields tag body : List ℕ) (counted : count ≡ length records) (room : count < most_records)
-    (key : begins_with_key (records ++ entry ∷ []) ≡ true) (fields_len : length fields ≡ 223) (tag_len : length tag ≡ 32) (joined : body ≡ fields ++ tag) (spelled : Spells slot_record entry fields)
-    (tagged : tag ≡ tag_of last fields) (kept : IsKept records last state) where
+    (key : begins_with_key (records ++ entry ∷ []) ≡ true) (fields_len : length fields ≡ 223) (tag_len : length tag ≡ 32) (body_is : body ≡ fields ++ tag) (spelled : Spells slot_record entry fields)
+    (tagged : tag ≡ tag_of last fields) (kept : IsSyncedFile records last state) where
   tag_is : tag ≡ tag_of (previous_tag state.content (length records)) fields
   tag_is = tagged ∙ ap (λ (l : List ℕ). tag_of l fields) kept.last
 
   ends_are : (c : List ℕ) → IsClosedAfter (take (256 * length records) state.content ++ 165 ∷ body) c → IsClosedAfter (take (256 * length records) state.content ++ 165 ∷ (fields ++ tag)) c
-  ends_are c ends = subst (λ (l : List ℕ). IsClosedAfter (take (256 * length records) state.content ++ 165 ∷ l) c) joined ends
+  ends_are c ends = subst (λ (l : List ℕ). IsClosedAfter (take (256 * length records) state.content ++ 165 ∷ l) c) body_is ends
 
   grown : (c : List ℕ) → IsClosedAfter (take (256 * length records) state.content ++ 165 ∷ body) c → IsFileOf (records ++ entry ∷ []) c
   grown c ends =
@@ -225,7 +225,7 @@ module _ (records : List Record) (last : List ℕ) (state : State) (count : ℕ)
   added_leaves c either =
       ⊎_elim (λ old. inl (file_stands records c (file_stays records state.content c kept.file old))) (λ new. inr (file_stands (records ++ entry ∷ []) c (grown c new))) either
 
-  grown_kept : (after : State) → IsAtRest (take (256 * length records) state.content ++ 165 ∷ body) after → IsKept (records ++ entry ∷ []) tag after
+  grown_kept : (after : State) → IsAtRest (take (256 * length records) state.content ++ 165 ∷ body) after → IsSyncedFile (records ++ entry ∷ []) tag after
   grown_kept after rest = record {
     synced = rest.synced;
     file = grown after.content rest.ends;
@@ -233,13 +233,13 @@ module _ (records : List Record) (last : List ℕ) (state : State) (count : ℕ)
   }
 
 pub kept_grows : (records after : List Record) (last : List ℕ) (state new : State) (count : ℕ) (entry : Record) (fields tag body : List ℕ) → after ≡ records ++ entry ∷ [] → count ≡ length records → count < most_records
-    → begins_with_key (records ++ entry ∷ []) ≡ true → length fields ≡ 223 → length tag ≡ 32 → body ≡ fields ++ tag → Spells slot_record entry fields → tag ≡ tag_of last fields → IsKept records last state
-    → IsAtRest (take (256 * length records) state.content ++ 165 ∷ body) new → IsKept after tag new
-kept_grows records after last state new count entry fields tag body is counted room key fields_len tag_len joined spelled tagged kept rest =
-    subst (λ (l : List Record). IsKept l tag new) (sym is) (grown_kept records last state count entry fields tag body counted room key fields_len tag_len joined spelled tagged kept new rest)
+    → begins_with_key (records ++ entry ∷ []) ≡ true → length fields ≡ 223 → length tag ≡ 32 → body ≡ fields ++ tag → Spells slot_record entry fields → tag ≡ tag_of last fields → IsSyncedFile records last state
+    → IsAtRest (take (256 * length records) state.content ++ 165 ∷ body) new → IsSyncedFile after tag new
+kept_grows records after last state new count entry fields tag body is counted room key fields_len tag_len body_is spelled tagged kept rest =
+    subst (λ (l : List Record). IsSyncedFile l tag new) (sym is) (grown_kept records last state count entry fields tag body counted room key fields_len tag_len body_is spelled tagged kept new rest)
 
 -- slot k of what is kept holds record k
-pub kept_holds : (records : List Record) (tag : List ℕ) (state : State) (k : ℕ) → IsKept records tag state → k < length records → (entry : Record) × (slice_get records k ≡ Some entry) × Holds state.content k entry
+pub kept_holds : (records : List Record) (tag : List ℕ) (state : State) (k : ℕ) → IsSyncedFile records tag state → k < length records → (entry : Record) × (slice_get records k ≡ Some entry) × Holds state.content k entry
 kept_holds [] tag state k kept below = absurd (omega arith)
 kept_holds (first ∷ rest) tag state k kept below =
     let entry = get_or (first ∷ rest) k first in

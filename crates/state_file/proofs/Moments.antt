@@ -25,8 +25,8 @@ module _ {D C : Type 0} (moment : D → ℕ) (left_since : D → ℕ → C → T
   }
 
   -- two runs, one after the other
-  pub joined : (old mid new : D) (P : C → Type 0) → LeavesOnly moment left_since old mid P → LeavesOnly moment left_since mid new P → LeavesOnly moment left_since old new P
-  joined old mid new P first second = record {
+  pub combined : (old mid new : D) (P : C → Type 0) → LeavesOnly moment left_since old mid P → LeavesOnly moment left_since mid new P → LeavesOnly moment left_since old new P
+  combined old mid new P first second = record {
     later = omega (arith, first.later, second.later);
     each = λ c left. ⊎_elim (first.each c) (λ now. now) (second.before (moment old) c first.later left);
     before = λ t c early left. ⊎_elim (first.before t c early) (λ now. inr now) (second.before t c (omega (arith, early, first.later)) left);

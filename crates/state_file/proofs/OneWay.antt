@@ -91,8 +91,8 @@ one_way-pairs zero = one_way-done []
 one_way-pairs (suc n) =
     let head = λ (all : List LmsPair). get_or all 0 a_pair in
     let tail = λ (all : List LmsPair). drop 1 all in
-    let behind = λ (first : LmsPair). pairs n >>= λ rest. done (first ∷ rest) in
-    one_way-bind pair_field behind head one_way-pair
+    let after = λ (first : LmsPair). pairs n >>= λ rest. done (first ∷ rest) in
+    one_way-bind pair_field after head one_way-pair
     (λ first. one_way-bind (pairs n) (λ rest. done (first ∷ rest)) tail (one_way-pairs n) (λ rest. one_way-done (first ∷ rest)) (λ rest. shows-done (first ∷ rest) tail))
     (λ first. shows-bind (pairs n) (λ rest. done (first ∷ rest)) head first (λ rest. shows-done (first ∷ rest) head))
 
@@ -100,8 +100,8 @@ pairs-length : (n : ℕ) (all : List LmsPair) (bytes : List ℕ) → Spells (pai
 unfolding pairs
 pairs-length zero all bytes spelled = ap length (sym spelled.0)
 pairs-length (suc n) all bytes spelled =
-    let (first, a, b, _, _, behind) = in_turn pair_field (λ first. pairs n >>= λ rest. done (first ∷ rest)) all bytes spelled in
-    let (rest, c, d, _, others, end) = in_turn (pairs n) (λ rest. done (first ∷ rest)) all b behind in
+    let (first, a, b, _, _, after) = in_turn pair_field (λ first. pairs n >>= λ rest. done (first ∷ rest)) all bytes spelled in
+    let (rest, c, d, _, others, end) = in_turn (pairs n) (λ rest. done (first ∷ rest)) all b after in
     ap length (sym end.0) ∙ ap suc (pairs-length n rest c others)
 
 behind_levels : ℕ → List LmsPair → Layout (List LmsPair)
@@ -118,8 +118,8 @@ one_way-levels =
     (λ levels. one_way-bind (zeros (64 - 8 * count)) (λ rest. done levels) (λ _. tt) (one_way-zeros (64 - 8 * count)) (λ rest. one_way-done levels) (λ rest. shows-done levels (λ _. tt)))
     (λ levels. shows-bind (zeros (64 - 8 * count)) (λ rest. done levels) (λ all. all) levels (λ rest. shows-done levels (λ all. all))))
     (λ count levels bytes spelled.
-    let (all, a, b, _, of_count, behind) = in_turn (pairs count) (behind_levels count) levels bytes spelled in
-    let same : levels ≡ all = shows-bind (zeros (64 - 8 * count)) (λ rest. done all) (λ l. l) all (λ rest. shows-done all (λ l. l)) levels b behind in
+    let (all, a, b, _, of_count, after) = in_turn (pairs count) (behind_levels count) levels bytes spelled in
+    let same : levels ≡ all = shows-bind (zeros (64 - 8 * count)) (λ rest. done all) (λ l. l) all (λ rest. shows-done all (λ l. l)) levels b after in
     ap length same ∙ pairs-length count all a of_count)
 
 -- ---- names
@@ -140,8 +140,8 @@ shows-visible count name = shows-bind (zeros (64 - count)) (λ rest. done name) 
 shows-name : (count : ℕ) (bytes : List ℕ) → Shows (behind_name count bytes) (λ v. v) bytes
 unfolding behind_name
 shows-name count bytes v all spelled =
-    let (name, a, b, _, first, behind) = in_turn (only_if (are_visible bytes) count bytes) (behind_visible count) v all spelled in
-    shows-visible count name v b behind ∙ shows-only_if (are_visible bytes) count bytes (λ w. w) name a first
+    let (name, a, b, _, first, after) = in_turn (only_if (are_visible bytes) count bytes) (behind_visible count) v all spelled in
+    shows-visible count name v b after ∙ shows-only_if (are_visible bytes) count bytes (λ w. w) name a first
 
 one_way-visible : (count : ℕ) (name : List ℕ) → OneSpelling (behind_visible count name)
 unfolding behind_visible
@@ -160,8 +160,8 @@ one_way-name =
     one_way-bind (byte_within 1 64) behind_length length (one_way-byte_within 1 64)
     (λ count. one_way-bind (block count) (behind_name count) (λ v. v) (one_way-block count) (one_way-named count) (shows-name count))
     (λ count name bytes spelled.
-    let (all, a, b, _, (front, _, _, len, (same, _)), behind) = in_turn (block count) (behind_name count) name bytes spelled in
-    ap length (shows-name count all name b behind ∙ sym same) ∙ len)
+    let (all, a, b, _, (front, _, _, len, (same, _)), after) = in_turn (block count) (behind_name count) name bytes spelled in
+    ap length (shows-name count all name b after ∙ sym same) ∙ len)
 
 -- ---- secrets
 
@@ -344,8 +344,8 @@ way-scheme version scheme = record {
   one = one_way-bind (secret_of scheme) (behind_secret version) secret_in (one_way-secret scheme) (λ secret. (way-secret version secret).one)
       (λ secret entry bytes spelled. ((way-secret version secret).has entry bytes spelled).0);
   has = λ entry bytes spelled.
-      let (secret, a, b, _, of_scheme, behind) = in_turn (secret_of scheme) (behind_secret version) entry bytes spelled in
-      let (same, of_version) = (way-secret version secret).has entry b behind in
+      let (secret, a, b, _, of_scheme, after) = in_turn (secret_of scheme) (behind_secret version) entry bytes spelled in
+      let (same, of_version) = (way-secret version secret).has entry b after in
       (ap scheme_of same ∙ schemes-show scheme secret a of_scheme, of_version);
 }
 

@@ -7,7 +7,7 @@ use Rattle.typecodes.specs.Cursor.{and_then, read, Gives}
 use Rattle.typecodes.proofs.Read.{read-bind}
 use Rattle.state_file.specs.Slot.{pair_field, pairs}
 
--- the other pairs, behind those that stand there and one more
+-- the other pairs, after those that stand there and one more
 abbrev rest_of : ℕ → LmsPair → Layout (List LmsPair)
 rest_of n first = pairs n >>= λ rest. done (first ∷ rest)
 
@@ -18,11 +18,11 @@ unfolding pairs
 pairs-next n bytes place next before pair found =
     ap (λ all. and_then all (λ rest. Ok (before ++ rest.0, rest.1)))
     (read-bind pair_field (rest_of n) bytes place ∙ ap (λ first. and_then first (λ x. read (rest_of n x.0) bytes x.1)) found ∙ read-bind (pairs n) (λ rest. done (pair ∷ rest)) bytes next)
-    ∙ joined (read (pairs n) bytes next)
+    ∙ combined (read (pairs n) bytes next)
   where
-    joined : (reading : _) → and_then (and_then reading (λ x. Ok (pair ∷ x.0, x.1))) (λ rest. Ok (before ++ rest.0, rest.1)) ≡ and_then reading (λ rest. Ok ((before ++ pair ∷ []) ++ rest.0, rest.1))
-    joined (Ok x) = ap (λ all. Ok (all, x.1)) (sym (append_assoc before (pair ∷ []) x.0))
-    joined (Err fault) = refl
+    combined : (reading : _) → and_then (and_then reading (λ x. Ok (pair ∷ x.0, x.1))) (λ rest. Ok (before ++ rest.0, rest.1)) ≡ and_then reading (λ rest. Ok ((before ++ pair ∷ []) ++ rest.0, rest.1))
+    combined (Ok x) = ap (λ all. Ok (all, x.1)) (sym (append_assoc before (pair ∷ []) x.0))
+    combined (Err fault) = refl
 
 -- a pair that can't be read is the fault of all
 pub pairs-fault : (n : ℕ) (bytes : List ℕ) (place : ℕ) (before : List LmsPair) (fault : ReadFault) → read pair_field bytes place ≡ Err fault
@@ -32,7 +32,7 @@ pairs-fault n bytes place before fault found =
     ap (λ all. and_then all (λ rest. Ok (before ++ rest.0, rest.1)))
     (read-bind pair_field (rest_of n) bytes place ∙ ap (λ first. and_then first (λ x. read (rest_of n x.0) bytes x.1)) found)
 
--- the same, told by how many pairs stand there already
+-- the same, given as how many pairs stand there already
 pub pairs-next_of : (count i : ℕ) (bytes : List ℕ) (place next : ℕ) (before : List LmsPair) (pair : LmsPair) → i < count → read pair_field bytes place ≡ Ok (pair, next)
     → and_then (read (pairs (count - i)) bytes place) (λ rest. Ok (before ++ rest.0, rest.1)) ≡ and_then (read (pairs (count - (i + 1))) bytes next) (λ rest. Ok ((before ++ pair ∷ []) ++ rest.0, rest.1))
 pairs-next_of count i bytes place next before pair more found =

@@ -18,9 +18,3 @@ changes_more range ranges base old new first then_one = record {
   no_shorter = omega (arith, first.no_shorter, then_one.no_shorter);
   no_longer = omega (arith, first.no_longer, then_one.no_longer);
 }
-
--- over a content that is synced, a change of some ranges is what a stop leaves there
-pub synced_leaves : (content c : List ℕ) → ChangesOnly [] content c → c ≡ content
-synced_leaves content c changes =
-    same_lists c content (omega (arith, changes.no_shorter, changes.no_longer)) (λ k d inside.
-    get_or_default c k d 0 inside ∙ changes.kept k (omega (arith, changes.no_shorter, changes.no_longer)) tt ∙ get_or_default content k 0 d (omega (arith, changes.no_shorter, changes.no_longer)))

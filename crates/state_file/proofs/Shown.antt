@@ -143,15 +143,15 @@ behind_version version = do
 abbrev behind_magic : Unit {0} → Layout Record
 behind_magic _ = version_field >>= behind_version
 
--- a record's kind, and what stands behind it
+-- a record's kind, and what stands after it
 pub record-parts : (entry : Record) (fields : List ℕ) → Spells slot_record entry fields → (rest : List ℕ) × (fields ≡ kind_of entry ∷ rest) × Spells (fields_of (kind_of entry)) entry rest
 unfolding slot_record
 record-parts entry fields spelled =
-    let (kind, a, b, is, kind_spelled, behind) = in_turn byte fields_of entry fields spelled in
-    let same : kind_of entry ≡ kind = fields-show kind entry b behind in
-    (b, is ∙ ap (λ l. l ++ b) (byte-is kind a kind_spelled) ∙ ap (λ n. n ∷ b) (sym same), subst (λ n. Spells (fields_of n) entry b) (sym same) behind)
+    let (kind, a, b, is, kind_spelled, after) = in_turn byte fields_of entry fields spelled in
+    let same : kind_of entry ≡ kind = fields-show kind entry b after in
+    (b, is ∙ ap (λ l. l ++ b) (byte-is kind a kind_spelled) ∙ ap (λ n. n ∷ b) (sym same), subst (λ n. Spells (fields_of n) entry b) (sym same) after)
 
--- the fields of a Key begin with its kind and the magic, and tell its version
+-- the fields of a Key begin with its kind and the magic, and have its version
 version_first : (version : Version) (w rest : List ℕ) → length w ≡ 2 → named version_code versions (big_number 2 w) ≡ Some version → named version_code versions (big_number 2 (w ++ rest)) ≡ Some version
 version_first version [] rest len found = absurd (omega (arith, len))
 version_first version (x ∷ []) rest len found = absurd (omega (arith, len))
@@ -161,8 +161,8 @@ version_first version (x ∷ y ∷ z ∷ more) rest len found = absurd (omega (a
 pub key-begins : (key : Key) (fields : List ℕ) → Spells slot_record (KeyRecord key) fields → (begins_key fields ≡ true) × ((version : Version) × (version_of fields ≡ Some version))
 unfolding key_fields
 key-begins key fields spelled =
-    let (rest, is, behind) = record-parts (KeyRecord key) fields spelled in
-    let (u, a, b, rest_is, magic_spelled, behind_it) = in_turn (exactly 8 magic) behind_magic (KeyRecord key) rest behind in
+    let (rest, is, after) = record-parts (KeyRecord key) fields spelled in
+    let (u, a, b, rest_is, magic_spelled, behind_it) = in_turn (exactly 8 magic) behind_magic (KeyRecord key) rest after in
     let (version, w, others, b_is, version_spelled, _) = in_turn version_field behind_version (KeyRecord key) b behind_it in
     let (len, found) = version-is version w version_spelled in
     let bytes : fields ≡ 1 ∷ (magic ++ (w ++ others)) = is ∙ ap (λ l. 1 ∷ l) (rest_is ∙ ap (λ l. l ++ b) (exactly-is 8 magic a u magic_spelled) ∙ ap (λ l. magic ++ l) b_is) in

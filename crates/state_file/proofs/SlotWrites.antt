@@ -34,7 +34,7 @@ join front content parts =
       closed = (omega (arith, long), λ is_open. parts.closed (sym gate ∙ is_open));
     }
 
--- a whole slot behind the last, and a closed gate behind it; the slot's own gate is closed
+-- a whole slot after the last, and a closed gate after it; the slot's own gate is closed
 pub record Stages (front body content : List ℕ) : Type 0 where
   pub gate : ℕ
   pub rest : List ℕ
@@ -42,7 +42,7 @@ pub record Stages (front body content : List ℕ) : Type 0 where
   pub closed : gate ≢ 165
 
 module _ (front body : List ℕ) (at : ℕ) (len : length front ≡ at) where
-  -- a change behind the closed gate leaves it and what is before it
+  -- a change after the closed gate leaves it and what is before it
   kept : (content c : List ℕ) (bytes : List ℕ) (holds : Splits front content) → ChangesOnly (range_of (at + 1) bytes ∷ []) content c → c ≡ (front ++ holds.gate ∷ []) ++ drop (at + 1) c
   kept content c bytes holds changes =
       let before = front ++ holds.gate ∷ [] in
@@ -64,14 +64,14 @@ module _ (front body : List ℕ) (at : ℕ) (len : length front ≡ at) where
   stage_parts : (content new bytes : List ℕ) → Splits front content → bytes ≡ body ++ 0 ∷ [] → ChangesOnly (range_of (at + 1) bytes ∷ []) content new
       → slice_range new (at + 1) (at + 1 + length bytes) ≡ bytes → Stages front body new
   stage_parts content new bytes holds is changes put =
-      let behind = drop (at + 1) new in
+      let tail = drop (at + 1) new in
       let width : at + 1 + length bytes - (at + 1) ≡ length bytes = omega arith in
-      let rest = drop (length bytes) behind in
-      let split : behind ≡ bytes ++ rest = sym (take-append-drop (length bytes) behind) ∙ ap (λ (l : List ℕ). l ++ rest) (ap (λ n. take n behind) (sym width) ∙ put) in
+      let rest = drop (length bytes) tail in
+      let split : tail ≡ bytes ++ rest = sym (take-append-drop (length bytes) tail) ∙ ap (λ (l : List ℕ). l ++ rest) (ap (λ n. take n tail) (sym width) ∙ put) in
       record {
         gate = holds.gate;
         rest = rest;
-        whole = kept content new bytes holds changes ∙ append_assoc front (holds.gate ∷ []) behind
+        whole = kept content new bytes holds changes ∙ append_assoc front (holds.gate ∷ []) tail
             ∙ ap (λ (l : List ℕ). front ++ holds.gate ∷ l) (split ∙ ap (λ (l : List ℕ). l ++ rest) is ∙ append_assoc body (0 ∷ []) rest);
         closed = holds.closed;
       }
@@ -80,8 +80,8 @@ module _ (front body : List ℕ) (at : ℕ) (len : length front ≡ at) where
   gated : (content c : List ℕ) (staged : Stages front body content) → ChangesOnly (range_of at (165 ∷ []) ∷ []) content c → c ≡ front ++ slice_index c at ∷ (body ++ 0 ∷ staged.rest)
   gated content c staged changes =
       let gate = slice_index c at in
-      let behind = body ++ 0 ∷ staged.rest in
-      let long = ap length staged.whole ∙ length-append front (staged.gate ∷ behind) in
+      let tail = body ++ 0 ∷ staged.rest in
+      let long = ap length staged.whole ∙ length-append front (staged.gate ∷ tail) in
       let same_length : length c ≡ length content = omega (arith, long, len, changes.no_shorter, changes.no_longer) in
       let within : at < length content = omega (arith, long, len) in
       let each : (k : ℕ) (d : ℕ) → k < length c → get_or c k d ≡ get_or (set content at gate) k d = λ k d inside.
@@ -90,7 +90,7 @@ module _ (front body : List ℕ) (at : ℕ) (len : length front ≡ at) where
         | inr other ↦ changes.kept k (omega arith) (aside k other, tt) ∙ get_or_default content k 0 d (omega arith) ∙ sym (get_or-set_other content at k gate d other)
       ] in
       let turned : c ≡ set content at gate = same_lists c (set content at gate) (same_length ∙ sym (length-set content at gate)) each in
-      turned ∙ ap (λ (l : List ℕ). set l at gate) staged.whole ∙ set_at front staged.gate behind gate at len
+      turned ∙ ap (λ (l : List ℕ). set l at gate) staged.whole ∙ set_at front staged.gate tail gate at len
     where
       aside : (k : ℕ) → (k ≡ at → ⊥) → (k < at) ⊎ (at + 1 ≤ k)
       aside k other = elim (cases_lt k at) [ inl below ↦ inl below | inr above ↦ inr (omega arith) ]

@@ -27,12 +27,12 @@ name-visible bytes some few visible = record {
       (leb-true _ _ low, leb-true _ _ high);
 }
 
--- so whether a name is made of bytes tells whether they are visible
+-- so whether a name is made of bytes says whether they are visible
 pub visible_or_not : {E : Type 0} (bytes : List ℕ) (made : Result (List ℕ) E) → 1 ≤ length bytes → length bytes ≤ 64 → (IsOk made ↔ IsName bytes) → IfOk made (λ name. name ≡ bytes)
     → MatchOption (result_ok made) (are_visible bytes ≡ false) (λ name. (are_visible bytes ≡ true) × (name ≡ bytes))
-visible_or_not bytes (Ok name) some few told same = (visible-name bytes (told.0 refl), same)
-visible_or_not bytes (Err e) some few told same =
+visible_or_not bytes (Ok name) some few reported same = (visible-name bytes (reported.0 refl), same)
+visible_or_not bytes (Err e) some few reported same =
     elim (are_visible bytes) as (λ test. are_visible bytes ≡ test → test ≡ false) [
-      | true ↦ λ visible. absurd (let ok = told.1 (name-visible bytes some few visible) in cc)
+      | true ↦ λ visible. absurd (let ok = reported.1 (name-visible bytes some few visible) in cc)
       | false ↦ λ hidden. refl
     ] refl

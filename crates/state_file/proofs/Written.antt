@@ -1,4 +1,4 @@
--- Fields that are written one behind the other.
+-- Fields that are written one after the other.
 use Rattle.std.proofs.Common.{◌≡◌, ℕ, zero, suc, ◌+◌, ◌-◌, ◌<◌, ◌≤◌, Bool, true, List, [], ◌∷◌, ◌++◌, length, replicate, take, Option, Some, refl, sym, ap, ◌∙◌, subst, arith, le-leb, add-one, get_or, append-nil, append_assoc}
 use Rattle.std.specs.List.{list_all}
 use Rattle.std.specs.Prelude.{◌==◌, ◌&&◌, nat_le}
@@ -26,13 +26,13 @@ use Rattle.state_file.specs.Fields.{AppendsSpelling}
 
 -- nothing more
 pub writes-done : {V : Type 0} (v : V) (at : List ℕ) → AppendsSpelling (done v) v at at
-writes-done v at = record { part = []; behind = sym (append-nil at); spelled = (refl, refl) }
+writes-done v at = record { part = []; after = sym (append-nil at); spelled = (refl, refl) }
 
 -- a field, and what follows it
 pub writes-bind : {A B : Type 0} (first : Layout A) (next : A → Layout B) (v : A) (w : B) (a b c : List ℕ) → AppendsSpelling first v a b → AppendsSpelling (next v) w b c → AppendsSpelling (first >>= next) w a c
 writes-bind first next v w a b c x y = record {
   part = x.part ++ y.part;
-  behind = y.behind ∙ ap (λ l. l ++ y.part) x.behind ∙ append_assoc a x.part y.part;
+  after = y.after ∙ ap (λ l. l ++ y.part) x.after ∙ append_assoc a x.part y.part;
   spelled = from_turn first next v w x.part y.part x.spelled y.spelled;
 }
 
@@ -64,7 +64,7 @@ pub writes-zeros : (n m : ℕ) (old new : List ℕ) → n ≤ m → new ≡ old 
 unfolding zeros
 writes-zeros n m old new few is = record {
   part = take n (replicate m 0);
-  behind = is;
+  after = is;
   spelled = spells-only_if n (λ bytes. list_all (λ b. b == 0) bytes) (λ _. tt) (take n (replicate m 0)) (zeros-length n m few) (zeros-zero n m);
 }
 
@@ -73,7 +73,7 @@ pub writes-exactly : (bytes old new : List ℕ) → new ≡ old ++ bytes → App
 unfolding exactly
 writes-exactly bytes old new is = record {
   part = bytes;
-  behind = is;
+  after = is;
   spelled = spells-only_if (length bytes) (λ read. pointwise (λ a b. a == b) read bytes) (λ _. tt) bytes refl ((bytes_decides bytes bytes).1 refl);
 }
 
@@ -82,7 +82,7 @@ pub writes-byte : (n : ℕ) (old new : List ℕ) → new ≡ old ++ n ∷ [] →
 unfolding byte
 writes-byte n old new is = record {
   part = n ∷ [];
-  behind = is;
+  after = is;
   spelled = (n ∷ [], [], refl, refl, (omega arith, refl));
 }
 
@@ -101,7 +101,7 @@ pub writes-version : (version : Version) (old new : List ℕ) → new ≡ old ++
 unfolding version_field
 writes-version One old new is = record {
   part = 0 ∷ 1 ∷ [];
-  behind = is;
+  after = is;
   spelled = (0 ∷ 1 ∷ [], [], refl, refl, (refl, refl));
 }
 
@@ -131,8 +131,8 @@ pairs-snoc zero xs pair a b spelled last =
     let one : Spells (pairs 1) (pair ∷ []) (b ++ []) = from_turn pair_field (λ first. pairs 0 >>= λ rest. done (first ∷ rest)) pair (pair ∷ []) b [] last (refl, refl) in
     subst (λ (p : List LmsPair × List ℕ). Spells (pairs 1) (p.0 ++ pair ∷ []) p.1) (λ i. (spelled.0 i, (append-nil b ∙ ap (λ l. l ++ b) (sym spelled.1)) i)) one
 pairs-snoc (suc n) xs pair a b spelled last =
-    let (first, a₁, rest, a_is, first_is, behind) = in_turn pair_field (λ first. pairs n >>= λ rest. done (first ∷ rest)) xs a spelled in
-    let (others, a₂, a₃, rest_is, others_are, end) = in_turn (pairs n) (λ rest. done (first ∷ rest)) xs rest behind in
+    let (first, a₁, rest, a_is, first_is, after) = in_turn pair_field (λ first. pairs n >>= λ rest. done (first ∷ rest)) xs a spelled in
+    let (others, a₂, a₃, rest_is, others_are, end) = in_turn (pairs n) (λ rest. done (first ∷ rest)) xs rest after in
     let more = pairs-snoc n others pair a₂ b others_are last in
     let whole = from_turn pair_field (λ first. pairs (suc n) >>= λ rest. done (first ∷ rest)) first (first ∷ (others ++ pair ∷ [])) a₁ ((a₂ ++ b) ++ []) first_is
     (from_turn (pairs (suc n)) (λ rest. done (first ∷ rest)) (others ++ pair ∷ []) (first ∷ (others ++ pair ∷ [])) (a₂ ++ b) [] more (refl, refl)) in
@@ -144,7 +144,7 @@ pairs-snoc (suc n) xs pair a b spelled last =
 pub writes-snoc : (n : ℕ) (xs : List LmsPair) (pair : LmsPair) (a b c : List ℕ) → AppendsSpelling (pairs n) xs a b → AppendsSpelling pair_field pair b c → AppendsSpelling (pairs (suc n)) (xs ++ pair ∷ []) a c
 writes-snoc n xs pair a b c x y = record {
   part = x.part ++ y.part;
-  behind = y.behind ∙ ap (λ l. l ++ y.part) x.behind ∙ append_assoc a x.part y.part;
+  after = y.after ∙ ap (λ l. l ++ y.part) x.after ∙ append_assoc a x.part y.part;
   spelled = pairs-snoc n xs pair x.part y.part x.spelled y.spelled;
 }
 
@@ -163,7 +163,7 @@ pub writes-name : (name : List ℕ) (old a b c : List ℕ) → IsName name → A
 unfolding name_field
 writes-name name old a b c is count bytes rest =
     writes-bind (byte_within 1 64) _ (length name) name old a c count
-    (writes-bind (block (length name)) _ name name a b c (record { part = name; behind = bytes; spelled = (name, [], sym (append-nil name), refl, (refl, refl)) })
+    (writes-bind (block (length name)) _ name name a b c (record { part = name; after = bytes; spelled = (name, [], sym (append-nil name), refl, (refl, refl)) })
     (writes-bind (only_if (are_visible name) (length name) name) _ name name b b c (writes-only_if (are_visible name) (length name) name b (visible-name name is))
     (writes-bind (zeros (64 - length name)) _ tt name b c c rest
     (writes-done name c))))

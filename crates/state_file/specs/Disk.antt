@@ -1,5 +1,6 @@
 -- What the calls of a disk do, and what a stop may leave between two syncs.
-use Rattle.std.specs.Prelude.{◌≡◌, ◌⊎◌, ℕ, ◌+◌, ◌<◌, ◌≤◌, max, List, [], ◌∷◌, length, slice_index, slice_range, Result, Ok, Err}
+use Rattle.std.specs.Prelude.{◌≡◌, ◌⊎◌, ℕ, ◌+◌, ◌<◌, ◌≤◌, max, List, [], ◌∷◌, length, slice_index, slice_range}
+use Rattle.std.specs.Prelude.{Result, Ok, Err}
 use Rattle.state_file.specs.declared.disk.DiskFault.{DiskFault}
 use Rattle.state_file.specs.declared.disk.DiskFault.TheVariants.{Failed, PastEnd, OutOfMemory}
 
@@ -57,7 +58,8 @@ pub record OpensRange (range : Range) (old new : State) : Type 0 where
 
 -- What a write does. One that is refused may have written any part of its range, or nothing.
 abbrev pub Writes : {A E : Type 0} (at : ℕ) (bytes : List ℕ) (old new : State) → Result A E → Type 0
-Writes at bytes old new (Ok _) = OpensRange (range_of at bytes) old new × (slice_range new.content at (at + length bytes) ≡ bytes)
+Writes at bytes old new (Ok _) = OpensRange (range_of at bytes) old new
+    × (slice_range new.content at (at + length bytes) ≡ bytes)
 Writes at bytes old new (Err _) = (new ≡ old) ⊎ OpensRange (range_of at bytes) old new
 
 -- What a sync does. One that is refused promises nothing: what a read gives after it is one of the contents
@@ -87,7 +89,8 @@ pub record Elapses {C : Type 0} (before now : ℕ) (past since : ℕ → C → T
   pub keeps : (t : ℕ) (c : C) → t ≤ before → past t c → since t c
 
 -- What a stop at any moment from old on leaves has P.
-pub record LeavesOnly {D C : Type 0} (moment : D → ℕ) (left_since : D → ℕ → C → Type 0) (old new : D) (P : C → Type 0) : Type 0 where
+pub record LeavesOnly {D C : Type 0} (moment : D → ℕ) (left_since : D → ℕ → C → Type 0) (old new : D) (P : C
+    → Type 0) : Type 0 where
   pub later : moment old ≤ moment new
   pub each : (c : C) → left_since new (moment old) c → P c
   -- for a run that began earlier

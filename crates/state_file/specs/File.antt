@@ -1,6 +1,8 @@
 -- What a content of a disk, a list of bytes, is as a state file: slots of 256 bytes, slot k from byte
 -- 256 * k on, each a gate, a record and a tag.
-use Rattle.std.specs.Prelude.{◌≡◌, ◌≢◌, ◌⊎◌, ℕ, zero, suc, ◌+◌, ◌*◌, ◌^◌, ◌<◌, ◌≤◌, Bool, true, false, ◌==◌, List, ◌∷◌, ◌++◌, length, take, drop, replicate, slice_get, slice_index, Option, Some, None, [], Ok}
+use Rattle.std.specs.Prelude.{◌≡◌, ◌≢◌, ◌⊎◌, ℕ, zero, suc, ◌+◌, ◌*◌, ◌^◌, ◌<◌, ◌≤◌, Bool, true, false, ◌==◌, List}
+use Rattle.std.specs.Prelude.{◌∷◌, ◌++◌, length, take, drop, replicate, slice_get, slice_index, Option, Some, None}
+use Rattle.std.specs.Prelude.{[], Ok}
 use Rattle.std.specs.Cmp.Lexicographic.{pointwise}
 use Rattle.byteorder.specs.Endian.{big_number}
 use Rattle.sha2.specs.Sha256.{sha256}
@@ -50,7 +52,7 @@ abbrev pub previous_tag : List ℕ → ℕ → List ℕ
 previous_tag content zero = replicate 32 0
 previous_tag content (suc k) = tag_at content k
 
--- the tag of these bytes behind a slot of that tag
+-- the tag of these bytes after a slot of that tag
 abbrev pub tag_of : List ℕ → List ℕ → List ℕ
 tag_of previous fields = sha256 (previous ++ fields)
 
@@ -72,7 +74,7 @@ pub record SpellsRecords (content : List ℕ) (records : List Record) : Type 0 w
   pub opened : (k : ℕ) → k < length records → IsOpen content k
   pub closed : IsClosed content (length records)
   pub first : (key : Key) × (slice_get records 0 ≡ Some (KeyRecord key))
-  pub held : (k : ℕ) (entry : Record) → slice_get records k ≡ Some entry → Holds content k entry
+  pub holds : (k : ℕ) (entry : Record) → slice_get records k ≡ Some entry → Holds content k entry
 
 -- ---- contents without one
 
@@ -89,7 +91,7 @@ pub record MayHaveKey (content : List ℕ) : Type 0 where
 abbrev pub begins_key : List ℕ → Bool
 begins_key fields = pointwise (λ a b. a == b) (take 9 fields) (1 ∷ magic)
 
--- the version that a Key's fields tell, if it is known
+-- the version of a Key's fields, if it is known
 abbrev pub version_of : List ℕ → Option Version
 version_of fields = named version_code versions (big_number 2 (drop 9 fields))
 
@@ -111,16 +113,16 @@ pub record IsWhole (content : List ℕ) (k : ℕ) : Type 0 where
   pub few : k < most_records
   pub ends : 256 * (k + 1) < length content
   pub entry : Record
-  pub held : Holds content k entry
+  pub holds : Holds content k entry
 
 -- The content begins with slots that hold these records, and the next gate lies in it.
 pub record Begins (content : List ℕ) (records : List Record) : Type 0 where
   pub few : length records ≤ most_records
   pub ends : 256 * length records < length content
   pub opened : (k : ℕ) → k < length records → IsOpen content k
-  pub held : (k : ℕ) (entry : Record) → slice_get records k ≡ Some entry → Holds content k entry
+  pub holds : (k : ℕ) (entry : Record) → slice_get records k ≡ Some entry → Holds content k entry
 
--- Slot k is the first that is open and isn't whole, behind whole ones.
+-- Slot k is the first that is open and isn't whole, after whole ones.
 pub record IsDamagedAt (content : List ℕ) (k : ℕ) : Type 0 where
   pub may : MayHaveKey content
   pub key : begins_key (fields_at content 0) ≡ true
@@ -136,22 +138,24 @@ abbrev pub StandsFor : List Record → List ℕ → Type 0
 StandsFor [] content = HasNoKey content
 StandsFor (entry ∷ entries) content = SpellsRecords content (entry ∷ entries)
 
--- The content spells these records behind one another, and the gate behind them is closed. It says what
+-- The content spells these records after one another, and the gate after them is closed. It says what
 -- `StandsFor` says, as a fact that has one proof.
 pub record IsFileOf (records : List Record) (content : List ℕ) : Type 0 where
   pub few : length records ≤ most_records
   pub first : begins_with_key records ≡ true
   pub opened : (k : ℕ) → k < length records → slice_index content (256 * k) ≡ open_value
   pub closed : IsClosed content (length records)
-  pub spelled : (k : ℕ) (entry : Record) → slice_get records k ≡ Some entry → read slot_record (fields_at content k) 0 ≡ Ok (entry, 223)
+  pub spelled : (k : ℕ) (entry : Record) → slice_get records k ≡ Some entry
+      → read slot_record (fields_at content k) 0 ≡ Ok (entry, 223)
   pub tagged : (k : ℕ) → k < length records → tag_at content k ≡ tag_of (previous_tag content k) (fields_at content k)
 
 -- The lists that contents left since a moment stand for. A content that stands for none counts as every list.
 abbrev pub LeftLists : (ℕ → List ℕ → Type 0) → ℕ → List Record → Type 0
-LeftLists left_since t list = (content : List ℕ) × left_since t content × (StandsFor list content ⊎ ((other : List Record) → StandsFor other content → ⊥))
+LeftLists left_since t list = (content : List ℕ) × left_since t content
+    × (StandsFor list content ⊎ ((other : List Record) → StandsFor other content → ⊥))
 
 -- all of it is synced, and this is the last slot's tag
-pub record IsKept (records : List Record) (tag : List ℕ) (state : State) : Type 0 where
+pub record IsSyncedFile (records : List Record) (tag : List ℕ) (state : State) : Type 0 where
   pub synced : IsSynced state
   pub file : IsFileOf records state.content
   pub last : tag ≡ previous_tag state.content (length records)
@@ -159,5 +163,5 @@ pub record IsKept (records : List Record) (tag : List ℕ) (state : State) : Typ
 pub IsFileOf-prop : (records : List Record) (content : List ℕ) → IsProp (IsFileOf records content)
 IsFileOf-prop records content = hlevel props
 
-pub IsKept-prop : (records : List Record) (tag : List ℕ) (state : State) → IsProp (IsKept records tag state)
-IsKept-prop records tag state = hlevel (props, IsFileOf-prop)
+pub IsSyncedFile-prop : (records : List Record) (tag : List ℕ) (state : State) → IsProp (IsSyncedFile records tag state)
+IsSyncedFile-prop records tag state = hlevel (props, IsFileOf-prop)

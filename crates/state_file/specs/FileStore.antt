@@ -1,5 +1,6 @@
 -- A store over a disk: what callers see of it, and what its promise rests on.
-use Rattle.std.specs.Prelude.{Bool, List, Result, Ok, Err, ◌≡◌, ◌≢◌, ◌⊎◌, ℕ, ◌+◌, ◌*◌, ◌<◌, ◌≤◌, true, [], ◌∷◌, length, drop, slice_index, slice_get, Some}
+use Rattle.std.specs.Prelude.{Bool, List, Result, Ok, Err, ◌≡◌, ◌≢◌, ◌⊎◌, ℕ, ◌+◌, ◌*◌, ◌<◌, ◌≤◌, true, [], ◌∷◌}
+use Rattle.std.specs.Prelude.{length, drop, slice_index, slice_get, Some}
 use Rattle.state_file.specs.declared.store.file_store.FileStore.{FileStore}
 use Rattle.state_file.specs.declared.record.Record.{Record}
 use Rattle.state_file.specs.declared.refused.Refused.{Refused}
@@ -9,7 +10,8 @@ use Rattle.std.proofs.lemmas.List.{same_lists, get_or_default}
 use Rattle.std.proofs.lemmas.Option.{slice_get-get_or, slice_get_within, get_or_from_slice_get}
 use Rattle.typecodes.proofs.Spelling.{one_value}
 use Rattle.typecodes.proofs.Steps.{ends-spelled}
-use Rattle.state_file.specs.File.{HasNoKey, IsClosed, SpellsRecords, fields_at, open_value, StandsFor, IsFileOf, IsKept}
+use Rattle.state_file.specs.File.{HasNoKey, IsClosed, SpellsRecords, fields_at, open_value, StandsFor, IsFileOf}
+use Rattle.state_file.specs.File.{IsSyncedFile}
 use Rattle.state_file.specs.Disk.{State, MayLeave, settled}
 use Rattle.state_file.specs.Slot.{slot_record}
 use Rattle.state_file.specs.Store.{is_key}
@@ -34,16 +36,18 @@ disk_after (Ok store) = store.disk
 disk_after (Err refused) = refused.given
 
 -- the answer, without what a refusal hands back
-abbrev pub told_by : {A T F : Type 0} → Result A (Refused T F) → Result A F
-told_by (Ok a) = Ok a
-told_by (Err refused) = Err refused.fault
+abbrev pub outcome_of : {A T F : Type 0} → Result A (Refused T F) → Result A F
+outcome_of (Ok a) = Ok a
+outcome_of (Err refused) = Err refused.fault
 
 -- ---- what contents stand for
 
 pub fields_length : (content : List ℕ) (k : ℕ) → 256 * (k + 1) ≤ length content → length (fields_at content k) ≡ 223
-fields_length content k fits = length-take-le 223 (drop (256 * k + 1) content) (omega (arith, length-drop (256 * k + 1) content))
+fields_length content k fits =
+    length-take-le 223 (drop (256 * k + 1) content) (omega (arith, length-drop (256 * k + 1) content))
 
-pub closed_gate : (content : List ℕ) (k : ℕ) → 256 * k < length content → slice_index content (256 * k) ≢ open_value → IsClosed content k
+pub closed_gate : (content : List ℕ) (k : ℕ) → 256 * k < length content → slice_index content (256 * k) ≢ open_value
+    → IsClosed content k
 closed_gate content k within shut = (within, shut)
 
 the_key : (entry : Record) → is_key entry ≡ true → (key : Key) × (Some entry ≡ Some (KeyRecord key))
@@ -58,18 +62,22 @@ pub file_stands : (records : List Record) (content : List ℕ) → IsFileOf reco
 file_stands [] content file = inr file.closed
 file_stands (entry ∷ entries) content file = record {
   few = file.few;
-  opened = λ k below. slice_get-get_or content (256 * k) 0 (omega (arith, file.closed.0)) ∙ ap Some (file.opened k below);
+  opened = λ k below. slice_get-get_or content (256 * k) 0 (omega (arith, file.closed.0))
+      ∙ ap Some (file.opened k below);
   closed = file.closed;
   first = the_key entry file.first;
-  held = λ k one is.
+  holds = λ k one is.
       let below : k < length (entry ∷ entries) = slice_get_within (entry ∷ entries) k one is in
       record {
-        spelled = ends-spelled slot_record (fields_at content k) one 223 (file.spelled k one is) (fields_length content k (omega (arith, file.closed.0)));
+        spelled =
+            ends-spelled slot_record (fields_at content k) one 223 (file.spelled k one is)
+            (fields_length content k (omega (arith, file.closed.0)));
         tagged = file.tagged k below;
       };
 }
 
-pub kept_stands : (records : List Record) (tag : List ℕ) (state : State) → IsKept records tag state → StandsFor records state.content
+pub kept_stands : (records : List Record) (tag : List ℕ) (state : State) → IsSyncedFile records tag state
+    → StandsFor records state.content
 kept_stands records tag state kept = file_stands records state.content kept.file
 
 -- a content stands for one list
@@ -84,13 +92,18 @@ spells_one a b content first second =
       | inr (inr above) ↦ absurd (open_or_shut content (length b) (first.opened (length b) above) second.closed)
     ] in
     same_lists a b len (λ k d below.
-    one_value slot_record (get_or a k d) (get_or b k d) (fields_at content k) (first.held k (get_or a k d) (slice_get-get_or a k d below)).spelled
-    (second.held k (get_or b k d) (slice_get-get_or b k d (omega arith))).spelled)
+    let in_a = first.holds k (get_or a k d) (slice_get-get_or a k d below) in
+    let in_b = second.holds k (get_or b k d) (slice_get-get_or b k d (omega arith)) in
+    one_value slot_record (get_or a k d) (get_or b k d) (fields_at content k) in_a.spelled in_b.spelled)
 
-no_key_spells : (content : List ℕ) (entry : Record) (entries : List Record) → HasNoKey content → SpellsRecords content (entry ∷ entries) → ⊥
+no_key_spells : (content : List ℕ) (entry : Record) (entries : List Record) → HasNoKey content
+    → SpellsRecords content (entry ∷ entries) → ⊥
 no_key_spells content entry entries none spells =
     let long : 256 * length (entry ∷ entries) < length content = spells.closed.0 in
-    ⊎_elim (λ (short : length content < 257). absurd (omega (arith, long))) (λ shut. open_or_shut content 0 (spells.opened 0 (omega arith)) shut) none
+    ⊎_elim
+    (λ (short : length content < 257). absurd (omega (arith, long)))
+    (λ shut. open_or_shut content 0 (spells.opened 0 (omega arith)) shut)
+    none
 
 pub stands_one : (a b : List Record) (content : List ℕ) → StandsFor a content → StandsFor b content → a ≡ b
 stands_one [] [] content first second = refl
@@ -99,24 +112,30 @@ stands_one (a ∷ rest) [] content first second = absurd (no_key_spells content 
 stands_one (a ∷ rest) (b ∷ bs) content first second = spells_one (a ∷ rest) (b ∷ bs) content first second
 
 -- of the contents that stand for one of two lists, these two lists are left
-pub one_of_two : (a b list : List Record) (content : List ℕ) → StandsFor a content ⊎ StandsFor b content → StandsFor list content ⊎ ((other : List Record) → StandsFor other content → ⊥) → (list ≡ a) ⊎ (list ≡ b)
+pub one_of_two : (a b list : List Record) (content : List ℕ) → StandsFor a content ⊎ StandsFor b content
+    → StandsFor list content ⊎ ((other : List Record) → StandsFor other content → ⊥) → (list ≡ a) ⊎ (list ≡ b)
 one_of_two a b list content (inl stands) (inl one) = inl (stands_one list a content one stands)
 one_of_two a b list content (inr stands) (inl one) = inr (stands_one list b content one stands)
 one_of_two a b list content (inl stands) (inr none) = absurd (none a stands)
 one_of_two a b list content (inr stands) (inr none) = absurd (none b stands)
 
-synced_left : (content c : List ℕ) → MayLeave (settled content) c → c ≡ content
+-- what is synced is left by a stop
+pub synced_left : (content c : List ℕ) → MayLeave (settled content) c → c ≡ content
 synced_left content c changes =
     same_lists c content (omega (arith, changes.no_shorter, changes.no_longer)) (λ k d inside.
-    get_or_default c k d 0 inside ∙ changes.kept k (omega (arith, changes.no_shorter, changes.no_longer)) tt ∙ get_or_default content k 0 d (omega (arith, changes.no_shorter, changes.no_longer)))
+    get_or_default c k d 0 inside ∙ changes.kept k (omega (arith, changes.no_shorter, changes.no_longer)) tt
+    ∙ get_or_default content k 0 d (omega (arith, changes.no_shorter, changes.no_longer)))
 
 -- what a stop leaves of what is kept
-pub kept_leaves : (records : List Record) (tag : List ℕ) (state : State) (c : List ℕ) → IsKept records tag state → MayLeave state c → StandsFor records c
+pub kept_leaves : (records : List Record) (tag : List ℕ) (state : State) (c : List ℕ) → IsSyncedFile records tag state
+    → MayLeave state c → StandsFor records c
 kept_leaves records tag state c kept left =
     let same : c ≡ state.content = synced_left state.content c (subst (λ (s : State). MayLeave s c) kept.synced left) in
     file_stands records c (subst (IsFileOf records) (sym same) kept.file)
 
-pub kept_list : (records list : List Record) (tag : List ℕ) (state : State) (c : List ℕ) → IsKept records tag state → MayLeave state c → StandsFor list c ⊎ ((other : List Record) → StandsFor other c → ⊥) → list ≡ records
+pub kept_list : (records list : List Record) (tag : List ℕ) (state : State) (c : List ℕ)
+    → IsSyncedFile records tag state → MayLeave state c → StandsFor list c
+    ⊎ ((other : List Record) → StandsFor other c → ⊥) → list ≡ records
 kept_list records list tag state c kept left either =
     let stands = kept_leaves records tag state c kept left in
     ⊎_elim (λ one. stands_one list records c one stands) (λ none. absurd (none records stands)) either

@@ -1,4 +1,4 @@
--- Slots are added behind a closed gate.
+-- Slots are added after a closed gate.
 use Rattle.std.specs.Prelude.{◌≡◌, ℕ, ◌+◌, ◌*◌, max, List, [], ◌∷◌, length, take}
 use Rattle.state_file.specs.File.{IsClosed, IsClosedAt}
 use Rattle.state_file.specs.Disk.{Range, State, ChangesOnly, IsSynced}

@@ -1,6 +1,7 @@
 -- Which lists of records a signer may stand on. A tree goes by the place of the record that makes it: the
 -- Key makes tree 0, an Extend at place k makes tree k.
-use Rattle.std.specs.Prelude.{◌≡◌, ◌≢◌, ℕ, zero, suc, ◌+◌, ◌-◌, ◌^◌, ◌<◌, ◌≤◌, List, [], ◌∷◌, length, replicate, slice_get, Option, Some, None}
+use Rattle.std.specs.Prelude.{◌≡◌, ◌≢◌, ℕ, zero, suc, ◌+◌, ◌-◌, ◌^◌, ◌<◌, ◌≤◌, List, [], ◌∷◌, length, replicate}
+use Rattle.std.specs.Prelude.{slice_get, Option, Some, None}
 use Rattle.typecodes.specs.declared.types.LmsPair.{LmsPair}
 use Rattle.typecodes.specs.Types.{height_of, xmss_height_of}
 use Rattle.state_file.specs.File.{SpellsRecords}
@@ -8,7 +9,8 @@ use Rattle.state_file.specs.declared.record.Bound.{Bound}
 use Rattle.state_file.specs.declared.record.Extend.{Extend}
 use Rattle.state_file.specs.declared.record.Key.{Key}
 use Rattle.state_file.specs.declared.record.Record.{Record}
-use Rattle.state_file.specs.declared.record.Record.TheVariants.{Key as KeyRecord, Extend as ExtendRecord, Bound as BoundRecord, Retire, Moved}
+use Rattle.state_file.specs.declared.record.Record.TheVariants.{Key as KeyRecord, Extend as ExtendRecord}
+use Rattle.state_file.specs.declared.record.Record.TheVariants.{Bound as BoundRecord, Retire, Moved}
 use Rattle.state_file.specs.declared.record.Secret.{Secret}
 use Rattle.state_file.specs.declared.record.Secret.TheVariants.{Lms, Hss, Xmss}
 
@@ -64,7 +66,8 @@ pub record IsLastExtend (records : List Record) (k level j : ℕ) : Type 0 where
   pub stands : slice_get records j ≡ Some (ExtendRecord extend)
   pub of_level : extend.level ≡ level
   pub before : j < k
-  pub last : (i : ℕ) (other : Extend) → j < i → i < k → slice_get records i ≡ Some (ExtendRecord other) → other.level ≢ level
+  pub last : (i : ℕ) (other : Extend) → j < i → i < k → slice_get records i ≡ Some (ExtendRecord other)
+      → other.level ≢ level
 
 -- The current tree of a level before place k. That of level 0 is the Key's. That of a lower level is the tree
 -- of the last Extend of that level, if its parent is the current tree of the level above; and the parent
@@ -72,27 +75,31 @@ pub record IsLastExtend (records : List Record) (k level j : ℕ) : Type 0 where
 abbrev pub IsCurrent : List Record → ℕ → ℕ → ℕ → Type 0
 IsCurrent records k zero tree = tree ≡ 0
 IsCurrent records k (suc level) tree =
-    IsLastExtend records k (suc level) tree × ((above : ℕ) × IsCurrent records k level above × IsCurrent records tree level above)
+    IsLastExtend records k (suc level) tree
+    × ((above : ℕ) × IsCurrent records k level above × IsCurrent records tree level above)
 
 -- The record at place k names a leaf of a tree: an Extend its parent leaf, a Bound its leaf in the current
 -- bottom tree.
 abbrev pub Names : Secret → List Record → ℕ → Record → (tree leaf : ℕ) → Type 0
 Names secret records k (KeyRecord key) tree leaf = ⊥
-Names secret records k (ExtendRecord extend) tree leaf = (level : ℕ) × (extend.level ≡ level + 1) × IsCurrent records k level tree × (leaf ≡ extend.parent_leaf)
+Names secret records k (ExtendRecord extend) tree leaf = (level : ℕ) × (extend.level ≡ level + 1)
+    × IsCurrent records k level tree × (leaf ≡ extend.parent_leaf)
 Names secret records k (BoundRecord bound) tree leaf = IsCurrent records k (bottom_of secret) tree × (leaf ≡ bound.leaf)
 Names secret records k (Retire upto) tree leaf = ⊥
 Names secret records k Moved tree leaf = ⊥
 
 -- ---- legal lists
 
--- What a record at place k asks for itself: the trees that it speaks of are current, and its numbers are in
+-- What a record at place k needs for itself: the trees that it speaks of are current, and its numbers are in
 -- range.
 abbrev pub Fits : Secret → List Record → ℕ → Record → Type 0
 Fits secret records k (KeyRecord key) = k ≡ 0
 Fits secret records k (ExtendRecord extend) =
-    (level : ℕ) × (extend.level ≡ level + 1) × (extend.level < levels_of secret) × ((tree : ℕ) × IsCurrent records k level tree) × (extend.parent_leaf < leaves_at secret level)
+    (level : ℕ) × (extend.level ≡ level + 1) × (extend.level < levels_of secret)
+    × ((tree : ℕ) × IsCurrent records k level tree) × (extend.parent_leaf < leaves_at secret level)
 Fits secret records k (BoundRecord bound) =
-    ((tree : ℕ) × IsCurrent records k (bottom_of secret) tree) × (bound.leaf < leaves_at secret (bottom_of secret)) × HasRandomizer secret bound.randomizer
+    ((tree : ℕ) × IsCurrent records k (bottom_of secret) tree) × (bound.leaf < leaves_at secret (bottom_of secret))
+    × HasRandomizer secret bound.randomizer
 Fits secret records k (Retire upto) =
     ((tree : ℕ) × IsCurrent records k (bottom_of secret) tree) × (upto ≤ leaves_at secret (bottom_of secret))
 Fits secret records k Moved = k + 1 ≡ length records
@@ -105,15 +112,19 @@ pub record IsLegal (records : List Record) : Type 0 where
   -- each record fits; so there is no other Key, and nothing follows a Moved
   pub fits : (k : ℕ) (entry : Record) → slice_get records k ≡ Some entry → Fits key.secret records k entry
   -- no two trees have one I
-  pub identifiers : (j k : ℕ) (a b : Record) (identifier : List ℕ) → j < k → slice_get records j ≡ Some a → slice_get records k ≡ Some b
+  pub identifiers : (j k : ℕ) (a b : Record) (identifier : List ℕ) → j < k → slice_get records j ≡ Some a
+      → slice_get records k ≡ Some b
       → identifier_of a ≡ Some identifier → identifier_of b ≢ Some identifier
   -- no two bindings have one name
-  pub names : (j k : ℕ) (a b : Bound) → j < k → slice_get records j ≡ Some (BoundRecord a) → slice_get records k ≡ Some (BoundRecord b) → a.name ≢ b.name
+  pub names : (j k : ℕ) (a b : Bound) → j < k → slice_get records j ≡ Some (BoundRecord a)
+      → slice_get records k ≡ Some (BoundRecord b) → a.name ≢ b.name
   -- of two records that name leaves of one tree the later one names the greater leaf
-  pub rising : (j k : ℕ) (a b : Record) (tree leaf later : ℕ) → j < k → slice_get records j ≡ Some a → slice_get records k ≡ Some b
+  pub rising : (j k : ℕ) (a b : Record) (tree leaf later : ℕ) → j < k → slice_get records j ≡ Some a
+      → slice_get records k ≡ Some b
       → Names key.secret records j a tree leaf → Names key.secret records k b tree later → leaf < later
-  -- a record behind a Retire of its tree names no leaf that was retired
-  pub retired : (j k : ℕ) (upto : ℕ) (b : Record) (tree leaf : ℕ) → j < k → slice_get records j ≡ Some (Retire upto) → slice_get records k ≡ Some b
+  -- a record after a Retire of its tree names no leaf that was retired
+  pub retired : (j k : ℕ) (upto : ℕ) (b : Record) (tree leaf : ℕ) → j < k → slice_get records j ≡ Some (Retire upto)
+      → slice_get records k ≡ Some b
       → IsCurrent records j (bottom_of key.secret) tree → Names key.secret records k b tree leaf → upto ≤ leaf
 
 -- ---- signing

@@ -1,5 +1,6 @@
 -- The log of a disk in memory, and what a stop leaves after it. Its moments are the beginnings of the log.
-use Rattle.std.specs.Prelude.{◌≡◌, ℕ, ◌+◌, ◌-◌, ◌<◌, ◌≤◌, ◌==◌, if◌then◌else◌, max, List, [], ◌∷◌, length, take, reverse, slice_index}
+use Rattle.std.specs.Prelude.{◌≡◌, ℕ, ◌+◌, ◌-◌, ◌<◌, ◌≤◌, ◌==◌, if◌then◌else◌, max, List, [], ◌∷◌, length, take}
+use Rattle.std.specs.Prelude.{reverse, slice_index}
 use Rattle.state_file.specs.Disk.{Range, IsOutside, greatest_end, ChangesOnly, State}
 use Rattle.state_file.specs.declared.disk.log.Entry.{Entry}
 use Rattle.state_file.specs.declared.disk.log.Entry.TheVariants.{Wrote, Synced}
@@ -21,7 +22,8 @@ ranges_of (Synced content ∷ earlier) = []
 
 -- the disk with this content after this log, whose oldest entry comes first
 abbrev pub state_of : (content first : List ℕ) (log : List Entry) → State
-state_of content first log = record { content = content; base = base_of first (reverse log); ranges = ranges_of (reverse log) }
+state_of content first log =
+    record { content = content; base = base_of first (reverse log); ranges = ranges_of (reverse log) }
 
 -- what a stop right after this log may leave
 abbrev pub LeftBy : (first : List ℕ) (log : List Entry) → List ℕ → Type 0
@@ -36,22 +38,24 @@ pub record Overlays (at : ℕ) (bytes old new : List ℕ) : Type 0 where
   pub len : length new ≡ (if length bytes == 0 then length old else max (length old) (at + length bytes))
   pub put : (i : ℕ) → i < length bytes → slice_index new (at + i) ≡ slice_index bytes i
   pub before : (i : ℕ) → i < length old → i < at → slice_index new i ≡ slice_index old i
-  pub behind : (i : ℕ) → i < length old → at + length bytes ≤ i → slice_index new i ≡ slice_index old i
+  pub after : (i : ℕ) → i < length old → at + length bytes ≤ i → slice_index new i ≡ slice_index old i
   pub gap : (i : ℕ) → length old ≤ i → i < at → i < length new → slice_index new i ≡ 0
 
 -- the longest content that a stop may leave, with this byte wherever it may leave any
-pub record IsFilled (byte : ℕ) (base : List ℕ) (ranges : List Range) (c : List ℕ) : Type 0 where
+pub record IsLongestLeft (byte : ℕ) (base : List ℕ) (ranges : List Range) (c : List ℕ) : Type 0 where
   pub longest : length c ≡ greatest_end (length base) ranges
   pub kept : (place : ℕ) → place < length base → IsOutside place ranges → slice_index c place ≡ slice_index base place
   pub inside : (place : ℕ) → place < length c → (IsOutside place ranges → ⊥) → slice_index c place ≡ byte
-  pub behind : (place : ℕ) → place < length c → length base ≤ place → slice_index c place ≡ byte
+  pub after : (place : ℕ) → place < length c → length base ≤ place → slice_index c place ≡ byte
 
-pub left_now : (first : List ℕ) (log : List Entry) (t : ℕ) (c : List ℕ) → t ≤ length log → LeftBy first log c → LeftSince first log t c
+pub left_now : (first : List ℕ) (log : List Entry) (t : ℕ) (c : List ℕ) → t ≤ length log → LeftBy first log c
+    → LeftSince first log t c
 left_now first log t c early left =
     let whole : take (length log) log ≡ log = take_all (length log) log (omega arith) in
     (length log, early, omega arith, subst (λ (l : List Entry). LeftBy first l c) (sym whole) left)
 
-pub left_only_now : (first : List ℕ) (log : List Entry) (c : List ℕ) → LeftSince first log (length log) c → LeftBy first log c
+pub left_only_now : (first : List ℕ) (log : List Entry) (c : List ℕ) → LeftSince first log (length log) c
+    → LeftBy first log c
 left_only_now first log c since =
     let whole : take since.0 log ≡ log = take_all since.0 log since.1 in
     subst (λ (l : List Entry). LeftBy first l c) whole since.3

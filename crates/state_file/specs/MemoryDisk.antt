@@ -1,5 +1,6 @@
 -- A disk in memory: what callers see of it, and what its calls do.
-use Rattle.std.specs.Prelude.{◌≡◌, ℕ, zero, suc, ◌-◌, List, [], ◌∷◌, length, take, Option, Some, None, Result, Ok, Err, ◌/◌, ◌↔◌, Bool, true}
+use Rattle.std.specs.Prelude.{◌≡◌, ℕ, zero, suc, ◌-◌, List, [], ◌∷◌, length, take, Option, Some, None, Result, Ok}
+use Rattle.std.specs.Prelude.{Err, ◌/◌, ◌↔◌, Bool, true}
 use Rattle.state_file.specs.Disk.{range_of, State, settled}
 use Rattle.state_file.specs.declared.disk.DiskFault.{DiskFault}
 use Rattle.state_file.specs.declared.disk.DiskFault.TheVariants.{Failed, OutOfMemory}
@@ -7,10 +8,10 @@ use Rattle.state_file.specs.declared.disk.memory_disk.Fate.{Fate}
 use Rattle.state_file.specs.declared.disk.memory_disk.Fate.TheVariants.{Runs, Fails, Stopped}
 use Rattle.state_file.specs.declared.disk.memory_disk.Pick.{Pick}
 use Rattle.state_file.specs.declared.disk.memory_disk.Pick.TheVariants.{Old, New, Fill}
-use Rattle.state_file.specs.Log.{LeftSince, state_of, IsFilled, Overlays}
+use Rattle.state_file.specs.Log.{LeftSince, state_of, IsLongestLeft, Overlays}
 use Rattle.state_file.specs.declared.disk.memory_disk.MemoryDisk.{MemoryDisk}
 
--- the n-th call from now, told by how many calls come before it; of the 0th, none
+-- the n-th call from now, given as how many calls come before it; of the 0th, none
 abbrev pub calls_before : ℕ → Option ℕ
 calls_before zero = None
 calls_before (suc before) = Some before
@@ -44,10 +45,14 @@ answer_of Stopped answer = Err Failed
 
 -- What a write does, by how it fares and its answer. Where memory is refused it does nothing. One that fails
 -- writes the first half of its bytes, rounded down, and counts with its whole range.
-abbrev pub WritesInMemory : {A : Type 0} (at : ℕ) (bytes : List ℕ) (old new : State) → Fate → Result A DiskFault → Type 0
-WritesInMemory at bytes old new Runs (Ok _) = Overlays at bytes old.content new.content × (new.ranges ≡ range_of at bytes ∷ old.ranges) × (new.base ≡ old.base)
+abbrev pub WritesInMemory : {A : Type 0} (at : ℕ) (bytes : List ℕ) (old new : State) → Fate → Result A DiskFault
+    → Type 0
+WritesInMemory at bytes old new Runs (Ok _) = Overlays at bytes old.content new.content
+    × (new.ranges ≡ range_of at bytes ∷ old.ranges) × (new.base ≡ old.base)
 WritesInMemory at bytes old new Runs (Err OutOfMemory) = new ≡ old
-WritesInMemory at bytes old new Fails (Err Failed) = Overlays at (take (length bytes / 2) bytes) old.content new.content × (new.ranges ≡ range_of at bytes ∷ old.ranges) × (new.base ≡ old.base)
+WritesInMemory at bytes old new Fails (Err Failed) =
+    Overlays at (take (length bytes / 2) bytes) old.content new.content
+    × (new.ranges ≡ range_of at bytes ∷ old.ranges) × (new.base ≡ old.base)
 WritesInMemory at bytes old new Fails (Err OutOfMemory) = new ≡ old
 WritesInMemory at bytes old new Stopped (Err Failed) = new ≡ old
 WritesInMemory at bytes old new fate result = ⊥
@@ -63,7 +68,7 @@ SyncsInMemory old new fate result = ⊥
 abbrev pub Picks : Pick → State → List ℕ → Type 0
 Picks Old state c = c ≡ state.base
 Picks New state c = c ≡ state.content
-Picks (Fill byte) state c = IsFilled byte state.base state.ranges c
+Picks (Fill byte) state c = IsLongestLeft byte state.base state.ranges c
 
 -- what a read gives, and what a stop may leave
 abbrev pub state_in : MemoryDisk → State
@@ -84,6 +89,11 @@ stop_in disk = disk.plan.stop
 -- how many calls come before the one that fails
 abbrev pub fail_in : MemoryDisk → Option ℕ
 fail_in disk = disk.plan.fail
+
+-- A call came: the stop and the failure are a call nearer.
+pub record PlanAfterCall (old new : MemoryDisk) : Type 0 where
+  pub stop : stop_in new ≡ stop_after (stop_in old)
+  pub fail : fail_in new ≡ fail_after (fail_in old)
 
 -- how the next call fares
 abbrev pub next_fate : MemoryDisk → Fate

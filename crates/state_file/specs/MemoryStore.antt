@@ -1,5 +1,6 @@
 -- A store in memory: what callers see of it, and what an append does, where a cut may come.
-use Rattle.std.specs.Prelude.{Bool, ℕ, ◌<◌, List, Option, vec_len, vec_capacity, ◌≡◌, zero, suc, ◌+◌, [], ◌∷◌, ◌++◌, Some, None, Result, Ok, Err, ◌≤◌, length, take}
+use Rattle.std.specs.Prelude.{Bool, ℕ, ◌<◌, List, Option, vec_len, vec_capacity, ◌≡◌, zero, suc, ◌+◌, [], ◌∷◌, ◌++◌}
+use Rattle.std.specs.Prelude.{Some, None, Result, Ok, Err, ◌≤◌, length, take}
 use Rattle.state_file.specs.declared.store.memory_store.Cut.{Cut}
 use Rattle.state_file.specs.declared.store.memory_store.MemoryStore.{MemoryStore}
 use Rattle.state_file.specs.declared.record.Record.{Record}
@@ -33,7 +34,7 @@ failures_of store = store.failures
 abbrev pub HasRoom : MemoryStore → Type 0
 HasRoom store = vec_len store.records < vec_capacity store.records
 
--- the cut of the n-th append from now, told by how many appends come before it; of the 0th, none
+-- the cut of the n-th append from now, given as how many appends come before it; of the 0th, none
 abbrev pub cut_of_append : ℕ → Cut → Option (ℕ × Cut)
 cut_of_append zero cut = None
 cut_of_append (suc before) cut = Some (before, cut)
@@ -46,11 +47,14 @@ left_by New old entry = old ++ entry ∷ []
 -- The cut before and after an append, by the answer. One that is stored brings a cut nearer by one append.
 -- One that is cut answers 45, leaves what the cut says, and uses the cut up. Any other leaves the cut as it
 -- is. An append that is cut and leaves the old records needs no memory.
-abbrev pub Cuts : {A : Type 0} (old_cut : Option (ℕ × Cut)) (old : List Record) (entry : Record) (new : List Record) (new_cut : Option (ℕ × Cut)) → Result A StoreFault → Type 0
+abbrev pub Cuts : {A : Type 0} (old_cut : Option (ℕ
+    × Cut)) (old : List Record) (entry : Record) (new : List Record) (new_cut : Option (ℕ × Cut))
+    → Result A StoreFault → Type 0
 Cuts None old entry new new_cut (Ok _) = new_cut ≡ None
 Cuts (Some (before, cut)) old entry new new_cut (Ok _) = (next : ℕ) × (before ≡ next + 1) × (new_cut ≡ Some (next, cut))
 Cuts None old entry new new_cut (Err DeviceFailed) = ⊥
-Cuts (Some (before, cut)) old entry new new_cut (Err DeviceFailed) = (before ≡ 0) × (new ≡ left_by cut old entry) × (new_cut ≡ None)
+Cuts (Some (before, cut)) old entry new new_cut (Err DeviceFailed) = (before ≡ 0) × (new ≡ left_by cut old entry)
+    × (new_cut ≡ None)
 Cuts (Some (zero, Old)) old entry new new_cut (Err OutOfMemory) = ⊥
 Cuts old_cut old entry new new_cut (Err _) = new_cut ≡ old_cut
 
@@ -61,7 +65,8 @@ abbrev pub HadBeen : List Record → ℕ → List Record → Type 0
 HadBeen records t left = (k : ℕ) × (t ≤ k) × (k ≤ length records) × (left ≡ take k records)
 
 pub had_been_all : (records : List Record) (t : ℕ) → t ≤ length records → HadBeen records t records
-had_been_all records t early = (length records, early, omega arith, sym (take_all (length records) records (omega arith)))
+had_been_all records t early =
+    (length records, early, omega arith, sym (take_all (length records) records (omega arith)))
 
 pub had_been_only : (records left : List Record) → HadBeen records (length records) left → left ≡ records
 had_been_only records left had = had.3 ∙ take_all had.0 records had.1

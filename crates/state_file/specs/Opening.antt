@@ -1,14 +1,17 @@
--- What opening a place tells, and what its parts do.
+-- What opening a place reports, and what its parts do.
 use Rattle.std.specs.Prelude.{◌≡◌, ℕ, ◌+◌, ◌*◌, ◌<◌, true, List, length, Option, Some, None, Result, Ok, Err}
-use Rattle.state_file.specs.File.{Holds, IsWhole, MayHaveKey, SpellsRecords, begins_key, fields_at, most_records, previous_tag, tag_at, version_of, HasNoKey, HasUnknownVersion, IsDamagedAt, IsNoKeyFile}
+use Rattle.state_file.specs.File.{Holds, IsWhole, MayHaveKey, SpellsRecords, begins_key, fields_at, most_records}
+use Rattle.state_file.specs.File.{previous_tag, tag_at, version_of, HasNoKey, HasUnknownVersion, IsDamagedAt}
+use Rattle.state_file.specs.File.{IsNoKeyFile}
 use Rattle.state_file.specs.Disk.{State, MayLeave, settled, LeavesOnly}
 use Rattle.state_file.specs.declared.file.opening.OpenFault.{OpenFault}
-use Rattle.state_file.specs.declared.file.opening.OpenFault.TheVariants.{NoKey, NotKeyFile, Version as VersionFault, Damaged, DeviceFailed}
+use Rattle.state_file.specs.declared.file.opening.OpenFault.TheVariants.{NoKey, NotKeyFile, Version as VersionFault}
+use Rattle.state_file.specs.declared.file.opening.OpenFault.TheVariants.{Damaged, DeviceFailed}
 use Rattle.state_file.specs.declared.record.Record.{Record}
 use Rattle.state_file.specs.declared.record.Version.{Version}
 use Rattle.state_file.specs.declared.record.Key.{Key}
 
--- ---- what opening tells
+-- ---- what opening finds
 
 -- the records of a key, or why there are none
 pub data Opening : Type 0 where
@@ -18,7 +21,7 @@ pub data Opening : Type 0 where
   unknown_version : Opening
   damaged : ℕ → Opening
 
--- what opening a content tells
+-- what opening a content finds
 abbrev pub OpensAs : List ℕ → Opening → Type 0
 OpensAs content (spelled records) = SpellsRecords content records
 OpensAs content no_key = HasNoKey content
@@ -28,13 +31,13 @@ OpensAs content (damaged k) = IsDamagedAt content k
 
 -- ---- what its parts do
 
--- what each refusal tells of the content
-abbrev pub Tells : List ℕ → OpenFault → Type 0
-Tells content NoKey = OpensAs content no_key
-Tells content NotKeyFile = OpensAs content no_key_file
-Tells content VersionFault = OpensAs content unknown_version
-Tells content (Damaged k) = OpensAs content (damaged k)
-Tells content DeviceFailed = Unit {0}
+-- what each refusal reports of the content
+abbrev pub Reports : List ℕ → OpenFault → Type 0
+Reports content NoKey = OpensAs content no_key
+Reports content NotKeyFile = OpensAs content no_key_file
+Reports content VersionFault = OpensAs content unknown_version
+Reports content (Damaged k) = OpensAs content (damaged k)
+Reports content DeviceFailed = Unit {0}
 
 -- A refusal for what stands there leaves it as it was, and all of it is synced.
 abbrev pub KeepsContent : List ℕ → State → OpenFault → Type 0
@@ -49,20 +52,18 @@ abbrev pub Settles : {A : Type 0} → List ℕ → State → Result A OpenFault 
 Settles content new (Ok _) = new ≡ settled content
 Settles content new (Err fault) = KeepsContent content new fault
 
--- 45 comes exactly where the device failed
-abbrev pub CountsFault : (before after : ℕ) → OpenFault → Type 0
-CountsFault before after NoKey = after ≡ before
-CountsFault before after NotKeyFile = after ≡ before
-CountsFault before after VersionFault = after ≡ before
-CountsFault before after (Damaged k) = after ≡ before
-CountsFault before after DeviceFailed = after ≡ before + 1
-
+-- The count of failures grows by one with a 45, and with no other answer.
 abbrev pub CountsOpening : {A : Type 0} (before after : ℕ) → Result A OpenFault → Type 0
 CountsOpening before after (Ok _) = after ≡ before
-CountsOpening before after (Err fault) = CountsFault before after fault
+CountsOpening before after (Err NoKey) = after ≡ before
+CountsOpening before after (Err NotKeyFile) = after ≡ before
+CountsOpening before after (Err VersionFault) = after ≡ before
+CountsOpening before after (Err (Damaged k)) = after ≡ before
+CountsOpening before after (Err DeviceFailed) = after ≡ before + 1
 
 -- calls that only read
-pub record OnlyReads {D : Type 0} (state : D → State) (moment : D → ℕ) (left_since : D → ℕ → List ℕ → Type 0) (old new : D) : Type 0 where
+pub record OnlyReads {D : Type 0} (state : D → State) (moment : D → ℕ) (left_since : D → ℕ → List ℕ
+    → Type 0) (old new : D) : Type 0 where
   pub stays : state new ≡ state old
   pub leaves : LeavesOnly moment left_since old new (MayLeave (state old))
 
@@ -76,7 +77,7 @@ pub record StartsWithKey (content : List ℕ) : Type 0 where
 pub record HasSlot (content : List ℕ) (k : ℕ) (entry : Record) (tag : List ℕ) : Type 0 where
   pub few : k < most_records
   pub ends : 256 * (k + 1) < length content
-  pub held : Holds content k entry
+  pub holds : Holds content k entry
   pub tagged : tag ≡ tag_at content k
 
 -- the record that the slot holds, if it holds one
@@ -84,13 +85,13 @@ abbrev pub HasEntry : List ℕ → ℕ → Option Record → Type 0
 HasEntry content k None = (entry : Record) → Holds content k entry → ⊥
 HasEntry content k (Some entry) = Holds content k entry
 
--- what each refusal of a slot tells of it
-abbrev pub TellsSlot : List ℕ → ℕ → OpenFault → Type 0
-TellsSlot content slot NoKey = ⊥
-TellsSlot content slot NotKeyFile = ⊥
-TellsSlot content slot VersionFault = ⊥
-TellsSlot content slot (Damaged k) = (k ≡ slot) × (IsWhole content slot → ⊥)
-TellsSlot content slot DeviceFailed = Unit {0}
+-- what each refusal of a slot reports of it
+abbrev pub ReportsSlot : List ℕ → ℕ → OpenFault → Type 0
+ReportsSlot content slot NoKey = ⊥
+ReportsSlot content slot NotKeyFile = ⊥
+ReportsSlot content slot VersionFault = ⊥
+ReportsSlot content slot (Damaged k) = (k ≡ slot) × (IsWhole content slot → ⊥)
+ReportsSlot content slot DeviceFailed = Unit {0}
 
 -- what the records that were found are, and the last tag
 pub record IsFound (content : List ℕ) (records : List Record) (tag : List ℕ) : Type 0 where

@@ -1,5 +1,6 @@
 -- Slots: how one spells its record, in its bytes 1 to 223 a kind and the fields of that kind.
-use Rattle.std.specs.Prelude.{ℕ, zero, suc, ◌-◌, ◌*◌, Bool, ◌==◌, ◌&&◌, List, [], ◌∷◌, Option, Some, None, nat_le, if◌then◌else◌}
+use Rattle.std.specs.Prelude.{ℕ, zero, suc, ◌-◌, ◌*◌, Bool, ◌==◌, ◌&&◌, List, [], ◌∷◌, Option, Some, None, nat_le}
+use Rattle.std.specs.Prelude.{if◌then◌else◌}
 use Rattle.std.specs.List.{list_all}
 use Rattle.std.specs.Cmp.Lexicographic.{pointwise}
 use Rattle.byteorder.specs.Endian.{big_number}
@@ -9,7 +10,8 @@ use Rattle.typecodes.specs.Layout.{Layout, done, refuse, field, ◌>>=◌}
 use Rattle.typecodes.specs.Fields.{number, block, lms_type, ots_type, xmss_type}
 use Rattle.typecodes.specs.Types.{named}
 use Rattle.state_file.specs.declared.record.Record.{Record}
-use Rattle.state_file.specs.declared.record.Record.TheVariants.{Key as KeyRecord, Extend as ExtendRecord, Bound as BoundRecord, Retire, Moved}
+use Rattle.state_file.specs.declared.record.Record.TheVariants.{Key as KeyRecord, Extend as ExtendRecord}
+use Rattle.state_file.specs.declared.record.Record.TheVariants.{Bound as BoundRecord, Retire, Moved}
 use Rattle.state_file.specs.declared.record.Secret.{Secret}
 use Rattle.state_file.specs.declared.record.Secret.TheVariants.{Lms, Hss, Xmss}
 use Rattle.state_file.specs.declared.record.Version.{Version}
@@ -17,7 +19,7 @@ use Rattle.state_file.specs.declared.record.Version.TheVariants.{One}
 
 -- ---- fields
 
--- the field of n bytes before this place spells no record; which of the causes it is told by says nothing
+-- the field of n bytes before this place spells no record; which of the causes its fault has says nothing
 abbrev pub no_record : {V : Type 0} → ℕ → Layout V
 no_record n = refuse n UnknownType
 

@@ -1,5 +1,6 @@
 -- What the calls of a store do.
-use Rattle.std.specs.Prelude.{◌≡◌, ◌⊎◌, ℕ, ◌+◌, ◌<◌, ◌≤◌, Bool, true, false, List, [], ◌∷◌, ◌++◌, length, slice_get, Option, Some, None, Result, Ok, Err}
+use Rattle.std.specs.Prelude.{◌≡◌, ◌⊎◌, ℕ, ◌+◌, ◌<◌, ◌≤◌, Bool, true, false, List, [], ◌∷◌, ◌++◌, length, slice_get}
+use Rattle.std.specs.Prelude.{Option, Some, None, Result, Ok, Err}
 use Rattle.state_file.specs.declared.record.Record.{Record}
 use Rattle.state_file.specs.declared.record.Record.TheVariants.{Key as KeyRecord, Extend, Bound, Retire, Moved}
 use Rattle.state_file.specs.declared.store.StoreFault.{StoreFault}
@@ -24,15 +25,16 @@ CanFollow list entry = length list ≡ 0 → is_key entry ≡ true
 
 -- What an append does, by its answer: to the list, to whether the store has stopped, and to the count of
 -- its device's failures.
-abbrev pub Appends : {A : Type 0} (most : ℕ) (old : List Record) (old_stopped : Bool) (entry : Record) (new : List Record) (new_stopped : Bool) (failures_before failures_after : ℕ)
-    → Result A StoreFault → Type 0
+abbrev pub Appends : {A : Type 0} (most : ℕ) (old : List Record) (old_stopped : Bool) (entry : Record)
+    (new : List Record) (new_stopped : Bool) (failures_before failures_after : ℕ) → Result A StoreFault → Type 0
 Appends most old old_stopped entry new new_stopped before after (Ok _) =
     (old_stopped ≡ false) × (length old < most) × (new ≡ old ++ entry ∷ []) × (new_stopped ≡ false) × (after ≡ before)
 Appends most old old_stopped entry new new_stopped before after (Err Stopped) =
     (old_stopped ≡ true) × (new ≡ old) × (new_stopped ≡ true) × (after ≡ before)
 Appends most old old_stopped entry new new_stopped before after (Err (Damaged k)) = ⊥
 Appends most old old_stopped entry new new_stopped before after (Err DeviceFailed) =
-    (old_stopped ≡ false) × (length old < most) × ((new ≡ old) ⊎ (new ≡ old ++ entry ∷ [])) × (new_stopped ≡ true) × (after ≡ before + 1)
+    (old_stopped ≡ false) × (length old < most) × ((new ≡ old) ⊎ (new ≡ old ++ entry ∷ [])) × (new_stopped ≡ true)
+    × (after ≡ before + 1)
 Appends most old old_stopped entry new new_stopped before after (Err OutOfMemory) =
     (old_stopped ≡ false) × (length old < most) × (new ≡ old) × (new_stopped ≡ false) × (after ≡ before)
 Appends most old old_stopped entry new new_stopped before after (Err Full) =
@@ -44,11 +46,13 @@ IsRecordAt true list k entry = slice_get list k ≡ Some entry
 IsRecordAt false list k entry = Unit {0}
 
 -- What a load does, by its answer. Its list stays. An honest store spells each of its records.
-abbrev pub Loads : (honest : Bool) (list : List Record) (old_stopped : Bool) (k : ℕ) (new_stopped : Bool) (failures_before failures_after : ℕ) → Result (Option Record) StoreFault → Type 0
+abbrev pub Loads : (honest : Bool) (list : List Record) (old_stopped : Bool) (k : ℕ)
+    (new_stopped : Bool) (failures_before failures_after : ℕ) → Result (Option Record) StoreFault → Type 0
 Loads honest list old_stopped k new_stopped before after (Ok None) =
     (old_stopped ≡ false) × (length list ≤ k) × (new_stopped ≡ false) × (after ≡ before)
 Loads honest list old_stopped k new_stopped before after (Ok (Some entry)) =
-    (old_stopped ≡ false) × (k < length list) × IsRecordAt honest list k entry × (new_stopped ≡ false) × (after ≡ before)
+    (old_stopped ≡ false) × (k < length list) × IsRecordAt honest list k entry × (new_stopped ≡ false)
+    × (after ≡ before)
 Loads honest list old_stopped k new_stopped before after (Err Stopped) =
     (old_stopped ≡ true) × (new_stopped ≡ true) × (after ≡ before)
 Loads honest list old_stopped k new_stopped before after (Err (Damaged slot)) =
@@ -60,8 +64,11 @@ Loads honest list old_stopped k new_stopped before after (Err OutOfMemory) =
 Loads honest list old_stopped k new_stopped before after (Err Full) = ⊥
 
 -- What reading a tag does, by its answer.
-abbrev pub ReadsTag : {A : Type 0} (old_stopped new_stopped : Bool) (failures_before failures_after : ℕ) → Result A StoreFault → Type 0
+abbrev pub ReadsTag : {A : Type 0} (old_stopped new_stopped : Bool) (failures_before failures_after : ℕ)
+    → Result A StoreFault → Type 0
 ReadsTag old_stopped new_stopped before after (Ok _) = (old_stopped ≡ false) × (new_stopped ≡ false) × (after ≡ before)
-ReadsTag old_stopped new_stopped before after (Err Stopped) = (old_stopped ≡ true) × (new_stopped ≡ true) × (after ≡ before)
-ReadsTag old_stopped new_stopped before after (Err DeviceFailed) = (old_stopped ≡ false) × (new_stopped ≡ true) × (after ≡ before + 1)
+ReadsTag old_stopped new_stopped before after (Err Stopped) = (old_stopped ≡ true) × (new_stopped ≡ true)
+    × (after ≡ before)
+ReadsTag old_stopped new_stopped before after (Err DeviceFailed) = (old_stopped ≡ false) × (new_stopped ≡ true)
+    × (after ≡ before + 1)
 ReadsTag old_stopped new_stopped before after (Err fault) = ⊥

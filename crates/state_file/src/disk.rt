@@ -10,7 +10,6 @@ mod memory_disk;
 mod tests;
 
 pub use memory_disk::{MemoryDisk, Pick};
-
 use thiserror::Error;
 
 /// Why a disk refused a call.
@@ -103,8 +102,10 @@ pub trait Disk {
     ghost shows: { (disk : Self) → IsTrue (honest disk) → MayLeave (state disk) (state disk).content };
 
     // This moment is one of those since an earlier one.
-    ghost counts_now: { (disk : Self) (t : ℕ) (c : List ℕ) → IsTrue (honest disk) → t ≤ moment disk → MayLeave (state disk) c → left_since disk t c };
+    ghost counts_now: { (disk : Self) (t : ℕ) (c : List ℕ) → IsTrue (honest disk) → t ≤ moment disk →
+        MayLeave (state disk) c → left_since disk t c };
 
     // Since this moment there is no other.
-    ghost only_now: { (disk : Self) (c : List ℕ) → IsTrue (honest disk) → left_since disk (moment disk) c → MayLeave (state disk) c };
+    ghost only_now: { (disk : Self) (c : List ℕ) → IsTrue (honest disk) → left_since disk (moment disk) c →
+        MayLeave (state disk) c };
 }

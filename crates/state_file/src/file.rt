@@ -7,8 +7,7 @@ mod opening;
 mod tests;
 
 pub use format::FormatFault;
-pub use opening::OpenFault;
-
 pub(crate) use format::format;
-pub(crate) use gates::{add_slot, write_synced};
+pub(crate) use gates::add_slot;
+pub use opening::OpenFault;
 pub(crate) use opening::{MOST, find_records, read_entry, read_tag};

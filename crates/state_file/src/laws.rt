@@ -15,26 +15,34 @@ ghost use Rattle.state_file.specs.Slot.{slot_record};
 /// list of bytes.
 pub fn slot_laws()
     ensures once { OneSpelling slot_record }
-    ensures one_record { (entry other : Record) (fields : List ℕ) → Spells slot_record entry fields → Spells slot_record other fields → entry ≡ other }
+    ensures one_record { (entry other : Record) (fields : List ℕ) → Spells slot_record entry fields →
+        Spells slot_record other fields → entry ≡ other }
 {}
 
-/// What holds of the contents of a disk: each spells the records of a key, or tells why there are none, and tells
+/// What holds of the contents of a disk: each spells the records of a key, or has a reason why there are none, and
 /// but one of these. One that stands for a list, as each does that a stop in an append leaves, spells it or has no
-/// key (`standing`): opening it tells none of 41 to 43. Nor has one a key that a stop leaves while a place of under 257
+/// key (`standing`): opening it reports none of 41 to 43. Nor has one a key that a stop leaves while a place of under
+/// 257
 /// bytes is prepared (`prepared`).
 pub fn content_laws()
     ensures some { (content : List ℕ) → (opening : Opening) × OpensAs content opening }
-    ensures once { (content : List ℕ) (opening other : Opening) → OpensAs content opening → OpensAs content other → opening ≡ other }
-    ensures standing { (records : List Record) (content : List ℕ) (opening : Opening) → StandsFor records content → OpensAs content opening → (opening ≡ no_key) ⊎ (opening ≡ spelled records) }
-    ensures prepared { (content c : List ℕ) → length content < 257 → ChangesOnly (range_of 0 (0 ∷ []) ∷ []) content c → HasNoKey c }
+    ensures once { (content : List ℕ) (opening other : Opening) → OpensAs content opening → OpensAs content other →
+        opening ≡ other }
+    ensures standing { (records : List Record) (content : List ℕ) (opening : Opening) → StandsFor records content →
+        OpensAs content opening → (opening ≡ no_key) ⊎ (opening ≡ spelled records) }
+    ensures prepared { (content c : List ℕ) → length content < 257 →
+        ChangesOnly (range_of 0 (0 ∷ []) ∷ []) content c → HasNoKey c }
 {}
 
 /// What holds of legal lists: which tree is current at a place depends on the records before it alone
 /// (`current`), a level has at most one current tree (`one_current`), a beginning of a legal list, of a
 /// record or more, is legal (`beginning`), and a content without a key can't sign (`no_key`).
 pub fn legal_laws()
-    ensures current { (records more : List Record) (k level tree : ℕ) → k ≤ length records → IsCurrent (records ++ more) k level tree ↔ IsCurrent records k level tree }
-    ensures one_current { (records : List Record) (k level tree other : ℕ) → IsCurrent records k level tree → IsCurrent records k level other → tree ≡ other }
+    ensures current { (records more : List Record) (k level tree : ℕ) → k ≤ length records →
+        IsCurrent (records ++ more) k level tree ↔ IsCurrent records k level tree }
+    ensures one_current { (records : List Record) (k level tree other : ℕ) → IsCurrent records k level tree →
+        IsCurrent records k level other → tree ≡ other }
     ensures no_key { (content : List ℕ) → HasNoKey content → CanSign content → ⊥ }
-    ensures beginning { (records more : List Record) → 0 < length records → IsLegal (records ++ more) → IsLegal records }
+    ensures beginning { (records more : List Record) → 0 < length records → IsLegal (records ++ more) →
+        IsLegal records }
 {}

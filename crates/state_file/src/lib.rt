@@ -1,9 +1,21 @@
 //! Records of a key, how they stand in the slots of a state file, and the stores that keep them.
 //!
-//! Its models are `specs/Store.antt`, what each call of a store does to its list of records;
-//! `specs/Slot.antt`, how a slot spells a record; and `specs/File.antt`, what a content of a disk is
-//! as a state file. Its contract for the crates above: after every call a store has the old records, or
-//! the old and the new one.
+//! Its models are `specs/Store.antt`, what each call of a store does to its list of records; `specs/Slot.antt`, how a
+//! slot spells a record; `specs/File.antt`, what a content of a disk is as a file of records; and `specs/Disk.antt`,
+//! what a stop may leave of a disk. Its contract for the crates above: after every call, and after a stop at any
+//! moment in it, a store has the old records, or the old and the new one.
+//!
+//! ```rust
+//! use state_file::{FileStore, MemoryDisk, Store};
+//!
+//! // a place of no bytes is prepared, and the record of a key is appended
+//! let disk = MemoryDisk::of(rt.alloc(), &[])?;
+//! let mut store = FileStore::format(disk).map_err(|refused| refused.fault)?;
+//! store.append(&key)?;
+//! // a stop from here on leaves the record
+//! let mut store = FileStore::open(store.into_disk()).map_err(|refused| refused.fault)?;
+//! assert!(rt; store.load(0) == Ok(Some(key)));
+//! ```
 #![tactic(auto)]
 
 mod disk;

@@ -8,7 +8,6 @@ ghost use Rattle.state_file.specs.declared.record.Version.{Version as V};
 mod list;
 
 pub(crate) use list::RecordList;
-
 use typecodes::{Levels, LmsPair, Name, XmssType};
 
 /// One record. A list of them stands for a key and all that it has signed.

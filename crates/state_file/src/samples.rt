@@ -1,15 +1,10 @@
 //! Records for tests.
 
-ghost use Rattle.std.specs.Prelude.{◌≡◌, true};
-ghost use Rattle.state_file.specs.Store.{is_key};
-
 use crate::*;
-use typecodes::{BadName, LmsPair, LmsType, Name, OtsType};
+use typecodes::{LmsPair, LmsType, Name, OtsType};
 
 // A Key.
-pub(crate) fn key() -> Record
-    ensures { is_key result ≡ true }
-{
+const fn key() -> Record {
     Record::Key(Key {
         version: Version::One,
         secret: Secret::Lms {
@@ -25,7 +20,7 @@ pub(crate) fn key() -> Record
 }
 
 // An Extend.
-pub(crate) const fn extend() -> Record {
+const fn extend() -> Record {
     Record::Extend(Extend {
         level: 1,
         parent_leaf: 4,
@@ -38,11 +33,39 @@ pub(crate) const fn extend() -> Record {
 }
 
 // A Bound.
-pub(crate) fn bound() -> Result<Record, BadName> {
-    Ok(Record::Bound(Bound {
-        name: Name::new(b"release-1")?,
+fn bound() -> Option<Record> {
+    Some(Record::Bound(Bound {
+        name: Name::new(b"release-1").ok()?,
         leaf: 7,
         randomizer: [10; 32],
         digest: [11; 32],
     }))
+}
+
+// A record of each kind, by its number: the one that tests append as record k.
+pub(crate) fn record(k: u32) -> Option<Record> {
+    match k {
+        0 => Some(key()),
+        1 => Some(extend()),
+        2 => bound(),
+        3 => Some(Record::Retire { upto: 12 }),
+        4 => Some(Record::Moved),
+        _ => None,
+    }
+}
+
+// Whether a load gave the record of this number, no record, or this fault.
+pub(crate) fn is_loaded(
+    found: &Result<Option<Record>, StoreFault>,
+    wanted: Result<Option<u32>, StoreFault>,
+) -> bool {
+    match (found, wanted) {
+        (Ok(Some(entry)), Ok(Some(k))) => match record(k) {
+            Some(other) => *entry == other,
+            None => false,
+        },
+        (Ok(None), Ok(None)) => true,
+        (Err(fault), Err(other)) => *fault == other,
+        _ => false,
+    }
 }

@@ -8,10 +8,9 @@ mod memory_store;
 #[cfg(test)]
 mod tests;
 
+use crate::record::Record;
 pub use file_store::FileStore;
 pub use memory_store::{Cut, MemoryStore};
-
-use crate::record::Record;
 use thiserror::Error;
 
 /// Why a store doesn't answer.
@@ -48,7 +47,7 @@ pub trait Store {
     // how often its device has failed
     ghost failures: { Self → ℕ };
 
-    // whether its device keeps what it was told to keep
+    // whether its device keeps what was synced
     ghost honest: { Self → Bool };
 
     // how many records it takes
@@ -61,7 +60,7 @@ pub trait Store {
     // what it leaves spells no list, that counts as every list.
     ghost left_since: { Self → ℕ → List R → Type 0 };
 
-    /// Record k, or None behind the last.
+    /// Record k, or None after the last.
     fn load(&mut self, k: u32) -> Result<Option<Record>, StoreFault>
         ensures answer { Loads (honest self.old) (list self.old) (stopped self.old) k (stopped self.new)
             (failures self.old)
@@ -73,7 +72,8 @@ pub trait Store {
         ensures honest { honest self.new ≡ honest self.old }
         ensures most { most self.new ≡ most self.old };
 
-    /// Adds a record at the end; the caller gives a Key where there is none yet. A stop at any moment of it leaves the old records, or these and the new one.
+    /// Adds a record at the end; the caller gives a Key where there is none yet. A stop at any moment of it leaves
+    /// the old records, or these and the new one.
     fn append(&mut self, new: &Record) -> Result<(), StoreFault>
         requires { CanFollow (list self.old) new.now }
         ensures any_moment { IsTrue (honest self.old) → stopped self.old ≡ false →
@@ -94,8 +94,10 @@ pub trait Store {
     ghost few: { (store : Self) → length (list store) ≤ most store };
 
     // Where no call has failed, a stop leaves its list ..
-    ghost leaves_list: { (store : Self) (t : ℕ) → IsTrue (honest store) → stopped store ≡ false → t ≤ moment store → left_since store t (list store) };
+    ghost leaves_list: { (store : Self) (t : ℕ) → IsTrue (honest store) → stopped store ≡ false → t ≤ moment store →
+        left_since store t (list store) };
 
     // .. and nothing else.
-    ghost leaves_nothing_else: { (store : Self) (left : List R) → IsTrue (honest store) → stopped store ≡ false → left_since store (moment store) left → left ≡ list store };
+    ghost leaves_nothing_else: { (store : Self) (left : List R) → IsTrue (honest store) → stopped store ≡ false →
+        left_since store (moment store) left → left ≡ list store };
 }

@@ -3,7 +3,7 @@
 ghost use Rattle.std.specs.Prelude.{reverse, ◌↔◌, IsTrue, ◌≡◌, ◌+◌, ◌≤◌, ◌<◌, ◌∷◌, [], ◌++◌, length, take, slice_range};
 ghost use Rattle.std.specs.Prelude.{IfOk, OnOk, OnErr, MatchOption, ℕ, max, slice_index};
 ghost use Rattle.state_file.specs.Disk.{IsOutside, greatest_end};
-ghost use Rattle.state_file.specs.Log.{base_of, ranges_of, IsFilled, Overlays};
+ghost use Rattle.state_file.specs.Log.{base_of, ranges_of, IsLongestLeft, Overlays};
 
 use std::alloc::{AllocError, Global};
 
@@ -59,8 +59,13 @@ fn is_outside(place: u64, log: &[Entry]) -> bool
 }
 
 /// The longest content that a stop may leave, with a byte wherever it may leave any.
-pub(crate) fn filled(alloc: Global, base: &[u8], log: &[Entry], byte: u8) -> Result<Vec<u8>, AllocError>
-    ensures { IfOk result (λ c. IsFilled byte base.now (ranges_of (reverse log.now)) c.items) }
+pub(crate) fn longest_left(
+    alloc: Global,
+    base: &[u8],
+    log: &[Entry],
+    byte: u8,
+) -> Result<Vec<u8>, AllocError>
+    ensures { IfOk result (λ c. IsLongestLeft byte base.now (ranges_of (reverse log.now)) c.items) }
 {
     let longest = usize::try_from(longest(base, log)).map_err(|_| AllocError)?;
     let mut left = Vec::new(alloc);
@@ -122,7 +127,7 @@ fn overwrite(content: &mut Vec<u8>, at: usize, bytes: &[u8]) -> Result<(), Alloc
     ensures before { OnOk result
         ((i : ℕ) → i < length content.old.items → i < at →
         slice_index content.new.items i ≡ slice_index content.old.items i) }
-    ensures behind { OnOk result
+    ensures after { OnOk result
         ((i : ℕ) → i < length content.old.items → at + length bytes.now ≤ i →
         slice_index content.new.items i ≡ slice_index content.old.items i) }
     ensures gap { OnOk result

@@ -7,7 +7,7 @@ ghost use Rattle.state_file.specs.Disk.{State, MayLeave, ChangesOnly, settled, W
 ghost use Rattle.state_file.specs.Disk.{CountsPastEnd, Elapses};
 ghost use Rattle.state_file.specs.Log.{LeftBy, left_now, left_only_now};
 
-use crate::disk::log::{Entry, base, filled, keep, part, write};
+use crate::disk::log::{Entry, base, keep, longest_left, part, write};
 use crate::disk::{Disk, DiskFault};
 use std::alloc::{AllocError, Global};
 use typecodes::Count;
@@ -41,7 +41,7 @@ struct Plan {
 impl Plan {
     ghost use Rattle.state_file.specs.MemoryDisk.{fate_of, fail_after, stop_after};
 
-    // Tells how a call fares that comes now.
+    // Gives how a call fares that comes now.
     fn next(&mut self) -> Fate
         ensures fate { result ≡ fate_of self.old.stop self.old.fail }
         ensures stop { self.new.stop ≡ stop_after self.old.stop }
@@ -58,7 +58,7 @@ impl Plan {
     }
 }
 
-/// A disk in memory. It is honest: of what its log tells, a stop leaves what an honest disk may leave, and
+/// A disk in memory. It is honest: by its log, a stop leaves what an honest disk may leave, and
 /// nothing else.
 #[derive(Drop)]
 pub struct MemoryDisk {
@@ -133,15 +133,20 @@ impl MemoryDisk {
         match pick {
             Pick::Old => base(&self.first, &self.log).to_vec(self.alloc),
             Pick::New => self.content.to_vec(self.alloc),
-            Pick::Fill(byte) => filled(self.alloc, base(&self.first, &self.log), &self.log, byte),
+            Pick::Fill(byte) => longest_left(
+                self.alloc,
+                base(&self.first, &self.log),
+                &self.log,
+                byte,
+            ),
         }
     }
 }
 
 impl Disk for MemoryDisk {
-    ghost use Rattle.state_file.specs.MemoryDisk.{SyncsInMemory, WritesInMemory, answer_of, fail_after, stop_after};
+    ghost use Rattle.state_file.specs.MemoryDisk.{PlanAfterCall, SyncsInMemory, WritesInMemory, answer_of};
     ghost use Rattle.state_file.specs.MemoryDisk.{is_honest, left_in, moment_in, state_in};
-    ghost use Rattle.state_file.specs.MemoryDisk.{fail_in, failures_in, next_fate, past_ends_in, stop_in};
+    ghost use Rattle.state_file.specs.MemoryDisk.{failures_in, next_fate, past_ends_in};
 
     ghost state = { state_in };
 
@@ -171,8 +176,7 @@ impl Disk for MemoryDisk {
         ensures failures { CountsFailure (failures_in self.old) (failures_in self.new) result }
         ensures past_ends { past_ends_in self.new ≡ past_ends_in self.old }
         ensures honest { is_honest self.new ≡ is_honest self.old }
-        ensures stop { stop_in self.new ≡ stop_after (stop_in self.old) }
-        ensures fail { fail_in self.new ≡ fail_after (fail_in self.old) }
+        ensures plan { PlanAfterCall self.old self.new }
     {
         if self.plan.next() != Fate::Runs {
             return refuse(&mut self.failures, DiskFault::Failed);
@@ -184,7 +188,8 @@ impl Disk for MemoryDisk {
         ensures value { result ≡ answer_of (next_fate self.old)
             (if nat_le (at + length into.old) (length (state_in self.old).content) then Ok tt else Err
             DiskFault.PastEnd) }
-        ensures within { IsTrue (is_honest self.old) → OnOk result (at + length into.old ≤ length (state_in self.old).content) }
+        ensures within { IsTrue (is_honest self.old) →
+            OnOk result (at + length into.old ≤ length (state_in self.old).content) }
         ensures bytes { IsTrue (is_honest self.old) →
             OnOk result (into.new ≡ slice_range (state_in self.old).content at (at + length into.old)) }
         ensures past_end { IsTrue (is_honest self.old) → result ≡ Err DiskFault.PastEnd →
@@ -196,8 +201,7 @@ impl Disk for MemoryDisk {
             (MayLeave (state_in self.new)) }
         ensures failures { CountsFailure (failures_in self.old) (failures_in self.new) result }
         ensures honest { is_honest self.new ≡ is_honest self.old }
-        ensures stop { stop_in self.new ≡ stop_after (stop_in self.old) }
-        ensures fail { fail_in self.new ≡ fail_after (fail_in self.old) }
+        ensures plan { PlanAfterCall self.old self.new }
     {
         if self.plan.next() != Fate::Runs {
             return refuse(&mut self.failures, DiskFault::Failed);
@@ -215,16 +219,17 @@ impl Disk for MemoryDisk {
     }
 
     fn write_at(&mut self, at: u64, bytes: &[u8]) -> Result<(), DiskFault>
-        ensures stores { WritesInMemory at bytes.now (state_in self.old) (state_in self.new) (next_fate self.old) result }
-        ensures written { IsTrue (is_honest self.old) → Writes at bytes.now (state_in self.old) (state_in self.new) result }
+        ensures stores { WritesInMemory at bytes.now (state_in self.old) (state_in self.new) (next_fate self.old)
+            result }
+        ensures written { IsTrue (is_honest self.old) →
+            Writes at bytes.now (state_in self.old) (state_in self.new) result }
         ensures time { IsTrue (is_honest self.old) →
             Elapses (moment_in self.old) (moment_in self.new) (left_in self.old) (left_in self.new)
             (MayLeave (state_in self.new)) }
         ensures failures { CountsFailure (failures_in self.old) (failures_in self.new) result }
         ensures past_ends { past_ends_in self.new ≡ past_ends_in self.old }
         ensures honest { is_honest self.new ≡ is_honest self.old }
-        ensures stop { stop_in self.new ≡ stop_after (stop_in self.old) }
-        ensures fail { fail_in self.new ≡ fail_after (fail_in self.old) }
+        ensures plan { PlanAfterCall self.old self.new }
     {
         match self.plan.next() {
             Fate::Runs => match write(&mut self.content, &mut self.log, at, bytes, bytes.len()) {
@@ -254,8 +259,7 @@ impl Disk for MemoryDisk {
         ensures failures { CountsFailure (failures_in self.old) (failures_in self.new) result }
         ensures past_ends { past_ends_in self.new ≡ past_ends_in self.old }
         ensures honest { is_honest self.new ≡ is_honest self.old }
-        ensures stop { stop_in self.new ≡ stop_after (stop_in self.old) }
-        ensures fail { fail_in self.new ≡ fail_after (fail_in self.old) }
+        ensures plan { PlanAfterCall self.old self.new }
     {
         if self.plan.next() != Fate::Runs {
             return refuse(&mut self.failures, DiskFault::Failed);

@@ -1,13 +1,14 @@
 //! Slots on a disk, and how they are added so that a stop never leaves half a slot.
 
-ghost use Rattle.std.specs.Prelude.{◌≡◌, ◌⊎◌, ◌+◌, ◌*◌, ◌≤◌, ◌∷◌, [], ◌++◌, ℕ, List, IsTrue, length, slice_range, IfOk, OnOk};
+ghost use Rattle.std.specs.Prelude.{◌≡◌, ◌⊎◌, ◌+◌, ◌*◌, ◌≤◌, ◌∷◌, [], ◌++◌, ℕ, List, IsTrue, length, slice_range};
+ghost use Rattle.std.specs.Prelude.{IfOk, OnOk};
 ghost use Rattle.state_file.specs.File.{open_value};
 ghost use Rattle.state_file.specs.Disk.{settled, range_of, ChangesOnly, IsSynced, LeavesOnly, MayLeave, CountsFailure};
 ghost use Rattle.state_file.specs.Gates.{AddsSlot, IsClosedAfter, IsAtRest, slot_and_gate};
 ghost use Rattle.state_file.specs.Opening.{OnlyReads};
 
 use crate::disk::{Disk, DiskFault};
-use crate::slot::OPEN;
+use crate::slot::{CLOSED, OPEN};
 
 /// The bytes of a slot.
 pub(crate) const SLOT: u64 = 256;
@@ -43,11 +44,19 @@ pub(crate) fn write_synced<D: Disk>(disk: &mut D, at: u64, bytes: &[u8]) -> Resu
     disk.sync()
 }
 
-/// Adds a slot behind those that are there. Its body, and a closed gate behind it, are synced before its
+/// Adds a slot after those that are there. Its fields and its tag, and a closed gate after them, are synced before its
 /// gate is opened.
-pub(crate) fn add_slot<D: Disk>(disk: &mut D, slot: u32, body: &[u8; 255]) -> Result<(), DiskFault>
+pub(crate) fn add_slot<D: Disk>(
+    disk: &mut D,
+    slot: u32,
+    fields: &[u8; 223],
+    tag: &[u8; 32],
+) -> Result<(), DiskFault>
+    ensures fields { length fields.now ≡ 223 }
+    ensures tag { length tag.now ≡ 32 }
     ensures added { (front : List ℕ) → IsTrue (D.honest disk.old) → IsAtRest front (D.state disk.old) →
-        length front ≡ 256 * slot → OnOk result (IsAtRest (front ++ open_value ∷ body.now) (D.state disk.new)) }
+        length front ≡ 256 * slot →
+        OnOk result (IsAtRest (front ++ open_value ∷ (fields.now ++ tag.now)) (D.state disk.new)) }
     ensures adds { IsTrue (D.honest disk.old) →
         OnOk result (AddsSlot slot (D.state disk.old).content (D.state disk.new)) }
     ensures bytes { IsTrue (D.honest disk.old) → IsSynced (D.state disk.old) →
@@ -56,27 +65,36 @@ pub(crate) fn add_slot<D: Disk>(disk: &mut D, slot: u32, body: &[u8; 255]) -> Re
     ensures any_moment { (front : List ℕ) → IsTrue (D.honest disk.old) → IsAtRest front (D.state disk.old) →
         length front ≡ 256 * slot →
         LeavesOnly D.moment D.left_since disk.old disk.new
-        (λ c. IsClosedAfter front c ⊎ IsClosedAfter (front ++ open_value ∷ body.now) c) }
+        (λ c. IsClosedAfter front c ⊎ IsClosedAfter (front ++ open_value ∷ (fields.now ++ tag.now)) c) }
     ensures failures { CountsFailure (D.failures disk.old) (D.failures disk.new) result }
     ensures past_ends { D.past_ends disk.new ≡ D.past_ends disk.old }
     ensures honest { D.honest disk.new ≡ D.honest disk.old }
 {
     let gate = SLOT * u64::from(slot);
-    write_synced(disk, gate + 1, &with_gate(body))?;
+    write_synced(disk, gate + 1, &block(fields, tag))?;
     write_synced(disk, gate, &[OPEN])
 }
 
-// A body, and a closed gate behind it.
-fn with_gate(body: &[u8; 255]) -> [u8; 256]
-    ensures bytes { result ≡ body.now ++ 0 ∷ [] }
-    ensures body { length body.now ≡ 255 }
+// The fields of a slot, its tag, and a closed gate after them.
+fn block(fields: &[u8; 223], tag: &[u8; 32]) -> [u8; 256]
+    ensures bytes { result ≡ (fields.now ++ tag.now) ++ 0 ∷ [] }
+    ensures body { length (fields.now ++ tag.now) ≡ 255 }
 {
-    let mut bytes = [0; 256];
-    bytes[..255].copy_from_slice(body);
+    let mut bytes = [CLOSED; 256];
+    copy_both(&mut bytes[..255], fields, tag);
     bytes
 }
 
-/// Syncs, and tells the length. A stop in it leaves nothing that a stop just before it couldn't leave.
+// Two parts, one after the other.
+fn copy_both(into: &mut [u8], first: &[u8], second: &[u8])
+    requires { length into.old ≡ length first.now + length second.now }
+    ensures { into.new ≡ first.now ++ second.now }
+{
+    into[..first.len()].copy_from_slice(first);
+    into[first.len()..].copy_from_slice(second);
+}
+
+/// Syncs, and gives the length. A stop in it leaves nothing that a stop just before it couldn't leave.
 pub(crate) fn settle<D: Disk>(disk: &mut D) -> Result<u64, DiskFault>
     ensures settled { IsTrue (D.honest disk.old) →
         IfOk result

@@ -1,13 +1,15 @@
 //! What stands in a file: its slots are read one after the other, up to the first whose gate is closed.
 
-ghost use Rattle.std.specs.Prelude.{◌≡◌, ◌+◌, ◌*◌, ◌-◌, ◌^◌, ◌<◌, ◌≤◌, ◌==◌, ◌∷◌, [], ◌++◌, IsTrue, IfOk, IfErr, OnOk, MatchOption, length, replicate, slice_index};
+ghost use Rattle.std.specs.Prelude.{◌≡◌, ◌+◌, ◌*◌, ◌-◌, ◌^◌, ◌<◌, ◌≤◌, ◌==◌, ◌∷◌, [], ◌++◌, IsTrue, IfOk, IfErr};
+ghost use Rattle.std.specs.Prelude.{OnOk, MatchOption, length, replicate, slice_index};
 ghost use Rattle.typecodes.specs.Layout.{Spells};
 ghost use Rattle.state_file.specs.File.{fields_at, open_value, previous_tag, tag_at, tag_of};
 ghost use Rattle.state_file.specs.Slot.{slot_record};
 ghost use Rattle.state_file.specs.declared.record.Record.{Record as Entry};
 ghost use Rattle.state_file.specs.Disk.{settled, MayLeave, CountsFailure};
 ghost use Rattle.state_file.specs.Disk.{LeavesOnly};
-ghost use Rattle.state_file.specs.Opening.{CountsOpening, HasEntry, HasSlot, IsFound, KeepsContent, OnlyReads, StartsWithKey, Tells, TellsSlot};
+ghost use Rattle.state_file.specs.Opening.{CountsOpening, HasEntry, HasSlot, IsFound, KeepsContent, OnlyReads};
+ghost use Rattle.state_file.specs.Opening.{StartsWithKey, Reports, ReportsSlot};
 
 use crate::disk::{Disk, DiskFault};
 use crate::file::gates::{SLOT, read_within, settle};
@@ -64,7 +66,7 @@ struct Slot {
     tag: [u8; 32],
 }
 
-// The bytes of a slot behind its gate.
+// The bytes of a slot after its gate.
 #[derive(Drop)]
 struct Body {
     fields: [u8; 223],
@@ -160,7 +162,7 @@ pub(crate) fn read_entry<D: Disk>(disk: &mut D, k: u32) -> Result<Option<Record>
     Ok(entry_of(&previous, &body))
 }
 
-// The record and the tag of slot k behind one of that tag, if the slot is whole.
+// The record and the tag of slot k after one of that tag, if the slot is whole.
 fn read_slot<D: Disk>(
     disk: &mut D,
     len: u64,
@@ -172,7 +174,7 @@ fn read_slot<D: Disk>(
     ensures few { OnOk result (k < 2 ^ 31) }
     ensures slot { IsTrue (D.honest disk.old) →
         IfOk result (λ slot. HasSlot (D.state disk.old).content k slot.entry slot.tag) }
-    ensures fault { IsTrue (D.honest disk.old) → IfErr result (TellsSlot (D.state disk.old).content k) }
+    ensures fault { IsTrue (D.honest disk.old) → IfErr result (ReportsSlot (D.state disk.old).content k) }
     ensures reads { IsTrue (D.honest disk.old) → OnlyReads D.state D.moment D.left_since disk.old disk.new }
     ensures failures { CountsOpening (D.failures disk.old) (D.failures disk.new) result }
     ensures past_ends { IsTrue (D.honest disk.old) → D.past_ends disk.new ≡ D.past_ends disk.old }
@@ -191,7 +193,7 @@ fn read_slot<D: Disk>(
     }
 }
 
-// The record of a slot behind one of that tag, if it spells one and its tag is that of it.
+// The record of a slot after one of that tag, if it spells one and its tag is that of it.
 fn entry_of(previous: &[u8; 32], body: &Body) -> Option<Record>
     ensures { MatchOption result
         ((entry : Entry) → Spells slot_record entry body.now.fields →
@@ -209,7 +211,7 @@ fn entry_of(previous: &[u8; 32], body: &Body) -> Option<Record>
 fn check_key<D: Disk>(disk: &mut D, len: u64) -> Result<(), OpenFault>
     requires len { IsTrue (D.honest disk.old) → len ≡ length (D.state disk.old).content }
     ensures key { IsTrue (D.honest disk.old) → OnOk result (StartsWithKey (D.state disk.old).content) }
-    ensures fault { IsTrue (D.honest disk.old) → IfErr result (Tells (D.state disk.old).content) }
+    ensures fault { IsTrue (D.honest disk.old) → IfErr result (Reports (D.state disk.old).content) }
     ensures reads { IsTrue (D.honest disk.old) → OnlyReads D.state D.moment D.left_since disk.old disk.new }
     ensures failures { CountsOpening (D.failures disk.old) (D.failures disk.new) result }
     ensures past_ends { IsTrue (D.honest disk.old) → D.past_ends disk.new ≡ D.past_ends disk.old }
@@ -264,7 +266,7 @@ fn read_slots<D: Disk>(disk: &mut D, len: u64) -> Result<Found, OpenFault>
     ensures few { IfOk result (λ found. found.count ≤ 2 ^ 31) }
     ensures found { IsTrue (D.honest disk.old) →
         IfOk result (λ found. IsFound (D.state disk.old).content found.records found.tag) }
-    ensures fault { IsTrue (D.honest disk.old) → IfErr result (Tells (D.state disk.old).content) }
+    ensures fault { IsTrue (D.honest disk.old) → IfErr result (Reports (D.state disk.old).content) }
     ensures reads { IsTrue (D.honest disk.old) → OnlyReads D.state D.moment D.left_since disk.old disk.new }
     ensures failures { CountsOpening (D.failures disk.old) (D.failures disk.new) result }
     ensures past_ends { IsTrue (D.honest disk.old) → D.past_ends disk.new ≡ D.past_ends disk.old }
@@ -285,7 +287,7 @@ pub(crate) fn find_records<D: Disk>(disk: &mut D) -> Result<Found, OpenFault>
     ensures few { IfOk result (λ found. found.count ≤ 2 ^ 31) }
     ensures found { IsTrue (D.honest disk.old) →
         IfOk result (λ found. IsFound (D.state disk.old).content found.records found.tag) }
-    ensures fault { IsTrue (D.honest disk.old) → IfErr result (Tells (D.state disk.old).content) }
+    ensures fault { IsTrue (D.honest disk.old) → IfErr result (Reports (D.state disk.old).content) }
     ensures synced { IsTrue (D.honest disk.old) → OnOk result (D.state disk.new ≡ settled (D.state disk.old).content) }
     ensures kept { IsTrue (D.honest disk.old) →
         IfErr result (KeepsContent (D.state disk.old).content (D.state disk.new)) }

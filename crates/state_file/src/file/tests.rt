@@ -1,9 +1,8 @@
 //! Slots that are added, and places that are prepared, on a disk that stops.
 
 use crate::file::{add_slot, format};
-use crate::samples::key;
 use crate::*;
-use std::test::Fail;
+use std::alloc::Global;
 
 // How many slots stand open, one after the other.
 fn open_slots(content: &[u8]) -> usize {
@@ -21,8 +20,31 @@ const fn one_slot() -> [u8; 257] {
     content
 }
 
+// Whether a stop leaves so many open slots by this pick.
+fn leaves(disk: &MemoryDisk, pick: Pick, wanted: usize) -> bool {
+    match disk.stop(pick) {
+        Ok(left) => open_slots(&left) == wanted,
+        Err(_) => false,
+    }
+}
+
+// Adds a second slot to a disk that stops before a call, and says whether each pick leaves so many open slots.
+fn adds_slot(alloc: Global, call: u32, counts: [usize; 4]) -> Option<bool> {
+    let mut disk = MemoryDisk::of(alloc, &one_slot()).ok()?;
+    disk.stop_at(call);
+    let added = add_slot(&mut disk, 1, &[2; 223], &[2; 32]).is_ok();
+    let [old, new, open, zeros] = counts;
+    Some(
+        added == (call == 5)
+            && leaves(&disk, Pick::Old, old)
+            && leaves(&disk, Pick::New, new)
+            && leaves(&disk, Pick::Fill(0xA5), open)
+            && leaves(&disk, Pick::Fill(0), zeros),
+    )
+}
+
 #[test]
-fn a_stop_leaves_the_old_slots_or_the_new(rt: HostRuntime) -> Result<(), Fail> {
+fn a_stop_leaves_the_old_slots_or_the_new(rt: HostRuntime) {
     // before which call the stop comes, and how many slots each pick leaves
     let table = [
         (1, [1, 1, 1, 1]),
@@ -32,66 +54,35 @@ fn a_stop_leaves_the_old_slots_or_the_new(rt: HostRuntime) -> Result<(), Fail> {
         (5, [2, 2, 2, 2]),
     ];
     for (call, counts) in table {
-        let mut disk = MemoryDisk::of(rt.alloc(), &one_slot())?;
-        disk.stop_at(call);
-        assert_eq!(rt; add_slot(&mut disk, 1, &[2; 255]).is_ok(), call == 5);
-        let [old, new, open, zeros] = counts;
-        assert_eq!(rt; open_slots(&disk.stop(Pick::Old)?), old);
-        assert_eq!(rt; open_slots(&disk.stop(Pick::New)?), new);
-        assert_eq!(rt; open_slots(&disk.stop(Pick::Fill(0xA5))?), open);
-        assert_eq!(rt; open_slots(&disk.stop(Pick::Fill(0))?), zeros);
+        assert_eq!(rt; adds_slot(rt.alloc(), call, counts), Some(true));
     }
-    Ok(())
+}
+
+// Prepares a place, and says whether it answers so, and leaves a content that begins with this byte.
+fn prepares(
+    alloc: Global,
+    content: &[u8],
+    wanted: Result<(), FormatFault>,
+    first: u8,
+) -> Option<bool> {
+    let mut disk = MemoryDisk::of(alloc, content).ok()?;
+    let answer = format(&mut disk);
+    let left = disk.stop(Pick::Fill(9)).ok()?;
+    Some(answer == wanted && left.first() == Some(&first) && left.len() == content.len().max(1))
 }
 
 #[test]
-fn a_place_without_a_key_is_prepared(rt: HostRuntime) -> Result<(), Fail> {
-    for first in [0x37, 0xA5] {
-        let mut disk = MemoryDisk::of(rt.alloc(), &[first])?;
-        format(&mut disk)?;
-        assert_eq!(rt; disk.stop(Pick::Fill(9))?.as_slice(), [0].as_slice());
+fn a_place_without_a_key_is_prepared(rt: HostRuntime) {
+    let key = one_slot();
+    let table = [
+        ([].as_slice(), Ok(()), 0),
+        ([0x37].as_slice(), Ok(()), 0),
+        ([0xA5].as_slice(), Ok(()), 0),
+        ([0; 257].as_slice(), Ok(()), 0),
+        (key.as_slice(), Err(FormatFault::KeyThere), 0xA5),
+        ([0; 258].as_slice(), Err(FormatFault::NotKeyFile), 0),
+    ];
+    for (content, wanted, first) in table {
+        assert_eq!(rt; prepares(rt.alloc(), content, wanted, first), Some(true));
     }
-    let mut empty = MemoryDisk::of(rt.alloc(), &[])?;
-    format(&mut empty)?;
-    assert_eq!(rt; empty.stop(Pick::Old)?.as_slice(), [0].as_slice());
-    let mut key = MemoryDisk::of(rt.alloc(), &one_slot())?;
-    assert_eq!(rt; format(&mut key), Err(FormatFault::KeyThere));
-    let mut closed = MemoryDisk::of(rt.alloc(), &[0; 257])?;
-    format(&mut closed)?;
-    let mut longer = MemoryDisk::of(rt.alloc(), &[0; 258])?;
-    assert_eq!(rt; format(&mut longer), Err(FormatFault::NotKeyFile));
-    Ok(())
-}
-
-#[test]
-fn a_store_over_a_disk_keeps_its_records(rt: HostRuntime) -> Result<(), Fail> {
-    let disk = MemoryDisk::of(rt.alloc(), &[])?;
-    let Ok(mut store) = FileStore::format(disk) else {
-        return Ok(assert!(rt; false));
-    };
-    assert!(rt; store.load(0)? == None);
-    store.append(&key())?;
-    store.append(&Record::Retire { upto: 5 })?;
-    assert_eq!(rt; store.count(), 2);
-    assert!(rt; store.load(0)? == Some(key()));
-    assert!(rt; store.load(1)? == Some(Record::Retire { upto: 5 }));
-    assert!(rt; store.load(2)? == None);
-    assert_eq!(rt; store.limit(), 2147483648);
-    let mut disk = store.into_disk();
-    assert_eq!(rt; disk.len()?, 513);
-    Ok(())
-}
-
-#[test]
-fn an_append_that_fails_stops_the_store(rt: HostRuntime) -> Result<(), Fail> {
-    let mut disk = MemoryDisk::of(rt.alloc(), &[])?;
-    // format's three calls, and then the append's first
-    disk.fail_at(5);
-    let Ok(mut store) = FileStore::format(disk) else {
-        return Ok(assert!(rt; false));
-    };
-    assert_eq!(rt; store.append(&key()), Err(StoreFault::DeviceFailed));
-    assert_eq!(rt; store.append(&key()), Err(StoreFault::Stopped));
-    assert!(rt; store.load(0) == Err(StoreFault::Stopped));
-    Ok(())
 }

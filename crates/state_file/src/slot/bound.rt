@@ -7,15 +7,18 @@ ghost use Rattle.state_file.specs.Fields.{AppendsSpelling};
 ghost use Rattle.state_file.specs.Slot.{are_visible, bound_fields, name_field};
 
 use crate::record::{Bound, Record};
-use crate::slot::fields::{Fields, no_record, put, put_array, put_byte_within, put_number, put_zeros};
-use crate::slot::fields::{read_byte_within, read_zeros};
+use crate::slot::fields::{
+    Fields, no_record, put, put_array, put_byte_within, put_number, put_zeros, read_byte_within,
+    read_zeros,
+};
 use typecodes::{Cursor, Name, ReadFault};
 
 // The name of these bytes, if each is a visible character.
 fn visible_name(bytes: &[u8]) -> Option<Name>
     requires some { 1 ≤ length bytes.now }
     requires few { length bytes.now ≤ 64 }
-    ensures { MatchOption result (are_visible bytes.now ≡ false) (λ name. (are_visible bytes.now ≡ true) × (name ≡ bytes.now)) }
+    ensures { MatchOption result (are_visible bytes.now ≡ false) (λ name. (are_visible bytes.now ≡ true) ×
+        (name ≡ bytes.now)) }
 {
     Name::new(bytes).ok()
 }
@@ -24,7 +27,8 @@ fn visible_name(bytes: &[u8]) -> Option<Name>
 #[tactic(auto, using(typecodes::proofs::Steps::reading), unfolding(crate::specs::Slot::name_field))]
 fn read_name(cursor: &mut Cursor<'_>) -> Result<Name, ReadFault>
     requires { cursor.old.place + 65 < 2 ^ 32 }
-    ensures read { Gives (λ name. (name, cursor.new.place)) result (read name_field cursor.old.bytes.now cursor.old.place) }
+    ensures read { Gives (λ name. (name, cursor.new.place)) result
+        (read name_field cursor.old.bytes.now cursor.old.place) }
     ensures len { OnOk result (cursor.new.place ≡ cursor.old.place + 65) }
     ensures bytes { cursor.new.bytes ≡ cursor.old.bytes }
 {
@@ -51,7 +55,8 @@ fn put_name(out: &mut Fields, name: &Name)
 #[tactic(auto, using(typecodes::proofs::Steps::reading), unfolding(crate::specs::Slot::bound_fields))]
 pub(crate) fn read_bound(cursor: &mut Cursor<'_>) -> Result<Record, ReadFault>
     requires { cursor.old.place + 222 < 2 ^ 32 }
-    ensures read { Gives (λ entry. (entry, cursor.new.place)) result (read bound_fields cursor.old.bytes.now cursor.old.place) }
+    ensures read { Gives (λ entry. (entry, cursor.new.place)) result
+        (read bound_fields cursor.old.bytes.now cursor.old.place) }
     ensures len { OnOk result (cursor.new.place ≡ cursor.old.place + 222) }
     ensures bytes { cursor.new.bytes ≡ cursor.old.bytes }
 {

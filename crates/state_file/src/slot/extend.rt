@@ -7,14 +7,17 @@ ghost use Rattle.state_file.specs.Fields.{AppendsSpelling};
 ghost use Rattle.state_file.specs.Slot.{extend_fields};
 
 use crate::record::{Extend, Record};
-use crate::slot::fields::{Fields, put_array, put_byte, put_number, put_zeros, read_byte, read_zeros};
+use crate::slot::fields::{
+    Fields, put_array, put_byte, put_number, put_zeros, read_byte, read_zeros,
+};
 use typecodes::{Cursor, ReadFault};
 
 /// The fields of an Extend, 222 bytes.
 #[tactic(auto, using(typecodes::proofs::Steps::reading), unfolding(crate::specs::Slot::extend_fields))]
 pub(crate) fn read_extend(cursor: &mut Cursor<'_>) -> Result<Record, ReadFault>
     requires { cursor.old.place + 222 < 2 ^ 32 }
-    ensures read { Gives (λ entry. (entry, cursor.new.place)) result (read extend_fields cursor.old.bytes.now cursor.old.place) }
+    ensures read { Gives (λ entry. (entry, cursor.new.place)) result
+        (read extend_fields cursor.old.bytes.now cursor.old.place) }
     ensures len { OnOk result (cursor.new.place ≡ cursor.old.place + 222) }
     ensures bytes { cursor.new.bytes ≡ cursor.old.bytes }
 {

@@ -74,7 +74,8 @@ pub(crate) fn read_byte_within(
     most: u8,
 ) -> Result<u8, ReadFault>
     requires { cursor.old.place + 1 < 2 ^ 32 }
-    ensures read { Gives (λ n. (n, cursor.new.place)) result (read (byte_within least most) cursor.old.bytes.now cursor.old.place) }
+    ensures read { Gives (λ n. (n, cursor.new.place)) result
+        (read (byte_within least most) cursor.old.bytes.now cursor.old.place) }
     ensures least { IfOk result (λ n. least ≤ n) }
     ensures most { IfOk result (λ n. n ≤ most) }
     ensures len { OnOk result (cursor.new.place ≡ cursor.old.place + 1) }
@@ -103,7 +104,8 @@ pub(crate) fn put_byte_within(out: &mut Fields, n: u8, least: u8, most: u8)
 #[tactic(auto, using(typecodes::proofs::Steps::reading), unfolding(crate::specs::Slot::exactly))]
 pub(crate) fn read_exactly(cursor: &mut Cursor<'_>, expected: &[u8]) -> Result<(), ReadFault>
     requires { cursor.old.place + length expected.now < 2 ^ 32 }
-    ensures read { Gives (λ u. (u, cursor.new.place)) result (read (exactly (length expected.now) expected.now) cursor.old.bytes.now cursor.old.place) }
+    ensures read { Gives (λ u. (u, cursor.new.place)) result
+        (read (exactly (length expected.now) expected.now) cursor.old.bytes.now cursor.old.place) }
     ensures len { OnOk result (cursor.new.place ≡ cursor.old.place + length expected.now) }
     ensures bytes { cursor.new.bytes ≡ cursor.old.bytes }
 {

@@ -8,8 +8,10 @@ ghost use Rattle.state_file.specs.File.{begins_key, version_of};
 ghost use Rattle.state_file.specs.Slot.{key_fields, version_code, version_field, versions};
 
 use crate::record::{Key, Record, Version};
-use crate::slot::fields::{Fields, no_record, put, put_array, put_byte, put_exactly, put_zeros};
-use crate::slot::fields::{read_byte, read_exactly, read_zeros};
+use crate::slot::fields::{
+    Fields, no_record, put, put_array, put_byte, put_exactly, put_zeros, read_byte, read_exactly,
+    read_zeros,
+};
 use crate::slot::secret::{put_secret, read_secret, scheme};
 use byteorder::{BigEndian, ByteOrder};
 use typecodes::{Cursor, ReadFault};
@@ -25,7 +27,7 @@ pub(crate) fn begins_key(fields: &[u8]) -> bool
     fields[0] == 1 && fields[1..9] == MAGIC[..]
 }
 
-/// The version that the fields of a Key tell, if it is known.
+/// The version in the fields of a Key, if it is known.
 pub(crate) fn version(fields: &[u8]) -> Option<Version>
     requires { length fields.now ≡ 223 }
     ensures { result ≡ version_of fields.now }
@@ -37,7 +39,8 @@ pub(crate) fn version(fields: &[u8]) -> Option<Version>
 #[tactic(auto, using(typecodes::proofs::Steps::reading), unfolding(crate::specs::Slot::version_field))]
 fn read_version(cursor: &mut Cursor<'_>) -> Result<Version, ReadFault>
     requires { cursor.old.place + 2 < 2 ^ 32 }
-    ensures read { Gives (λ version. (version, cursor.new.place)) result (read version_field cursor.old.bytes.now cursor.old.place) }
+    ensures read { Gives (λ version. (version, cursor.new.place)) result
+        (read version_field cursor.old.bytes.now cursor.old.place) }
     ensures len { OnOk result (cursor.new.place ≡ cursor.old.place + 2) }
     ensures bytes { cursor.new.bytes ≡ cursor.old.bytes }
 {
@@ -59,7 +62,8 @@ fn put_version(out: &mut Fields, version: Version)
 #[tactic(auto, using(typecodes::proofs::Steps::reading), unfolding(crate::specs::Slot::key_fields))]
 pub(crate) fn read_key(cursor: &mut Cursor<'_>) -> Result<Record, ReadFault>
     requires { cursor.old.place + 222 < 2 ^ 32 }
-    ensures read { Gives (λ entry. (entry, cursor.new.place)) result (read key_fields cursor.old.bytes.now cursor.old.place) }
+    ensures read { Gives (λ entry. (entry, cursor.new.place)) result
+        (read key_fields cursor.old.bytes.now cursor.old.place) }
     ensures len { OnOk result (cursor.new.place ≡ cursor.old.place + 222) }
     ensures bytes { cursor.new.bytes ≡ cursor.old.bytes }
 {

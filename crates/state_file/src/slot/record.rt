@@ -11,8 +11,10 @@ ghost use Rattle.state_file.specs.Slot.{fields_of, kind_of, moved_fields, retire
 use crate::record::Record;
 use crate::slot::bound::{put_bound, read_bound};
 use crate::slot::extend::{put_extend, read_extend};
-use crate::slot::fields::{Fields, no_record, put_byte, put_exactly, put_number, put_zeros};
-use crate::slot::fields::{read_byte, read_exactly, read_zeros};
+use crate::slot::fields::{
+    Fields, no_record, put_byte, put_exactly, put_number, put_zeros, read_byte, read_exactly,
+    read_zeros,
+};
 use crate::slot::key::{put_key, read_key};
 use arrayvec::ArrayVec;
 use typecodes::{Cursor, ReadFault};
@@ -21,7 +23,8 @@ use typecodes::{Cursor, ReadFault};
 #[tactic(auto, using(typecodes::proofs::Steps::reading), unfolding(crate::specs::Slot::retire_fields))]
 fn read_retire(cursor: &mut Cursor<'_>) -> Result<Record, ReadFault>
     requires { cursor.old.place + 222 < 2 ^ 32 }
-    ensures read { Gives (λ entry. (entry, cursor.new.place)) result (read retire_fields cursor.old.bytes.now cursor.old.place) }
+    ensures read { Gives (λ entry. (entry, cursor.new.place)) result
+        (read retire_fields cursor.old.bytes.now cursor.old.place) }
     ensures len { OnOk result (cursor.new.place ≡ cursor.old.place + 222) }
     ensures bytes { cursor.new.bytes ≡ cursor.old.bytes }
 {
@@ -43,7 +46,8 @@ fn put_retire(out: &mut Fields, upto: u32)
 #[tactic(auto, using(typecodes::proofs::Steps::reading), unfolding(crate::specs::Slot::moved_fields))]
 fn read_moved(cursor: &mut Cursor<'_>) -> Result<Record, ReadFault>
     requires { cursor.old.place + 222 < 2 ^ 32 }
-    ensures read { Gives (λ entry. (entry, cursor.new.place)) result (read moved_fields cursor.old.bytes.now cursor.old.place) }
+    ensures read { Gives (λ entry. (entry, cursor.new.place)) result
+        (read moved_fields cursor.old.bytes.now cursor.old.place) }
     ensures len { OnOk result (cursor.new.place ≡ cursor.old.place + 222) }
     ensures bytes { cursor.new.bytes ≡ cursor.old.bytes }
 {
@@ -78,7 +82,8 @@ fn kind(entry: &Record) -> u8
 fn read_fields(cursor: &mut Cursor<'_>, kind: u8) -> Result<Record, ReadFault>
     requires some { 1 ≤ cursor.old.place }
     requires room { cursor.old.place + 222 < 2 ^ 32 }
-    ensures read { Gives (λ entry. (entry, cursor.new.place)) result (read (fields_of kind) cursor.old.bytes.now cursor.old.place) }
+    ensures read { Gives (λ entry. (entry, cursor.new.place)) result
+        (read (fields_of kind) cursor.old.bytes.now cursor.old.place) }
     ensures len { OnOk result (cursor.new.place ≡ cursor.old.place + 222) }
     ensures bytes { cursor.new.bytes ≡ cursor.old.bytes }
 {
@@ -108,7 +113,7 @@ fn put_fields(out: &mut Fields, entry: &Record)
 }
 
 // The record that the bytes spell, or their first fault.
-#[tactic(auto, using(typecodes::proofs::Steps::steps, typecodes::proofs::Steps::reading), unfolding(crate::specs::Slot::slot_record))]
+#[tactic(auto, using(crate::proofs::Blocks::whole), unfolding(crate::specs::Slot::slot_record))]
 fn read_all(bytes: &[u8]) -> Result<Record, ReadFault>
     ensures { Reads slot_record (λ entry. entry) bytes.now result }
 {
@@ -121,7 +126,8 @@ fn read_all(bytes: &[u8]) -> Result<Record, ReadFault>
 
 /// The record that the bytes 1 to 223 of a slot spell, if they spell one.
 pub(crate) fn read_record(bytes: &[u8]) -> Option<Record>
-    ensures { MatchOption result ((entry : Entry) → Spells slot_record entry bytes.now → ⊥) (λ entry. Spells slot_record entry bytes.now) }
+    ensures { MatchOption result ((entry : Entry) → Spells slot_record entry bytes.now →
+        ⊥) (λ entry. Spells slot_record entry bytes.now) }
 {
     read_all(bytes).ok()
 }

@@ -4,18 +4,22 @@ ghost use Rattle.std.specs.Prelude.{◌≡◌, ◌<◌, ◌≤◌, ◌+◌, ◌*
 ghost use Rattle.arrayvec.specs.ArrayVec.{array_vec_len};
 ghost use Rattle.typecodes.specs.Cursor.{read, Gives};
 ghost use Rattle.state_file.specs.Fields.{AppendsSpelling};
-ghost use Rattle.state_file.specs.Slot.{hss_secret, levels_field, lms_secret, pair_field, pairs, scheme_of, secret_of, xmss_secret};
+ghost use Rattle.state_file.specs.Slot.{hss_secret, levels_field, lms_secret, pair_field, pairs, scheme_of};
+ghost use Rattle.state_file.specs.Slot.{secret_of, xmss_secret};
 
 use crate::record::Secret;
-use crate::slot::fields::{Fields, no_record, put_array, put_byte_within, put_exactly, put_number, put_zeros};
-use crate::slot::fields::{read_byte_within, read_exactly, read_zeros};
+use crate::slot::fields::{
+    Fields, no_record, put_array, put_byte_within, put_exactly, put_number, put_zeros,
+    read_byte_within, read_exactly, read_zeros,
+};
 use typecodes::{Cursor, Levels, LmsPair, LmsType, OtsType, ReadFault, XmssType};
 
 /// A pair, by its codes.
 #[tactic(auto, using(typecodes::proofs::Steps::reading), unfolding(crate::specs::Slot::pair_field))]
 pub(crate) fn read_pair(cursor: &mut Cursor<'_>) -> Result<LmsPair, ReadFault>
     requires { cursor.old.place + 8 < 2 ^ 32 }
-    ensures read { Gives (λ pair. (pair, cursor.new.place)) result (read pair_field cursor.old.bytes.now cursor.old.place) }
+    ensures read { Gives (λ pair. (pair, cursor.new.place)) result
+        (read pair_field cursor.old.bytes.now cursor.old.place) }
     ensures len { OnOk result (cursor.new.place ≡ cursor.old.place + 8) }
     ensures bytes { cursor.new.bytes ≡ cursor.old.bytes }
 {
@@ -38,7 +42,8 @@ fn put_pair(out: &mut Fields, pair: LmsPair)
 fn read_pairs(cursor: &mut Cursor<'_>, count: u8) -> Result<[LmsPair; 8], ReadFault>
     requires few { count ≤ 8 }
     requires room { cursor.old.place + 64 < 2 ^ 32 }
-    ensures read { Gives (λ all. (take count all, cursor.new.place)) result (read (pairs count) cursor.old.bytes.now cursor.old.place) }
+    ensures read { Gives (λ all. (take count all, cursor.new.place)) result
+        (read (pairs count) cursor.old.bytes.now cursor.old.place) }
     ensures len { OnOk result (cursor.new.place ≡ cursor.old.place + 8 * count) }
     ensures bytes { cursor.new.bytes ≡ cursor.old.bytes }
 {
@@ -67,7 +72,8 @@ fn put_pairs(out: &mut Fields, all: &[LmsPair])
 #[tactic(auto, using(typecodes::proofs::Steps::reading), unfolding(crate::specs::Slot::levels_field))]
 pub(crate) fn read_levels(cursor: &mut Cursor<'_>) -> Result<Levels, ReadFault>
     requires { cursor.old.place + 65 < 2 ^ 32 }
-    ensures read { Gives (λ levels. (levels, cursor.new.place)) result (read levels_field cursor.old.bytes.now cursor.old.place) }
+    ensures read { Gives (λ levels. (levels, cursor.new.place)) result
+        (read levels_field cursor.old.bytes.now cursor.old.place) }
     ensures len { OnOk result (cursor.new.place ≡ cursor.old.place + 65) }
     ensures bytes { cursor.new.bytes ≡ cursor.old.bytes }
 {
@@ -96,7 +102,8 @@ fn put_levels(out: &mut Fields, levels: &Levels)
 #[tactic(auto, using(typecodes::proofs::Steps::reading), unfolding(crate::specs::Slot::lms_secret))]
 fn read_lms(cursor: &mut Cursor<'_>) -> Result<Secret, ReadFault>
     requires { cursor.old.place + 177 < 2 ^ 32 }
-    ensures read { Gives (λ secret. (secret, cursor.new.place)) result (read lms_secret cursor.old.bytes.now cursor.old.place) }
+    ensures read { Gives (λ secret. (secret, cursor.new.place)) result
+        (read lms_secret cursor.old.bytes.now cursor.old.place) }
     ensures len { OnOk result (cursor.new.place ≡ cursor.old.place + 177) }
     ensures bytes { cursor.new.bytes ≡ cursor.old.bytes }
 {
@@ -130,7 +137,8 @@ fn put_lms(out: &mut Fields, pair: LmsPair, identifier: &[u8; 16], seed: &[u8; 3
 #[tactic(auto, using(typecodes::proofs::Steps::reading), unfolding(crate::specs::Slot::hss_secret))]
 fn read_hss(cursor: &mut Cursor<'_>) -> Result<Secret, ReadFault>
     requires { cursor.old.place + 177 < 2 ^ 32 }
-    ensures read { Gives (λ secret. (secret, cursor.new.place)) result (read hss_secret cursor.old.bytes.now cursor.old.place) }
+    ensures read { Gives (λ secret. (secret, cursor.new.place)) result
+        (read hss_secret cursor.old.bytes.now cursor.old.place) }
     ensures len { OnOk result (cursor.new.place ≡ cursor.old.place + 177) }
     ensures bytes { cursor.new.bytes ≡ cursor.old.bytes }
 {
@@ -147,7 +155,8 @@ fn read_hss(cursor: &mut Cursor<'_>) -> Result<Secret, ReadFault>
 
 fn put_hss(out: &mut Fields, levels: &Levels, identifier: &[u8; 16], seed: &[u8; 32])
     requires { array_vec_len out.old + 177 ≤ 223 }
-    ensures writes { AppendsSpelling hss_secret (Secret.Hss levels.now identifier.now seed.now) out.old.items out.new.items }
+    ensures writes { AppendsSpelling hss_secret (Secret.Hss levels.now identifier.now seed.now)
+        out.old.items out.new.items }
     ensures len { array_vec_len out.new ≡ array_vec_len out.old + 177 }
 {
     put_levels(out, levels);
@@ -160,7 +169,8 @@ fn put_hss(out: &mut Fields, levels: &Levels, identifier: &[u8; 16], seed: &[u8;
 #[tactic(auto, using(typecodes::proofs::Steps::reading), unfolding(crate::specs::Slot::xmss_secret))]
 fn read_xmss(cursor: &mut Cursor<'_>) -> Result<Secret, ReadFault>
     requires { cursor.old.place + 177 < 2 ^ 32 }
-    ensures read { Gives (λ secret. (secret, cursor.new.place)) result (read xmss_secret cursor.old.bytes.now cursor.old.place) }
+    ensures read { Gives (λ secret. (secret, cursor.new.place)) result
+        (read xmss_secret cursor.old.bytes.now cursor.old.place) }
     ensures len { OnOk result (cursor.new.place ≡ cursor.old.place + 177) }
     ensures bytes { cursor.new.bytes ≡ cursor.old.bytes }
 {
@@ -187,7 +197,8 @@ fn put_xmss(
     public_seed: &[u8; 32],
 )
     requires { array_vec_len out.old + 177 ≤ 223 }
-    ensures writes { AppendsSpelling xmss_secret (Secret.Xmss tree secret_seed.now prf_key.now public_seed.now) out.old.items out.new.items }
+    ensures writes { AppendsSpelling xmss_secret (Secret.Xmss tree secret_seed.now prf_key.now public_seed.now)
+        out.old.items out.new.items }
     ensures len { array_vec_len out.new ≡ array_vec_len out.old + 177 }
 {
     put_exactly(out, &[1]);
@@ -203,7 +214,8 @@ fn put_xmss(
 pub(crate) fn read_secret(cursor: &mut Cursor<'_>, scheme: u8) -> Result<Secret, ReadFault>
     requires some { 1 ≤ cursor.old.place }
     requires room { cursor.old.place + 177 < 2 ^ 32 }
-    ensures read { Gives (λ secret. (secret, cursor.new.place)) result (read (secret_of scheme) cursor.old.bytes.now cursor.old.place) }
+    ensures read { Gives (λ secret. (secret, cursor.new.place)) result
+        (read (secret_of scheme) cursor.old.bytes.now cursor.old.place) }
     ensures len { OnOk result (cursor.new.place ≡ cursor.old.place + 177) }
     ensures bytes { cursor.new.bytes ≡ cursor.old.bytes }
 {

@@ -1,4 +1,4 @@
-//! Slots against bytes that another program drew, and what slots may not hold.
+//! Slots against bytes that another program drew, and what slots may not contain.
 
 mod drawn;
 
@@ -122,14 +122,32 @@ fn is_spelled_with(drawn: &[u8; 223], place: usize, byte: u8) -> bool {
     read_record(&other).is_some()
 }
 
-#[test]
-fn what_a_slot_may_not_hold(rt: HostRuntime) {
-    // kinds, and kinds whose fields stand elsewhere
-    for kind in [0, 2, 3, 4, 5, 6, 0xa5, 255] {
-        assert!(rt; !is_spelled_with(&drawn::LMS_KEY, 1, kind));
+// The first place of these where the bytes, with this one changed so, spell a record, or where they don't.
+fn first_place(drawn: &[u8; 223], changes: &[(usize, u8)], spelled: bool) -> Option<usize> {
+    for (place, byte) in changes {
+        if is_spelled_with(drawn, *place, *byte) == spelled {
+            return Some(*place);
+        }
     }
+    None
+}
+
+#[test]
+fn what_a_slot_may_not_contain(rt: HostRuntime) {
+    // kinds, and kinds whose fields stand elsewhere
+    let kinds = [
+        (1, 0),
+        (1, 2),
+        (1, 3),
+        (1, 4),
+        (1, 5),
+        (1, 6),
+        (1, 0xa5),
+        (1, 255),
+    ];
+    assert_eq!(rt; first_place(&drawn::LMS_KEY, &kinds, true), None);
     // the magic, the version, the scheme and the levels of a Key
-    for (place, byte) in [
+    let key = [
         (2, b'h'),
         (9, b'e'),
         (10, 1),
@@ -140,11 +158,10 @@ fn what_a_slot_may_not_hold(rt: HostRuntime) {
         (12, 4),
         (13, 0),
         (13, 2),
-    ] {
-        assert!(rt; !is_spelled_with(&drawn::LMS_KEY, place, byte));
-    }
-    // codes, pairs past the levels, SK_PRF, the public SEED, and what is behind the root
-    for (place, byte) in [
+    ];
+    assert_eq!(rt; first_place(&drawn::LMS_KEY, &key, true), None);
+    // codes, pairs past the levels, SK_PRF, the public SEED, and what follows the root
+    let secret = [
         (17, 4),
         (17, 10),
         (21, 0),
@@ -157,15 +174,21 @@ fn what_a_slot_may_not_hold(rt: HostRuntime) {
         (189, 1),
         (222, 1),
         (223, 1),
-    ] {
-        assert!(rt; !is_spelled_with(&drawn::LMS_KEY, place, byte));
-    }
+    ];
+    assert_eq!(rt; first_place(&drawn::LMS_KEY, &secret, true), None);
     // levels of HSS
-    for levels in [0, 1, 2, 4, 8, 9, 255] {
-        assert!(rt; !is_spelled_with(&drawn::HSS_KEY, 13, levels));
-    }
+    let levels = [
+        (13, 0),
+        (13, 1),
+        (13, 2),
+        (13, 4),
+        (13, 8),
+        (13, 9),
+        (13, 255),
+    ];
+    assert_eq!(rt; first_place(&drawn::HSS_KEY, &levels, true), None);
     // an XMSS code, its one-time code, pairs past it, and an I
-    for (place, byte) in [
+    let xmss = [
         (13, 2),
         (17, 0),
         (17, 4),
@@ -173,11 +196,10 @@ fn what_a_slot_may_not_hold(rt: HostRuntime) {
         (25, 5),
         (78, 1),
         (93, 1),
-    ] {
-        assert!(rt; !is_spelled_with(&drawn::XMSS_KEY, place, byte));
-    }
-    // a name's length, its characters and what is behind it
-    for (place, byte) in [
+    ];
+    assert_eq!(rt; first_place(&drawn::XMSS_KEY, &xmss, true), None);
+    // a name's length, its characters and what follows it
+    let bound = [
         (2, 0),
         (2, 3),
         (2, 5),
@@ -188,30 +210,28 @@ fn what_a_slot_may_not_hold(rt: HostRuntime) {
         (7, 1),
         (66, 1),
         (135, 1),
-    ] {
-        assert!(rt; !is_spelled_with(&drawn::BOUND, place, byte));
-    }
+    ];
+    assert_eq!(rt; first_place(&drawn::BOUND, &bound, true), None);
     // a new version, and unused bytes
-    for (place, byte) in [(2, 1), (3, 0), (3, 1), (3, 3), (4, 1), (223, 1)] {
-        assert!(rt; !is_spelled_with(&drawn::MOVED, place, byte));
-    }
-    assert!(rt; !is_spelled_with(&drawn::EXTEND, 151, 1));
-    assert!(rt; !is_spelled_with(&drawn::RETIRE, 6, 1));
+    let moved = [(2, 1), (3, 0), (3, 1), (3, 3), (4, 1), (223, 1)];
+    assert_eq!(rt; first_place(&drawn::MOVED, &moved, true), None);
+    assert_eq!(rt; first_place(&drawn::EXTEND, &[(151, 1)], true), None);
+    assert_eq!(rt; first_place(&drawn::RETIRE, &[(6, 1)], true), None);
 }
 
 // Which records a signer may stand on is another matter: levels, leaves and C are what they are.
 #[test]
-fn what_a_slot_may_hold(rt: HostRuntime) {
-    for (place, byte) in [(2, 0), (2, 255), (3, 255)] {
-        assert!(rt; is_spelled_with(&drawn::EXTEND, place, byte));
-    }
-    for (place, byte) in [(3, 0x21), (6, 0x7e), (67, 255), (71, 0)] {
-        assert!(rt; is_spelled_with(&drawn::BOUND, place, byte));
-    }
-    assert!(rt; is_spelled_with(&drawn::RETIRE, 2, 0x80));
+fn what_a_slot_may_contain(rt: HostRuntime) {
+    let extend = [(2, 0), (2, 255), (3, 255)];
+    assert_eq!(rt; first_place(&drawn::EXTEND, &extend, false), None);
+    let bound = [(3, 0x21), (6, 0x7e), (67, 255), (71, 0)];
+    assert_eq!(rt; first_place(&drawn::BOUND, &bound, false), None);
+    assert_eq!(rt;
+        first_place(&drawn::RETIRE, &[(2, 0x80), (2, 0xff)], false),
+        None
+    );
     // HSS of one level has the fields of an LMS key
-    assert!(rt; is_spelled_with(&drawn::LMS_KEY, 12, 2));
-    assert!(rt; is_spelled_with(&drawn::RETIRE, 2, 0xff));
+    assert_eq!(rt; first_place(&drawn::LMS_KEY, &[(12, 2)], false), None);
 }
 
 #[test]
@@ -258,7 +278,7 @@ fn tags_follow_each_other(rt: HostRuntime) {
 }
 
 #[test]
-fn what_a_first_slot_is_told_by(rt: HostRuntime) {
+fn what_a_first_slot_is_known_by(rt: HostRuntime) {
     for key in [drawn::LMS_KEY, drawn::HSS_KEY, drawn::XMSS_KEY] {
         assert!(rt; begins_key(&key));
         assert_eq!(rt; version(&key), Some(Version::One));

@@ -1,14 +1,15 @@
 //! A store over a disk.
 
-ghost use Rattle.std.specs.Prelude.{◌≡◌, ◌≢◌, ◌⊎◌, ◌≤◌, ◌<◌, ◌+◌, ◌^◌, ◌∷◌, ℕ, List, [], ◌++◌, true, false, IsTrue, IfOk, IfErr, OnOk, OnErr, MatchResult, length, max, replicate};
+ghost use Rattle.std.specs.Prelude.{◌≡◌, ◌≢◌, ◌⊎◌, ◌≤◌, ◌<◌, ◌+◌, ◌^◌, ◌∷◌, ℕ, List, [], ◌++◌, true, false, IsTrue};
+ghost use Rattle.std.specs.Prelude.{IfOk, IfErr, OnOk, OnErr, MatchResult, length, max, replicate};
 ghost use Rattle.typecodes.specs.Layout.{Spells};
 ghost use Rattle.state_file.specs.Disk.{Elapses, LeavesOnly};
 ghost use Rattle.state_file.specs.Disk.{State, settled, ChangesOnly, MayLeave, CountsFailure};
 ghost use Rattle.state_file.specs.File.{SpellsRecords, fields_at, tag_at, tag_of};
-ghost use Rattle.state_file.specs.File.{StandsFor, LeftLists, IsKept, IsKept-prop};
+ghost use Rattle.state_file.specs.File.{StandsFor, LeftLists, IsSyncedFile, IsSyncedFile-prop};
 ghost use Rattle.state_file.specs.Gates.{AddsSlot, slot_and_gate};
-ghost use Rattle.state_file.specs.Format.{CountsDevice, Formats, LeftByFormat};
-ghost use Rattle.state_file.specs.Opening.{CountsOpening, OnlyReads, Settles, Tells};
+ghost use Rattle.state_file.specs.Format.{CountsFormat, Formats, LeftByFormat};
+ghost use Rattle.state_file.specs.Opening.{CountsOpening, OnlyReads, Settles, Reports};
 ghost use Rattle.std.proofs.Common.{inl};
 ghost use Rattle.state_file.specs.Slot.{slot_record};
 ghost use Rattle.state_file.specs.Store.{Appends, CanFollow, Loads, ReadsTag};
@@ -17,7 +18,9 @@ ghost use Rattle.state_file.specs.Store.{Appends, CanFollow, Loads, ReadsTag};
 mod tests;
 
 use crate::disk::Disk;
-use crate::file::{FormatFault, MOST, OpenFault, add_slot, find_records, format, read_entry, read_tag};
+use crate::file::{
+    FormatFault, MOST, OpenFault, add_slot, find_records, format, read_entry, read_tag,
+};
 use crate::record::{Record, RecordList};
 use crate::refused::Refused;
 use crate::slot::{record_bytes, tag};
@@ -34,11 +37,12 @@ pub struct FileStore<D: Disk> {
     records: RecordList,
     ghost counted: { count ≡ length records },
     ghost few: { length records ≤ 2 ^ 31 },
-    ghost kept: { IsTrue (D.honest disk) → stopped ≡ false → IsKept records tag (D.state disk) } by { Prim.hlevel IsKept-prop },
+    ghost kept: { IsTrue (D.honest disk) → stopped ≡ false →
+        IsSyncedFile records tag (D.state disk) } by { Prim.hlevel IsSyncedFile-prop },
 }
 
 impl<D: Disk + Drop> FileStore<D> {
-    ghost use Rattle.state_file.specs.FileStore.{disk_after, disk_of, has_stopped, records_of, told_by};
+    ghost use Rattle.state_file.specs.FileStore.{disk_after, disk_of, has_stopped, records_of, outcome_of};
 
     /// How many records there are.
     pub fn count(&self) -> u32
@@ -60,12 +64,12 @@ impl<D: Disk + Drop> FileStore<D> {
     pub fn format(disk: D) -> Result<Self, Refused<D, FormatFault>>
         ensures records { IfOk result (λ store. (records_of store ≡ []) × (has_stopped store ≡ false)) }
         ensures answer { IsTrue (D.honest disk) →
-            Formats (D.state disk).content (D.state (disk_after result)) (told_by result) }
+            Formats (D.state disk).content (D.state (disk_after result)) (outcome_of result) }
         ensures len { IsTrue (D.honest disk) →
             OnOk result (length (D.state (disk_after result)).content ≡ max (length (D.state disk).content) 1) }
         ensures any_moment { IsTrue (D.honest disk) →
             LeavesOnly D.moment D.left_since disk (disk_after result) (LeftByFormat (D.state disk)) }
-        ensures failures { CountsDevice (D.failures disk) (D.failures (disk_after result)) (told_by result) }
+        ensures failures { CountsFormat (D.failures disk) (D.failures (disk_after result)) (outcome_of result) }
         ensures past_ends { IsTrue (D.honest disk) → D.past_ends (disk_after result) ≡ D.past_ends disk }
         ensures honest { D.honest (disk_after result) ≡ D.honest disk }
     {
@@ -89,12 +93,13 @@ impl<D: Disk + Drop> FileStore<D> {
         ensures records { IsTrue (D.honest disk) →
             IfOk result (λ store. SpellsRecords (D.state disk).content (records_of store)) }
         ensures running { IfOk result (λ store. has_stopped store ≡ false) }
-        ensures fault { IsTrue (D.honest disk) → IfErr result (λ refused. Tells (D.state disk).content refused.fault) }
+        ensures fault { IsTrue (D.honest disk) →
+            IfErr result (λ refused. Reports (D.state disk).content refused.fault) }
         ensures any_moment { IsTrue (D.honest disk) →
             LeavesOnly D.moment D.left_since disk (disk_after result) (MayLeave (D.state disk)) }
         ensures settled { IsTrue (D.honest disk) →
-            Settles (D.state disk).content (D.state (disk_after result)) (told_by result) }
-        ensures failures { CountsOpening (D.failures disk) (D.failures (disk_after result)) (told_by result) }
+            Settles (D.state disk).content (D.state (disk_after result)) (outcome_of result) }
+        ensures failures { CountsOpening (D.failures disk) (D.failures (disk_after result)) (outcome_of result) }
         ensures past_ends { IsTrue (D.honest disk) → D.past_ends (disk_after result) ≡ D.past_ends disk }
         ensures honest { D.honest (disk_after result) ≡ D.honest disk }
     {
@@ -167,11 +172,18 @@ impl<D: Disk + Drop> Store for FileStore<D> {
 
     ghost few = { λ store. store.few };
 
-    ghost leaves_list = { λ store t honest running early. ((D.state store.disk).content, D.counts_now store.disk t (D.state store.disk).content honest early (D.shows store.disk honest), inl (kept_stands store.records store.tag (D.state store.disk) (store.kept honest running))) };
+    ghost leaves_list = { λ store t honest running early.
+        let state = D.state store.disk in (
+          state.content,
+          D.counts_now store.disk t state.content honest early (D.shows store.disk honest),
+          inl (kept_stands store.records store.tag state (store.kept honest running)),
+        ) };
 
-    ghost leaves_nothing_else = { λ store list honest running since. kept_list store.records list store.tag (D.state store.disk) since.0 (store.kept honest running) (D.only_now store.disk since.0 honest since.1) since.2 };
+    ghost leaves_nothing_else = { λ store list honest running since.
+        kept_list store.records list store.tag (D.state store.disk) since.0 (store.kept honest running)
+        (D.only_now store.disk since.0 honest since.1) since.2 };
 
-    /// Record k, or None behind the last. It takes no memory and writes nothing.
+    /// Record k, or None after the last. It takes no memory and writes nothing.
     fn load(&mut self, k: u32) -> Result<Option<Record>, StoreFault>
         ensures answer { Loads (D.honest (disk_of self.old)) (records_of self.old) (has_stopped self.old) k
             (has_stopped self.new)
@@ -206,7 +218,8 @@ impl<D: Disk + Drop> Store for FileStore<D> {
         }
     }
 
-    /// Adds a record at the end. It takes no memory. Where the store is full nothing changes. Whatever it answers, a stop
+    /// Adds a record at the end. It takes no memory. Where the store is full nothing changes. Whatever it answers, a
+    /// stop
     /// at any moment leaves a content that spells the old records, or these and the new one (`contents`), and that
     /// differs from the old content at most in the new slot and the gate after it (`bytes`).
     fn append(&mut self, new: &Record) -> Result<(), StoreFault>
@@ -242,7 +255,7 @@ impl<D: Disk + Drop> Store for FileStore<D> {
         }
         let fields = record_bytes(new);
         let next_tag = tag(&self.tag, &fields);
-        match add_slot(&mut self.disk, self.count, &joined(&fields, &next_tag)) {
+        match add_slot(&mut self.disk, self.count, &fields, &next_tag) {
             Ok(()) => {
                 self.count += 1;
                 self.tag = next_tag;
@@ -259,23 +272,4 @@ impl<D: Disk + Drop> Store for FileStore<D> {
     fn limit(&self) -> u32 {
         MOST
     }
-}
-
-// The fields of a slot and its tag.
-fn joined(fields: &[u8; 223], tag: &[u8; 32]) -> [u8; 255]
-    ensures bytes { result ≡ fields.now ++ tag.now }
-    ensures fields { length fields.now ≡ 223 }
-    ensures tag { length tag.now ≡ 32 }
-{
-    let mut body = [0; 255];
-    fill(&mut body, fields, tag);
-    body
-}
-
-fn fill(into: &mut [u8], first: &[u8], second: &[u8])
-    requires { length into.old ≡ length first.now + length second.now }
-    ensures { into.new ≡ first.now ++ second.now }
-{
-    into[..first.len()].copy_from_slice(first);
-    into[first.len()..].copy_from_slice(second);
 }

@@ -1,6 +1,7 @@
 //! A store in memory.
 
-ghost use Rattle.std.specs.Prelude.{◌⊎◌, IsTrue, length, ◌≡◌, ◌≢◌, ◌≤◌, ◌<◌, ◌+◌, true, false, [], ◌∷◌, ◌++◌, IfErr, OnOk, OnErr, if◌then◌else◌, slice_get, vec_len, vec_capacity};
+ghost use Rattle.std.specs.Prelude.{◌⊎◌, IsTrue, length, ◌≡◌, ◌≢◌, ◌≤◌, ◌<◌, ◌+◌, true, false, [], ◌∷◌, ◌++◌, IfErr};
+ghost use Rattle.std.specs.Prelude.{OnOk, OnErr, if◌then◌else◌, slice_get, vec_len, vec_capacity};
 ghost use Rattle.state_file.specs.Disk.{LeavesOnly};
 ghost use Rattle.state_file.specs.Store.{Appends, Loads};
 
@@ -29,7 +30,8 @@ pub struct MemoryStore {
 }
 
 impl MemoryStore {
-    ghost use Rattle.state_file.specs.MemoryStore.{cut_of, cut_of_append, failures_of, has_stopped, limit_of, records_of};
+    ghost use Rattle.state_file.specs.MemoryStore.{cut_of, cut_of_append, failures_of, has_stopped, limit_of};
+    ghost use Rattle.state_file.specs.MemoryStore.{records_of};
 
     /// An empty store that takes `limit` records.
     pub fn with_limit(alloc: Global, limit: u32) -> Self
@@ -114,7 +116,7 @@ impl Store for MemoryStore {
 
     ghost leaves_nothing_else = { λ store left _ _ since. had_been_only store.records.items left since };
 
-    /// Record k, or None behind the last. It fails only where the store has stopped.
+    /// Record k, or None after the last. It fails only where the store has stopped.
     fn load(&mut self, k: u32) -> Result<Option<Record>, StoreFault>
         ensures answer { Loads true (records_of self.old) (has_stopped self.old) k (has_stopped self.new)
             (failures_of self.old)
@@ -135,7 +137,7 @@ impl Store for MemoryStore {
     }
 
     /// Adds a record at the end. Where memory for it is refused, a cut stays as far off as it was, and one
-    /// that is due comes with the next append. Memory is asked for only where the records have no room
+    /// that is due comes with the next append. Memory is requested only where the records have no room
     /// left, and not for a cut that leaves the old records.
     fn append(&mut self, new: &Record) -> Result<(), StoreFault>
         ensures answer { Appends (limit_of self.old) (records_of self.old) (has_stopped self.old) new.now

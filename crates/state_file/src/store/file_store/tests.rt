@@ -1,14 +1,9 @@
 //! Stores over a disk that fails or stops, and what their files then open with.
 
-ghost use Rattle.std.specs.Prelude.{◌≡◌, [], length, IfOk};
-
-use crate::samples::{bound, extend, key};
+use crate::samples::{is_loaded, record};
 use crate::*;
 use sha2::{Digest, Sha256};
 use std::alloc::Global;
-use std::process::Abort;
-use std::test::Fail;
-use typecodes::BadName;
 
 const PICKS: [Pick; 5] = [
     Pick::Old,
@@ -18,336 +13,386 @@ const PICKS: [Pick; 5] = [
     Pick::Fill(0xFF),
 ];
 
-// The record that the tests append as record k.
-fn record(k: u32) -> Result<Record, BadName> {
-    match k {
-        0 => Ok(key()),
-        1 => Ok(extend()),
-        2 => bound(),
-        3 => Ok(Record::Retire { upto: 12 }),
-        _ => Ok(Record::Moved),
+// Appends a record. The first of a store is a Key, and else it isn't tried.
+fn append(store: &mut FileStore<MemoryDisk>, entry: &Record) -> Result<(), StoreFault> {
+    match entry {
+        Record::Key(_) => store.append(entry),
+        _ => {
+            if store.count() == 0 {
+                return Err(StoreFault::Damaged(0));
+            }
+            store.append(entry)
+        }
     }
 }
 
-// Appends a record of each kind, until one is refused.
-fn append_five(store: &mut FileStore<MemoryDisk>, bound: &Record) -> Result<(), StoreFault>
-    requires { store.old.records ≡ [] }
-{
-    store.append(&key())?;
-    store.append(&extend())?;
-    store.append(bound)?;
-    store.append(&Record::Retire { upto: 12 })?;
-    store.append(&Record::Moved)?;
+// Appends the next records of samples until there are so many, or one is refused.
+fn append_up_to(store: &mut FileStore<MemoryDisk>, count: u32) -> Result<(), StoreFault> {
+    for k in store.count()..count {
+        match record(k) {
+            Some(entry) => append(store, &entry)?,
+            None => return Err(StoreFault::Full),
+        }
+    }
     Ok(())
 }
 
-// How many records a disk opens with. They are those that the tests append.
-fn opened(rt: &impl Abort, disk: MemoryDisk) -> Result<Result<u32, OpenFault>, Fail> {
+// A store of so many records over a disk that has no key. Preparing it takes four calls, and each append four.
+fn store_of(disk: MemoryDisk, count: u32) -> Option<FileStore<MemoryDisk>> {
+    let mut store = FileStore::format(disk).ok()?;
+    append_up_to(&mut store, count).ok()?;
+    Some(store)
+}
+
+// The file of the first records.
+fn file_of(alloc: Global, count: u32) -> Option<Vec<u8>> {
+    let disk = MemoryDisk::of(alloc, &[]).ok()?;
+    store_of(disk, count)?.into_disk().stop(Pick::Old).ok()
+}
+
+// Whether a store has the records of samples, and no other after them.
+fn has_records(store: &mut FileStore<MemoryDisk>) -> bool {
+    let count = store.count();
+    for k in 0..count {
+        if !is_loaded(&store.load(k), Ok(Some(k))) {
+            return false;
+        }
+    }
+    is_loaded(&store.load(count), Ok(None))
+}
+
+// What a disk opens with: how many records, if they are those of samples, or the fault.
+fn opened(disk: MemoryDisk) -> Option<Result<u32, OpenFault>> {
     match FileStore::open(disk) {
         Ok(mut store) => {
-            for k in 0..store.count() {
-                assert!(rt; store.load(k)? == Some(record(k)?));
+            if has_records(&mut store) {
+                Some(Ok(store.count()))
+            } else {
+                None
             }
-            assert!(rt; store.load(store.count())? == None);
-            Ok(Ok(store.count()))
         }
-        Err(refused) => Ok(Err(refused.fault)),
+        Err(refused) => Some(Err(refused.fault)),
     }
 }
 
 // The same of a content.
-fn opened_from(
-    rt: &impl Abort,
-    alloc: Global,
-    content: &[u8],
-) -> Result<Result<u32, OpenFault>, Fail> {
-    opened(rt, MemoryDisk::of(alloc, content)?)
+fn opened_from(alloc: Global, content: &[u8]) -> Option<Result<u32, OpenFault>> {
+    opened(MemoryDisk::of(alloc, content).ok()?)
 }
 
-// An empty store over a disk of no bytes.
-fn empty(alloc: Global) -> Result<FileStore<MemoryDisk>, Fail>
-    ensures { IfOk result (λ store. store.records ≡ []) }
-{
-    let store = FileStore::format(MemoryDisk::of(alloc, &[])?).map_err(|refused| refused.fault)?;
-    Ok(store)
+// Whether what a stop leaves by a pick opens so.
+fn leaves(alloc: Global, disk: &MemoryDisk, pick: Pick, wanted: Result<u32, OpenFault>) -> bool {
+    match disk.stop(pick) {
+        Ok(left) => opened_from(alloc, &left) == Some(wanted),
+        Err(_) => false,
+    }
 }
 
-// The file of the first three records.
-fn file_of_three(alloc: Global) -> Result<Vec<u8>, Fail> {
-    let bound = bound()?;
-    let mut store = empty(alloc)?;
-    store.append(&key())?;
-    store.append(&extend())?;
-    store.append(&bound)?;
-    Ok(store.into_disk().stop(Pick::Old)?)
+// Whether what a stop leaves by any pick opens so.
+fn all_leave(alloc: Global, disk: &MemoryDisk, wanted: Result<u32, OpenFault>) -> bool {
+    for pick in PICKS {
+        if !leaves(alloc, disk, pick, wanted) {
+            return false;
+        }
+    }
+    true
+}
+
+// Whether the file of so many records has this length and opens so.
+fn is_file(alloc: Global, count: u32, len: usize, wanted: Result<u32, OpenFault>) -> Option<bool> {
+    let file = file_of(alloc, count)?;
+    Some(file.len() == len && opened_from(alloc, &file)? == wanted)
 }
 
 #[test]
-fn a_file_has_its_slots_and_one_byte(rt: HostRuntime) -> Result<(), Fail> {
-    let three = file_of_three(rt.alloc())?;
-    assert_eq!(rt; three.len(), 769);
-    assert_eq!(rt; opened_from(&rt, rt.alloc(), &three)?, Ok(3));
-    let mut store = empty(rt.alloc())?;
-    append_five(&mut store, &bound()?)?;
-    let five = store.into_disk().stop(Pick::Old)?;
-    assert_eq!(rt; five.len(), 1281);
-    assert_eq!(rt; opened_from(&rt, rt.alloc(), &five)?, Ok(5));
-    Ok(())
+fn a_file_has_its_slots_and_one_byte(rt: HostRuntime) {
+    for (count, len, wanted) in [
+        (0, 1, Err(OpenFault::NoKey)),
+        (1, 257, Ok(1)),
+        (3, 769, Ok(3)),
+        (5, 1281, Ok(5)),
+    ] {
+        assert_eq!(rt; is_file(rt.alloc(), count, len, wanted), Some(true));
+    }
 }
 
-// The tag of a slot behind one of that tag.
-fn tagged(previous: &[u8; 32], fields: Option<&[u8]>) -> Result<[u8; 32], Fail> {
+// The tag of these fields after a slot of that tag.
+fn tagged(previous: &[u8; 32], fields: Option<&[u8]>) -> Option<[u8; 32]> {
     let mut hasher = Sha256::new();
     hasher.update(previous);
-    hasher.update(fields.ok_or("fields")?);
-    Ok(hasher.finalize())
+    hasher.update(fields?);
+    Some(hasher.finalize())
 }
 
-#[test]
-fn tags_are_told(rt: HostRuntime) -> Result<(), Fail> {
-    let file = file_of_three(rt.alloc())?;
+// Whether a store over the file of three records gives its tags, until its disk fails.
+fn gives_tags(alloc: Global) -> Option<bool> {
+    let file = file_of(alloc, 3)?;
     let first = tagged(&[0; 32], file.get(1..224))?;
     let second = tagged(&first, file.get(257..480))?;
     let third = tagged(&second, file.get(513..736))?;
-    // two calls for the length, two for the Key, ten for three slots and the gate behind them, and three tags
-    let mut disk = MemoryDisk::of(rt.alloc(), &file)?;
+    // two calls for the length, two for the Key, ten for three slots and the gate after them, and three tags
+    let mut disk = MemoryDisk::of(alloc, &file).ok()?;
     disk.fail_at(18);
-    let mut store = FileStore::open(disk).map_err(|refused| refused.fault)?;
-    assert_eq!(rt; store.count(), 3);
-    assert_eq!(rt; store.tag_at(2), Ok(third));
-    assert_eq!(rt; store.tag_at(0), Ok(first));
-    assert_eq!(rt; store.tag_at(1), Ok(second));
-    assert_eq!(rt; store.tag_at(1), Err(StoreFault::DeviceFailed));
-    assert_eq!(rt; store.tag_at(1), Err(StoreFault::Stopped));
-    assert_eq!(rt; store.into_disk().stop(Pick::Fill(7))?, file);
-    Ok(())
-}
-
-#[test]
-fn records_are_added_to_what_was_opened(rt: HostRuntime) -> Result<(), Fail> {
-    let file = file_of_three(rt.alloc())?;
-    let disk = MemoryDisk::of(rt.alloc(), &file)?;
-    let mut store = FileStore::open(disk).map_err(|refused| refused.fault)?;
-    assert_eq!(rt; store.count(), 3);
-    store.append(&Record::Retire { upto: 12 })?;
-    let mut store = FileStore::open(store.into_disk()).map_err(|refused| refused.fault)?;
-    assert_eq!(rt; store.count(), 4);
-    store.append(&Record::Moved)?;
-    assert_eq!(rt; opened(&rt, store.into_disk())?, Ok(5));
-    Ok(())
-}
-
-#[test]
-fn a_file_of_one_byte_has_no_key(rt: HostRuntime) -> Result<(), Fail> {
-    for byte in [0x37, 0xA5] {
-        assert_eq!(rt;
-            opened_from(&rt, rt.alloc(), &[byte])?,
-            Err(OpenFault::NoKey)
-        );
-        let disk = MemoryDisk::of(rt.alloc(), &[byte])?;
-        let store = FileStore::format(disk).map_err(|refused| refused.fault)?;
-        assert_eq!(rt; store.count(), 0);
-        assert_eq!(rt;
-            store.into_disk().stop(Pick::Fill(0xA5))?.as_slice(),
-            [0].as_slice()
-        );
+    let mut store = FileStore::open(disk).ok()?;
+    if store.count() != 3 {
+        return Some(false);
     }
-    Ok(())
-}
-
-// The fault of preparing a content, if there is one.
-fn format_fault(alloc: Global, content: &[u8]) -> Result<Option<FormatFault>, Fail> {
-    let disk = MemoryDisk::of(alloc, content)?;
-    Ok(FileStore::format(disk).err().map(|refused| refused.fault))
+    Some(
+        store.tag_at(2) == Ok(third)
+            && store.tag_at(0) == Ok(first)
+            && store.tag_at(1) == Ok(second)
+            && store.tag_at(1) == Err(StoreFault::DeviceFailed)
+            && store.tag_at(1) == Err(StoreFault::Stopped)
+            && store.into_disk().stop(Pick::Fill(7)).ok()? == file,
+    )
 }
 
 #[test]
-fn a_place_with_a_key_is_not_prepared(rt: HostRuntime) -> Result<(), Fail> {
-    let mut content = file_of_three(rt.alloc())?;
-    assert_eq!(rt; content.len(), 769);
-    assert_eq!(rt;
-        format_fault(rt.alloc(), &content)?,
-        Some(FormatFault::KeyThere)
-    );
-    content[0] = 0x37;
-    assert_eq!(rt;
-        format_fault(rt.alloc(), &content)?,
-        Some(FormatFault::NotKeyFile)
-    );
-    assert_eq!(rt;
-        format_fault(rt.alloc(), content.get(..258).ok_or("258 bytes")?)?,
-        Some(FormatFault::NotKeyFile)
-    );
-    assert_eq!(rt;
-        format_fault(rt.alloc(), content.get(..257).ok_or("257 bytes")?)?,
-        None
-    );
-    Ok(())
+fn tags_of_slots(rt: HostRuntime) {
+    assert_eq!(rt; gives_tags(rt.alloc()), Some(true));
 }
 
-// What opening tells of three records with one byte changed.
+// A store of three records that is opened, and of one more that is opened again.
+fn goes_on_after_opening(alloc: Global) -> Option<bool> {
+    let disk = MemoryDisk::of(alloc, &file_of(alloc, 3)?).ok()?;
+    let mut store = FileStore::open(disk).ok()?;
+    append_up_to(&mut store, 4).ok()?;
+    let mut store = FileStore::open(store.into_disk()).ok()?;
+    let four = store.count() == 4;
+    append_up_to(&mut store, 5).ok()?;
+    Some(four && opened(store.into_disk())? == Ok(5))
+}
+
+#[test]
+fn records_are_added_to_what_was_opened(rt: HostRuntime) {
+    assert_eq!(rt; goes_on_after_opening(rt.alloc()), Some(true));
+}
+
+// A disk of one byte has no key, and is prepared.
+fn one_byte_is_prepared(alloc: Global, byte: u8) -> Option<bool> {
+    let before = opened_from(alloc, &[byte])?;
+    let store = store_of(MemoryDisk::of(alloc, &[byte]).ok()?, 0)?;
+    let empty = store.count() == 0;
+    let left = store.into_disk().stop(Pick::Fill(0xA5)).ok()?;
+    Some(before == Err(OpenFault::NoKey) && empty && left.as_slice() == [0].as_slice())
+}
+
+#[test]
+fn a_file_of_one_byte_has_no_key(rt: HostRuntime) {
+    for byte in [0x37, 0xA5] {
+        assert_eq!(rt; one_byte_is_prepared(rt.alloc(), byte), Some(true));
+    }
+}
+
+// How preparing a content ends.
+fn format_answer(alloc: Global, content: &[u8]) -> Option<Result<(), FormatFault>> {
+    match FileStore::format(MemoryDisk::of(alloc, content).ok()?) {
+        Ok(_) => Some(Ok(())),
+        Err(refused) => Some(Err(refused.fault)),
+    }
+}
+
+// Whether the first bytes of the file of three records, with this first byte, are prepared so.
+fn is_prepared(
+    alloc: Global,
+    len: usize,
+    first: u8,
+    wanted: Result<(), FormatFault>,
+) -> Option<bool> {
+    let mut file = file_of(alloc, 3)?;
+    *file.get_mut(0)? = first;
+    Some(format_answer(alloc, file.get(..len)?)? == wanted)
+}
+
+#[test]
+fn a_place_with_a_key_is_not_prepared(rt: HostRuntime) {
+    for (len, first, wanted) in [
+        (769, 0xA5, Err(FormatFault::KeyThere)),
+        (769, 0x37, Err(FormatFault::NotKeyFile)),
+        (258, 0x37, Err(FormatFault::NotKeyFile)),
+        (257, 0x37, Ok(())),
+    ] {
+        assert_eq!(rt; is_prepared(rt.alloc(), len, first, wanted), Some(true));
+    }
+}
+
+// What a content with one byte changed opens with.
 fn opened_with(
-    rt: &impl Abort,
     alloc: Global,
     file: &[u8],
     place: usize,
     byte: u8,
-) -> Result<Result<u32, OpenFault>, Fail> {
-    let mut content = file.to_vec(alloc)?;
-    if let Some(at) = content.get_mut(place) {
-        *at = byte;
-    }
-    opened_from(rt, alloc, &content)
+) -> Option<Result<u32, OpenFault>> {
+    let mut content = file.to_vec(alloc).ok()?;
+    *content.get_mut(place)? = byte;
+    opened_from(alloc, &content)
+}
+
+// What the file of three records opens with, with zeros up to a length and one byte changed.
+fn opened_at(alloc: Global, len: usize, place: usize, byte: u8) -> Option<Result<u32, OpenFault>> {
+    let mut file = file_of(alloc, 3)?;
+    file.resize(len, 0).ok()?;
+    opened_with(alloc, &file, place, byte)
 }
 
 #[test]
-fn gates_with_another_value(rt: HostRuntime) -> Result<(), Fail> {
-    let mut file = file_of_three(rt.alloc())?;
+fn gates_with_another_value(rt: HostRuntime) {
     for value in [0x00, 0x37, 0xA4, 0xFF] {
-        for (gate, tells) in [
+        for (gate, wanted) in [
             (0, Err(OpenFault::NoKey)),
             (1, Ok(1)),
             (2, Ok(2)),
             (3, Ok(3)),
         ] {
-            assert_eq!(rt;
-                opened_with(&rt, rt.alloc(), &file, 256 * gate, value)?,
-                tells
-            );
+            assert_eq!(rt; opened_at(rt.alloc(), 769, 256 * gate, value), Some(wanted));
         }
     }
-    let damaged = Err(OpenFault::Damaged(3));
-    assert_eq!(rt; opened_with(&rt, rt.alloc(), &file, 768, 0xA5)?, damaged);
-    file.resize(800, 0)?;
-    assert_eq!(rt; opened_with(&rt, rt.alloc(), &file, 768, 0xA5)?, damaged);
-    // a whole slot of zeros, and a closed gate behind it
-    file.resize(1025, 0)?;
-    assert_eq!(rt; opened_with(&rt, rt.alloc(), &file, 768, 0xA5)?, damaged);
-    Ok(())
+    // the last one is a whole slot of zeros, and a closed gate after it
+    for len in [769, 800, 1025] {
+        assert_eq!(rt;
+            opened_at(rt.alloc(), len, 768, 0xA5),
+            Some(Err(OpenFault::Damaged(3)))
+        );
+    }
 }
 
-#[test]
-fn each_byte_of_a_slot_changed(rt: HostRuntime) -> Result<(), Fail> {
-    let file = file_of_three(rt.alloc())?;
+// The fault that a file opens with where a byte of a slot, but not of its gate, is changed.
+fn harm(place: usize) -> Option<OpenFault> {
+    match place {
+        1..=9 => Some(OpenFault::NotKeyFile),
+        10 | 11 => Some(OpenFault::Version),
+        _ => Some(OpenFault::Damaged(u32::try_from(place / 256).ok()?)),
+    }
+}
+
+// The first byte of the file of three records, but its gates, which changed doesn't give the fault.
+fn first_unharmed(alloc: Global) -> Option<Option<usize>> {
+    let file = file_of(alloc, 3)?;
     for (place, byte) in file.iter().enumerate() {
-        let tells = match place {
-            1..=9 => OpenFault::NotKeyFile,
-            10 | 11 => OpenFault::Version,
-            _ => OpenFault::Damaged(u32::try_from(place / 256)?),
-        };
         for change in [0x01, 0x5A] {
-            let told = opened_with(&rt, rt.alloc(), &file, place, *byte ^ change)?;
-            assert!(rt; place % 256 == 0 || told == Err(tells));
+            let found = opened_with(alloc, &file, place, *byte ^ change)?;
+            if place % 256 != 0 && found != Err(harm(place)?) {
+                return Some(Some(place));
+            }
         }
     }
-    Ok(())
+    Some(None)
 }
 
 #[test]
-fn a_file_that_is_cut_short(rt: HostRuntime) -> Result<(), Fail> {
-    let file = file_of_three(rt.alloc())?;
+fn each_byte_of_a_slot_changed(rt: HostRuntime) {
+    assert_eq!(rt; first_unharmed(rt.alloc()), Some(None));
+}
+
+// The first length at which the file of three records, cut short, opens otherwise than it has to.
+fn first_length_wrong(alloc: Global) -> Option<Option<usize>> {
+    let file = file_of(alloc, 3)?;
     for len in 0..=file.len() {
-        let tells = match len {
+        let wanted = match len {
             0..=256 => Err(OpenFault::NoKey),
             257..=512 => Err(OpenFault::Damaged(1)),
             513..=768 => Err(OpenFault::Damaged(2)),
             _ => Ok(3),
         };
-        assert_eq!(rt; opened_from(&rt, rt.alloc(), &file[..len])?, tells);
+        if opened_from(alloc, &file[..len])? != wanted {
+            return Some(Some(len));
+        }
     }
-    Ok(())
-}
-
-// A store of two records over a disk that does what was planned. Preparing it takes four calls, and each append four.
-fn store_of_two(disk: MemoryDisk) -> Result<FileStore<MemoryDisk>, Fail>
-    ensures { IfOk result (λ store. length store.records ≡ 2) }
-{
-    let mut store = FileStore::format(disk).map_err(|refused| refused.fault)?;
-    store.append(&key())?;
-    store.append(&extend())?;
-    Ok(store)
+    Some(None)
 }
 
 #[test]
-fn a_stop_in_format_leaves_no_key(rt: HostRuntime) -> Result<(), Fail> {
+fn a_file_that_is_cut_short(rt: HostRuntime) {
+    assert_eq!(rt; first_length_wrong(rt.alloc()), Some(None));
+}
+
+// Whether preparing a place on a disk that stops before a call ends so that no key is left.
+fn stop_leaves_no_key(alloc: Global, content: &[u8], call: u32) -> Option<bool> {
+    let mut disk = MemoryDisk::of(alloc, content).ok()?;
+    disk.stop_at(call);
+    let (disk, answer) = match FileStore::format(disk) {
+        Ok(store) => (store.into_disk(), Ok(())),
+        Err(refused) => (refused.given, Err(refused.fault)),
+    };
+    let wanted = if call < 5 {
+        Err(FormatFault::DeviceFailed)
+    } else {
+        Ok(())
+    };
+    Some(answer == wanted && all_leave(alloc, &disk, Err(OpenFault::NoKey)))
+}
+
+#[test]
+fn a_stop_in_format_leaves_no_key(rt: HostRuntime) {
     for content in [[].as_slice(), [0xA5; 256].as_slice()] {
         for call in 1..=5 {
-            let mut disk = MemoryDisk::of(rt.alloc(), content)?;
-            disk.stop_at(call);
-            let disk = match FileStore::format(disk) {
-                Ok(store) => {
-                    assert_eq!(rt; call, 5);
-                    store.into_disk()
-                }
-                Err(refused) => {
-                    assert_eq!(rt; refused.fault, FormatFault::DeviceFailed);
-                    assert!(rt; call < 5);
-                    refused.given
-                }
-            };
-            for pick in PICKS {
-                let left = disk.stop(pick)?;
-                assert_eq!(rt; opened_from(&rt, rt.alloc(), &left)?, Err(OpenFault::NoKey));
-            }
+            assert_eq!(rt; stop_leaves_no_key(rt.alloc(), content, call), Some(true));
         }
     }
-    Ok(())
+}
+
+// Whether each pick leaves so many records where the disk stops before this call of a third append.
+fn stop_leaves(alloc: Global, call: u32, counts: [u32; 5]) -> Option<bool> {
+    let mut disk = MemoryDisk::of(alloc, &[]).ok()?;
+    disk.stop_at(call.saturating_add(12));
+    let mut store = store_of(disk, 2)?;
+    if append_up_to(&mut store, 3).is_ok() != (call == 5) {
+        return Some(false);
+    }
+    let disk = store.into_disk();
+    for (pick, count) in PICKS.into_iter().zip(counts) {
+        if !leaves(alloc, &disk, pick, Ok(count)) {
+            return Some(false);
+        }
+    }
+    Some(true)
 }
 
 // How many records each pick leaves, by the device call of the third append that the stop comes before; the fifth comes
 // after it.
 #[test]
-fn a_stop_in_an_append_leaves_the_old_records_or_the_new(rt: HostRuntime) -> Result<(), Fail> {
-    let table = [
+fn a_stop_in_an_append_leaves_the_old_records_or_the_new(rt: HostRuntime) {
+    for (call, counts) in [
         (1, [2, 2, 2, 2, 2]),
         (2, [2, 2, 2, 2, 2]),
         (3, [2, 2, 2, 2, 2]),
         (4, [2, 3, 3, 2, 2]),
         (5, [3, 3, 3, 3, 3]),
-    ];
-    for (call, counts) in table {
-        let mut disk = MemoryDisk::of(rt.alloc(), &[])?;
-        disk.stop_at(12 + call);
-        let mut store = store_of_two(disk)?;
-        assert_eq!(rt; store.append(&bound()?).is_ok(), call == 5);
-        let disk = store.into_disk();
-        for (pick, count) in PICKS.into_iter().zip(counts) {
-            let left = disk.stop(pick)?;
-            assert_eq!(rt; opened_from(&rt, rt.alloc(), &left)?, Ok(count));
-        }
+    ] {
+        assert_eq!(rt; stop_leaves(rt.alloc(), call, counts), Some(true));
     }
-    Ok(())
 }
 
-// A disk on which the last sync of the third append was refused.
-fn last_sync_refused(rt: &impl Abort, alloc: Global) -> Result<MemoryDisk, Fail> {
-    let mut disk = MemoryDisk::of(alloc, &[])?;
+// A disk on which the last sync of the third append was refused, if the store then answered 45 and 26.
+fn last_sync_refused(alloc: Global) -> Option<MemoryDisk> {
+    let mut disk = MemoryDisk::of(alloc, &[]).ok()?;
     disk.fail_at(16);
-    let mut store = store_of_two(disk)?;
-    assert_eq!(rt; store.append(&bound()?), Err(StoreFault::DeviceFailed));
-    assert!(rt; store.load(0) == Err(StoreFault::Stopped));
-    assert_eq!(rt; store.count(), 2);
-    Ok(store.into_disk())
+    let mut store = store_of(disk, 2)?;
+    let failed = append_up_to(&mut store, 3) == Err(StoreFault::DeviceFailed);
+    let stopped = is_loaded(&store.load(0), Err(StoreFault::Stopped));
+    if failed && stopped && store.count() == 2 {
+        Some(store.into_disk())
+    } else {
+        None
+    }
+}
+
+// Whether what an opening shows stays, where before it a stop could leave less; and whether an opening whose sync is
+// refused shows nothing.
+fn opening_keeps(alloc: Global) -> Option<bool> {
+    let disk = last_sync_refused(alloc)?;
+    let before = leaves(alloc, &disk, Pick::Old, Ok(2));
+    let store = FileStore::open(disk).ok()?;
+    let three = store.count() == 3;
+    let after = all_leave(alloc, &store.into_disk(), Ok(3));
+    let mut disk = last_sync_refused(alloc)?;
+    disk.fail_at(1);
+    Some(before && three && after && opened(disk)? == Err(OpenFault::DeviceFailed))
 }
 
 #[test]
-fn opening_syncs_what_it_shows(rt: HostRuntime) -> Result<(), Fail> {
-    let disk = last_sync_refused(&rt, rt.alloc())?;
-    assert_eq!(rt;
-        opened_from(&rt, rt.alloc(), &disk.stop(Pick::Old)?)?,
-        Ok(2)
-    );
-    let store = FileStore::open(disk).map_err(|refused| refused.fault)?;
-    assert_eq!(rt; store.count(), 3);
-    let disk = store.into_disk();
-    for pick in PICKS {
-        let left = disk.stop(pick)?;
-        assert_eq!(rt; opened_from(&rt, rt.alloc(), &left)?, Ok(3));
-    }
-    let mut disk = last_sync_refused(&rt, rt.alloc())?;
-    disk.fail_at(1);
-    assert_eq!(rt; opened(&rt, disk)?, Err(OpenFault::DeviceFailed));
-    Ok(())
+fn opening_syncs_what_it_shows(rt: HostRuntime) {
+    assert_eq!(rt; opening_keeps(rt.alloc()), Some(true));
 }
 
 // How a run of the script ended.
@@ -360,84 +405,122 @@ struct Ended {
     whole: bool,
 }
 
+// Opens a disk and loads the last of five records.
+fn open_and_load(disk: MemoryDisk, acknowledged: u32) -> Ended {
+    match FileStore::open(disk) {
+        Ok(mut store) => {
+            let whole = is_loaded(&store.load(4), Ok(Some(4)));
+            Ended {
+                disk: store.into_disk(),
+                acknowledged,
+                whole,
+            }
+        }
+        Err(refused) => Ended {
+            disk: refused.given,
+            acknowledged,
+            whole: false,
+        },
+    }
+}
+
 // Prepares a place, appends five records, opens it and loads the last, until a call is refused.
-fn script(rt: &impl Abort, disk: MemoryDisk) -> Result<Ended, Fail> {
-    let mut store = match FileStore::format(disk) {
-        Ok(store) => store,
-        Err(refused) => return Ok(Ended {
+fn script(disk: MemoryDisk) -> Ended {
+    match FileStore::format(disk) {
+        Ok(mut store) => {
+            let appended = append_up_to(&mut store, 5).is_ok();
+            let acknowledged = store.count();
+            let disk = store.into_disk();
+            if appended {
+                open_and_load(disk, acknowledged)
+            } else {
+                Ended {
+                    disk,
+                    acknowledged,
+                    whole: false,
+                }
+            }
+        }
+        Err(refused) => Ended {
             disk: refused.given,
             acknowledged: 0,
             whole: false,
-        }),
-    };
-    let bound = bound()?;
-    let appended = append_five(&mut store, &bound);
-    let acknowledged = store.count();
-    let disk = store.into_disk();
-    if appended.is_err() {
-        return Ok(Ended {
-            disk,
-            acknowledged,
-            whole: false,
-        });
-    }
-    match FileStore::open(disk) {
-        Ok(mut store) => {
-            let last = store.load(4);
-            assert!(rt; last.is_err() || last == Ok(Some(Record::Moved)));
-            Ok(Ended {
-                whole: last.is_ok(),
-                disk: store.into_disk(),
-                acknowledged,
-            })
-        }
-        Err(refused) => Ok(Ended {
-            disk: refused.given,
-            acknowledged,
-            whole: false,
-        }),
+        },
     }
 }
 
 // Whether these are the records that were acknowledged, or these and the one whose append was refused.
-fn stands_for(opened: Result<u32, OpenFault>, acknowledged: u32) -> bool {
+fn stands_for(opened: Option<Result<u32, OpenFault>>, acknowledged: u32) -> bool {
     match opened {
-        Ok(count) => count == acknowledged || count == acknowledged.saturating_add(1) && count <= 5,
-        Err(fault) => fault == OpenFault::NoKey && acknowledged == 0,
+        Some(Ok(count)) => count == acknowledged
+            || count == acknowledged.saturating_add(1) && count <= 5,
+        Some(Err(fault)) => fault == OpenFault::NoKey && acknowledged == 0,
+        None => false,
     }
 }
 
-// Runs the script on a disk that fails at the n-th call or stops before it, and opens what each pick leaves.
-fn run_to_the_nth_call(rt: &impl Abort, alloc: Global, n: u32, stops: bool) -> Result<bool, Fail> {
-    let mut disk = MemoryDisk::of(alloc, &[])?;
+// Runs the script on a disk that fails at the n-th call or stops before it, and opens what each pick leaves. Gives
+// whether no call was refused.
+fn run_to_the_nth_call(alloc: Global, n: u32, stops: bool) -> Option<bool> {
+    let mut disk = MemoryDisk::of(alloc, &[]).ok()?;
     if stops {
         disk.stop_at(n);
     } else {
         disk.fail_at(n);
     }
-    let Ended {
-        mut disk,
-        acknowledged,
-        whole,
-    } = script(rt, disk)?;
+    let mut ended = script(disk);
     for pick in PICKS {
-        let left = disk.stop(pick)?;
-        assert!(rt; stands_for(opened_from(rt, alloc, &left)?, acknowledged));
+        let left = ended.disk.stop(pick).ok()?;
+        if !stands_for(opened_from(alloc, &left), ended.acknowledged) {
+            return None;
+        }
     }
-    if !stops {
-        disk.fail_at(0);
-        assert!(rt; stands_for(opened(rt, disk)?, acknowledged));
+    ended.disk.fail_at(0);
+    let whole = ended.whole;
+    let acknowledged = ended.acknowledged;
+    if stops || stands_for(opened(ended.disk), acknowledged) {
+        Some(whole)
+    } else {
+        None
     }
-    Ok(whole)
 }
 
 // The script makes 47 calls of its disk: 4 of format, 20 of five appends, 20 of open and 3 of load.
 #[test]
-fn each_call_fails_or_the_disk_stops_before_it(rt: HostRuntime) -> Result<(), Fail> {
+fn each_call_fails_or_the_disk_stops_before_it(rt: HostRuntime) {
     for n in 1..=48 {
         for stops in [false, true] {
-            assert_eq!(rt; run_to_the_nth_call(&rt, rt.alloc(), n, stops)?, n == 48);
+            assert_eq!(rt; run_to_the_nth_call(rt.alloc(), n, stops), Some(n == 48));
         }
     }
-    Ok(())
+}
+
+// Whether a store of two records has them, its limit, and a disk of 513 bytes.
+fn keeps_two(alloc: Global) -> Option<bool> {
+    let mut store = store_of(MemoryDisk::of(alloc, &[]).ok()?, 0)?;
+    let none = is_loaded(&store.load(0), Ok(None));
+    append_up_to(&mut store, 2).ok()?;
+    let two = store.count() == 2 && has_records(&mut store) && store.limit() == 2147483648;
+    Some(none && two && store.into_disk().len() == Ok(513))
+}
+
+#[test]
+fn a_store_keeps_its_records(rt: HostRuntime) {
+    assert_eq!(rt; keeps_two(rt.alloc()), Some(true));
+}
+
+// Whether an append whose first call is refused stops the store.
+fn stops(alloc: Global) -> Option<bool> {
+    let mut disk = MemoryDisk::of(alloc, &[]).ok()?;
+    // format's four calls, and then the append's first
+    disk.fail_at(5);
+    let mut store = store_of(disk, 0)?;
+    let failed = append_up_to(&mut store, 1) == Err(StoreFault::DeviceFailed);
+    let stopped = append_up_to(&mut store, 1) == Err(StoreFault::Stopped);
+    Some(failed && stopped && is_loaded(&store.load(0), Err(StoreFault::Stopped)))
+}
+
+#[test]
+fn an_append_that_fails_stops_the_store(rt: HostRuntime) {
+    assert_eq!(rt; stops(rt.alloc()), Some(true));
 }

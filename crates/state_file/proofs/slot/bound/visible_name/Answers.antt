@@ -7,5 +7,5 @@ use Rattle.state_file.proofs.slot.bound.visible_name.Goals as goal
 pub returns : goal.returns
 returns c =
     let bytes = c.args.bytes.now in
-    let Tells : Option (List ℕ) → Type 0 = λ made. MatchOption made (are_visible bytes ≡ false) (λ name. (are_visible bytes ≡ true) × (name ≡ bytes)) in
-    subst Tells (sym c.ok.ensures.value) (visible_or_not bytes c.new.result c.requires.some c.requires.few c.new.ensures.ok c.new.ensures.value)
+    let Reports : Option (List ℕ) → Type 0 = λ made. MatchOption made (are_visible bytes ≡ false) (λ name. (are_visible bytes ≡ true) × (name ≡ bytes)) in
+    subst Reports (sym c.ok.ensures.value) (visible_or_not bytes c.new.result c.requires.some c.requires.few c.new.ensures.ok c.new.ensures.value)

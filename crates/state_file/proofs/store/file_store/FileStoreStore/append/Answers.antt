@@ -1,4 +1,4 @@
-use Rattle.std.proofs.Common.{inl, ◌*◌, [], ◌∷◌, ◌++◌, ℕ, length, take, sym, ◌∙◌, ap, subst, arith, length-append}
+use Rattle.std.proofs.Common.{inl, ◌*◌, [], ◌∷◌, ◌++◌, ℕ, length, take, refl, sym, ◌∙◌, ap, subst, arith, length-append}
 use Rattle.state_file.proofs.Lists.{kept_alone, lists_leave}
 use Rattle.state_file.proofs.Moments.{started, weaker}
 use Rattle.state_file.specs.declared.store.file_store.FileStore.{FileStore}
@@ -26,8 +26,8 @@ invariant_of-self g c = record {
       let kept = self.kept (sym c.add_slot.ensures.honest ∙ honest) running in
       let front = take (256 * length self.records) state.content in
       let added = c.in-Ok.ensures.added front (sym c.add_slot.ensures.honest ∙ honest) (kept_rests self.records self.tag state kept) (kept_size self.records self.tag state self.count kept self.counted) in
-      kept_grows self.records c.push.new.self self.tag state after self.count c.args.new.now fields c.tag-next_tag.result c.joined.result c.push.ensures self.counted (omega arith) (follows_key c.args.self.now.records c.args.new.now kept.file.first c.requires)
-      c.joined.ensures.fields c.joined.ensures.tag c.joined.ensures.bytes c.record_bytes-fields.ensures c.tag-next_tag.ensures kept added;
+      kept_grows self.records c.push.new.self self.tag state after self.count c.args.new.now fields c.tag-next_tag.result (c.record_bytes-fields.result ++ c.tag-next_tag.result) c.push.ensures self.counted (omega arith) (follows_key c.args.self.now.records c.args.new.now kept.file.first c.requires)
+      c.add_slot.ensures.fields c.add_slot.ensures.tag refl c.record_bytes-fields.ensures c.tag-next_tag.ensures kept added;
 }
 
 pub returns-in-Ok-clause-contents : goal.returns-in-Ok-clause-contents
@@ -37,8 +37,8 @@ returns-in-Ok-clause-contents g c honest running =
     let kept = self.kept honest running in
     let front = take (256 * length self.records) state.content in
     weaker g.D.Disk.moment g.D.Disk.left_since self.disk c.add_slot.new.disk _ _
-    (added_leaves self.records self.tag state self.count c.args.new.now c.record_bytes-fields.result c.tag-next_tag.result c.joined.result self.counted (omega arith) (follows_key c.args.self.now.records c.args.new.now kept.file.first c.requires)
-    c.joined.ensures.fields c.joined.ensures.tag c.joined.ensures.bytes c.record_bytes-fields.ensures c.tag-next_tag.ensures kept)
+    (added_leaves self.records self.tag state self.count c.args.new.now c.record_bytes-fields.result c.tag-next_tag.result (c.record_bytes-fields.result ++ c.tag-next_tag.result) self.counted (omega arith) (follows_key c.args.self.now.records c.args.new.now kept.file.first c.requires)
+    c.add_slot.ensures.fields c.add_slot.ensures.tag refl c.record_bytes-fields.ensures c.tag-next_tag.ensures kept)
     (c.add_slot.ensures.any_moment front honest (kept_rests self.records self.tag state kept) (kept_size self.records self.tag state self.count kept self.counted))
 
 pub returns-in-Err-clause-contents : goal.returns-in-Err-clause-contents
@@ -48,8 +48,8 @@ returns-in-Err-clause-contents g c honest running =
     let kept = self.kept honest running in
     let front = take (256 * length self.records) state.content in
     weaker g.D.Disk.moment g.D.Disk.left_since self.disk c.add_slot.new.disk _ _
-    (added_leaves self.records self.tag state self.count c.args.new.now c.record_bytes-fields.result c.tag-next_tag.result c.joined.result self.counted (omega arith) (follows_key c.args.self.now.records c.args.new.now kept.file.first c.requires)
-    c.joined.ensures.fields c.joined.ensures.tag c.joined.ensures.bytes c.record_bytes-fields.ensures c.tag-next_tag.ensures kept)
+    (added_leaves self.records self.tag state self.count c.args.new.now c.record_bytes-fields.result c.tag-next_tag.result (c.record_bytes-fields.result ++ c.tag-next_tag.result) self.counted (omega arith) (follows_key c.args.self.now.records c.args.new.now kept.file.first c.requires)
+    c.add_slot.ensures.fields c.add_slot.ensures.tag refl c.record_bytes-fields.ensures c.tag-next_tag.ensures kept)
     (c.add_slot.ensures.any_moment front honest (kept_rests self.records self.tag state kept) (kept_size self.records self.tag state self.count kept self.counted))
 
 pub returns-in-Ok-clause-adds : goal.returns-in-Ok-clause-adds

@@ -46,8 +46,8 @@ returns-in-Some-clause-answer g c =
     let self = c.args.self.now in
     let is_record : g.D.Disk.honest self.disk ≡ _ → _ = λ honest.
     let kept = kept_holds self.records self.tag (g.D.Disk.state self.disk) c.args.k (self.kept honest c.if-self.false) (omega (arith, self.counted)) in
-    let held = holds_entry (g.D.Disk.state self.disk).content c.args.k c.in-Ok.found c.in-Some.record (c.in-Ok.ensures.entry honest) c.in-Some.is in
-    kept.1 ∙ ap (λ (e : Record). Some e) (one_value slot_record kept.0 c.in-Some.record _ kept.2.spelled held.spelled) in
+    let holds = holds_entry (g.D.Disk.state self.disk).content c.args.k c.in-Ok.found c.in-Some.record (c.in-Ok.ensures.entry honest) c.in-Some.is in
+    kept.1 ∙ ap (λ (e : Record). Some e) (one_value slot_record kept.0 c.in-Some.record _ kept.2.spelled holds.spelled) in
     (c.if-self.false, omega (arith, self.counted), record_at (g.D.Disk.honest self.disk) self.records c.args.k c.in-Some.record is_record, search rules, search rules)
 
 pub returns-in-None-clause-answer : goal.returns-in-None-clause-answer

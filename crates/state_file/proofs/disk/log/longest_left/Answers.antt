@@ -2,7 +2,7 @@ use Rattle.std.proofs.Common.{◌≡◌, ◌≤◌, length, reverse, arith, rule
 use Rattle.state_file.specs.Disk.{greatest_end}
 use Rattle.state_file.specs.Log.{ranges_of}
 use Rattle.state_file.proofs.Ranges.{no_shorter}
-use Rattle.state_file.proofs.disk.log.filled.Goals as goal
+use Rattle.state_file.proofs.disk.log.longest_left.Goals as goal
 
 pub returns : goal.returns
 returns c =
@@ -14,5 +14,5 @@ returns c =
       longest = omega arith;
       kept = λ k inside outside. c.loop-place.invariant.kept k (omega arith) inside outside;
       inside = λ k within not_outside. c.loop-place.invariant.inside k (omega arith) not_outside;
-      behind = λ k within past. c.loop-place.invariant.behind k (omega arith) past;
+      after = λ k within past. c.loop-place.invariant.after k (omega arith) past;
     }
