@@ -60,9 +60,10 @@ pub trait Disk {
         ensures past_ends { past_ends self.new ≡ past_ends self.old }
         ensures honest { honest self.new ≡ honest self.old };
 
-    /// Reads as many bytes as `into` has, from the place `at` on. A read past the end is refused, and no other is
-    /// refused as one. After an Err nothing is said of `into`.
+    /// Reads as many bytes as `into` has, which is one at least, from the place `at` on. A read past the end is
+    /// refused, and no other is refused as one. After an Err nothing is said of `into`.
     fn read_at(&mut self, at: u64, into: &mut [u8]) -> Result<(), DiskFault>
+        requires { 0 < length into.old }
         ensures within { IsTrue (honest self.old) →
             OnOk result (at + length into.old ≤ length (state self.old).content) }
         ensures bytes { IsTrue (honest self.old) →
@@ -77,9 +78,10 @@ pub trait Disk {
         ensures failures { CountsFailure (failures self.old) (failures self.new) result }
         ensures honest { honest self.new ≡ honest self.old };
 
-    /// Writes over what is there and past the end. Until a sync succeeds, a stop may leave any bytes in the
+    /// Writes these bytes, one at least, over what is there and past the end. Until a sync succeeds, a stop may leave any bytes in the
     /// range.
     fn write_at(&mut self, at: u64, bytes: &[u8]) -> Result<(), DiskFault>
+        requires { 0 < length bytes.now }
         ensures written { IsTrue (honest self.old) → Writes at bytes.now (state self.old) (state self.new) result }
         ensures time { IsTrue (honest self.old) →
             Elapses (moment self.old) (moment self.new) (left_since self.old) (left_since self.new)

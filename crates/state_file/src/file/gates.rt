@@ -1,6 +1,6 @@
 //! Slots on a disk, and how they are added so that a stop never leaves half a slot.
 
-ghost use Rattle.std.specs.Prelude.{◌≡◌, ◌⊎◌, ◌+◌, ◌*◌, ◌≤◌, ◌∷◌, [], ◌++◌, ℕ, List, IsTrue, length, slice_range};
+ghost use Rattle.std.specs.Prelude.{◌≡◌, ◌⊎◌, ◌+◌, ◌*◌, ◌<◌, ◌≤◌, ◌∷◌, [], ◌++◌, ℕ, List, IsTrue, length, slice_range};
 ghost use Rattle.std.specs.Prelude.{IfOk, OnOk};
 ghost use Rattle.state_file.specs.File.{open_value};
 ghost use Rattle.state_file.specs.Disk.{settled, range_of, ChangesOnly, IsSynced, LeavesOnly, MayLeave, CountsFailure};
@@ -15,7 +15,8 @@ pub(crate) const SLOT: u64 = 256;
 
 /// Reads bytes that are there.
 pub(crate) fn read_within<D: Disk>(disk: &mut D, at: u64, into: &mut [u8]) -> Result<(), DiskFault>
-    requires { IsTrue (D.honest disk.old) → at + length into.old ≤ length (D.state disk.old).content }
+    requires within { IsTrue (D.honest disk.old) → at + length into.old ≤ length (D.state disk.old).content }
+    requires some { 0 < length into.old }
     ensures bytes { IsTrue (D.honest disk.old) →
         OnOk result (into.new ≡ slice_range (D.state disk.old).content at (at + length into.old)) }
     ensures reads { IsTrue (D.honest disk.old) → OnlyReads D.state D.moment D.left_since disk.old disk.new }
@@ -28,6 +29,7 @@ pub(crate) fn read_within<D: Disk>(disk: &mut D, at: u64, into: &mut [u8]) -> Re
 
 /// Writes bytes and syncs.
 pub(crate) fn write_synced<D: Disk>(disk: &mut D, at: u64, bytes: &[u8]) -> Result<(), DiskFault>
+    requires { 0 < length bytes.now }
     ensures written { IsTrue (D.honest disk.old) →
         OnOk result
         (IsSynced (D.state disk.new) ×
