@@ -2,7 +2,7 @@
 
 use super::place::{Place, run_words};
 use super::sample::Sample;
-use super::shelf::{After, Content, Shelf, verify};
+use super::shelf::{After, Content, verify, verify_to};
 use crate::files::Machine;
 use crate::line::ClapReader;
 use crate::output::Printer;
@@ -131,24 +131,15 @@ impl Write for Stuck {
 #[test]
 fn ends_with_3_where_an_output_fails_at_its_end(rt: HostRuntime) -> Result<(), Fail> {
     let Sample { public, signature } = Sample::new(rt.alloc(), b"a message")?;
-    let files = [
-        ("p", Content::of(&public)),
-        ("m", Content::of(b"a message")),
-        ("s", Content::of(&signature)),
-    ];
     let mut output = Printer::new(Stuck {
         taken: Vec::new(rt.alloc()),
     });
-    let mut errors = Printer::new(Vec::new(rt.alloc()));
-    let mut input: &[u8] = &[];
-    let status = run(
-        rt.alloc(),
-        &mut ClapReader::new(rt.alloc()),
-        &mut Shelf::new(&rt, &files),
-        &["verify", "p", "m", "s"],
-        &mut input,
+    let status = verify_to(
+        &rt,
+        Content::of(&public),
+        Content::of(b"a message"),
+        Content::of(&signature),
         &mut output,
-        &mut errors,
     );
     assert_eq!(rt; output.writer.taken.as_slice(), b"verified\n".as_slice());
     assert_eq!(rt; status, 3);

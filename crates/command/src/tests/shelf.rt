@@ -1,8 +1,12 @@
 //! Files in memory.
-ghost use Rattle.std.specs.Prelude.{None};
+ghost use Rattle.std.specs.Prelude.{◌≡◌, None};
+ghost use Rattle.std.specs.Io.{ReadsAtMost};
 
 use super::place::{Outcome, run_in};
 use crate::files::{Folder, Source};
+use crate::line::ClapReader;
+use crate::output::{Output, Printer};
+use crate::program::run;
 use crate::refusal::Refusal;
 use crate::trace::{Event, Role, Trace};
 use std::io;
@@ -29,7 +33,9 @@ impl<'a> Content<'a> {
         }
     }
 
-    fn read(&mut self, buffer: &mut [u8]) -> io::Result<usize> {
+    fn read(&mut self, buffer: &mut [u8]) -> io::Result<usize>
+        ensures { ReadsAtMost result buffer.new }
+    {
         let bytes = self.bytes;
         let n = bytes.len().min(buffer.len());
         if n > 0 {
@@ -66,7 +72,9 @@ impl<'a> Shelf<'a> {
     }
 
     // What the path holds, which is noted.
-    fn find(&mut self, path: &str) -> Option<Content<'a>> {
+    fn find(&mut self, path: &str) -> Option<Content<'a>>
+        ensures { self.new.trace ≡ self.old.trace }
+    {
         self.opened.extend_from_slice(path.as_bytes()).ok()?;
         self.opened.push(b'|').ok()?;
         for (name, content) in self.files {
@@ -129,4 +137,26 @@ pub fn verify(
 ) -> Outcome {
     let files = [("p", public), ("m", message), ("s", signature)];
     run_in(rt, &mut Shelf::new(rt, &files), &["verify", "p", "m", "s"])
+}
+
+// The exit status of verifying these, over this output.
+pub fn verify_to<O: Output>(
+    rt: &HostRuntime,
+    public: Content<'_>,
+    message: Content<'_>,
+    signature: Content<'_>,
+    output: &mut O,
+) -> u8 {
+    let files = [("p", public), ("m", message), ("s", signature)];
+    let mut errors = Printer::new(Vec::new(rt.alloc()));
+    let mut input: &[u8] = &[];
+    run(
+        rt.alloc(),
+        &mut ClapReader::new(rt.alloc()),
+        &mut Shelf::new(rt, &files),
+        &["verify", "p", "m", "s"],
+        &mut input,
+        output,
+        &mut errors,
+    )
 }
