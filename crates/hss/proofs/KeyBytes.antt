@@ -18,7 +18,7 @@ use Rattle.lmots.specs.Hashes.{u32str}
 use Rattle.lms.specs.declared.key.LmsPublic.{LmsPublic}
 use Rattle.lms.specs.Key.{public_key as lms_public_key}
 use Rattle.lms.specs.Writing.{public_bytes as lms_public_bytes}
-use Rattle.lms.proofs.SigningBytes.{number_spelled}
+use Rattle.typecodes.proofs.FieldBytes.{number_spelled}
 
 -- a number's digits are bytes
 u32-bytes : (c : ℕ) → AreBytes (u32str c)

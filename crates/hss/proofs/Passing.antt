@@ -12,7 +12,7 @@ use Rattle.typecodes.proofs.Read.{read-bind}
 use Rattle.lms.specs.Signature.{Signature as LmsSignature, signature as lms_signature}
 use Rattle.lms.specs.Key.{public_key as lms_public_key}
 use Rattle.typecodes.proofs.Steps.{reading}
-use Rattle.lms.proofs.Parts.{in_turn}
+use Rattle.typecodes.proofs.Parts.{in_turn}
 use Rattle.hss.specs.SignedKey.{SignedKey, signed_key, signed_keys}
 
 -- no one-time signature is longer than W1's, and no tree is higher than H25's

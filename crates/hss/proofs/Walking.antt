@@ -18,7 +18,8 @@ use Rattle.typecodes.proofs.Steps.{ends-spelled}
 use Rattle.lms.specs.declared.key.LmsPublic.{LmsPublic}
 use Rattle.lms.specs.Signature.{Signature as LmsSignature, signature as lms_signature}
 use Rattle.lms.specs.Key.{public_key as lms_public_key}
-use Rattle.lms.proofs.Parts.{in_turn, laid_out, part_read}
+use Rattle.typecodes.proofs.Parts.{in_turn, part_read}
+use Rattle.lms.proofs.Parts.{laid_out}
 use Rattle.hss.specs.Key.{level_number}
 use Rattle.hss.specs.SignedKey.{SignedKey, signed_key, signed_keys, taken}
 use Rattle.hss.specs.Signature.{Signature, key_at, keys_of, level_count, signature, signature_at, signature_size, signatures_of, start_of}

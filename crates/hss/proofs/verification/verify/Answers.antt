@@ -1,6 +1,6 @@
 use Rattle.std.proofs.Common.{◌≡◌, ◌-◌, sym, ◌∙◌, subst, length, Err, arith, rules}
 use Rattle.typecodes.specs.Layout.{Spells}
-use Rattle.lms.proofs.Comparing.{read_spells}
+use Rattle.typecodes.proofs.WasRead.{read_spells}
 use Rattle.hss.specs.Signature.{level_count, signature}
 use Rattle.hss.specs.Verification.{LeavesMessage, Verdict}
 use Rattle.hss.specs.View.{signature_of}
