@@ -6,8 +6,8 @@ use Rattle.typecodes.specs.declared.types.OtsType.{OtsType}
 use Rattle.typecodes.specs.declared.types.OtsType.TheVariants.{W1, W2, W4, W8}
 use Rattle.typecodes.specs.declared.types.LmsType.{LmsType}
 use Rattle.typecodes.specs.declared.types.LmsType.TheVariants.{H5, H10, H15, H20, H25}
-use Rattle.typecodes.specs.declared.xmss.XmssType.{XmssType}
-use Rattle.typecodes.specs.declared.xmss.XmssType.TheVariants.{H10 as X10, H16 as X16, H20 as X20}
+use Rattle.typecodes.specs.declared.types.XmssType.{XmssType}
+use Rattle.typecodes.specs.declared.types.XmssType.TheVariants.{H10 as X10, H16 as X16, H20 as X20}
 use Rattle.typecodes.specs.declared.refusal.Refusal.{Refusal as SignatureRefusal}
 use Rattle.typecodes.specs.declared.refusal.Refusal.TheVariants.{Unreadable, TypeMismatch, LevelMismatch, RootMismatch}
 use Rattle.typecodes.specs.Types.{chains_of, height_of, ots_code, ots_types, lms_code, lms_types, xmss_height_of}
@@ -25,8 +25,8 @@ use Rattle.hss.specs.Verification.{Verdict as HssVerdict}
 use Rattle.xmss.specs.declared.key.XmssPublic.{XmssPublic}
 use Rattle.xmss.specs.Signature.{leaf_index, signature as xmss_signature}
 use Rattle.xmss.specs.Verification.{Verdict as XmssVerdict}
-use Rattle.sign_core.specs.declared.public.AnyPublic.{AnyPublic}
-use Rattle.sign_core.specs.declared.public.AnyPublic.TheVariants.{Lms, Hss, Xmss}
+use Rattle.sign_core.specs.declared.key.AnyPublic.{AnyPublic}
+use Rattle.sign_core.specs.declared.key.AnyPublic.TheVariants.{Lms, Hss, Xmss}
 use Rattle.sign_core.specs.Key.{KeyVerdict}
 use Rattle.command.specs.Verify.{Judgement, decisive}
 use Rattle.command.specs.declared.refusal.Refusal.{Refusal}

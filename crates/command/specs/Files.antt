@@ -1,7 +1,7 @@
 -- What is read of files, and how reading them fails.
 use Rattle.std.specs.Prelude.{ℕ, List, Result, Ok, Err, ◌≡◌, ⊤, Option, Some, None, IfSome, ◌≢◌, ◌⊎◌}
-use Rattle.sign_core.specs.declared.public.AnyPublic.{AnyPublic}
-use Rattle.sign_core.specs.declared.public.KeyFault.{KeyFault}
+use Rattle.sign_core.specs.declared.key.AnyPublic.{AnyPublic}
+use Rattle.sign_core.specs.declared.key.KeyFault.{KeyFault}
 use Rattle.sign_core.specs.Key.{KeyHasFault, SpellsKey}
 use Rattle.command.specs.declared.trace.Role.{Role}
 use Rattle.std.specs.IoError.{error_kind}

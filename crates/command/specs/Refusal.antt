@@ -6,7 +6,7 @@ use Rattle.command.specs.declared.refusal.Refusal.TheVariants.{OutOfMemory, File
 use Rattle.std.specs.Prelude.{ℕ, length, List, codes, [], ◌++◌, decimal}
 use Rattle.typecodes.specs.Fault.{cause_number}
 use Rattle.typecodes.specs.Refusal.{refusal_number}
-use Rattle.sign_core.specs.declared.public.KeyFault.TheVariants.{Length as KeyLength, Unreadable as UnreadableKey}
+use Rattle.sign_core.specs.declared.key.KeyFault.TheVariants.{Length as KeyLength, Unreadable as UnreadableKey}
 use Rattle.typecodes.specs.declared.fault.Cause.{Cause}
 use Rattle.typecodes.specs.declared.fault.Cause.TheVariants.{Truncated, UnknownType, LevelCount}
 use Rattle.typecodes.specs.declared.fault.Cause.TheVariants.{LeafOutOfRange, Trailing}

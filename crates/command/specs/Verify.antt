@@ -2,7 +2,7 @@
 use Rattle.std.specs.Prelude.{ℕ, true, List, codes, [], ◌∷◌, ◌≡◌, ◌⊎◌, ◌++◌, Result, Ok, Err, ⊤, Option, IsErrAnd}
 use Rattle.clap.specs.Words.{Rule, new_rule, App, new_app, with_rule}
 use Rattle.command.specs.declared.trace.Role.TheVariants as role
-use Rattle.sign_core.specs.declared.public.AnyPublic.{AnyPublic}
+use Rattle.sign_core.specs.declared.key.AnyPublic.{AnyPublic}
 use Rattle.sign_core.specs.Key.{KeyHasFault, KeyVerdict, SpellsKey}
 use Rattle.command.specs.declared.refusal.Refusal.{Refusal}
 use Rattle.command.specs.declared.refusal.Refusal.TheVariants.{Key, Signature, OutOfMemory, FileFailed}
