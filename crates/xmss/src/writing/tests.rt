@@ -60,10 +60,11 @@ fn rising_bytes(rt: HostRuntime) {
     merkle::path(&mut tree, 10, 700, &mut path);
     let leaf = tree.leaf(700);
     let root = root_from_path(&tree, 700, &leaf, &path);
+    let seed = SECRET.public_seed;
     let key = XmssPublic {
         tree: XmssType::H10,
         root,
-        seed: SECRET.public_seed,
+        seed,
     };
     let mut public = [0; 68];
     write_public(&key, &mut public);
