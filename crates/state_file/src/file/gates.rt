@@ -1,7 +1,7 @@
 //! Slots on a disk, and how they are added so that a stop never leaves half a slot.
 
-ghost use Rattle.std.specs.Prelude.{◌≡◌, ◌⊎◌, ◌+◌, ◌*◌, ◌<◌, ◌≤◌, ◌∷◌, [], ◌++◌, ℕ, List, IsTrue, length, slice_range};
-ghost use Rattle.std.specs.Prelude.{IfOk, OnOk};
+ghost use Rattle.std.specs.Prelude.{◌≡◌, ◌⊎◌, ◌+◌, ◌*◌, ◌<◌, ◌≤◌, ◌∷◌, [], ◌++◌, ℕ, List, IsTrue};
+ghost use Rattle.std.specs.Prelude.{length, slice_range, IfOk, OnOk};
 ghost use Rattle.state_file.specs.File.{open_value};
 ghost use Rattle.state_file.specs.Disk.{settled, range_of, ChangesOnly, IsSynced, LeavesOnly, MayLeave, CountsFailure};
 ghost use Rattle.state_file.specs.Gates.{AddsSlot, IsClosedAfter, IsAtRest, slot_and_gate};
