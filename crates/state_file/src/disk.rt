@@ -78,8 +78,8 @@ pub trait Disk {
         ensures failures { CountsFailure (failures self.old) (failures self.new) result }
         ensures honest { honest self.new ≡ honest self.old };
 
-    /// Writes these bytes, one at least, over what is there and past the end. Until a sync succeeds, a stop may leave any bytes in the
-    /// range.
+    /// Writes these bytes, one at least, over what is there and past the end. Until a sync succeeds, a stop may
+    /// leave any bytes in the range.
     fn write_at(&mut self, at: u64, bytes: &[u8]) -> Result<(), DiskFault>
         requires { 0 < length bytes.now }
         ensures written { IsTrue (honest self.old) → Writes at bytes.now (state self.old) (state self.new) result }
