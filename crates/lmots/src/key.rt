@@ -1,15 +1,19 @@
 //! The one-time key of a leaf.
 
-ghost use Rattle.std.specs.Prelude.{◌≡◌, ℕ, ◌-◌, ◌*◌, ◌^◌, List, length};
+ghost use Rattle.std.specs.Prelude.{◌≡◌, ℕ, ◌-◌, ◌*◌, ◌^◌, ◌++◌, List, length, IfOk, OnErr};
 ghost use Rattle.std.specs.List.{concat};
+ghost use Rattle.sha2.specs.Hashers.{Holds256};
+ghost use Rattle.lmots.specs.Hashes.{message_separator, u16str, u32str};
 ghost use Rattle.lmots.specs.Key as spec;
 ghost use Rattle.lmots.specs.Key.{ClimbTo, ends_of_seed, ends_of_signature, message_digest_of, signed_values, step_of};
 ghost use Rattle.typecodes.specs.Fields.{values_in};
+ghost use Rattle.typecodes.specs.Message.{CantBeRead, ReadWhole};
 ghost use Rattle.typecodes.specs.Types.{chains_of, width_of};
 
 use crate::hashes::{MESSAGE, PUBLIC};
-use sha2::Digest;
-use typecodes::OtsType;
+use crate::message::feed;
+use sha2::{Digest, Sha256};
+use typecodes::{Message, MessageFailed, OtsType};
 use winternitz::{Step, climb, digits};
 
 /// A leaf's one-time key, by the identifier I of its tree and its number q: what each hash of the
@@ -38,10 +42,36 @@ impl LmOts {
     pub fn message_digest(&self, randomizer: &[u8; 32], message: &[u8]) -> [u8; 32]
         ensures { result ≡ message_digest_of self.now.identifier self.now.leaf randomizer.now message.now }
     {
-        let mut hasher = self.hasher(MESSAGE);
-        hasher.update(randomizer);
+        let mut hasher = self.message_hasher(randomizer);
         hasher.update(message);
         hasher.finalize()
+    }
+
+    // A hasher that holds what stands before a message.
+    fn message_hasher(&self, randomizer: &[u8; 32]) -> Sha256
+        ensures { Holds256 result (self.now.identifier ++ u32str self.now.leaf ++ u16str message_separator
+            ++ randomizer.now) }
+    {
+        let mut hasher = self.hasher(MESSAGE);
+        hasher.update(randomizer);
+        hasher
+    }
+
+    /// Q of the message that a reader gives, however it is cut: read to its end, in pieces that aren't kept. Refused where
+    /// a read fails, or where the reader gives 2^60 bytes.
+    pub fn message_digest_from<M: Message>(
+        &self,
+        randomizer: &[u8; 32],
+        message: &mut M,
+    ) -> Result<[u8; 32], MessageFailed>
+        ensures ok { IfOk result (λ digest. (text : List ℕ)
+            × ReadWhole M.step M.remaining text message.old message.new
+            × (digest ≡ message_digest_of self.now.identifier self.now.leaf randomizer.now text)) }
+        ensures err { OnErr result (CantBeRead M.step message.old message.new) }
+    {
+        let mut hasher = self.message_hasher(randomizer);
+        feed(&mut hasher, message)?;
+        Ok(hasher.finalize())
     }
 
     /// The private value of a chain, made of the key's seed (RFC 8554, Appendix A).

@@ -21,6 +21,7 @@
 
 mod hashes;
 mod key;
+mod message;
 #[cfg(test)]
 mod tests;
 

@@ -15,3 +15,4 @@ pub mod Written
 pub mod Leaves
 pub mod Unambiguous
 pub mod WasRead
+pub mod Messages

@@ -2,7 +2,7 @@
 use Rattle.std.specs.Prelude.{ℕ}
 use Rattle.typecodes.specs.Fault.{cause_number}
 use Rattle.typecodes.specs.declared.refusal.Refusal.{Refusal}
-use Rattle.typecodes.specs.declared.refusal.Refusal.TheVariants.{Unreadable, TypeMismatch, LevelMismatch, RootMismatch}
+use Rattle.typecodes.specs.declared.refusal.Refusal.TheVariants.{Unreadable, TypeMismatch, LevelMismatch, RootMismatch, MessageRead}
 
 -- a fault by its cause, and the other refusals
 abbrev pub refusal_number : Refusal → ℕ
@@ -10,3 +10,4 @@ refusal_number (Unreadable fault) = cause_number fault.cause
 refusal_number (TypeMismatch level) = 10
 refusal_number LevelMismatch = 11
 refusal_number (RootMismatch level) = 12
+refusal_number MessageRead = 14

@@ -23,10 +23,13 @@ pub enum Refusal {
     /// 12: the root to which the signature leads isn't the key's.
     #[error("level {0}: the signature doesn't lead to the key's root")]
     RootMismatch(u8),
+    /// 14: a read of the message failed, or it gave 2^60 bytes.
+    #[error("the message can't be read")]
+    MessageRead,
 }
 
 impl Refusal {
-    /// The number that reports the refusal: 1 to 5 or 10 to 12.
+    /// The number that reports the refusal: 1 to 5, 10 to 12 or 14.
     pub fn number(&self) -> u8
         ensures { result ≡ refusal_number self.now }
     {
@@ -35,6 +38,7 @@ impl Refusal {
             Refusal::TypeMismatch(_) => 10,
             Refusal::LevelMismatch => 11,
             Refusal::RootMismatch(_) => 12,
+            Refusal::MessageRead => 14,
         }
     }
 }

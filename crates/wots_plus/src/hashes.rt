@@ -1,13 +1,16 @@
 //! The keyed hashes (RFC 8391 5.1) and the join of two nodes (4.1.4).
 
-ghost use Rattle.std.specs.Prelude.{◌≡◌, ◌≤◌, ◌++◌};
+ghost use Rattle.std.specs.Prelude.{◌≡◌, ◌≤◌, ◌++◌, ℕ, List, IfOk, OnErr};
 ghost use Rattle.sha2.specs.Hashers.{Holds256};
 ghost use Rattle.wots_plus.specs.Address.{address_of};
 ghost use Rattle.wots_plus.specs.Hashes.{Holds256-prop, prf, to_byte};
 ghost use Rattle.wots_plus.specs.Hashes as spec;
+ghost use Rattle.typecodes.specs.Message.{CantBeRead, ReadWhole};
 
 use crate::address::Address;
+use crate::message::feed;
 use sha2::{Digest, Sha256};
+use typecodes::{Message, MessageFailed};
 
 /// F(KEY, M), the hash of a chain's step.
 pub fn hash_f(key: &[u8; 32], message: &[u8; 32]) -> [u8; 32]
@@ -32,9 +35,31 @@ pub fn hash_h(key: &[u8; 32], left: &[u8; 32], right: &[u8; 32]) -> [u8; 32]
 pub fn hash_message(key: &[u8; 96], message: &[u8]) -> [u8; 32]
     ensures { result ≡ spec.hash_message key.now message.now }
 {
-    let mut hasher = keyed(2, key);
+    let mut hasher = message_hasher(key);
     hasher.update(message);
     hasher.finalize()
+}
+
+/// H_msg(KEY, M) of the message that a reader gives, however it is cut: read to its end, in pieces that aren't kept.
+/// Refused where a read fails, or where the reader gives 2^60 bytes.
+pub fn hash_message_from<M: Message>(
+    key: &[u8; 96],
+    message: &mut M,
+) -> Result<[u8; 32], MessageFailed>
+    ensures ok { IfOk result (λ digest. (text : List ℕ)
+        × ReadWhole M.step M.remaining text message.old message.new × (digest ≡ spec.hash_message key.now text)) }
+    ensures err { OnErr result (CantBeRead M.step message.old message.new) }
+{
+    let mut hasher = message_hasher(key);
+    feed(&mut hasher, message)?;
+    Ok(hasher.finalize())
+}
+
+// A hasher that holds what stands before a message.
+fn message_hasher(key: &[u8; 96]) -> Sha256
+    ensures { Holds256 result (to_byte 2 32 ++ key.now) }
+{
+    keyed(2, key)
 }
 
 // A hasher that holds the hash's number in 32 bytes and the key.

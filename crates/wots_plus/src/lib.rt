@@ -26,9 +26,10 @@ mod address;
 mod hashes;
 mod key;
 mod l_tree;
+mod message;
 #[cfg(test)]
 mod tests;
 
 pub use crate::address::Address;
-pub use crate::hashes::{Prf, hash_f, hash_h, hash_message, rand_hash};
+pub use crate::hashes::{Prf, hash_f, hash_h, hash_message, hash_message_from, rand_hash};
 pub use crate::key::Wots;

@@ -15,6 +15,7 @@ fn refusals_have_numbers(rt: HostRuntime) {
         (Refusal::TypeMismatch(0), 10),
         (Refusal::LevelMismatch, 11),
         (Refusal::RootMismatch(0), 12),
+        (Refusal::MessageRead, 14),
     ] {
         assert_eq!(rt; refusal.number(), number);
     }

@@ -1,0 +1,211 @@
+-- Reads of a message, one after the other.
+use Rattle.std.proofs.Common.{◌≡◌, ◌∙◌, ℕ, ◌+◌, ◌*◌, ◌≤◌, ◌^◌, List, [], ◌∷◌, ◌++◌, length, take, Ok, Err, Option, inl, inr, refl, sym, ap, subst, arith, append_assoc, append-nil, length-append, length-take-le, Some, None, OnErr, Result}
+use Rattle.std.specs.Io.KnownBytes.{Consumes}
+use Rattle.std.proofs.KnownBytes.{Consumes-trans}
+use Rattle.std.specs.declared.io.ErrorKind.{ErrorKind}
+use Rattle.std.specs.declared.io.ErrorKind.TheVariants.{Interrupted}
+use Rattle.typecodes.specs.Message.{CantBeRead, Feeds, Gave, Gives, GivesAll, Outcome, ReadWhole, Reads, Step}
+
+reads-append : {M : Type 0} (step : Step M) (xs ys : List Outcome) (old middle new : M) → Reads step xs old middle
+    → Reads step ys middle new → Reads step (xs ++ ys) old new
+reads-append step [] ys old middle new same more = subst (λ m. Reads step ys m new) same more
+reads-append step (x ∷ xs) ys old middle new (next, first, later) more =
+    (next, first, reads-append step xs ys next middle new later more)
+
+gave-append : (xs ys : List Outcome) (a b : List ℕ) → Gave xs a → Gave ys b → Gave (xs ++ ys) (a ++ b)
+gave-append [] ys a b none more = subst (Gave ys) (ap (λ l. l ++ b) (sym none)) more
+gave-append (Ok bytes ∷ later) ys a b (rest, is, gave) more =
+    (rest ++ b, ap (λ l. l ++ b) is ∙ append_assoc bytes rest b, gave-append later ys rest b gave more)
+gave-append (Err kind ∷ later) ys a b (interrupted, gave) more = (interrupted, gave-append later ys a b gave more)
+
+-- This text was given, by so many reads or more.
+abbrev pub Progress : {M : Type 0} → Step M → ℕ → List ℕ → M → M → Type 0
+Progress step turns text old new =
+    (outcomes : List Outcome) × Reads step outcomes old new × Gave outcomes text × (turns ≤ length outcomes)
+
+pub begins : {M : Type 0} (step : Step M) (old : M) → Progress step 0 [] old old
+begins step old = ([], refl, refl, omega arith)
+
+pub read-more : {M : Type 0} (step : Step M) (turns : ℕ) (text bytes all : List ℕ) (old before new : M)
+    → Progress step turns text old before → step before (Ok bytes) new → text ++ bytes ≡ all
+    → Progress step (turns + 1) all old new
+read-more step turns text bytes all old before new (outcomes, reads, gave, least) more is =
+    let size : length (outcomes ++ Ok bytes ∷ []) ≡ length outcomes + 1 = length-append outcomes (Ok bytes ∷ []) in (
+      outcomes ++ Ok bytes ∷ [],
+      reads-append step outcomes (Ok bytes ∷ []) old before new reads (new, more, refl),
+      subst (Gave (outcomes ++ Ok bytes ∷ [])) is
+          (gave-append outcomes (Ok bytes ∷ []) text bytes gave ([], sym (append-nil bytes), refl)),
+      omega (arith, least, size),
+    )
+
+pub interrupted-once : {M : Type 0} (step : Step M) (turns : ℕ) (text all : List ℕ) (kind : ErrorKind) (old before new : M)
+    → Progress step turns text old before → step before (Err kind) new → kind ≡ Interrupted → text ≡ all
+    → Progress step (turns + 1) all old new
+interrupted-once step turns text all kind old before new (outcomes, reads, gave, least) more interrupted is =
+    let size : length (outcomes ++ Err kind ∷ []) ≡ length outcomes + 1 = length-append outcomes (Err kind ∷ []) in (
+      outcomes ++ Err kind ∷ [],
+      reads-append step outcomes (Err kind ∷ []) old before new reads (new, more, refl),
+      subst (Gave (outcomes ++ Err kind ∷ [])) (append-nil text ∙ is)
+          (gave-append outcomes (Err kind ∷ []) text [] gave (interrupted, refl)),
+      omega (arith, least, size),
+    )
+
+pub gives : {M : Type 0} (step : Step M) (turns : ℕ) (text : List ℕ) (old new : M) → Progress step turns text old new
+    → Gives step text old new
+gives step turns text old new (outcomes, reads, gave, least) = (outcomes, reads, gave)
+
+-- the last read gave nothing
+pub gives-all : {M : Type 0} (step : Step M) (turns : ℕ) (text : List ℕ) (old before new : M)
+    → Progress step turns text old before → step before (Ok []) new → GivesAll step text old new
+gives-all step turns text old before new (outcomes, reads, gave, least) last =
+    (outcomes, reads-append step outcomes (Ok [] ∷ []) old before new reads (new, last, refl), gave)
+
+-- the last read failed
+pub fails : {M : Type 0} (step : Step M) (turns : ℕ) (text : List ℕ) (kind : ErrorKind) (old before new : M)
+    → Progress step turns text old before → step before (Err kind) new → (kind ≡ Interrupted → ⊥)
+    → CantBeRead step old new
+fails step turns text kind old before new (outcomes, reads, gave, least) last other =
+    inl (outcomes, text, kind, reads-append step outcomes (Err kind ∷ []) old before new reads (new, last, refl), gave, other)
+
+-- there was no end of reads
+pub goes-on : {M : Type 0} (step : Step M) (turns : ℕ) (text : List ℕ) (old new : M) → Progress step turns text old new
+    → 2 ^ 60 ≤ turns → CantBeRead step old new
+goes-on step turns text old new (outcomes, reads, gave, least) long =
+    inr (outcomes, text, reads, gave, omega (arith, least, long))
+
+-- ---- whole pieces
+
+consumes-nothing : (known : Option (List ℕ)) → Consumes known known []
+consumes-nothing None = tt
+consumes-nothing (Some xs) = refl
+
+gives-append : {M : Type 0} (step : Step M) (a b : List ℕ) (old middle new : M) → Gives step a old middle
+    → Gives step b middle new → Gives step (a ++ b) old new
+gives-append step a b old middle new (xs, reads, gave) (ys, more, gave_more) =
+    (xs ++ ys, reads-append step xs ys old middle new reads more, gave-append xs ys a b gave gave_more)
+
+-- So many full pieces were read, which are this text.
+pub record HasRead {M : Type 0} (step : Step M) (remaining : M → Option (List ℕ)) (pieces : ℕ) (text : List ℕ) (old new : M)
+    : Type 0 where
+  pub gave : Gives step text old new
+  pub bytes : Consumes (remaining old) (remaining new) text
+  pub size : length text ≡ 16384 * pieces
+
+read-none : {M : Type 0} (step : Step M) (remaining : M → Option (List ℕ)) (old : M) → HasRead step remaining 0 [] old old
+read-none step remaining old = record { gave = ([], refl, refl); bytes = consumes-nothing (remaining old); size = refl }
+
+-- a full piece more
+read-full : {M : Type 0} (step : Step M) (remaining : M → Option (List ℕ)) (pieces n : ℕ) (text buffer : List ℕ) (old before new : M)
+    → HasRead step remaining pieces text old before → n ≡ 16384 → n ≤ length buffer → Gives step (take n buffer) before new
+    → Consumes (remaining before) (remaining new) (take n buffer)
+    → HasRead step remaining (pieces + 1) (text ++ take n buffer) old new
+read-full step remaining pieces n text buffer old before new has full within gives bytes =
+    record {
+      gave = gives-append step text (take n buffer) old before new has.gave gives;
+      bytes = Consumes-trans _ _ _ _ _ has.bytes bytes;
+      size = omega (arith, length-append text (take n buffer), length-take-le n buffer within, has.size, full);
+    }
+
+-- the last piece, which may be empty
+read-last : {M : Type 0} (step : Step M) (remaining : M → Option (List ℕ)) (pieces : ℕ) (text last : List ℕ) (old before new : M)
+    → HasRead step remaining pieces text old before → ReadWhole step remaining last before new
+    → ReadWhole step remaining (text ++ last) old new
+read-last step remaining pieces text last old before new has whole =
+    let (xs, reads, gave) = has.gave in
+    let (ys, more, gave_more) = whole.gave in
+    record {
+      gave = (
+        xs ++ ys,
+        subst (λ l. Reads step l old new) (sym (append_assoc xs ys (Ok [] ∷ [])))
+            (reads-append step xs (ys ++ Ok [] ∷ []) old before new reads more),
+        gave-append xs ys text last gave gave_more,
+      );
+      bytes = Consumes-trans _ _ _ _ _ has.bytes whole.bytes;
+      end = whole.end;
+    }
+
+-- a piece can't be read
+fails-later : {M : Type 0} (step : Step M) (remaining : M → Option (List ℕ)) (pieces : ℕ) (text : List ℕ) (old before new : M)
+    → HasRead step remaining pieces text old before → CantBeRead step before new → CantBeRead step old new
+fails-later step remaining pieces text old before new has cant =
+    let (xs, reads, gave) = has.gave in
+    elim cant [
+      | inl (ys, more, kind, failing, gave_more, other) ↦
+          inl (
+            xs ++ ys,
+            text ++ more,
+            kind,
+            subst (λ l. Reads step l old new) (sym (append_assoc xs ys (Err kind ∷ [])))
+                (reads-append step xs (ys ++ Err kind ∷ []) old before new reads failing),
+            gave-append xs ys text more gave gave_more,
+            other,
+          )
+      | inr (ys, more, going, gave_more, long) ↦
+          inr (
+            xs ++ ys,
+            text ++ more,
+            reads-append step xs ys old before new reads going,
+            gave-append xs ys text more gave gave_more,
+            omega (arith, long, length-append xs ys, length-append text more),
+          )
+    ]
+
+-- there is no end of full pieces
+full-for-ever : {M : Type 0} (step : Step M) (remaining : M → Option (List ℕ)) (pieces : ℕ) (text : List ℕ) (old new : M)
+    → HasRead step remaining pieces text old new → 2 ^ 46 ≤ pieces → CantBeRead step old new
+full-for-ever step remaining pieces text old new has long =
+    let (xs, reads, gave) = has.gave in
+    inr (xs, text, reads, gave, omega (arith, long, has.size))
+
+-- So many full pieces were read and fed to what holds bytes.
+abbrev pub HasFed : {M H : Type 0} → Step M → (M → Option (List ℕ)) → (H → List ℕ → Type 0) → ℕ → H → H → M → M → Type 0
+HasFed step remaining holds pieces before after old new =
+    (text : List ℕ) × HasRead step remaining pieces text old new × ((head : List ℕ) → holds before head → holds after (head ++ text))
+
+pub fed-none : {M H : Type 0} (step : Step M) (remaining : M → Option (List ℕ)) (holds : H → List ℕ → Type 0) (hasher : H) (old : M)
+    → HasFed step remaining holds 0 hasher hasher old old
+fed-none step remaining holds hasher old =
+    ([], read-none step remaining old, λ head begun. subst (holds hasher) (sym (append-nil head)) begun)
+
+-- a piece is taken after what was held
+takes-more : {H : Type 0} (holds : H → List ℕ → Type 0) (text piece : List ℕ) (before middle after : H)
+    → ((head : List ℕ) → holds before head → holds middle (head ++ text))
+    → ((head : List ℕ) → holds middle head → holds after (head ++ piece))
+    → (head : List ℕ) → holds before head → holds after (head ++ (text ++ piece))
+takes-more holds text piece before middle after first more head begun =
+    subst (holds after) (append_assoc head text piece) (more (head ++ text) (first head begun))
+
+pub fed-full : {M H : Type 0} (step : Step M) (remaining : M → Option (List ℕ)) (holds : H → List ℕ → Type 0) (pieces n : ℕ)
+    (buffer : List ℕ) (before middle after : H) (old read new : M)
+    → HasFed step remaining holds pieces before middle old read → n ≡ 16384 → n ≤ length buffer
+    → Gives step (take n buffer) read new → Consumes (remaining read) (remaining new) (take n buffer)
+    → ((head : List ℕ) → holds middle head → holds after (head ++ take n buffer))
+    → HasFed step remaining holds (pieces + 1) before after old new
+fed-full step remaining holds pieces n buffer before middle after old read new (text, has, first) full within gives bytes more = (
+  text ++ take n buffer,
+  read-full step remaining pieces n text buffer old read new has full within gives bytes,
+  takes-more holds text (take n buffer) before middle after first more,
+)
+
+pub fed-last : {M H : Type 0} (step : Step M) (remaining : M → Option (List ℕ)) (holds : H → List ℕ → Type 0) (pieces : ℕ)
+    (last : List ℕ) (before middle after : H) (old read new : M) → HasFed step remaining holds pieces before middle old read
+    → ReadWhole step remaining last read new → ((head : List ℕ) → holds middle head → holds after (head ++ last))
+    → Feeds step remaining holds before after old new
+fed-last step remaining holds pieces last before middle after old read new (text, has, first) whole more = (
+  text ++ last,
+  read-last step remaining pieces text last old read new has whole,
+  takes-more holds text last before middle after first more,
+)
+
+pub feeding-fails : {M H A E : Type 0} (step : Step M) (remaining : M → Option (List ℕ)) (holds : H → List ℕ → Type 0) (pieces : ℕ)
+    (before middle : H) (old read new : M) (result : Result A E) → HasFed step remaining holds pieces before middle old read
+    → CantBeRead step read new → OnErr result (CantBeRead step old new)
+feeding-fails step remaining holds pieces before middle old read new (Ok value) fed cant = tt
+feeding-fails step remaining holds pieces before middle old read new (Err error) (text, has, first) cant =
+    fails-later step remaining pieces text old read new has cant
+
+pub feeding-goes-on : {M H : Type 0} (step : Step M) (remaining : M → Option (List ℕ)) (holds : H → List ℕ → Type 0) (pieces : ℕ)
+    (before after : H) (old new : M) → HasFed step remaining holds pieces before after old new → 2 ^ 46 ≤ pieces
+    → CantBeRead step old new
+feeding-goes-on step remaining holds pieces before after old new (text, has, first) long =
+    full-for-ever step remaining pieces text old new has long

@@ -1,0 +1,77 @@
+use Rattle.std.proofs.Common.{◌≡◌, ℕ, ◌+◌, ◌-◌, ◌≤◌, List, ◌++◌, rules, arith, length, take, slice_range, sym, ap, ◌∙◌, subst, le_refl, drop_at, length-take-le, take-add, [], Ok, Option, append-nil}
+use Rattle.std.proofs.lemmas.List.{take-append-le}
+use Rattle.std.proofs.lemmas.Slice.{take-put_mid_below}
+use Rattle.std.specs.Io.KnownBytes.{Consumes}
+use Rattle.std.proofs.KnownBytes.{Consumes-trans, Consumes-kept}
+use borrow.Rule.Slice.PartMut.{put_mid, post_of}
+use Rattle.typecodes.specs.Message.{Gives, GivesAll, Step}
+use Rattle.typecodes.proofs.Messages.{fails, gives, gives-all, Progress, interrupted-once, read-more}
+use Rattle.typecodes.proofs.message.read_piece.Goals as goal
+use Rattle.typecodes.proofs.message.read_piece.Goals.{in-Ok, in-Err+else-ne}
+
+-- what stood before the bytes that were read stays, and they follow it
+take_split : (a b : ℕ) (old new : List ℕ) → a ≤ b → take a new ≡ take a old → take a old ++ slice_range new a b ≡ take b new
+take_split a b old new h front =
+    let same : a + (b - a) ≡ b = omega arith in
+    ap (λ l. l ++ slice_range new a b) (sym front) ∙ sym (take-add a (b - a) new) ∙ ap (λ n. take n new) same
+
+slice_range-put_mid : (a k n : ℕ) (xs ys : List ℕ) → a ≤ length xs → n ≤ length ys → slice_range (put_mid a k xs ys) a (a + n) ≡ take n ys
+slice_range-put_mid a k n xs ys within fits =
+    let same : (a + n) - a ≡ n = omega arith in
+    let after = post_of a k xs in
+    ap (take ((a + n) - a)) (drop_at (take a xs) (ys ++ after) a (length-take-le a xs within)) ∙ ap (λ m. take m (ys ++ after)) same ∙ take-append-le n ys after fits
+
+pub loop-turn-preserved : goal.loop-turn-preserved
+loop-turn-preserved g c =
+    let from = c.loop-turn.at in
+    let room = length c.loop-turn.buffer - from in
+    let within = c.loop-turn.invariant.1 in
+    let front : take from (put_mid from room c.loop-turn.buffer c.read_into.new.buffer) ≡ take from c.loop-turn.buffer =
+    take-put_mid_below _ _ _ _ _ (le_refl _) within in
+    elim c.match-read_into.branch [
+      | in-Ok w ↦
+          let part = slice_range-put_mid from room w.in-Ok.n c.loop-turn.buffer c.read_into.new.buffer within w.in-Ok.ensures.bound.0 in
+          let whole = ap (λ l. take from c.loop-turn.buffer ++ l) (sym part)
+          ∙ take_split from (from + w.in-Ok.n) c.loop-turn.buffer (put_mid from room c.loop-turn.buffer c.read_into.new.buffer) (omega arith) front in
+          let more = subst (Consumes _ _) whole (Consumes-trans _ _ _ _ _ c.loop-turn.invariant.2 w.in-Ok.ensures.bytes.0) in
+          let progress = read-more _ _ _ _ _ _ _ _ c.loop-turn.invariant.3 w.in-Ok.ensures.step whole in
+          rw w.at-is (search rules, search rules, more, progress)
+      | in-Err+else-ne w ↦
+          let same = subst (Consumes _ _) (sym front) (Consumes-kept _ _ _ _ c.loop-turn.invariant.2 w.in-Err.ensures.bytes) in
+          let progress = interrupted-once _ _ _ _ _ _ _ _ c.loop-turn.invariant.3 w.in-Err.ensures.step (search rules) (sym front) in
+          rw w.at-is (search rules, search rules, same, progress)
+    ]
+
+-- the bytes that were read before the last read, which gave nothing, still stand in the buffer
+at_end : {M : Type 0} (step : Step M) (remaining : M → Option (List ℕ)) (turns a k n : ℕ) (xs ys : List ℕ) (old before new : M)
+    → a ≤ length xs → n ≡ 0 → Progress step turns (take a xs) old before → Consumes (remaining old) (remaining before) (take a xs)
+    → step before (Ok (take n ys)) new → Consumes (remaining before) (remaining new) (take n ys)
+    → Gives step (take a (put_mid a k xs ys)) old new × GivesAll step (take a (put_mid a k xs ys)) old new
+    × Consumes (remaining old) (remaining new) (take a (put_mid a k xs ys))
+at_end step remaining turns a k n xs ys old before new within none progress consumed last last_bytes =
+    let front : take a (put_mid a k xs ys) ≡ take a xs = take-put_mid_below _ _ _ _ _ (le_refl _) within in
+    let nothing : take n ys ≡ [] = ap (λ m. take m ys) none in
+    let same : take a xs ++ take n ys ≡ take a (put_mid a k xs ys) =
+    ap (λ l. take a xs ++ l) nothing ∙ append-nil (take a xs) ∙ sym front in (
+      gives step (turns + 1) (take a (put_mid a k xs ys)) old new (read-more step turns (take a xs) (take n ys) _ old before new progress last same),
+      subst (λ l. GivesAll step l old new) (sym front)
+          (gives-all step turns (take a xs) old before new progress (subst (λ l. step before (Ok l) new) nothing last)),
+      subst (Consumes (remaining old) (remaining new)) same (Consumes-trans _ _ _ _ _ consumed last_bytes),
+    )
+
+pub returns-in-Ok-eq0-clause-reads : goal.returns-in-Ok-eq0-clause-reads
+returns-in-Ok-eq0-clause-reads g c =
+    let (gives, all, bytes) = at_end g.M.Message.step g.M.Message.remaining _ _ (length c.loop-turn.buffer - c.loop-turn.at) _ _ c.read_into.new.buffer _ _ _
+    c.loop-turn.invariant.1 c.in-Ok-eq0.field-0-test c.loop-turn.invariant.3 c.loop-turn.invariant.2
+    c.in-Ok-eq0.ensures.step c.in-Ok-eq0.ensures.bytes.0 in
+    (gives, bytes)
+
+pub returns-in-Ok-eq0-clause-end : goal.returns-in-Ok-eq0-clause-end
+returns-in-Ok-eq0-clause-end g c less =
+    let (gives, all, bytes) = at_end g.M.Message.step g.M.Message.remaining _ _ (length c.loop-turn.buffer - c.loop-turn.at) _ _ c.read_into.new.buffer _ _ _
+    c.loop-turn.invariant.1 c.in-Ok-eq0.field-0-test c.loop-turn.invariant.3 c.loop-turn.invariant.2
+    c.in-Ok-eq0.ensures.step c.in-Ok-eq0.ensures.bytes.0 in
+    record { gave = all; bytes = bytes; end = c.in-Ok-eq0.ensures.bytes.1 c.in-Ok-eq0.field-0-test (search rules) }
+
+pub returns-then-ne-clause-reads : goal.returns-then-ne-clause-reads
+returns-then-ne-clause-reads g c = fails _ _ _ _ _ _ _ c.loop-turn.invariant.3 c.in-Err.ensures.step (search rules)

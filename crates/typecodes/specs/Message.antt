@@ -1,0 +1,82 @@
+-- What reads of a message give, one after the other.
+use Rattle.std.specs.Prelude.{◌≡◌, ◌≢◌, ◌⊎◌, ◌≤◌, ◌+◌, ◌^◌, ℕ, List, [], ◌∷◌, ◌++◌, length, take, Option, Some, None, Result, Ok, Err, ⊤}
+use Rattle.std.specs.Io.KnownBytes.{Consumes, IsAtEnd}
+use Rattle.std.specs.IoError.{error_kind}
+use Rattle.std.specs.declared.io.Error.{Error}
+use Rattle.std.specs.declared.io.ErrorKind.{ErrorKind}
+use Rattle.std.specs.declared.io.ErrorKind.TheVariants.{Interrupted}
+
+-- what one read gave: some bytes, none at the end; or an error of this kind
+abbrev pub Outcome : Type 0
+Outcome = Result (List ℕ) ErrorKind
+
+-- what a call that reads into a buffer gave
+abbrev pub outcome_of : Result ℕ Error → List ℕ → Outcome
+outcome_of (Ok count) buffer = Ok (take count buffer)
+outcome_of (Err error) buffer = Err (error_kind error)
+
+-- What a read may do to a message: from this state of it, with this outcome, to that one.
+abbrev pub Step : Type 0 → Type 1
+Step M = M → Outcome → M → Type 0
+
+-- Reads with these outcomes, one after the other, lead from one state of a message to another.
+abbrev pub Reads : {M : Type 0} → Step M → List Outcome → M → M → Type 0
+Reads step [] old new = new ≡ old
+Reads {M} step (first ∷ later) old new = (next : M) × step old first next × Reads step later next new
+
+-- None of the reads failed, but for those that were interrupted, which are tried again; and together they gave this
+-- text.
+abbrev pub Gave : List Outcome → List ℕ → Type 0
+Gave [] text = text ≡ []
+Gave (Ok bytes ∷ later) text = (rest : List ℕ) × (text ≡ bytes ++ rest) × Gave later rest
+Gave (Err kind ∷ later) text = (kind ≡ Interrupted) × Gave later text
+
+-- The message was read, and gave this text.
+abbrev pub Gives : {M : Type 0} → Step M → List ℕ → M → M → Type 0
+Gives step text old new = (outcomes : List Outcome) × Reads step outcomes old new × Gave outcomes text
+
+-- It was read to its end, where a read gives nothing more, and gave this text.
+abbrev pub GivesAll : {M : Type 0} → Step M → List ℕ → M → M → Type 0
+GivesAll step text old new =
+    (outcomes : List Outcome) × Reads step (outcomes ++ Ok [] ∷ []) old new × Gave outcomes text
+
+-- A read failed.
+abbrev pub ReadFails : {M : Type 0} → Step M → M → M → Type 0
+ReadFails step old new =
+    (outcomes : List Outcome) × (text : List ℕ) × (kind : ErrorKind)
+    × Reads step (outcomes ++ Err kind ∷ []) old new × Gave outcomes text × (kind ≢ Interrupted)
+
+-- There was no end of it: there were 2^60 reads and bytes.
+abbrev pub GoesOn : {M : Type 0} → Step M → M → M → Type 0
+GoesOn step old new =
+    (outcomes : List Outcome) × (text : List ℕ) × Reads step outcomes old new × Gave outcomes text
+    × (2 ^ 60 ≤ length outcomes + length text)
+
+-- The message can't be read: a read failed, or there was no end of it.
+abbrev pub CantBeRead : {M : Type 0} → Step M → M → M → Type 0
+CantBeRead step old new = ReadFails step old new ⊎ GoesOn step old new
+
+-- The message was read whole: it gave this text, which is all that was known to be left of it.
+pub record ReadWhole {M : Type 0} (step : Step M) (remaining : M → Option (List ℕ)) (text : List ℕ) (old new : M)
+    : Type 0 where
+  pub gave : GivesAll step text old new
+  pub bytes : Consumes (remaining old) (remaining new) text
+  pub end : IsAtEnd (remaining new)
+
+-- The bytes are all that a message will give, where that is known.
+abbrev pub IsContent : Option (List ℕ) → List ℕ → Type 0
+IsContent None text = ⊤
+IsContent (Some content) text = text ≡ content
+
+-- A piece of a message was read: so many bytes, the first of the buffer, and fewer than it takes only at the end of the
+-- message; or it can't be read.
+abbrev pub ReadsPiece : {M E : Type 0} → Step M → (M → Option (List ℕ)) → Result ℕ E → List ℕ → M → M → Type 0
+ReadsPiece step remaining (Ok count) buffer old new =
+    Gives step (take count buffer) old new × Consumes (remaining old) (remaining new) (take count buffer)
+ReadsPiece step remaining (Err error) buffer old new = CantBeRead step old new
+
+-- The message was read whole and fed to what holds bytes, as a hasher does: it holds the text after what it held before.
+abbrev pub Feeds : {M H : Type 0} → Step M → (M → Option (List ℕ)) → (H → List ℕ → Type 0) → H → H → M → M → Type 0
+Feeds step remaining holds before after old new =
+    (text : List ℕ) × ReadWhole step remaining text old new
+    × ((head : List ℕ) → holds before head → holds after (head ++ text))

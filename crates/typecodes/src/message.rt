@@ -1,0 +1,71 @@
+//! Messages, which are read in pieces and held nowhere whole.
+
+ghost use Rattle.std.specs.Prelude.{◌≤◌, ◌<◌, ℕ, List, ⊤, length, take, IfOk};
+ghost use Rattle.std.specs.Io.{ReadsAtMost};
+ghost use Rattle.std.specs.Io.KnownBytes.{ReadConsumes};
+ghost use Rattle.std.specs.declared.option.Option.{Option};
+ghost use Rattle.typecodes.specs.Message.{Outcome, ReadsPiece, ReadWhole, outcome_of};
+
+use std::io;
+use std::io::{ErrorKind, Read};
+use thiserror::Error;
+
+/// What gives the bytes of a message: any reader.
+pub trait Message {
+    // the bytes that reads will give from here on, where they are known
+    ghost remaining: { Self → Option (List ℕ) };
+
+    // what a read does to the message, where that is known: from this state, with this outcome, to that one
+    ghost step: { Self → Outcome → Self → Type 0 } = { λ _ _ _. ⊤ };
+
+    /// Reads into the buffer, as `Read::read` does.
+    fn read_into(&mut self, buffer: &mut [u8]) -> io::Result<usize>
+        ensures bound { ReadsAtMost result buffer.new }
+        ensures bytes { ReadConsumes (remaining self.old) (remaining self.new) result buffer.new }
+        ensures step { step self.old (outcome_of result buffer.new) self.new };
+}
+
+impl<R: Read> Message for R {
+    ghost remaining = { R.remaining };
+
+    fn read_into(&mut self, buffer: &mut [u8]) -> io::Result<usize> {
+        self.read(buffer)
+    }
+}
+
+/// Why a message can't be read: a read of it failed, or it gave 2^60 bytes.
+#[derive(Clone, Copy, Debug, PartialEq, Eq, Error)]
+#[error("the message can't be read")]
+pub struct MessageFailed;
+
+/// How many bytes of a message are read at a time.
+pub const PIECE: usize = 1 << 14;
+
+/// How many pieces a message has at most: with so many full ones it has 2^60 bytes, and counts as failed.
+pub const PIECES: u64 = 1 << 46;
+
+/// Reads until the buffer is full or the message ends, and gives how many bytes that were. An interrupted read is tried
+/// again.
+pub fn read_piece<M: Message>(message: &mut M, buffer: &mut [u8]) -> Result<usize, MessageFailed>
+    ensures within { IfOk result (λ n. n ≤ length buffer.new) }
+    ensures reads { ReadsPiece M.step M.remaining result buffer.new message.old message.new }
+    ensures end { IfOk result (λ n. n < length buffer.new
+        → ReadWhole M.step M.remaining (take n buffer.new) message.old message.new) }
+{
+    let mut at = 0;
+    for turn in 0..u64::MAX {
+        if at >= buffer.len() {
+            return Ok(at);
+        }
+        match message.read_into(&mut buffer[at..]) {
+            Ok(0) => return Ok(at),
+            Ok(n) => at += n,
+            Err(error) => {
+                if error.kind() != ErrorKind::Interrupted {
+                    return Err(MessageFailed);
+                }
+            }
+        }
+    }
+    Err(MessageFailed)
+}
