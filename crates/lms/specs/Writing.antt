@@ -14,7 +14,7 @@ use Rattle.lms.specs.Signature.{Signature}
 abbrev pub signed : LmsSecret → ℕ → List ℕ → List ℕ → List (List ℕ) → Signature
 signed secret q randomizer digest path = record {
   pair = secret.pair;
-  index = q;
+  q = q;
   randomizer = randomizer;
   chains = signed_values secret.identifier q secret.pair.ots secret.seed digest;
   path = path;
@@ -30,7 +30,7 @@ signature_size pair = lms_signature_len_of pair
 
 -- the bytes of a signature (5.4)
 abbrev pub signature_bytes : Signature → List ℕ
-signature_bytes s = u32str s.index ++ u32str (ots_code s.pair.ots) ++ s.randomizer ++ concat s.chains
+signature_bytes s = u32str s.q ++ u32str (ots_code s.pair.ots) ++ s.randomizer ++ concat s.chains
     ++ u32str (lms_code s.pair.tree) ++ concat s.path
 
 -- the bytes of a public key (5.3)
