@@ -2,11 +2,11 @@
 
 ghost use Rattle.std.specs.Prelude.{◌≡◌, ◌+◌, ◌<◌, ◌≤◌, ◌^◌, ℕ, List, ◌++◌, Some, length, take};
 ghost use Rattle.typecodes.specs.Layout.{Spells};
-ghost use Rattle.typecodes.specs.Types.{height_of, lms_code, lms_of_code, ots_code, ots_of_code};
+ghost use Rattle.typecodes.specs.Types.{height_of, lms_signature_len_of};
 ghost use Rattle.lms.specs.Key.{public_key};
 ghost use Rattle.lms.specs.Signature.{signature};
 ghost use Rattle.lms.specs.Secret.{digest_in, path_in, public_of};
-ghost use Rattle.lms.specs.Writing.{public_bytes, signature_bytes, signature_size, signed};
+ghost use Rattle.lms.specs.Writing.{public_bytes, signature_bytes, signed};
 ghost use Rattle.lms.specs.Verification.{IsValid};
 
 use crate::key::LmsPublic;
@@ -39,7 +39,7 @@ pub fn write_signature(
 )
     requires inside { leaf < 2 ^ height_of secret.now.pair.tree }
     requires path { length path.now ≡ height_of secret.now.pair.tree }
-    requires room { length into.old ≡ signature_size secret.now.pair }
+    requires room { length into.old ≡ lms_signature_len_of secret.now.pair }
     ensures bytes { into.new ≡ signature_bytes (signed secret.now leaf randomizer.now digest.now path.now) }
     // They spell the signature.
     ensures spells { Spells signature (signed secret.now leaf randomizer.now digest.now path.now) into.new }
