@@ -58,40 +58,40 @@ most-lms_type = most-typed lms_code lms_types
 
 -- what a signature goes on with, field by field
 abbrev with_path : ℕ → OtsType → List ℕ → List (List ℕ) → LmsType → List (List ℕ) → Layout LmsSignature
-with_path index ots randomizer chains tree path =
-    done (signature_with (record { tree = tree; ots = ots }) index randomizer chains path)
+with_path q ots randomizer chains tree path =
+    done (signature_with (record { tree = tree; ots = ots }) q randomizer chains path)
 
 abbrev path_of : ℕ → OtsType → LmsType → Layout (List (List ℕ))
-path_of index ots tree = cond (nat_lt index (2 ^ height_of tree)) (values (height_of tree)) (refuse (type_end ots) LeafOutOfRange)
+path_of q ots tree = cond (nat_lt q (2 ^ height_of tree)) (values (height_of tree)) (refuse (type_end ots) LeafOutOfRange)
 
 abbrev with_tree : ℕ → OtsType → List ℕ → List (List ℕ) → LmsType → Layout LmsSignature
-with_tree index ots randomizer chains tree = path_of index ots tree >>= with_path index ots randomizer chains tree
+with_tree q ots randomizer chains tree = path_of q ots tree >>= with_path q ots randomizer chains tree
 
 abbrev with_chains : ℕ → OtsType → List ℕ → List (List ℕ) → Layout LmsSignature
-with_chains index ots randomizer chains = lms_type >>= with_tree index ots randomizer chains
+with_chains q ots randomizer chains = lms_type >>= with_tree q ots randomizer chains
 
 abbrev with_randomizer : ℕ → OtsType → List ℕ → Layout LmsSignature
-with_randomizer index ots randomizer = values (chains_of ots) >>= with_chains index ots randomizer
+with_randomizer q ots randomizer = values (chains_of ots) >>= with_chains q ots randomizer
 
 abbrev with_ots : ℕ → OtsType → Layout LmsSignature
-with_ots index ots = block 32 >>= with_randomizer index ots
+with_ots q ots = block 32 >>= with_randomizer q ots
 
-abbrev with_index : ℕ → Layout LmsSignature
-with_index index = ots_type >>= with_ots index
+abbrev with_q : ℕ → Layout LmsSignature
+with_q q = ots_type >>= with_ots q
 
 most-lms_signature : TakesAtMost lms_signature 9324 Any
 unfolding lms_signature
 most-lms_signature =
-    most-bind number with_index 4 9320 Any Any most-number (λ index any.
-    most-bind ots_type (with_ots index) 4 9316 Any Any most-ots_type (λ ots any.
-    most-bind (block 32) (with_randomizer index ots) 32 9284 Any Any (most-block 32) (λ randomizer any.
-    most-bind (values (chains_of ots)) (with_chains index ots randomizer) 8480 804 Any Any (most-greater (values (chains_of ots)) (32 * chains_of ots) 8480 Any (most_chains ots) (most-values (chains_of ots))) (λ chains any.
-    most-bind lms_type (with_tree index ots randomizer chains) 4 800 Any Any most-lms_type (λ tree any.
-    most-bind (path_of index ots tree) (with_path index ots randomizer chains tree) 800 0 Any Any
-    (most-if (nat_lt index (2 ^ height_of tree)) (values (height_of tree)) (refuse (type_end ots) LeafOutOfRange) 800 Any
+    most-bind number with_q 4 9320 Any Any most-number (λ q any.
+    most-bind ots_type (with_ots q) 4 9316 Any Any most-ots_type (λ ots any.
+    most-bind (block 32) (with_randomizer q ots) 32 9284 Any Any (most-block 32) (λ randomizer any.
+    most-bind (values (chains_of ots)) (with_chains q ots randomizer) 8480 804 Any Any (most-greater (values (chains_of ots)) (32 * chains_of ots) 8480 Any (most_chains ots) (most-values (chains_of ots))) (λ chains any.
+    most-bind lms_type (with_tree q ots randomizer chains) 4 800 Any Any most-lms_type (λ tree any.
+    most-bind (path_of q ots tree) (with_path q ots randomizer chains tree) 800 0 Any Any
+    (most-if (nat_lt q (2 ^ height_of tree)) (values (height_of tree)) (refuse (type_end ots) LeafOutOfRange) 800 Any
     (λ inside. most-greater (values (height_of tree)) (32 * height_of tree) 800 Any (most_path tree) (most-values (height_of tree)))
     (most-refuse (type_end ots) LeafOutOfRange 800 Any))
-    (λ path any. most-done (signature_with (record { tree = tree; ots = ots }) index randomizer chains path) 0 Any tt))))))
+    (λ path any. most-done (signature_with (record { tree = tree; ots = ots }) q randomizer chains path) 0 Any tt))))))
 
 lms_decided : {A : Type 0} (count : ℕ) (key : LmsPublic) (message bytes : List ℕ) (r : Result A SignatureRefusal) → 9324 < count
     → LmsVerdict key message (take count bytes) r → LmsVerdict key message bytes r

@@ -40,16 +40,16 @@ level_number-spelled low high n above below small =
 pub key-spelled : (key : HssPublic) → 1 ≤ key.levels → key.levels ≤ 8 → Spells lms_public_key key.top (lms_public_bytes key.top) → Spells public_key key (public_bytes key)
 unfolding public_key
 key-spelled key some most top =
-    let behind : ℕ → Layout HssPublic = λ levels. lms_public_key >>= λ top. done (record { levels = levels; top = top }) in
-    from_turn (level_number 1 8) behind key.levels key (u32str key.levels) (lms_public_bytes key.top) (level_number-spelled 1 8 key.levels some most (omega arith))
+    let after_count : ℕ → Layout HssPublic = λ levels. lms_public_key >>= λ top. done (record { levels = levels; top = top }) in
+    from_turn (level_number 1 8) after_count key.levels key (u32str key.levels) (lms_public_bytes key.top) (level_number-spelled 1 8 key.levels some most (omega arith))
     (last_field lms_public_key (λ top. done (record { levels = key.levels; top = top })) key.top key (lms_public_bytes key.top) top (refl, refl))
 
 -- a signed key, by its parts
 pub signed_key-spelled : (signed : SignedKey) (a b : List ℕ) → Spells lms_signature signed.signature a → Spells lms_public_key signed.key b → Spells signed_key signed (a ++ b)
 unfolding signed_key
 signed_key-spelled signed a b signature_spelled key_spelled =
-    let behind : LmsSignature → Layout SignedKey = λ s. lms_public_key >>= λ key. done (record { signature = s; key = key }) in
-    from_turn lms_signature behind signed.signature signed a b signature_spelled
+    let after_signature : LmsSignature → Layout SignedKey = λ s. lms_public_key >>= λ key. done (record { signature = s; key = key }) in
+    from_turn lms_signature after_signature signed.signature signed a b signature_spelled
     (last_field lms_public_key (λ key. done (record { signature = signed.signature; key = key })) signed.key signed b key_spelled (refl, refl))
 
 -- no signed keys
@@ -57,7 +57,7 @@ pub keys-none : Spells (signed_keys 0) [] []
 unfolding signed_keys
 keys-none = (refl, refl)
 
--- one more behind them
+-- one more after them
 keys-push : (n : ℕ) (keys : List SignedKey) (last : SignedKey) (a b : List ℕ) → Spells (signed_keys n) keys a → Spells signed_key last b → Spells (signed_keys (suc n)) (keys ++ last ∷ []) (a ++ b)
 unfolding signed_keys
 keys-push zero keys last a b spelled last_spelled =
@@ -67,8 +67,8 @@ keys-push zero keys last a b spelled last_spelled =
     (subst (λ a. Spells (signed_keys 1) (last ∷ []) (a ++ b)) (sym spelled.1) one)
 keys-push (suc n) keys last a b spelled last_spelled =
     let next : (k : ℕ) → SignedKey → Layout (List SignedKey) = λ k first. signed_keys k >>= λ rest. done (first ∷ rest) in
-    let (first, c, d, a_is, first_spelled, behind) = in_turn signed_key (next n) keys a spelled in
-    let (rest, e, f, d_is, rest_spelled, ended) = in_turn (signed_keys n) (λ rest. done (first ∷ rest)) keys d behind in
+    let (first, c, d, a_is, first_spelled, rest_follows) = in_turn signed_key (next n) keys a spelled in
+    let (rest, e, f, d_is, rest_spelled, ended) = in_turn (signed_keys n) (λ rest. done (first ∷ rest)) keys d rest_follows in
     let more = keys-push n rest last e b rest_spelled last_spelled in
     let all : Spells (signed_keys (suc (suc n))) (first ∷ (rest ++ last ∷ [])) (c ++ (e ++ b)) =
     from_turn signed_key (next (suc n)) first (first ∷ (rest ++ last ∷ [])) c (e ++ b) first_spelled
@@ -80,21 +80,21 @@ keys-push (suc n) keys last a b spelled last_spelled =
 pub keys-more : (n : ℕ) (keys : List SignedKey) (last : SignedKey) (a b : List ℕ) → Spells (signed_keys n) keys a → Spells signed_key last b → Spells (signed_keys (n + 1)) (keys ++ last ∷ []) (a ++ b)
 keys-more n keys last a b spelled last_spelled = subst (λ m. Spells (signed_keys m) (keys ++ last ∷ []) (a ++ b)) (sym (add-one n)) (keys-push n keys last a b spelled last_spelled)
 
--- so many signed keys and a bottom signature, behind their number
+-- so many signed keys and a bottom signature, after their number
 pub whole-spelled : (s : Signature) (a b : List ℕ) → length s.signed ≤ 7 → Spells (signed_keys (length s.signed)) s.signed a → Spells lms_signature s.bottom b
     → Spells signature s (u32str (length s.signed) ++ a ++ b)
 unfolding signature
 whole-spelled s a b few keys bottom =
     let n = length s.signed in
-    let behind_keys : List SignedKey → Layout Signature = λ signed. lms_signature >>= λ bottom. done (record { signed = signed; bottom = bottom }) in
+    let after_keys : List SignedKey → Layout Signature = λ signed. lms_signature >>= λ bottom. done (record { signed = signed; bottom = bottom }) in
     subst (Spells signature s) (sym (append_assoc (u32str n) a b))
-    (from_turn (level_number 0 7) (λ above. signed_keys above >>= behind_keys) n s (u32str n) (a ++ b) (level_number-spelled 0 7 n (omega arith) few (omega arith))
-    (from_turn (signed_keys n) behind_keys s.signed s a b keys
+    (from_turn (level_number 0 7) (λ above. signed_keys above >>= after_keys) n s (u32str n) (a ++ b) (level_number-spelled 0 7 n (omega arith) few (omega arith))
+    (from_turn (signed_keys n) after_keys s.signed s a b keys
     (last_field lms_signature (λ bottom. done (record { signed = s.signed; bottom = bottom })) s.bottom s b bottom (refl, refl))))
 
 -- ---- how long the parts are
 
--- one more part behind those before it, and within all
+-- one more part after those before it, and within all
 pub part-more : (above : List Level) (i : ℕ) (level : Level) → i < length above → level ≡ get_or above i level
     → (sum_by part_size (take (i + 1) above) ≡ sum_by part_size (take i above) + part_size level) × (sum_by part_size (take (i + 1) above) ≤ sum_by part_size above)
 part-more above i level within is =
@@ -117,7 +117,7 @@ size-parts above bottom =
     parts (level ∷ above) =
         omega (arith, parts above, sum_by-cons part_size level above, sum_by-cons lms_signature_len_of level.secret.pair (map (λ level. level.secret.pair) above))
 
--- ---- a part that is written behind those before it
+-- ---- a part that is written after those before it
 
 -- the next signed key is that of the level and the key below
 signed-next : (above : List Level) (bottom level : Level) (next : LmsPublic) (i : ℕ) → i < length above → level ≡ get_or above i level → next ≡ key_of (level_in above bottom (i + 1))
@@ -140,7 +140,7 @@ module _ (above : List Level) (bottom level : Level) (next : LmsPublic) (i : ℕ
       let one = signed_key_by level next in
       ap (flat_map signed_key_bytes) signed-more ∙ flat_map-append signed_key_bytes front (one ∷ []) ∙ ap (λ b. flat_map signed_key_bytes front ++ b) (append-nil (signed_key_bytes one))
 
-  -- its bytes stand behind those before it
+  -- its bytes stand after those before it
   pub written-more : (head old part : List ℕ) (place end : ℕ) → take place old ≡ head ++ flat_map signed_key_bytes (take i (signed_by above bottom).signed)
       → part ≡ signed_key_bytes (signed_key_by level next) → place ≤ length old → end ≡ place + length part
       → take end (put_mid place (end - place) old part) ≡ head ++ flat_map signed_key_bytes (take (i + 1) (signed_by above bottom).signed)
@@ -158,7 +158,7 @@ module _ (above : List Level) (bottom level : Level) (next : LmsPublic) (i : ℕ
       let pushed = keys-more i front (signed_key_by level next) (flat_map signed_key_bytes front) (signed_key_bytes (signed_key_by level next)) before one in
       subst₂ (Spells (signed_keys (i + 1))) (sym signed-more) (sym bytes-more) pushed
 
--- The number of signed keys, these, and the bottom's signature behind them to the end, are a signature's bytes.
+-- The number of signed keys, these, and the bottom's signature after them to the end, are a signature's bytes.
 pub whole-written : (s : Signature) (n place : ℕ) (x bottom : List ℕ) → take place x ≡ u32str n ++ flat_map signed_key_bytes s.signed → n ≡ length s.signed → bottom ≡ lms_signature_bytes s.bottom → place ≤ length x
     → take place x ++ (bottom ++ post_of place (length x - place) x) ≡ signature_bytes s
 whole-written s n place x bottom front count bottom_is inside =

@@ -89,10 +89,10 @@ public-spelled key bytes are spelled =
     let b_ends : b ≡ u32str (ots_code ots) ++ (identifier ++ root) = b_is ∙ ap₂ (λ c d. c ++ d) c_is d_ends in
     let all : bytes ≡ u32str (lms_code tree) ++ (u32str (ots_code ots) ++ (identifier ++ root)) = bytes_are ∙ ap₂ (λ a b. a ++ b) a_is b_ends in
     let made : LmsPublic = record { pair = record { tree = tree; ots = ots }; identifier = identifier; root = root } in
-    all ∙ joined (u32str (lms_code tree)) (u32str (ots_code ots)) identifier root ∙ ap lms_public_bytes {x = made} {y = key} ended.0
+    all ∙ regrouped (u32str (lms_code tree)) (u32str (ots_code ots)) identifier root ∙ ap lms_public_bytes {x = made} {y = key} ended.0
   where
-    joined : (a b c d : List ℕ) → a ++ (b ++ (c ++ d)) ≡ a ++ b ++ c ++ d
-    joined a b c d = simp append_assoc
+    regrouped : (a b c d : List ℕ) → a ++ (b ++ (c ++ d)) ≡ a ++ b ++ c ++ d
+    regrouped a b c d = simp append_assoc
 
 -- So the bytes between the places where a key begins and ends are its bytes.
 pub public-read : (key : LmsPublic) (bytes : List ℕ) (place end : ℕ) → place ≤ length bytes → AreBytes bytes → read lms_public_key bytes place ≡ Ok (key, end)

@@ -44,9 +44,9 @@ module _ {L : Type 0} (signature : L → LmsSignature) (key : L → LmsPublic) (
       let nexts = drop 1 (levels_in above bottom) in
       let made : L × L → SignedKey = λ pair. record { signature = signature pair.0; key = key pair.1 } in
       let second : L × L → L = λ pair. pair.1 in
-      let behind : map (λ signed. signed.key) (map made (zip above nexts)) ≡ map key nexts =
+      let next_keys : map (λ signed. signed.key) (map made (zip above nexts)) ≡ map key nexts =
       map-map (λ signed. signed.key) made (zip above nexts) ∙ sym (map-map key second (zip above nexts)) ∙ ap (map key) (seconds-zip above nexts nexts-count) in
-      ap (λ xs. key (level_in above bottom 0) ∷ xs) behind
+      ap (λ xs. key (level_in above bottom 0) ∷ xs) next_keys
       ∙ (elim above as (λ above. key (level_in above bottom 0) ∷ map key (drop 1 (levels_in above bottom)) ≡ map key (levels_in above bottom)) [ [] ↦ refl | x ∷ xs ↦ refl ])
 
   -- where each level's signature is valid under its key for what it signs, the signature is valid
@@ -135,13 +135,13 @@ made_textbook above bottom theirs =
     let n = length above in
     let signings = map signing_of above in
     let made = signed_by above bottom in
-    let told = textbook signings (signing_of bottom) in
+    let standard = textbook signings (signing_of bottom) in
     let count : length signings ≡ n = length-map above signing_of in
     let pair : LmsSignature → LmsPublic → SignedKey = λ s k. record { signature = s; key = k } in
     let whole : List SignedKey → LmsSignature → Signature = λ signed bottom. record { signed = signed; bottom = bottom } in
-    let lengths : length made.signed ≡ length told.signed =
+    let lengths : length made.signed ≡ length standard.signed =
     signed-count signature_by key_of above bottom ∙ sym count ∙ sym (signed-count signature_of public_at signings (signing_of bottom)) in
-    let each : (k : ℕ) (d : SignedKey) → k < length made.signed → get_or made.signed k d ≡ get_or told.signed k d =
+    let each : (k : ℕ) (d : SignedKey) → k < length made.signed → get_or made.signed k d ≡ get_or standard.signed k d =
     λ k d inside.
     let within : k < n = omega (arith, signed-count signature_by key_of above bottom) in
     let there : k < length signings = omega (arith, count) in
@@ -155,4 +155,4 @@ made_textbook above bottom theirs =
     let last : level_in above bottom n ≡ bottom = get_or_at above bottom [] bottom n refl in
     let bottom_is : signature_by bottom ≡ signature_of (signing_of bottom) =
     signature-from_secret bottom (subst (λ level. level.path.now ≡ path_in level.secret level.leaf) last (theirs.paths n (omega arith))) in
-    ap₂ whole (same_lists made.signed told.signed lengths each) bottom_is
+    ap₂ whole (same_lists made.signed standard.signed lengths each) bottom_is

@@ -66,7 +66,7 @@ one_way-signed_key =
     way-done _ _ (refl, (refl, tt)))) in
     way.one
 
--- n signed keys, one behind the other
+-- n signed keys, one after the other
 of_first : ℕ → SignedKey → Layout (List SignedKey)
 of_first n first = signed_keys n >>= λ rest. done (first ∷ rest)
 
@@ -91,8 +91,8 @@ signed_keys-count : (n : ℕ) (keys : List SignedKey) (bytes : List ℕ) → Spe
 unfolding signed_keys
 signed_keys-count zero keys bytes spelled = ap length (sym spelled.0)
 signed_keys-count (suc n) keys bytes spelled =
-    let (first, a, b, _, _, behind) = in_turn signed_key (λ first. signed_keys n >>= λ rest. done (first ∷ rest)) keys bytes spelled in
-    let (rest, c, d, _, rest_spelled, ended) = in_turn (signed_keys n) (λ rest. done (first ∷ rest)) keys b behind in
+    let (first, a, b, _, _, rest_follows) = in_turn signed_key (λ first. signed_keys n >>= λ rest. done (first ∷ rest)) keys bytes spelled in
+    let (rest, c, d, _, rest_spelled, ended) = in_turn (signed_keys n) (λ rest. done (first ∷ rest)) keys b rest_follows in
     ap length (sym ended.0) ∙ ap suc (signed_keys-count n rest c rest_spelled)
 
 -- what follows each field of a signature
@@ -108,8 +108,8 @@ of_above above = signed_keys above >>= of_signed
 of_above-shows : (above : ℕ) → Shows (of_above above) (λ s. length s.signed) above
 unfolding of_above of_signed of_bottom
 of_above-shows above s bytes spelled =
-    let (signed, a, b, _, signed_spelled, behind) = in_turn (signed_keys above) of_signed s bytes spelled in
-    let (bottom, c, d, _, _, ended) = in_turn lms_signature (of_bottom signed) s b behind in
+    let (signed, a, b, _, signed_spelled, bottom_follows) = in_turn (signed_keys above) of_signed s bytes spelled in
+    let (bottom, c, d, _, _, ended) = in_turn lms_signature (of_bottom signed) s b bottom_follows in
     ap (λ s. length s.signed) (sym ended.0) ∙ signed_keys-count above signed a signed_spelled
 
 one_way-of_above : (above : ℕ) → OneSpelling (of_above above)

@@ -29,10 +29,10 @@ height_most H15 = omega arith
 height_most H20 = omega arith
 height_most H25 = omega arith
 
--- what follows a layout that is read is read behind it
-pub read-behind : {V W : Type 0} (first : Layout V) (next : V → Layout W) (bytes : List ℕ) (place : ℕ) (x : V × ℕ) → read first bytes place ≡ Ok x
+-- what follows a layout that is read is read after it
+pub read-after : {V W : Type 0} (first : Layout V) (next : V → Layout W) (bytes : List ℕ) (place : ℕ) (x : V × ℕ) → read first bytes place ≡ Ok x
     → read (first >>= next) bytes place ≡ read (next x.0) bytes x.1
-read-behind first next bytes place x found = read-bind first next bytes place ∙ ap (λ r. and_then r (λ y. read (next y.0) bytes y.1)) found
+read-after first next bytes place x found = read-bind first next bytes place ∙ ap (λ r. and_then r (λ y. read (next y.0) bytes y.1)) found
 
 -- ---- signed keys, one after the other
 
@@ -41,16 +41,16 @@ pub keys-more : (n : ℕ) (bytes : List ℕ) (place middle end : ℕ) (first : S
     → read (signed_keys n) bytes middle ≡ Ok (rest, end) → read (signed_keys (suc n)) bytes place ≡ Ok (first ∷ rest, end)
 unfolding signed_keys
 keys-more n bytes place middle end first rest first_found rest_found =
-    read-behind signed_key (λ first. signed_keys n >>= λ rest. done (first ∷ rest)) bytes place (first, middle) first_found
-    ∙ read-behind (signed_keys n) (λ rest. done (first ∷ rest)) bytes middle (rest, end) rest_found
+    read-after signed_key (λ first. signed_keys n >>= λ rest. done (first ∷ rest)) bytes place (first, middle) first_found
+    ∙ read-after (signed_keys n) (λ rest. done (first ∷ rest)) bytes middle (rest, end) rest_found
 
 -- the first of them, and the others
 pub keys-split : (n : ℕ) (bytes : List ℕ) (place end : ℕ) (keys : List SignedKey) → read (signed_keys (suc n)) bytes place ≡ Ok (keys, end)
     → (first : SignedKey) × (middle : ℕ) × (rest : List SignedKey) × (keys ≡ first ∷ rest) × (read signed_key bytes place ≡ Ok (first, middle)) × (read (signed_keys n) bytes middle ≡ Ok (rest, end))
 unfolding signed_keys
 keys-split n bytes place end keys found =
-    let (x, x_found, behind) = in_turn signed_key (λ first. signed_keys n >>= λ rest. done (first ∷ rest)) bytes place (keys, end) found in
-    let (y, y_found, same) = in_turn (signed_keys n) (λ rest. done (x.0 ∷ rest)) bytes x.1 (keys, end) behind in
+    let (x, x_found, rest_follows) = in_turn signed_key (λ first. signed_keys n >>= λ rest. done (first ∷ rest)) bytes place (keys, end) found in
+    let (y, y_found, same) = in_turn (signed_keys n) (λ rest. done (x.0 ∷ rest)) bytes x.1 (keys, end) rest_follows in
     let pair : ◌≡◌ {A = List SignedKey × ℕ} (x.0 ∷ y.0, y.1) (keys, end) = cc in
     (x.0, x.1, y.0, sym (ap (λ p. p.0) pair), x_found, y_found ∙ ap (λ at. Ok (y.0, at)) (ap (λ p. p.1) pair))
 
@@ -89,7 +89,7 @@ keys-faulty zero (suc n) bytes place middle keys fault within found faulty =
     ∙ ap (λ r. and_then r (λ x. read (signed_keys n >>= λ rest. done (x.0 ∷ rest)) bytes x.1)) here
 keys-faulty (suc i) (suc n) bytes place middle keys fault within found faulty =
     let (first, next, rest, keys_are, first_found, rest_found) = keys-split i bytes place middle keys found in
-    read-behind signed_key (λ first. signed_keys n >>= λ rest. done (first ∷ rest)) bytes place (first, next) first_found
+    read-after signed_key (λ first. signed_keys n >>= λ rest. done (first ∷ rest)) bytes place (first, next) first_found
     ∙ read-bind (signed_keys n) (λ rest. done (first ∷ rest)) bytes next
     ∙ ap (λ r. and_then r (λ x. Ok (first ∷ x.0, x.1))) (keys-faulty i n bytes next middle rest fault (omega arith) rest_found faulty)
 
@@ -98,8 +98,8 @@ pub signed_key-faulty : (bytes : List ℕ) (place middle : ℕ) (s : LmsSignatur
     → read lms_signature bytes place ≡ Ok (s, middle) → read lms_public_key bytes middle ≡ Err fault → read signed_key bytes place ≡ Err fault
 unfolding signed_key
 signed_key-faulty bytes place middle s fault s_read key_faulty =
-    let behind : LmsSignature → Layout SignedKey = λ s. lms_public_key >>= λ key. done (record { signature = s; key = key }) in
-    read-behind lms_signature behind bytes place (s, middle) s_read
+    let after_signature : LmsSignature → Layout SignedKey = λ s. lms_public_key >>= λ key. done (record { signature = s; key = key }) in
+    read-after lms_signature after_signature bytes place (s, middle) s_read
     ∙ read-bind lms_public_key (λ key. done (record { signature = s; key = key })) bytes middle
     ∙ ap (λ r. and_then r (λ x. Ok (record { signature = s; key = x.0 }, x.1))) key_faulty
 

@@ -45,7 +45,7 @@ pub shown-count : (n : ℕ) (slots : List (Option SignedKeyView)) → AreFirst n
 shown-count n slots first =
     ap length (signed-cut slots n ∙ ap (λ keys. signed_in (take n slots) ++ keys) first.1 ∙ append-nil (signed_in (take n slots))) ∙ first.0 n (omega arith)
 
--- ---- a slot that is filled
+-- ---- a slot that is set to a view
 
 set-in : (slots : List (Option SignedKeyView)) (i : ℕ) (view : SignedKeyView) → i < length slots → signed_in (drop i slots) ≡ []
     → (signed_in (set slots i (Some view)) ≡ signed_in slots ++ signed_key_of view ∷ []) × (signed_in (drop (suc i) (set slots i (Some view))) ≡ [])
@@ -59,12 +59,12 @@ set-in (x ∷ rest) (suc i) view within empty =
 
 module _ (slots : List (Option SignedKeyView)) (i : ℕ) (view : SignedKeyView) (within : i < length slots) (empty : signed_in (drop i slots) ≡ []) where
   -- one more signed key
-  pub filled-shows : signed_in (set slots i (Some view)) ≡ signed_in slots ++ signed_key_of view ∷ []
-  filled-shows = (set-in slots i view within empty).0
+  pub set-shows : signed_in (set slots i (Some view)) ≡ signed_in slots ++ signed_key_of view ∷ []
+  set-shows = (set-in slots i view within empty).0
 
   -- one more slot in use
-  pub filled-first : AreFirst i slots → AreFirst (i + 1) (set slots i (Some view))
-  filled-first first = (
+  pub set-first : AreFirst i slots → AreFirst (i + 1) (set slots i (Some view))
+  set-first first = (
     λ j below. elim (cases_lt j (i + 1)) [
       | inl before ↦ ap (λ front. length (signed_in front)) (take-set-le j slots i (Some view) (omega arith)) ∙ first.0 j (omega arith)
       | inr past ↦
@@ -78,9 +78,9 @@ module _ (slots : List (Option SignedKeyView)) (i : ℕ) (view : SignedKeyView) 
   )
 
   -- it stands after those before it
-  pub filled-stand : (place : ℕ) (bytes : List ℕ) → StandInTurn place bytes slots → StandsAt (place + taken_by (signed_in (take i slots))) bytes view
+  pub set-stand : (place : ℕ) (bytes : List ℕ) → StandInTurn place bytes slots → StandsAt (place + taken_by (signed_in (take i slots))) bytes view
       → StandInTurn place bytes (set slots i (Some view))
-  filled-stand place bytes stand here j other is =
+  set-stand place bytes stand here j other is =
       elim (cases_order j i) [
         | inl same ↦
             let at : Some view ≡ Some other =

@@ -1,4 +1,4 @@
--- The answers of verification are told by the key, the message and the bytes alone.
+-- The key, the message and the bytes determine what verification answers.
 use Rattle.std.proofs.Common.{◌≡◌, ℕ, inl, inr, List, Result, Ok, Err, refl, sym, ap, subst, ◌∙◌}
 use Rattle.std.specs.Prelude.{◌≢◌, IsOk}
 use Rattle.std.proofs.lemmas.Bool.{cases_order}
@@ -33,7 +33,7 @@ same_level key message bytes s t i j (s_reaches, s_fails) (t_reaches, t_fails) =
       | inr (inr above) ↦ absurd (t_fails (subst (λ s. IsValidAt key.top message s j) same (s_reaches.above j above)))
     ]
 
--- a level's types are told once
+-- whether a level's types are its key's doesn't depend on the reading
 same_types : (key : HssPublic) (message bytes : List ℕ) (s t : Signature) (i j : ℕ) → Reaches key message bytes s i → Reaches key message bytes t j → i ≡ j
     → (signature_at s i).pair ≡ (key_at key.top s i).pair → (signature_at t j).pair ≡ (key_at key.top t j).pair
 same_types key message bytes s t i j s_reaches t_reaches same types =

@@ -54,12 +54,12 @@ pub above-refused : (top : LmsPublic) (s : Signature) (i : ℕ) (key : LmsPublic
 above-refused top s i key (Unreadable fault) within key_is above refused = absurd (refused [])
 above-refused top s i key LevelMismatch within key_is above refused = absurd (refused [])
 above-refused top s i key (TypeMismatch level) within key_is above refused =
-    let told = refused [] in
-    subst (λ i. AboveVerdict top s (Err (TypeMismatch i))) (sym told.0) (within, above, λ same. told.1 (same ∙ sym (ap (λ k. k.pair) key_is)))
+    let known = refused [] in
+    subst (λ i. AboveVerdict top s (Err (TypeMismatch i))) (sym known.0) (within, above, λ same. known.1 (same ∙ sym (ap (λ k. k.pair) key_is)))
 above-refused top s i key (RootMismatch level) within key_is above refused =
-    let told = refused [] in
-    subst (λ i. AboveVerdict top s (Err (RootMismatch i))) (sym told.0)
-    (within, above, told.1 ∙ ap (λ k. k.pair) key_is, λ message valid. (refused message).2 (subst (λ k. IsLmsValid k (message_at message s i) (signature_at s i)) (sym key_is) valid))
+    let known = refused [] in
+    subst (λ i. AboveVerdict top s (Err (RootMismatch i))) (sym known.0)
+    (within, above, known.1 ∙ ap (λ k. k.pair) key_is, λ message valid. (refused message).2 (subst (λ k. IsLmsValid k (message_at message s i) (signature_at s i)) (sym key_is) valid))
 
 -- at the bottom a level signs the message
 pub message_at-bottom : (message : List ℕ) (s : Signature) → message ≡ message_at message s (length s.signed)

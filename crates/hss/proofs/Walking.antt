@@ -23,7 +23,7 @@ use Rattle.lms.proofs.Parts.{laid_out}
 use Rattle.hss.specs.Key.{level_number}
 use Rattle.hss.specs.SignedKey.{SignedKey, signed_key, signed_keys, taken}
 use Rattle.hss.specs.Signature.{Signature, key_at, keys_of, level_count, signature, signature_at, signature_size, signatures_of, start_of}
-use Rattle.hss.proofs.Passing.{keys-more, keys-split, read-behind}
+use Rattle.hss.proofs.Passing.{keys-more, keys-split, read-after}
 
 -- ---- how long the parts are
 
@@ -81,8 +81,8 @@ signed_key-split : (bytes : List ℕ) (place end : ℕ) (signed : SignedKey) →
     × (read lms_public_key bytes (place + lms_signature_len_of signed.signature.pair) ≡ Ok (signed.key, end)) × (end ≡ place + taken signed.signature) × (end ≤ length bytes)
 unfolding signed_key
 signed_key-split bytes place end signed within found =
-    let (x, x_found, behind) = in_turn lms_signature (λ s. lms_public_key >>= λ key. done (record { signature = s; key = key })) bytes place (signed, end) found in
-    let (y, y_found, same) = in_turn lms_public_key (λ key. done (record { signature = x.0; key = key })) bytes x.1 (signed, end) behind in
+    let (x, x_found, key_follows) = in_turn lms_signature (λ s. lms_public_key >>= λ key. done (record { signature = s; key = key })) bytes place (signed, end) found in
+    let (y, y_found, same) = in_turn lms_public_key (λ key. done (record { signature = x.0; key = key })) bytes x.1 (signed, end) key_follows in
     let built : SignedKey = record { signature = x.0; key = y.0 } in
     let pair : ◌≡◌ {A = SignedKey × ℕ} (built, y.1) (signed, end) = cc in
     let signature_is : x.0 ≡ signed.signature = ap (λ p. p.0.signature) pair in
@@ -98,7 +98,7 @@ signed_key-split bytes place end signed within found =
       omega (arith, final.1, end_is),
     )
 
--- signed keys are as many as they are to be, and end behind all of them
+-- signed keys are as many as they are to be, and end after all of them
 pub keys-end : (n : ℕ) (bytes : List ℕ) (place end : ℕ) (keys : List SignedKey) → place ≤ length bytes → read (signed_keys n) bytes place ≡ Ok (keys, end)
     → (length keys ≡ n) × (end ≡ place + sum_by taken (map (λ signed. signed.signature) keys)) × (end ≤ length bytes)
 unfolding signed_keys
@@ -131,11 +131,11 @@ level_number-read low high bytes place x found =
     elim (cases_lt (length bytes) (place + 4)) [
       | inl cut ↦ absurd (let e = sym (read-cut 4 (λ b. done (big_number 4 b) >>= tested) bytes place cut) ∙ found in cc)
       | inr fits ↦
-          let behind : read (tested n) bytes (place + 4) ≡ Ok x = sym (read-fits 4 (λ b. done (big_number 4 b) >>= tested) bytes place fits) ∙ found in
+          let number_read : read (tested n) bytes (place + 4) ≡ Ok x = sym (read-fits 4 (λ b. done (big_number 4 b) >>= tested) bytes place fits) ∙ found in
           elim (cases_lt high n) [
             | inl past ↦ absurd (
                 let off : (nat_le low n && nat_le n high) ≡ false = rw (lt-leb n high past) (and-false (nat_le low n)) in
-                let e : read (cond false (done n) (refuse 4 LevelCount)) bytes (place + 4) ≡ Ok x = rw (off) at behind in
+                let e : read (cond false (done n) (refuse 4 LevelCount)) bytes (place + 4) ≡ Ok x = rw (off) at number_read in
                 cc)
             | inr below ↦
                 let split : (b : Bool) → read (cond b (done n) (refuse 4 LevelCount)) bytes (place + 4) ≡ Ok x → (x.0 ≡ n) × (x.1 ≡ place + 4) =
@@ -143,7 +143,7 @@ level_number-read low high bytes place x found =
                   | true ↦ λ e. let pair : ◌≡◌ {A = ℕ × ℕ} (n, place + 4) x = cc in (sym (ap (λ p. p.0) pair), sym (ap (λ p. p.1) pair))
                   | false ↦ λ e. absurd (cc)
                 ] in
-                let parts = split (nat_le low n && nat_le n high) behind in
+                let parts = split (nat_le low n && nat_le n high) number_read in
                 (parts.0, omega (arith, parts.0), parts.1, fits)
           ]
     ]
@@ -179,10 +179,10 @@ is_read-parts s bytes n four end last keys bottom n_found keys_found bottom_foun
 pub is_read : (s : Signature) (bytes : List ℕ) → read signature bytes 0 ≡ Ok (s, length bytes) → IsRead s bytes
 unfolding signature
 is_read s bytes found =
-    let behind_keys : List SignedKey → Layout Signature = λ signed. lms_signature >>= λ bottom. done (record { signed = signed; bottom = bottom }) in
-    let (n, n_found, behind) = in_turn (level_number 0 7) (λ above. signed_keys above >>= behind_keys) bytes 0 (s, length bytes) found in
-    let (keys, keys_found, behind') = in_turn (signed_keys n.0) behind_keys bytes n.1 (s, length bytes) behind in
-    let (bottom, bottom_found, same) = in_turn lms_signature (λ bottom. done (record { signed = keys.0; bottom = bottom })) bytes keys.1 (s, length bytes) behind' in
+    let after_keys : List SignedKey → Layout Signature = λ signed. lms_signature >>= λ bottom. done (record { signed = signed; bottom = bottom }) in
+    let (n, n_found, keys_follow) = in_turn (level_number 0 7) (λ above. signed_keys above >>= after_keys) bytes 0 (s, length bytes) found in
+    let (keys, keys_found, bottom_follows) = in_turn (signed_keys n.0) after_keys bytes n.1 (s, length bytes) keys_follow in
+    let (bottom, bottom_found, same) = in_turn lms_signature (λ bottom. done (record { signed = keys.0; bottom = bottom })) bytes keys.1 (s, length bytes) bottom_follows in
     is_read-parts s bytes n.0 n.1 keys.1 bottom.1 keys.0 bottom.0 n_found keys_found bottom_found (cc)
 
 -- the levels above level i end where it begins
@@ -199,7 +199,7 @@ above_read s bytes i parts within =
     let ends = keys-end i bytes 4 middle (take i s.signed) parts.long front in
     front ∙ ap (λ at. Ok (take i s.signed, at)) (ends.1 ∙ starts s i within)
 
--- each level begins behind the signature and the key of the one above
+-- each level begins after the signature and the key of the one above
 pub start-more : (s : Signature) (i : ℕ) → i < length s.signed → start_of s (i + 1) ≡ start_of s i + taken (signature_at s i)
 start-more s i within =
     let all = signatures_of s in
@@ -238,7 +238,7 @@ signed_read-parts s bytes i top middle next first rest within at inside keys_are
       ap₂ (λ at s. read lms_public_key bytes (at + lms_signature_len_of s.pair)) (sym at) (sym signature_is) ∙ key_found ∙ ap₂ (λ k at. Ok (k, at)) key_is next_at,
     )
 
--- a signature above the bottom stands where its level begins, and behind it the next level's key
+-- a signature above the bottom stands where its level begins, and after it the next level's key
 pub signed_read : (s : Signature) (bytes : List ℕ) (i : ℕ) (top : LmsPublic) → IsRead s bytes → i < length s.signed
     → (read lms_signature bytes (start_of s i) ≡ Ok (signature_at s i, start_of s i + lms_signature_len_of (signature_at s i).pair))
     × (read lms_public_key bytes (start_of s i + lms_signature_len_of (signature_at s i).pair) ≡ Ok (key_at top s (i + 1), start_of s (i + 1)))
@@ -250,7 +250,7 @@ signed_read s bytes i top parts within =
     let (first, next, rest, keys_are, first_found, _) = keys-split (n - (i + 1)) bytes middle parts.end (drop i s.signed) (ap (λ k. read (signed_keys k) bytes middle) (sym left) ∙ back) in
     signed_read-parts s bytes i top middle next first rest within (ends.1 ∙ starts s i (omega arith)) ends.2 keys_are first_found
 
--- the bottom one stands behind all signed keys
+-- the bottom one stands after all signed keys
 pub bottom_read : (s : Signature) (bytes : List ℕ) → IsRead s bytes
     → read lms_signature bytes (start_of s (length s.signed)) ≡ Ok (signature_at s (length s.signed), length bytes)
 bottom_read s bytes parts =
@@ -311,7 +311,7 @@ key_spelled s bytes top i found above within =
     let spelled = ends-spelled lms_public_key part (key_at top s i) (length part) (part_read lms_public_key (key_at top s i) bytes place (start_of s i) inside key) refl in
     subst (λ n. Spells lms_public_key (key_at top s i) (take n (drop place bytes))) long spelled
 
--- signatures with a key behind each
+-- signatures with a key after each
 with-keys : (signatures : List LmsSignature) → sum_by taken signatures ≡ sum_by lms_signature_len_of (map (λ s. s.pair) signatures) + 56 * length signatures
 with-keys [] = refl
 with-keys (s ∷ rest) = omega (arith, with-keys rest, sum_by-cons taken s rest, sum_by-cons lms_signature_len_of s.pair (map (λ s. s.pair) rest))
@@ -336,7 +336,7 @@ pub whole-read : (bytes : List ℕ) (above four place end : ℕ) (keys : List Si
     → read (signed_keys above) bytes four ≡ Ok (keys, place) → read lms_signature bytes place ≡ Ok (bottom, end) → read signature bytes 0 ≡ Ok (record { signed = keys; bottom = bottom }, end)
 unfolding signature
 whole-read bytes above four place end keys bottom number keys_found bottom_found =
-    let behind_keys : List SignedKey → Layout Signature = λ signed. lms_signature >>= λ bottom. done (record { signed = signed; bottom = bottom }) in
-    read-behind (level_number 0 7) (λ above. signed_keys above >>= behind_keys) bytes 0 (above, four) number
-    ∙ read-behind (signed_keys above) behind_keys bytes four (keys, place) keys_found
-    ∙ read-behind lms_signature (λ bottom. done (record { signed = keys; bottom = bottom })) bytes place (bottom, end) bottom_found
+    let after_keys : List SignedKey → Layout Signature = λ signed. lms_signature >>= λ bottom. done (record { signed = signed; bottom = bottom }) in
+    read-after (level_number 0 7) (λ above. signed_keys above >>= after_keys) bytes 0 (above, four) number
+    ∙ read-after (signed_keys above) after_keys bytes four (keys, place) keys_found
+    ∙ read-after lms_signature (λ bottom. done (record { signed = keys; bottom = bottom })) bytes place (bottom, end) bottom_found

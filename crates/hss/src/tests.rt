@@ -356,7 +356,7 @@ fn eight_levels_are_read(rt: HostRuntime) -> Result<(), Fail> {
     let view = HssSigView::read(&bytes)?;
     assert_eq!(rt; view.levels(), 8);
     for i in 0..view.levels() {
-        assert_eq!(rt; view.level(i).index(), u32::from(i));
+        assert_eq!(rt; view.level(i).q(), u32::from(i));
         let next = view.signed_key(i);
         assert_eq!(rt;
             next.map(|next| next.key.identifier[0]),

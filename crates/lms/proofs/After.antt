@@ -23,21 +23,21 @@ after_key_tree tree = ots_type >>= after_types tree
 
 -- of a signature
 abbrev pub path_of : ℕ → OtsType → LmsType → Layout (List (List ℕ))
-path_of index ots tree =
-    if nat_lt index (2 ^ height_of tree) then values (height_of tree) else refuse (type_end ots) LeafOutOfRange
+path_of q ots tree =
+    if nat_lt q (2 ^ height_of tree) then values (height_of tree) else refuse (type_end ots) LeafOutOfRange
 
 abbrev pub after_tree : ℕ → OtsType → List ℕ → List (List ℕ) → LmsType → Layout Signature
-after_tree index ots randomizer chains tree = path_of index ots tree
-    >>= λ path. done (record { pair = record { tree = tree; ots = ots }; index = index; randomizer = randomizer; chains = chains; path = path })
+after_tree q ots randomizer chains tree = path_of q ots tree
+    >>= λ path. done (record { pair = record { tree = tree; ots = ots }; q = q; randomizer = randomizer; chains = chains; path = path })
 
 abbrev pub after_chains : ℕ → OtsType → List ℕ → List (List ℕ) → Layout Signature
-after_chains index ots randomizer chains = lms_type >>= after_tree index ots randomizer chains
+after_chains q ots randomizer chains = lms_type >>= after_tree q ots randomizer chains
 
 abbrev pub after_randomizer : ℕ → OtsType → List ℕ → Layout Signature
-after_randomizer index ots randomizer = values (chains_of ots) >>= after_chains index ots randomizer
+after_randomizer q ots randomizer = values (chains_of ots) >>= after_chains q ots randomizer
 
 abbrev pub after_ots : ℕ → OtsType → Layout Signature
-after_ots index ots = block 32 >>= after_randomizer index ots
+after_ots q ots = block 32 >>= after_randomizer q ots
 
-abbrev pub after_index : ℕ → Layout Signature
-after_index index = ots_type >>= after_ots index
+abbrev pub after_q : ℕ → Layout Signature
+after_q q = ots_type >>= after_ots q

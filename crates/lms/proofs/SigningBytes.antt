@@ -16,11 +16,11 @@ use Rattle.lms.specs.declared.secret.LmsSecret.{LmsSecret}
 use Rattle.lms.specs.Key.{public_key}
 use Rattle.lms.specs.Signature.{Signature, signature}
 use Rattle.lms.specs.Writing.{public_bytes, signature_bytes, signed}
-use Rattle.lms.proofs.After.{after_chains, after_identifier, after_index, after_key_tree, after_ots, after_randomizer, after_tree, after_types}
+use Rattle.lms.proofs.After.{after_chains, after_identifier, after_q, after_key_tree, after_ots, after_randomizer, after_tree, after_types}
 
--- The signature's parts have the sizes that its types say, and its index is one of a leaf.
+-- The signature's parts have the sizes that its types say, and its q is one of a leaf.
 pub record IsSized (s : Signature) : Type 0 where
-  pub inside : s.index < 2 ^ height_of s.pair.tree
+  pub inside : s.q < 2 ^ height_of s.pair.tree
   pub randomizer : length s.randomizer ≡ 32
   pub chain_count : length s.chains ≡ chains_of s.pair.ots
   pub chains : (i : ℕ) → i < chains_of s.pair.ots → length (get_or s.chains i []) ≡ 32
@@ -28,26 +28,26 @@ pub record IsSized (s : Signature) : Type 0 where
   pub path : (i : ℕ) → i < height_of s.pair.tree → length (get_or s.path i []) ≡ 32
 
 -- the path ends a signature
-path_spelled : (s : Signature) → IsSized s → Spells (after_tree s.index s.pair.ots s.randomizer s.chains s.pair.tree) s (concat s.path)
+path_spelled : (s : Signature) → IsSized s → Spells (after_tree s.q s.pair.ots s.randomizer s.chains s.pair.tree) s (concat s.path)
 path_spelled s sized =
     let h = height_of s.pair.tree in
-    rw (lt-ltb s.index (2 ^ h) sized.inside)
+    rw (lt-ltb s.q (2 ^ h) sized.inside)
     (last_field (values h) _ s.path s (concat s.path) (values_spelled h s.path sized.path_count sized.path) (refl, refl))
 
 -- the tree's type and the path end it
 tree_spelled : (s : Signature) → IsSized s
-    → Spells (after_chains s.index s.pair.ots s.randomizer s.chains) s (u32str (lms_code s.pair.tree) ++ concat s.path)
+    → Spells (after_chains s.q s.pair.ots s.randomizer s.chains) s (u32str (lms_code s.pair.tree) ++ concat s.path)
 tree_spelled s sized =
-    from_turn lms_type (after_tree s.index s.pair.ots s.randomizer s.chains) s.pair.tree s (u32str (lms_code s.pair.tree)) (concat s.path)
+    from_turn lms_type (after_tree s.q s.pair.ots s.randomizer s.chains) s.pair.tree s (u32str (lms_code s.pair.tree)) (concat s.path)
     (lms_spelled s.pair.tree) (path_spelled s sized)
 
 -- so do the randomizer, the chains' values and what comes after them
-one_time_spelled : (s : Signature) (rest : List ℕ) → IsSized s → Spells (after_chains s.index s.pair.ots s.randomizer s.chains) s rest
-    → Spells (after_ots s.index s.pair.ots) s (s.randomizer ++ (concat s.chains ++ rest))
+one_time_spelled : (s : Signature) (rest : List ℕ) → IsSized s → Spells (after_chains s.q s.pair.ots s.randomizer s.chains) s rest
+    → Spells (after_ots s.q s.pair.ots) s (s.randomizer ++ (concat s.chains ++ rest))
 one_time_spelled s rest sized spelled =
-    from_turn (block 32) (after_randomizer s.index s.pair.ots) s.randomizer s s.randomizer (concat s.chains ++ rest)
+    from_turn (block 32) (after_randomizer s.q s.pair.ots) s.randomizer s s.randomizer (concat s.chains ++ rest)
     (block_spelled 32 s.randomizer sized.randomizer)
-    (from_turn (values (chains_of s.pair.ots)) (after_chains s.index s.pair.ots s.randomizer) s.chains s (concat s.chains) rest
+    (from_turn (values (chains_of s.pair.ots)) (after_chains s.q s.pair.ots s.randomizer) s.chains s (concat s.chains) rest
     (values_spelled (chains_of s.pair.ots) s.chains sized.chain_count sized.chains) spelled)
 
 -- parts that are put together one by one
@@ -64,10 +64,10 @@ unfolding signature
 signature_spelled s sized =
     let rest = u32str (lms_code s.pair.tree) ++ concat s.path in
     let one_time = s.randomizer ++ (concat s.chains ++ rest) in
-    subst (Spells signature s) (regrouped (u32str s.index) (u32str (ots_code s.pair.ots)) s.randomizer (concat s.chains) (u32str (lms_code s.pair.tree)) (concat s.path))
-    (from_turn number after_index s.index s (u32str s.index) (u32str (ots_code s.pair.ots) ++ one_time)
-    (number_spelled s.index (lms_leaf_small s.pair.tree s.index sized.inside))
-    (from_turn ots_type (after_ots s.index) s.pair.ots s (u32str (ots_code s.pair.ots)) one_time
+    subst (Spells signature s) (regrouped (u32str s.q) (u32str (ots_code s.pair.ots)) s.randomizer (concat s.chains) (u32str (lms_code s.pair.tree)) (concat s.path))
+    (from_turn number after_q s.q s (u32str s.q) (u32str (ots_code s.pair.ots) ++ one_time)
+    (number_spelled s.q (lms_leaf_small s.pair.tree s.q sized.inside))
+    (from_turn ots_type (after_ots s.q) s.pair.ots s (u32str (ots_code s.pair.ots)) one_time
     (ots_spelled s.pair.ots)
     (one_time_spelled s rest sized (tree_spelled s sized))))
 

@@ -7,18 +7,18 @@ use Rattle.typecodes.specs.Types.{chains_of, height_of, signature_len_of}
 use Rattle.typecodes.specs.Layout.{Layout, done, refuse, ◌>>=◌}
 use Rattle.typecodes.specs.Fields.{number, block, values, ots_type, lms_type}
 
--- a signature: its leaf's index q, C, the value of each chain, and the authentication path
+-- a signature: its leaf q, C, the value of each chain, and the authentication path
 pub record Signature : Type 0 where
   pub pair : LmsPair
-  pub index : ℕ
+  pub q : ℕ
   pub randomizer : List ℕ
   pub chains : List (List ℕ)
   pub path : List (List ℕ)
 
 -- the signature of these parts
 abbrev pub signature_with : LmsPair → ℕ → List ℕ → List (List ℕ) → List (List ℕ) → Signature
-signature_with pair index randomizer chains path =
-    record { pair = pair; index = index; randomizer = randomizer; chains = chains; path = path }
+signature_with pair q randomizer chains path =
+    record { pair = pair; q = q; randomizer = randomizer; chains = chains; path = path }
 
 -- how many bytes after the start of a signature the tree's type ends
 abbrev pub type_end : OtsType → ℕ
@@ -28,10 +28,10 @@ type_end ots = 4 + signature_len_of ots + 4
 -- type, and the path. That q is no leaf of the tree is a fault once the tree's type is read, at q.
 unfoldable pub signature : Layout Signature
 signature = do
-  index ← number
+  q ← number
   ots ← ots_type
   randomizer ← block 32
   chains ← values (chains_of ots)
   tree ← lms_type
-  path ← if nat_lt index (2 ^ height_of tree) then values (height_of tree) else refuse (type_end ots) LeafOutOfRange
-  done (signature_with (record { tree = tree; ots = ots }) index randomizer chains path)
+  path ← if nat_lt q (2 ^ height_of tree) then values (height_of tree) else refuse (type_end ots) LeafOutOfRange
+  done (signature_with (record { tree = tree; ots = ots }) q randomizer chains path)

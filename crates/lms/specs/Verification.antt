@@ -16,20 +16,19 @@ use Rattle.lms.specs.Signature.{Signature, signature}
 -- and from this leaf the path leads, node by node, to a node of the path's height.
 pub record LeadsTo (identifier message : List ℕ) (s : Signature) (node : List ℕ) : Type 0 where
   pub ends : List (List ℕ)
-  pub climbed : ClimbTo identifier s.index s.pair.ots (message_digest_of identifier s.index s.randomizer message)
+  pub climbed : ClimbTo identifier s.q s.pair.ots (message_digest_of identifier s.q s.randomizer message)
       s.chains ends
   pub nodes : List (List ℕ)
-  pub ascent : IsAscent (join_of identifier (height_of s.pair.tree)) s.index
-      (leaf_hash identifier (height_of s.pair.tree) s.index (public_hash identifier s.index ends)) s.path nodes
+  pub ascent : IsAscent (join_of identifier (height_of s.pair.tree)) s.q
+      (leaf_hash identifier (height_of s.pair.tree) s.q (public_hash identifier s.q ends)) s.path nodes
   pub last : at nodes (length s.path) ≡ node
 
--- The signature's types are the key's; it has a value for each chain of the one-time type; its index q
--- is one of a leaf of the tree, and the path is as long as the tree is high; and it leads to the key's
--- root.
+-- The signature's types are the key's; it has a value for each chain of the one-time type; its q is one
+-- of a leaf of the tree, and the path is as long as the tree is high; and it leads to the key's root.
 pub record IsValid (key : LmsPublic) (message : List ℕ) (s : Signature) : Type 0 where
   pub types : s.pair ≡ key.pair
   pub chains : length s.chains ≡ chains_of key.pair.ots
-  pub leaf : s.index < 2 ^ height_of key.pair.tree
+  pub leaf : s.q < 2 ^ height_of key.pair.tree
   pub height : length s.path ≡ height_of key.pair.tree
   pub leads : LeadsTo key.identifier message s key.root
 

@@ -9,7 +9,7 @@ use Rattle.lms.specs.Signature.{Signature}
 abbrev pub signature_of : LmsSigView → Signature
 signature_of view = record {
   pair = view.pair;
-  index = view.index;
+  q = view.q;
   randomizer = view.randomizer.now;
   chains = view.chains.now;
   path = view.path.now;

@@ -1,8 +1,7 @@
 -- The signatures that a secret makes (RFC 8554 4.5, 5.4.1 and Appendix A), and the bytes of keys and signatures.
 use Rattle.std.specs.Prelude.{ℕ, List, ◌++◌}
 use Rattle.std.specs.List.{concat}
-use Rattle.typecodes.specs.declared.types.LmsPair.{LmsPair}
-use Rattle.typecodes.specs.Types.{lms_code, lms_signature_len_of, ots_code}
+use Rattle.typecodes.specs.Types.{lms_code, ots_code}
 use Rattle.lmots.specs.Hashes.{u32str}
 use Rattle.lmots.specs.Key.{signed_values}
 use Rattle.lms.specs.declared.key.LmsPublic.{LmsPublic}
@@ -14,7 +13,7 @@ use Rattle.lms.specs.Signature.{Signature}
 abbrev pub signed : LmsSecret → ℕ → List ℕ → List ℕ → List (List ℕ) → Signature
 signed secret q randomizer digest path = record {
   pair = secret.pair;
-  index = q;
+  q = q;
   randomizer = randomizer;
   chains = signed_values secret.identifier q secret.pair.ots secret.seed digest;
   path = path;
@@ -24,13 +23,9 @@ signed secret q randomizer digest path = record {
 abbrev pub textbook : LmsSecret → ℕ → List ℕ → List ℕ → Signature
 textbook secret q randomizer digest = signed secret q randomizer digest (path_in secret q)
 
--- how many bytes the signatures of a pair have
-abbrev pub signature_size : LmsPair → ℕ
-signature_size pair = lms_signature_len_of pair
-
 -- the bytes of a signature (5.4)
 abbrev pub signature_bytes : Signature → List ℕ
-signature_bytes s = u32str s.index ++ u32str (ots_code s.pair.ots) ++ s.randomizer ++ concat s.chains
+signature_bytes s = u32str s.q ++ u32str (ots_code s.pair.ots) ++ s.randomizer ++ concat s.chains
     ++ u32str (lms_code s.pair.tree) ++ concat s.path
 
 -- the bytes of a public key (5.3)

@@ -15,18 +15,18 @@ use typecodes::{Cause, Cursor, LmsPair, ReadFault};
 #[derive(Clone, Copy, Debug)]
 pub struct LmsSigView<'a> {
     pub(crate) pair: LmsPair,
-    pub(crate) index: u32,
+    pub(crate) q: u32,
     pub(crate) randomizer: &'a [u8; 32],
     pub(crate) chains: &'a [[u8; 32]],
     pub(crate) path: &'a [[u8; 32]],
     pub(crate) bytes: &'a [u8],
-    ghost inside: { index < 2 ^ height_of pair.tree },
+    ghost inside: { q < 2 ^ height_of pair.tree },
     ghost chain_count: { length chains.now ≡ chains_of pair.ots },
     ghost path_length: { length path.now ≡ height_of pair.tree },
     ghost spelled: { read signature bytes.now 0
-        ≡ Ok (signature_with pair index randomizer.now chains.now path.now, length bytes.now) },
+        ≡ Ok (signature_with pair q randomizer.now chains.now path.now, length bytes.now) },
     ghost size: { length bytes.now ≡ lms_signature_len_of pair },
-    ghost index_at: { index ≡ big_number 4 (take 4 bytes.now) },
+    ghost q_at: { q ≡ big_number 4 (take 4 bytes.now) },
     ghost randomizer_at: { randomizer.now ≡ take 32 (drop 8 bytes.now) },
     ghost chains_at: { chains.now ≡ values_in (chains_of pair.ots) (drop 40 bytes.now) },
     ghost path_at: { path.now ≡ values_in (height_of pair.tree) (drop (8 + signature_len_of pair.ots) bytes.now) },
@@ -36,9 +36,9 @@ impl<'a> LmsSigView<'a> {
     ghost use Rattle.lms.specs.View.{bytes_of, lent_of, pair_of, signature_of};
 
     /// The signature at a cursor: q, the one-time type, C, a value for each chain, the tree's type and
-    /// the path. An index that is no leaf of the tree is a fault once the tree's type is read, at the
-    /// index. The caller keeps the place so low that the longest signature, 9324 bytes, ends below
-    /// `2^32`. A fault leaves the cursor where it is.
+    /// the path. A q that is no leaf of the tree is a fault once the tree's type is read, at q. The caller
+    /// keeps the place so low that the longest signature, 9324 bytes, ends below `2^32`. A fault leaves
+    /// the cursor where it is.
     #[tactic(auto, using(crate::proofs::Fields::fields), unfolding(crate::specs::Signature::signature))]
     pub fn from_cursor(cursor: &mut Cursor<'a>) -> Result<Self, ReadFault>
         requires { cursor.old.place + 9324 < 2 ^ 32 }
@@ -52,12 +52,12 @@ impl<'a> LmsSigView<'a> {
     {
         let (all, start) = (cursor.bytes, cursor.place);
         let mut rest = *cursor;
-        let index = rest.number()?;
+        let q = rest.number()?;
         let ots = rest.ots_type()?;
         let randomizer = rest.array()?;
         let chains = rest.values(u32::from(ots.chains()))?;
         let tree = rest.lms_type()?;
-        if index >= 1 << tree.height() {
+        if q >= 1 << tree.height() {
             return Err(ReadFault {
                 place: start,
                 cause: Cause::LeafOutOfRange,
@@ -67,7 +67,7 @@ impl<'a> LmsSigView<'a> {
         *cursor = rest;
         Ok(LmsSigView {
             pair: LmsPair { tree, ots },
-            index,
+            q,
             randomizer,
             chains,
             path,
@@ -89,11 +89,11 @@ impl<'a> LmsSigView<'a> {
     }
 
     /// q, its leaf.
-    pub fn index(&self) -> u32
-        ensures value { result ≡ (signature_of self.now).index }
+    pub fn q(&self) -> u32
+        ensures value { result ≡ (signature_of self.now).q }
         ensures range { result ≡ big_number 4 (take 4 (bytes_of self.now)) }
     {
-        self.index
+        self.q
     }
 
     /// The signature's types, which are to be its key's.

@@ -204,7 +204,7 @@ fn leaves_of_a_higher_tree(rt: HostRuntime) -> Result<(), Fail> {
     let mut bytes = higher_signature();
     bytes[2] = 3;
     bytes[3] = 255;
-    assert_eq!(rt; LmsSigView::read(&bytes)?.index(), 1023);
+    assert_eq!(rt; LmsSigView::read(&bytes)?.q(), 1023);
     bytes[2] = 4;
     bytes[3] = 0;
     assert_eq!(rt;
@@ -223,7 +223,7 @@ fn parts_are_lent(rt: HostRuntime) -> Result<(), Fail> {
         bytes[place..place + 32].copy_from_slice(&[value; 32]);
     }
     let view = LmsSigView::read(&bytes)?;
-    assert_eq!(rt; view.index(), 17);
+    assert_eq!(rt; view.q(), 17);
     assert_eq!(rt; view.types(), PAIR);
     assert_eq!(rt; *view.c(), [1; 32]);
     assert_eq!(rt; *view.chain(0), [2; 32]);
@@ -319,7 +319,7 @@ fn sign(nodes: &[[u8; 32]; 64], q: u8, message: &[u8]) -> [u8; 1292] {
     bytes
 }
 
-// A valid signature of "message" is refused with a changed byte of the index, of C, of a chain's value
+// A valid signature of "message" is refused with a changed byte of q, of C, of a chain's value
 // or of a node; and under the code of a higher tree, whose path is longer.
 fn assert_changes_refused(rt: &impl Abort, key: &LmsPublic, signature: &[u8; 1292]) {
     for place in [3, 8, 40, 1127, 1132, 1291] {

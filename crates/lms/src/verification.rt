@@ -63,7 +63,7 @@ fn candidate(identifier: &[u8; 16], message: &[u8], view: &LmsSigView<'_>) -> [u
 {
     let key = LmOts {
         identifier: *identifier,
-        leaf: view.index,
+        leaf: view.q,
     };
     let digest = key.message_digest(view.randomizer, message);
     let public_hash = key.hash_from_signature(view.pair.ots, &digest, view.chains);
@@ -71,6 +71,6 @@ fn candidate(identifier: &[u8; 16], message: &[u8], view: &LmsSigView<'_>) -> [u
         identifier: *identifier,
         height: view.pair.tree.height(),
     };
-    let leaf = nodes.leaf(view.index, &public_hash);
-    root_from_path(&nodes, view.index, &leaf, view.path)
+    let leaf = nodes.leaf(view.q, &public_hash);
+    root_from_path(&nodes, view.q, &leaf, view.path)
 }

@@ -1,17 +1,18 @@
 //! The bytes of keys and signatures.
 
-ghost use Rattle.std.specs.Prelude.{◌≡◌, ◌+◌, ◌<◌, ◌≤◌, ◌^◌, ℕ, List, ◌++◌, Some, length, take};
+ghost use Rattle.std.specs.Prelude.{◌≡◌, ◌<◌, ◌^◌, ℕ, List, length};
 ghost use Rattle.typecodes.specs.Layout.{Spells};
-ghost use Rattle.typecodes.specs.Types.{height_of, lms_code, lms_of_code, ots_code, ots_of_code};
+ghost use Rattle.typecodes.specs.Types.{height_of, lms_signature_len_of};
 ghost use Rattle.lms.specs.Key.{public_key};
 ghost use Rattle.lms.specs.Signature.{signature};
 ghost use Rattle.lms.specs.Secret.{digest_in, path_in, public_of};
-ghost use Rattle.lms.specs.Writing.{public_bytes, signature_bytes, signature_size, signed};
+ghost use Rattle.lms.specs.Writing.{public_bytes, signature_bytes, signed};
 ghost use Rattle.lms.specs.Verification.{IsValid};
 
 use crate::key::LmsPublic;
 use crate::secret::LmsSecret;
 use lmots::LmOts;
+use typecodes::put;
 
 /// Writes a public key, 56 bytes (RFC 8554 5.3).
 pub fn write_public(public: &LmsPublic, into: &mut [u8])
@@ -39,7 +40,7 @@ pub fn write_signature(
 )
     requires inside { leaf < 2 ^ height_of secret.now.pair.tree }
     requires path { length path.now ≡ height_of secret.now.pair.tree }
-    requires room { length into.old ≡ signature_size secret.now.pair }
+    requires room { length into.old ≡ lms_signature_len_of secret.now.pair }
     ensures bytes { into.new ≡ signature_bytes (signed secret.now leaf randomizer.now digest.now path.now) }
     // They spell the signature.
     ensures spells { Spells signature (signed secret.now leaf randomizer.now digest.now path.now) into.new }
@@ -61,17 +62,6 @@ pub fn write_signature(
     key.sign_digest(ots, &secret.seed, digest, &mut into[place..end]);
     let place = put(into, end, &secret.pair.tree.code().to_be_bytes());
     put(into, place, path.as_flattened());
-}
-
-// Writes bytes at a place, and gives the place after them.
-fn put(into: &mut [u8], place: usize, bytes: &[u8]) -> usize
-    requires { place + length bytes.now ≤ length into.old }
-    ensures place { result ≡ place + length bytes.now }
-    ensures bytes { take result into.new ≡ take place into.old ++ bytes.now }
-{
-    let end = place + bytes.len();
-    into[place..end].copy_from_slice(bytes);
-    end
 }
 
 #[cfg(test)]

@@ -81,8 +81,8 @@ use_is : (world : World) (key : LmsKey) (x : Handed) (u : LeafUse) → IsKept wo
 use_is world key x u kept keyed is uses =
     let same : key ≡ is.key = cc in
     let read : uses.read ≡ signed_for is.key is.bound = one_value signature uses.read (signed_for is.key is.bound) x.signature uses.spelled (handed_spelled world x kept is) in
-    let digest_by : Signature → LmsKey → List ℕ = λ s k. message_digest_of k.identifier s.index s.randomizer x.message in (
-      uses.leaf ∙ ap (λ s. s.index) read,
+    let digest_by : Signature → LmsKey → List ℕ = λ s k. message_digest_of k.identifier s.q s.randomizer x.message in (
+      uses.leaf ∙ ap (λ s. s.q) read,
       uses.digest ∙ ap (λ s. digest_by s key) read ∙ ap (digest_by (signed_for is.key is.bound)) same ∙ is.digest,
     )
 

@@ -1,9 +1,8 @@
 -- What the records of a key and its bindings say, and the world's steps on them.
 use Rattle.std.proofs.Common.{◌≡◌, ℕ, suc, ◌+◌, ◌<◌, ◌≤◌, ◌^◌, Bool, true, false, not, List, [], ◌∷◌, ◌++◌, length, Option, Some, None, Result, Ok, Err, cond, drop, refl, sym, ap, ◌∙◌, subst, arith, find, map, ⊎_elim, IsSome, true≢false}
 use Rattle.std.specs.Prelude.{fold, max, nat_le, nat_lt, if◌then◌else◌, ◌&&◌, ◌||◌, is_some}
-use Rattle.typecodes.specs.Types.{height_of}
+use Rattle.typecodes.specs.Types.{height_of, lms_signature_len_of}
 use Rattle.lmots.specs.Key.{message_digest_of}
-use Rattle.lms.specs.Writing.{signature_size}
 use Rattle.state_file.specs.declared.record.Bound.{Bound}
 use Rattle.sign_core.specs.declared.ledger.LmsKey.{LmsKey}
 use Rattle.state_file.specs.declared.record.Record.{Record}
@@ -229,12 +228,12 @@ signs_along {lacking = lacking} {name = name} {message = message} signs a b c d 
     (λ i. (a i, b i, c i, d i, e i, f i, g i)) signs
 
 -- the same lack, of equal arguments
-pub lacks_along : {bound bound' : Option Bound} {key key' : LmsKey} {spare spare' : ℕ} (capacity : ℕ) → LacksMemory bound (signature_size key.pair) capacity spare → bound ≡ bound' → key ≡ key' → spare ≡ spare' → LacksMemory bound' (signature_size key'.pair) capacity spare'
+pub lacks_along : {bound bound' : Option Bound} {key key' : LmsKey} {spare spare' : ℕ} (capacity : ℕ) → LacksMemory bound (lms_signature_len_of key.pair) capacity spare → bound ≡ bound' → key ≡ key' → spare ≡ spare' → LacksMemory bound' (lms_signature_len_of key'.pair) capacity spare'
 lacks_along capacity lacks a b c =
-    subst (λ (t : Option Bound × LmsKey × ℕ). LacksMemory t.0 (signature_size t.1.pair) capacity t.2) (λ i. (a i, b i, c i)) lacks
+    subst (λ (t : Option Bound × LmsKey × ℕ). LacksMemory t.0 (lms_signature_len_of t.1.pair) capacity t.2) (λ i. (a i, b i, c i)) lacks
 
 -- what a signer knows of such a request, by its fields and by its view
-pub free_name : {limit : ℕ} {list list' : List Record} {stopped : Bool} {key key' : LmsKey} {bounds : List Bound} {leaf : ℕ} {name : List ℕ} (capacity : ℕ) {spare spare' : ℕ} {fault : Option SignFault} → IsLedgerOf list stopped key bounds leaf → Hinders limit (height_of key.pair.tree) leaf (length bounds + 1) (LacksMemory None (signature_size key.pair) capacity spare) (is_sound key) fault → list ≡ list' → key ≡ key' → spare ≡ spare' → binding_of list' name ≡ None → FreeName limit (LacksMemory (binding_of list' name) (signature_size key'.pair) capacity spare') list stopped key bounds leaf name fault
+pub free_name : {limit : ℕ} {list list' : List Record} {stopped : Bool} {key key' : LmsKey} {bounds : List Bound} {leaf : ℕ} {name : List ℕ} (capacity : ℕ) {spare spare' : ℕ} {fault : Option SignFault} → IsLedgerOf list stopped key bounds leaf → Hinders limit (height_of key.pair.tree) leaf (length bounds + 1) (LacksMemory None (lms_signature_len_of key.pair) capacity spare) (is_sound key) fault → list ≡ list' → key ≡ key' → spare ≡ spare' → binding_of list' name ≡ None → FreeName limit (LacksMemory (binding_of list' name) (lms_signature_len_of key'.pair) capacity spare') list stopped key bounds leaf name fault
 free_name {name = name} capacity kept hinders a b c none = record {
   kept = kept;
   unbound = ap (λ l. binding_of l name) a ∙ none;

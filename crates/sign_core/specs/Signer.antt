@@ -3,7 +3,7 @@ use Rattle.std.specs.Prelude.{◌≡◌, ℕ, ◌+◌, Bool, false, ◌&&◌, �
 use Rattle.std.specs.Prelude.{Option, Some, None, is_some, Result, Ok, Err, if◌then◌else◌}
 use Rattle.state_file.specs.declared.record.Bound.{Bound}
 use Rattle.state_file.specs.declared.record.Record.{Record}
-use Rattle.lms.specs.Writing.{signature_size}
+use Rattle.typecodes.specs.Types.{lms_signature_len_of}
 use Rattle.sign_core.specs.declared.ledger.LmsKey.{LmsKey}
 use Rattle.sign_core.specs.declared.fault.SignFault.{SignFault}
 use Rattle.sign_core.specs.declared.fault.SignFault.TheVariants.{RandomFailed, StoreFailed, OutOfMemory}
@@ -57,7 +57,7 @@ pub record Signs (limit : ℕ) (lacking : Type 0) (old new : State) (upcoming le
 abbrev pub SignsOver : {S R : Type 0} → (S → List Record) → (S → ℕ) → (R → Option (List ℕ)) → (old new : View S R)
     → (name message rest : List ℕ) (capacity : ℕ) → Result (List ℕ) SignFault → Type 0
 SignsOver list most upcoming old new name message rest capacity answer =
-    let size = signature_size old.key.pair in
+    let size = lms_signature_len_of old.key.pair in
     Signs (most old.store) (LacksMemory (binding_of (list old.store) name) size capacity old.spare)
     (state_of (list old.store) old.is_open) (state_of (list new.store) new.is_open)
     (upcoming old.random) (upcoming new.random) name message rest answer

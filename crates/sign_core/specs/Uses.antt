@@ -18,8 +18,8 @@ pub record Uses (key : LmsPublic) (message bytes : List ℕ) (use_of : LeafUse) 
   pub read : Signature
   pub spelled : Spells signature read bytes
   pub identifier : use_of.identifier ≡ key.identifier
-  pub leaf : use_of.leaf ≡ read.index
-  pub digest : use_of.digest ≡ message_digest_of key.identifier read.index read.randomizer message
+  pub leaf : use_of.leaf ≡ read.q
+  pub digest : use_of.digest ≡ message_digest_of key.identifier read.q read.randomizer message
 
 -- the bytes are a valid signature of the message under the key
 pub record Verifies (key : LmsPublic) (message bytes : List ℕ) : Type 0 where

@@ -2,9 +2,8 @@
 
 ghost use Rattle.std.specs.Prelude.{◌≡◌, ◌^◌, true, ◌<◌, ◌+◌, ◌-◌, ◌∷◌, [], ◌++◌, Some, None, MatchOption, IfErr};
 ghost use Rattle.std.specs.Prelude.{OnErr, OnOk, vec_len, vec_capacity, length};
-ghost use Rattle.typecodes.specs.Types.{height_of};
+ghost use Rattle.typecodes.specs.Types.{height_of, lms_signature_len_of};
 ghost use Rattle.lms.specs.Secret.{path_in};
-ghost use Rattle.lms.specs.Writing.{signature_size};
 ghost use Rattle.sign_core.specs.Ledger.{bound_in, key_record};
 
 use crate::fault::SignFault;
@@ -86,11 +85,11 @@ impl Ledger {
 
     // Makes room for a signature, and for one more binding.
     fn reserve(&mut self, out: &mut Vec<u8>) -> Result<(), SignFault>
-        ensures room { OnOk result (length out.new.items ≡ signature_size self.old.key.pair) }
+        ensures room { OnOk result (length out.new.items ≡ lms_signature_len_of self.old.key.pair) }
         ensures reserved { OnOk result (vec_len self.new.bounds < vec_capacity self.new.bounds) }
         ensures refused { IfErr result (λ fault. fault ≡ SignFault.OutOfMemory) }
         // Memory is requested only where there isn't room for both yet.
-        ensures full { OnErr result (LacksMemory None (signature_size self.old.key.pair) (vec_capacity out.old)
+        ensures full { OnErr result (LacksMemory None (lms_signature_len_of self.old.key.pair) (vec_capacity out.old)
             (vec_capacity self.old.bounds - vec_len self.old.bounds)) }
         ensures key { self.new.key ≡ self.old.key }
         ensures bounds { self.new.bounds.items ≡ self.old.bounds.items }
@@ -112,14 +111,14 @@ impl Ledger {
         requires { length path.old ≡ height_of self.old.key.pair.tree }
         ensures hindrance { Hinders limit (height_of self.old.key.pair.tree) self.old.next
             (length self.old.bounds.items + 1)
-            (LacksMemory None (signature_size self.old.key.pair) (vec_capacity out.old)
+            (LacksMemory None (lms_signature_len_of self.old.key.pair) (vec_capacity out.old)
             (vec_capacity self.old.bounds - vec_len self.old.bounds))
             (is_sound self.old.key) (fault_of result) }
         ensures free { OnOk result (self.old.next < 2 ^ height_of self.old.key.pair.tree) }
         ensures takes { OnOk result (length self.old.bounds.items + 1 < limit) }
         ensures path { OnOk result (path.new ≡ path_in (secret_of self.old.key) self.old.next) }
         ensures height { OnOk result (length path.new ≡ height_of self.old.key.pair.tree) }
-        ensures room { OnOk result (length out.new.items ≡ signature_size self.old.key.pair) }
+        ensures room { OnOk result (length out.new.items ≡ lms_signature_len_of self.old.key.pair) }
         ensures reserved { OnOk result (vec_len self.new.bounds < vec_capacity self.new.bounds) }
         ensures key { self.new.key ≡ self.old.key }
         ensures bounds { self.new.bounds.items ≡ self.old.bounds.items }

@@ -1,8 +1,7 @@
 //! A request under a name that is bound.
 
 ghost use Rattle.std.specs.Prelude.{◌≡◌, ◌<◌, ◌^◌, ℕ, [], Err, vec_capacity};
-ghost use Rattle.typecodes.specs.Types.{height_of};
-ghost use Rattle.lms.specs.Writing.{signature_size};
+ghost use Rattle.typecodes.specs.Types.{height_of, lms_signature_len_of};
 ghost use Rattle.sign_core.specs.Signer.{RandomCount, Repeats, StoreCount, answered};
 
 use crate::fault::SignFault;
@@ -19,13 +18,13 @@ pub(crate) fn repeat(
 ) -> Result<(), SignFault>
     requires { bound.now.leaf < 2 ^ height_of key.now.pair.tree }
     // Memory is requested only where there is no room for the signature yet.
-    ensures answer { Repeats key.now bound.now message.old.now (vec_capacity out.old < signature_size key.now.pair)
+    ensures answer { Repeats key.now bound.now message.old.now (vec_capacity out.old < lms_signature_len_of key.now.pair)
         (answered result out.new.items) }
     // It calls neither the source nor the store.
     ensures random { (n : ℕ) → RandomCount result n n }
     ensures store { (n : ℕ) → StoreCount result n n }
     ensures read { message.new.now ≡ [] }
-    ensures full { result ≡ Err SignFault.OutOfMemory → vec_capacity out.old < signature_size key.now.pair }
+    ensures full { result ≡ Err SignFault.OutOfMemory → vec_capacity out.old < lms_signature_len_of key.now.pair }
 {
     let text = take_all(message);
     if digest(key, bound.leaf, &bound.randomizer, text) != bound.digest {

@@ -47,7 +47,7 @@ impl<S: Store, R: Source> Model for Signer<S, R> {
 }
 
 impl<S: Store, R: Source> Signer<S, R> {
-    ghost use Rattle.lms.specs.Writing.{signature_size};
+    ghost use Rattle.typecodes.specs.Types.{lms_signature_len_of};
     ghost use Rattle.sign_core.specs.Create.{CreatesOver, LeavesSource, answer_of, random_after, store_after};
     ghost use Rattle.sign_core.specs.Ledger.{binding_of, key_of, public_key_of};
     ghost use Rattle.sign_core.specs.Signer.{Counts, Leaves, RandomCount, SignsOver, StoreCount, answered};
@@ -121,7 +121,7 @@ impl<S: Store, R: Source> Signer<S, R> {
         ensures repeat { IsSome (binding_of (S.list self.old.store) name.now) → self.new ≡ self.old }
         // A repeat wants memory only where there is no room for the signature yet.
         ensures full { IsSome (binding_of (S.list self.old.store) name.now) → result ≡ Err SignFault.OutOfMemory →
-            vec_capacity out.old < signature_size self.old.key.pair }
+            vec_capacity out.old < lms_signature_len_of self.old.key.pair }
         ensures counts { Counts R.failures S.failures S.most S.honest result self.old self.new }
     {
         if let Err(fault) = self.answer(name, message, out) {
@@ -144,7 +144,7 @@ impl<S: Store, R: Source> Signer<S, R> {
         ensures repeat { IsSome (binding_of (S.list self.old.store) name.now) → self.new ≡ self.old }
         // A repeat wants memory only where there is no room for the signature yet.
         ensures full { IsSome (binding_of (S.list self.old.store) name.now) → result ≡ Err SignFault.OutOfMemory →
-            vec_capacity out.old < signature_size self.old.key.pair }
+            vec_capacity out.old < lms_signature_len_of self.old.key.pair }
         ensures counts { Counts R.failures S.failures S.most S.honest result self.old self.new }
     {
         if !self.is_open {

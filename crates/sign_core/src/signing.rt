@@ -2,10 +2,9 @@
 
 ghost use Rattle.std.specs.Prelude.{◌≡◌, Some, [], ◌<◌, ◌^◌, length, true, false, IfErr, IfOk, OnErr, OnOk};
 ghost use Rattle.std.specs.Prelude.{vec_capacity};
-ghost use Rattle.typecodes.specs.Types.{height_of};
+ghost use Rattle.typecodes.specs.Types.{height_of, lms_signature_len_of};
 ghost use Rattle.lmots.specs.Key.{message_digest_of};
 ghost use Rattle.lms.specs.Secret.{path_in};
-ghost use Rattle.lms.specs.Writing.{signature_size};
 ghost use Rattle.state_file.specs.Store.{CanFollow};
 ghost use Rattle.sign_core.specs.Signing.{DrawsBytes, AppendsEntry};
 ghost use Rattle.sign_core.specs.Ledger.{is_sound, secret_of, signature_of};
@@ -78,10 +77,10 @@ pub(crate) fn digest(key: &LmsKey, leaf: u32, randomizer: &[u8; 32], text: &[u8]
 
 /// Makes room for a signature of the pair.
 pub(crate) fn make_room(pair: LmsPair, out: &mut Vec<u8>) -> Result<(), SignFault>
-    ensures room { OnOk result (length out.new.items ≡ signature_size pair) }
+    ensures room { OnOk result (length out.new.items ≡ lms_signature_len_of pair) }
     ensures refused { IfErr result (λ fault. fault ≡ SignFault.OutOfMemory) }
     // Memory is requested only where there is no room for it yet.
-    ensures full { OnErr result (vec_capacity out.old < signature_size pair) }
+    ensures full { OnErr result (vec_capacity out.old < lms_signature_len_of pair) }
 {
     out.resize(pair.signature_len() as usize, 0)
         .map_err(|_| SignFault::OutOfMemory)
@@ -92,7 +91,7 @@ pub(crate) fn write_bound(key: &LmsKey, bound: &Bound, path: &[[u8; 32]], out: &
     requires inside { bound.now.leaf < 2 ^ height_of key.now.pair.tree }
     requires path { path.now ≡ path_in (secret_of key.now) bound.now.leaf }
     requires length { length path.now ≡ height_of key.now.pair.tree }
-    requires room { length out.old.items ≡ signature_size key.now.pair }
+    requires room { length out.old.items ≡ lms_signature_len_of key.now.pair }
     ensures { out.new.items ≡ signature_of key.now bound.now }
 {
     write_signature(

@@ -51,7 +51,7 @@ typed_spelled code types t small is =
     (let P : Option _ → Type 0 = λ found. Spells (known found) t [] in subst P (sym is) (refl, refl))
 
 -- Each type of the tables is spelled by its code. Here, and in `Leaves`, a new type adds its line.
-ots_named : (t : OtsType) → (ots_code t < 2 ^ 32) × (named ots_code ots_types (ots_code t) ≡ Some t)
+pub ots_named : (t : OtsType) → (ots_code t < 2 ^ 32) × (named ots_code ots_types (ots_code t) ≡ Some t)
 ots_named W1 = (omega arith, refl)
 ots_named W2 = (omega arith, refl)
 ots_named W4 = (omega arith, refl)
@@ -61,7 +61,7 @@ pub ots_spelled : (t : OtsType) → Spells ots_type t (big_bytes 4 (ots_code t))
 unfolding ots_type
 ots_spelled t = typed_spelled ots_code ots_types t (ots_named t).0 (ots_named t).1
 
-lms_named : (t : LmsType) → (lms_code t < 2 ^ 32) × (named lms_code lms_types (lms_code t) ≡ Some t)
+pub lms_named : (t : LmsType) → (lms_code t < 2 ^ 32) × (named lms_code lms_types (lms_code t) ≡ Some t)
 lms_named lms.H5 = (omega arith, refl)
 lms_named lms.H10 = (omega arith, refl)
 lms_named lms.H15 = (omega arith, refl)

@@ -24,7 +24,7 @@ index_small h index most inside =
     omega arith
 
 -- so does that of a leaf, since no tree is higher
-lms_most : (t : LmsType) → height_of t ≤ 25
+pub lms_most : (t : LmsType) → height_of t ≤ 25
 lms_most lms.H5 = omega arith
 lms_most lms.H10 = omega arith
 lms_most lms.H15 = omega arith

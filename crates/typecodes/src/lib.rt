@@ -1,5 +1,5 @@
 //! The bytes and numbers that the other crates stand on: the types of the standards' tables with
-//! their codes, `coef`, and the reading of layouts field by field.
+//! their codes, `coef`, the reading of layouts field by field, and the writing of bytes part by part.
 //!
 //! Its model is `specs/Layout.antt`: a layout is a list of fields, each of which may depend on those
 //! before it, and from it follow both which bytes spell a value and which fault other bytes have.
@@ -31,6 +31,7 @@ mod name;
 mod refusal;
 mod spec;
 mod types;
+mod writing;
 
 pub use crate::coefficient::coef;
 pub use crate::count::Count;
@@ -44,3 +45,4 @@ pub use crate::name::{BadName, Name};
 pub use crate::refusal::Refusal;
 pub use crate::spec::{BadSpec, Spec};
 pub use crate::types::{LmsPair, LmsType, OtsType, XmssType};
+pub use crate::writing::put;

@@ -4,7 +4,7 @@ ghost use Rattle.std.specs.Prelude.{◌≡◌, ◌++◌};
 ghost use Rattle.xmss.specs.Digest as spec;
 ghost use Rattle.xmss.specs.Digest.{message_digest_of};
 
-use crate::writing::put;
+use typecodes::put;
 use wots_plus::hash_message;
 
 /// M', the digest of a message that a leaf signs in the tree with this root, by the randomizer r

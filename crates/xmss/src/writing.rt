@@ -1,6 +1,6 @@
 //! The bytes of keys and signatures.
 
-ghost use Rattle.std.specs.Prelude.{◌≡◌, ◌+◌, ◌<◌, ◌≤◌, ◌^◌, ℕ, List, ◌++◌, length, take};
+ghost use Rattle.std.specs.Prelude.{◌≡◌, ◌<◌, ◌^◌, ℕ, List, length};
 ghost use Rattle.typecodes.specs.Layout.{Spells};
 ghost use Rattle.typecodes.specs.Types.{xmss_height_of, xmss_signature_len_of};
 ghost use Rattle.xmss.specs.Key.{public_key};
@@ -11,6 +11,7 @@ ghost use Rattle.xmss.specs.Verification.{IsValid};
 
 use crate::key::XmssPublic;
 use crate::secret::XmssSecret;
+use typecodes::put;
 use wots_plus::{Prf, Wots};
 
 /// Writes a public key, 68 bytes (RFC 8391 4.1.7).
@@ -54,17 +55,6 @@ pub fn write_signature(
     let key = Wots { seed: &seed, leaf };
     key.sign_digest(&secret.secret_seed, digest, &mut into[place..end]);
     put(into, end, path.as_flattened());
-}
-
-// Writes bytes at a place, and gives the place after them.
-pub(crate) fn put(into: &mut [u8], place: usize, bytes: &[u8]) -> usize
-    requires { place + length bytes.now ≤ length into.old }
-    ensures place { result ≡ place + length bytes.now }
-    ensures bytes { take result into.new ≡ take place into.old ++ bytes.now }
-{
-    let end = place + bytes.len();
-    into[place..end].copy_from_slice(bytes);
-    end
 }
 
 #[cfg(test)]

@@ -27,7 +27,7 @@ write-requires c =
     let size = c.requires.room ∙ size-parts c.args.above.now c.args.bottom.now in
     simp (length-take, length-drop) (omega (arith, size, c.write_above-place.ensures.place))
 
--- the number, the signed keys and the bottom's signature stand one behind the other
+-- the number, the signed keys and the bottom's signature stand one after the other
 written : (c : After-write) → take c.write_above-place.result c.write_above-place.new.into
     ++ (c.write.new.into ++ post_of c.write_above-place.result (length c.write_above-place.new.into - c.write_above-place.result) c.write_above-place.new.into)
     ≡ signature_bytes (signed_by c.args.above.now c.args.bottom.now)

@@ -3,7 +3,7 @@ use Rattle.std.specs.Prelude.{set, take}
 use Rattle.typecodes.specs.Cursor.{read}
 use Rattle.hss.specs.SignedKey.{AreFirst, StandInTurn, StandsAt, signed_in, signed_key, signed_key_of, taken_by}
 use Rattle.hss.proofs.Passing.{keys-faulty, keys-next, keys-none}
-use Rattle.hss.proofs.Slots.{filled-first, filled-shows, filled-stand, shown-front, unused-first, unused-stand}
+use Rattle.hss.proofs.Slots.{set-first, set-shows, set-stand, shown-front, unused-first, unused-stand}
 use Rattle.hss.proofs.Walking.{keys-end}
 use Rattle.hss.proofs.signed_keys.SignedKeys.from_cursor.Goals as goal
 
@@ -37,12 +37,12 @@ loop-i-preserved c =
     let here : StandsAt (place + taken_by (signed_in (take i slots))) bytes view =
     subst (λ at. StandsAt at bytes view) at (subst (λ b. StandsAt c.loop-i.cursor.place b view) same c.in_ok-from_cursor.ensures.part) in
     let shows : signed_in slots ++ signed_key_of view ∷ [] ≡ signed_in (set slots c.from.result (Some view)) =
-    sym (filled-shows slots i view within empty) ∙ ap (λ k. signed_in (set slots k (Some view))) (sym c.from.ensures) in
+    sym (set-shows slots i view within empty) ∙ ap (λ k. signed_in (set slots k (Some view))) (sym c.from.ensures) in
     record {
       read = keys-next i bytes place c.loop-i.cursor.place c.from_cursor.new.cursor.place (signed_in slots) (signed_key_of view) c.loop-i.invariant.read found
           ∙ ap (λ keys. Ok (keys, c.from_cursor.new.cursor.place)) shows;
-      first = subst (λ k. AreFirst (i + 1) (set slots k (Some view))) (sym c.from.ensures) (filled-first slots i view within empty c.loop-i.invariant.first);
-      stand = subst (λ k. StandInTurn place bytes (set slots k (Some view))) (sym c.from.ensures) (filled-stand slots i view within empty place bytes c.loop-i.invariant.stand here);
+      first = subst (λ k. AreFirst (i + 1) (set slots k (Some view))) (sym c.from.ensures) (set-first slots i view within empty c.loop-i.invariant.first);
+      stand = subst (λ k. StandInTurn place bytes (set slots k (Some view))) (sym c.from.ensures) (set-stand slots i view within empty place bytes c.loop-i.invariant.stand here);
       size = length-set slots c.from.result (Some view) ∙ c.loop-i.invariant.size;
       most = omega (arith, c.in_ok-from_cursor.ensures.most, c.loop-i.invariant.most);
       bytes = c.in_ok-from_cursor.ensures.bytes ∙ c.loop-i.invariant.bytes;

@@ -11,8 +11,8 @@ unfolding signature
 invariant_of-result c =
     let cursor = c.args.cursor.now in
     let end = c.values-2.new.self.place in
-    let s : Signature = signature_with (record { tree = c.in_ok-tree.tree; ots = c.in_ok-ots.ots }) c.in_ok-index.index c.in_ok-randomizer.randomizer.now c.in_ok-chains.chains.now c.in_ok-path.path.now in
+    let s : Signature = signature_with (record { tree = c.in_ok-tree.tree; ots = c.in_ok-ots.ots }) c.in_ok-q.q c.in_ok-randomizer.randomizer.now c.in_ok-chains.chains.now c.in_ok-path.path.now in
     let found : read signature cursor.bytes.now cursor.place ≡ Ok (s, end) = search (rules, fields) in
     let spelled = part_read signature s cursor.bytes.now cursor.place end (omega arith) found in
     let laid = laid_out s (take (end - cursor.place) (drop cursor.place cursor.bytes.now)) spelled in
-    record { inside = search (rules, fields); chain_count = search (rules, fields); path_length = search (rules, fields); spelled = spelled; size = laid.size; index_at = laid.index; randomizer_at = laid.randomizer; chains_at = laid.chains; path_at = laid.path }
+    record { inside = search (rules, fields); chain_count = search (rules, fields); path_length = search (rules, fields); spelled = spelled; size = laid.size; q_at = laid.q; randomizer_at = laid.randomizer; chains_at = laid.chains; path_at = laid.path }

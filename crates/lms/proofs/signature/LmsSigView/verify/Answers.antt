@@ -15,7 +15,7 @@ returns-then-leads_to_root-clause-verdict c =
     record {
       types = types;
       chains = view.chain_count ∙ ap (λ pair. chains_of pair.ots) types;
-      leaf = subst (λ pair. view.index < 2 ^ height_of pair.tree) types view.inside;
+      leaf = subst (λ pair. view.q < 2 ^ height_of pair.tree) types view.inside;
       height = view.path_length ∙ ap (λ pair. height_of pair.tree) types;
       leads = c.if-leads_to_root.ensures.0 refl;
     }
