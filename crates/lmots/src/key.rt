@@ -57,8 +57,8 @@ impl LmOts {
         hasher
     }
 
-    /// Q of the message that a reader gives, however it is cut: read to its end, in pieces that aren't kept. Refused where
-    /// a read fails, or where the reader gives 2^60 bytes.
+    /// Q of the message that a reader gives, however it is cut: it is read to its end, in pieces that aren't kept.
+    /// Refused where a read fails, or where the reader gives 2^60 bytes.
     pub fn message_digest_from<M: Message>(
         &self,
         randomizer: &[u8; 32],

@@ -1,9 +1,11 @@
 -- Which signatures are valid (RFC 8554 5.4.2 and 4.6), and what verification answers, with the refusal that comes
 -- first.
-use Rattle.std.specs.Prelude.{◌≡◌, ◌≢◌, ℕ, ◌<◌, ◌^◌, List, [], length, Result, Ok, Err}
+use Rattle.std.specs.Prelude.{◌≡◌, ◌≢◌, ℕ, ◌<◌, ◌^◌, List, Option, length, Result, Ok, Err}
 use Rattle.typecodes.specs.declared.refusal.Refusal.{Refusal}
-use Rattle.typecodes.specs.declared.refusal.Refusal.TheVariants.{Unreadable, TypeMismatch, LevelMismatch, RootMismatch}
+use Rattle.typecodes.specs.declared.refusal.Refusal.TheVariants.{Unreadable, TypeMismatch, LevelMismatch}
+use Rattle.typecodes.specs.declared.refusal.Refusal.TheVariants.{RootMismatch, MessageRead}
 use Rattle.typecodes.specs.Layout.{Spells, HasFault}
+use Rattle.typecodes.specs.Message.{CantBeRead, ReadWhole, Step}
 use Rattle.typecodes.specs.Types.{chains_of, height_of}
 use Rattle.merkle.specs.Ascent.{IsAscent, at}
 use Rattle.lmots.specs.Key.{ClimbTo, message_digest_of, public_hash}
@@ -11,52 +13,72 @@ use Rattle.lms.specs.declared.key.LmsPublic.{LmsPublic}
 use Rattle.lms.specs.Nodes.{join_of, leaf_hash}
 use Rattle.lms.specs.Signature.{Signature, signature}
 
--- The node to which a signature of a message leads, in a tree with the identifier I: from the digits of
--- the message's digest the signature's values climb to the ends of their chains; these make a leaf;
--- and from this leaf the path leads, node by node, to a node of the path's height.
-pub record LeadsTo (identifier message : List ℕ) (s : Signature) (node : List ℕ) : Type 0 where
+-- The node to which a signature of a digest Q leads, in a tree with the identifier I: from the digits of Q the
+-- signature's values climb to the ends of their chains; these make a leaf; and from this leaf the path leads, node by
+-- node, to a node of the path's height.
+pub record LeadsTo (identifier digest : List ℕ) (s : Signature) (node : List ℕ) : Type 0 where
   pub ends : List (List ℕ)
-  pub climbed : ClimbTo identifier s.q s.pair.ots (message_digest_of identifier s.q s.randomizer message)
-      s.chains ends
+  pub climbed : ClimbTo identifier s.q s.pair.ots digest s.chains ends
   pub nodes : List (List ℕ)
   pub ascent : IsAscent (join_of identifier (height_of s.pair.tree)) s.q
       (leaf_hash identifier (height_of s.pair.tree) s.q (public_hash identifier s.q ends)) s.path nodes
   pub last : at nodes (length s.path) ≡ node
 
--- The signature's types are the key's; it has a value for each chain of the one-time type; its q is one
--- of a leaf of the tree, and the path is as long as the tree is high; and it leads to the key's root.
-pub record IsValid (key : LmsPublic) (message : List ℕ) (s : Signature) : Type 0 where
+-- The signature's types are the key's; it has a value for each chain of the one-time type; its index q
+-- is one of a leaf of the tree, and the path is as long as the tree is high; and as that of a digest it leads to the
+-- key's root.
+pub record IsValidFor (key : LmsPublic) (digest : List ℕ) (s : Signature) : Type 0 where
   pub types : s.pair ≡ key.pair
   pub chains : length s.chains ≡ chains_of key.pair.ots
   pub leaf : s.q < 2 ^ height_of key.pair.tree
   pub height : length s.path ≡ height_of key.pair.tree
-  pub leads : LeadsTo key.identifier message s key.root
+  pub leads : LeadsTo key.identifier digest s key.root
 
--- Ok: the bytes spell a valid signature. Else the bytes spell none, and have this fault; or they
--- spell one of other types than the key's; or one of the key's types that isn't valid.
+-- Q, the digest of a message that a signature signs
+abbrev pub digest_of : LmsPublic → List ℕ → Signature → List ℕ
+digest_of key message s = message_digest_of key.identifier s.q s.randomizer message
+
+-- It is valid for the digest of the message.
+abbrev pub IsValid : LmsPublic → List ℕ → Signature → Type 0
+IsValid key message s = IsValidFor key (digest_of key message s) s
+
+-- Ok: the bytes spell a valid signature. Else the bytes spell none, and have this fault; or they spell one of other
+-- types than the key's; or one of the key's types, and the message can't be read; or one of the key's types that isn't
+-- valid.
 abbrev pub Verdict : {A : Type 0} → LmsPublic → List ℕ → List ℕ → Result A Refusal → Type 0
 Verdict key message bytes (Ok _) = (s : Signature) × Spells signature s bytes × IsValid key message s
 Verdict key message bytes (Err (Unreadable fault)) = HasFault signature bytes 0 fault
 Verdict key message bytes (Err (TypeMismatch level)) =
     (level ≡ 0) × ((s : Signature) × Spells signature s bytes × (s.pair ≢ key.pair))
 Verdict key message bytes (Err LevelMismatch) = ⊥
+Verdict key message bytes (Err MessageRead) = (s : Signature) × Spells signature s bytes × (s.pair ≡ key.pair)
 Verdict key message bytes (Err (RootMismatch level)) =
     (level ≡ 0) × ((s : Signature) × Spells signature s bytes × (s.pair ≡ key.pair) × (IsValid key message s → ⊥))
 
 -- What verification answers of a signature that was read, as that of level i of an HSS signature: it is
--- valid; or its types aren't the key's; or they are, and it isn't valid.
+-- valid; or its types aren't the key's; or they are, and the message can't be read; or it isn't valid.
 abbrev pub LevelVerdict : {A : Type 0} → LmsPublic → List ℕ → Signature → ℕ → Result A Refusal → Type 0
 LevelVerdict key message s i (Ok _) = IsValid key message s
 LevelVerdict key message s i (Err (Unreadable fault)) = ⊥
 LevelVerdict key message s i (Err (TypeMismatch level)) = (level ≡ i) × (s.pair ≢ key.pair)
 LevelVerdict key message s i (Err LevelMismatch) = ⊥
+LevelVerdict key message s i (Err MessageRead) = s.pair ≡ key.pair
 LevelVerdict key message s i (Err (RootMismatch level)) =
     (level ≡ i) × (s.pair ≡ key.pair) × (IsValid key message s → ⊥)
 
--- What is left of the message: nothing where it was read to its end; all of it where a refusal came first.
-abbrev pub LeavesMessage : {A : Type 0} → List ℕ → List ℕ → Result A Refusal → Type 0
-LeavesMessage old new (Ok _) = new ≡ []
-LeavesMessage old new (Err (Unreadable fault)) = new ≡ old
-LeavesMessage old new (Err (TypeMismatch level)) = new ≡ old
-LeavesMessage old new (Err LevelMismatch) = ⊥
-LeavesMessage old new (Err (RootMismatch level)) = new ≡ []
+-- the same of a signature of the key's types, by the digest of what it signs
+abbrev pub DigestVerdict : {A : Type 0} → LmsPublic → List ℕ → Signature → ℕ → Result A Refusal → Type 0
+DigestVerdict key digest s i (Ok _) = IsValidFor key digest s
+DigestVerdict key digest s i (Err (RootMismatch level)) = (level ≡ i) × (IsValidFor key digest s → ⊥)
+DigestVerdict key digest s i (Err other) = ⊥
+
+-- What becomes of the message: it was read whole, and gave this text, where the root was compared; it can't be read;
+-- and it is as it was where a refusal came before it was read.
+abbrev pub LeavesMessage : {M A : Type 0} → Step M → (M → Option (List ℕ)) → List ℕ → M → M → Result A Refusal
+    → Type 0
+LeavesMessage step remaining text old new (Ok _) = ReadWhole step remaining text old new
+LeavesMessage step remaining text old new (Err (Unreadable fault)) = new ≡ old
+LeavesMessage step remaining text old new (Err (TypeMismatch level)) = new ≡ old
+LeavesMessage step remaining text old new (Err LevelMismatch) = ⊥
+LeavesMessage step remaining text old new (Err MessageRead) = CantBeRead step old new
+LeavesMessage step remaining text old new (Err (RootMismatch level)) = ReadWhole step remaining text old new

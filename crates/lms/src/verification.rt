@@ -1,24 +1,31 @@
 //! Verification.
 
-ghost use Rattle.std.specs.Prelude.{◌≡◌, ◌↔◌, List, ℕ, IsTrue};
+ghost use Rattle.std.specs.Prelude.{◌≡◌, ◌≢◌, List, ℕ, Err, MatchResult};
 ghost use Rattle.lms.specs.View.{signature_of};
-ghost use Rattle.lms.specs.Verification.{LeadsTo, LeavesMessage, LevelVerdict, Verdict};
+ghost use Rattle.lms.specs.Verification.{DigestVerdict, LeadsTo, LeavesMessage, LevelVerdict, Verdict};
+ghost use Rattle.typecodes.specs.Message.{IsContent};
 
 use crate::key::LmsPublic;
 use crate::nodes::Nodes;
 use crate::signature::LmsSigView;
 use lmots::LmOts;
 use merkle::root_from_path;
-use typecodes::Refusal;
+use typecodes::{Message, Refusal};
 
 /// Verifies that the bytes of a signature sign the message under the key (RFC 8554 5.4.2).
 ///
 /// The first refusal comes of: a fault of the signature's bytes (1 to 5), other types than the key's
-/// (10, level 0), another root than the key's (12, level 0). The message is read to its end where no
-/// fault and no other type comes first, and else left as it is.
-pub fn verify(public: &LmsPublic, message: &mut &[u8], signature: &[u8]) -> Result<(), Refusal>
-    ensures verdict { Verdict public.now message.old.now signature.now result }
-    ensures message { LeavesMessage message.old.now message.new.now result }
+/// (10, level 0), a message that can't be read (14), another root than the key's (12, level 0). The message is any
+/// reader. It is read to its end, in pieces that aren't kept, where no fault and no other type comes first, and else
+/// left as it is.
+pub fn verify<M: Message>(
+    public: &LmsPublic,
+    message: &mut M,
+    signature: &[u8],
+) -> Result<(), Refusal>
+    ensures { (text : List ℕ) × IsContent (M.remaining message.old) text
+        × Verdict public.now text signature.now result
+        × LeavesMessage M.step M.remaining text message.old message.new result }
 {
     let view = LmsSigView::read(signature).map_err(Refusal::Unreadable)?;
     view.verify(public, message, 0)
@@ -28,19 +35,66 @@ impl LmsSigView<'_> {
     /// Verifies that the signature signs the message under the key (RFC 8554 5.4.2), as that of a level of
     /// an HSS signature, 0 for the top tree's.
     ///
-    /// The first refusal comes of: other types than the key's (10, with the level), another root than the
-    /// key's (12, with the level). The message is read to its end where the types are the key's, and else
-    /// left as it is.
-    pub fn verify(&self, public: &LmsPublic, message: &mut &[u8], level: u8) -> Result<(), Refusal>
-        ensures verdict { LevelVerdict public.now message.old.now (signature_of self.now) level result }
-        ensures message { LeavesMessage message.old.now message.new.now result }
+    /// The first refusal comes of: other types than the key's (10, with the level), a message that can't be read (14),
+    /// another root than the key's (12, with the level). The message is read to its end where the types are the key's,
+    /// and else left as it is.
+    pub fn verify<M: Message>(
+        &self,
+        public: &LmsPublic,
+        message: &mut M,
+        level: u8,
+    ) -> Result<(), Refusal>
+        ensures { (text : List ℕ) × IsContent (M.remaining message.old) text
+            × LevelVerdict public.now text (signature_of self.now) level result
+            × LeavesMessage M.step M.remaining text message.old message.new result }
     {
-        if self.pair != public.pair {
-            return Err(Refusal::TypeMismatch(level));
+        self.check_types(public, level)?;
+        let digest = self.one_time_key(public).message_digest_from(self.randomizer, message);
+        match digest {
+            Ok(digest) => self.verify_digest(public, &digest, level),
+            Err(_) => Err(Refusal::MessageRead),
         }
-        let text = *message;
-        *message = &text[text.len()..];
-        if leads_to_root(public, text, self) {
+    }
+
+    /// The same of a message that is held whole, as a lower level's key is, which can't fail to be read.
+    pub fn verify_bytes(&self, public: &LmsPublic, message: &[u8], level: u8) -> Result<(), Refusal>
+        ensures verdict { LevelVerdict public.now message.now (signature_of self.now) level result }
+        ensures read { result ≢ Err Refusal.MessageRead }
+    {
+        self.check_types(public, level)?;
+        let digest = self.one_time_key(public).message_digest(self.randomizer, message);
+        self.verify_digest(public, &digest, level)
+    }
+
+    // Whether the types are the key's.
+    fn check_types(&self, public: &LmsPublic, level: u8) -> Result<(), Refusal>
+        ensures { MatchResult result (λ _. self.now.pair ≡ public.now.pair)
+            (λ refusal. (refusal ≡ Refusal.TypeMismatch level) × (self.now.pair ≢ public.now.pair)) }
+    {
+        if self.pair == public.pair {
+            Ok(())
+        } else {
+            Err(Refusal::TypeMismatch(level))
+        }
+    }
+
+    // The key of the leaf under which the message is hashed.
+    fn one_time_key(&self, public: &LmsPublic) -> LmOts
+        ensures identifier { result.identifier ≡ public.now.identifier }
+        ensures leaf { result.leaf ≡ self.now.q }
+    {
+        LmOts {
+            identifier: public.identifier,
+            leaf: self.q,
+        }
+    }
+
+    // Whether the signature of a digest leads to the key's root (RFC 8554 5.4.2, step 4).
+    fn verify_digest(&self, public: &LmsPublic, digest: &[u8; 32], level: u8) -> Result<(), Refusal>
+        requires { self.now.pair ≡ public.now.pair }
+        ensures { DigestVerdict public.now digest.now (signature_of self.now) level result }
+    {
+        if candidate(&public.identifier, digest, self) == public.root {
             Ok(())
         } else {
             Err(Refusal::RootMismatch(level))
@@ -48,25 +102,17 @@ impl LmsSigView<'_> {
     }
 }
 
-// Whether the signature of a message leads to the key's root (RFC 8554 5.4.2, step 4).
-fn leads_to_root(public: &LmsPublic, message: &[u8], view: &LmsSigView<'_>) -> bool
-    ensures { IsTrue result ↔ LeadsTo public.now.identifier message.now (signature_of view.now) public.now.root }
-{
-    candidate(&public.identifier, message, view) == public.root
-}
-
-// The node to which a signature leads, and no other (RFC 8554 5.4.2, algorithm 6a).
-fn candidate(identifier: &[u8; 16], message: &[u8], view: &LmsSigView<'_>) -> [u8; 32]
-    ensures leads { LeadsTo identifier.now message.now (signature_of view.now) result }
+// The node to which a signature of a digest leads, and no other (RFC 8554 5.4.2, algorithm 6a).
+fn candidate(identifier: &[u8; 16], digest: &[u8; 32], view: &LmsSigView<'_>) -> [u8; 32]
+    ensures leads { LeadsTo identifier.now digest.now (signature_of view.now) result }
     ensures only { (other : List ℕ) →
-        LeadsTo identifier.now message.now (signature_of view.now) other → other ≡ result }
+        LeadsTo identifier.now digest.now (signature_of view.now) other → other ≡ result }
 {
     let key = LmOts {
         identifier: *identifier,
         leaf: view.q,
     };
-    let digest = key.message_digest(view.randomizer, message);
-    let public_hash = key.hash_from_signature(view.pair.ots, &digest, view.chains);
+    let public_hash = key.hash_from_signature(view.pair.ots, digest, view.chains);
     let nodes = Nodes {
         identifier: *identifier,
         height: view.pair.tree.height(),

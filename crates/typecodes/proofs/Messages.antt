@@ -1,10 +1,10 @@
 -- Reads of a message, one after the other.
 use Rattle.std.proofs.Common.{◌≡◌, ◌∙◌, ℕ, ◌+◌, ◌*◌, ◌≤◌, ◌^◌, List, [], ◌∷◌, ◌++◌, length, take, Ok, Err, Option, inl, inr, refl, sym, ap, subst, arith, append_assoc, append-nil, length-append, length-take-le, Some, None, OnErr, Result}
-use Rattle.std.specs.Io.KnownBytes.{Consumes}
+use Rattle.std.specs.Io.KnownBytes.{Consumes, IsAtEnd}
 use Rattle.std.proofs.KnownBytes.{Consumes-trans}
 use Rattle.std.specs.declared.io.ErrorKind.{ErrorKind}
 use Rattle.std.specs.declared.io.ErrorKind.TheVariants.{Interrupted}
-use Rattle.typecodes.specs.Message.{CantBeRead, Feeds, Gave, Gives, GivesAll, Outcome, ReadWhole, Reads, Step}
+use Rattle.typecodes.specs.Message.{CantBeRead, Feeds, Gave, Gives, GivesAll, IsContent, Outcome, ReadWhole, Reads, Step}
 
 reads-append : {M : Type 0} (step : Step M) (xs ys : List Outcome) (old middle new : M) → Reads step xs old middle
     → Reads step ys middle new → Reads step (xs ++ ys) old new
@@ -209,3 +209,20 @@ pub feeding-goes-on : {M H : Type 0} (step : Step M) (remaining : M → Option (
     → CantBeRead step old new
 feeding-goes-on step remaining holds pieces before after old new (text, has, first) long =
     full-for-ever step remaining pieces text old new has long
+
+-- ---- what is known of the content
+
+content-consumed : (old new : Option (List ℕ)) (text : List ℕ) → Consumes old new text → IsAtEnd new → IsContent old text
+content-consumed None new text consumed end = tt
+content-consumed (Some xs) None text consumed end = absurd consumed
+content-consumed (Some xs) (Some ys) text consumed end = sym (consumed ∙ ap (λ l. text ++ l) end ∙ append-nil text)
+
+-- a text that was read whole is the content
+pub content-read : {M : Type 0} (step : Step M) (remaining : M → Option (List ℕ)) (text : List ℕ) (old new : M)
+    → ReadWhole step remaining text old new → IsContent (remaining old) text
+content-read step remaining text old new whole = content-consumed (remaining old) (remaining new) text whole.bytes whole.end
+
+-- some text fits whatever is known
+pub some-content : (known : Option (List ℕ)) → (text : List ℕ) × IsContent known text
+some-content None = ([], tt)
+some-content (Some text) = (text, refl)

@@ -1,5 +1,6 @@
 -- What reads of a message give, one after the other.
-use Rattle.std.specs.Prelude.{◌≡◌, ◌≢◌, ◌⊎◌, ◌≤◌, ◌+◌, ◌^◌, ℕ, List, [], ◌∷◌, ◌++◌, length, take, Option, Some, None, Result, Ok, Err, ⊤}
+use Rattle.std.specs.Prelude.{◌≡◌, ◌≢◌, ◌⊎◌, ◌≤◌, ◌+◌, ◌^◌, ℕ, List, [], ◌∷◌, ◌++◌, length, take}
+use Rattle.std.specs.Prelude.{Option, Some, None, Result, Ok, Err, ⊤}
 use Rattle.std.specs.Io.KnownBytes.{Consumes, IsAtEnd}
 use Rattle.std.specs.IoError.{error_kind}
 use Rattle.std.specs.declared.io.Error.{Error}
@@ -75,7 +76,7 @@ ReadsPiece step remaining (Ok count) buffer old new =
     Gives step (take count buffer) old new × Consumes (remaining old) (remaining new) (take count buffer)
 ReadsPiece step remaining (Err error) buffer old new = CantBeRead step old new
 
--- The message was read whole and fed to what holds bytes, as a hasher does: it holds the text after what it held before.
+-- The message was read whole and fed to what takes bytes, as a hasher does: it has the text after what it had before.
 abbrev pub Feeds : {M H : Type 0} → Step M → (M → Option (List ℕ)) → (H → List ℕ → Type 0) → H → H → M → M → Type 0
 Feeds step remaining holds before after old new =
     (text : List ℕ) × ReadWhole step remaining text old new

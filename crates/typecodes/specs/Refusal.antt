@@ -2,7 +2,8 @@
 use Rattle.std.specs.Prelude.{ℕ}
 use Rattle.typecodes.specs.Fault.{cause_number}
 use Rattle.typecodes.specs.declared.refusal.Refusal.{Refusal}
-use Rattle.typecodes.specs.declared.refusal.Refusal.TheVariants.{Unreadable, TypeMismatch, LevelMismatch, RootMismatch, MessageRead}
+use Rattle.typecodes.specs.declared.refusal.Refusal.TheVariants.{Unreadable, TypeMismatch, LevelMismatch}
+use Rattle.typecodes.specs.declared.refusal.Refusal.TheVariants.{RootMismatch, MessageRead}
 
 -- a fault by its cause, and the other refusals
 abbrev pub refusal_number : Refusal → ℕ

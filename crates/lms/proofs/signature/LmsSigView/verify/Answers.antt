@@ -1,27 +1,37 @@
-use Rattle.std.proofs.Common.{◌<◌, ◌^◌, refl, ap, subst, ◌∙◌}
-use Rattle.typecodes.specs.Types.{chains_of, height_of}
-use Rattle.lms.proofs.Comparing.{other_pair, same_pair}
+use Rattle.std.proofs.Common.{◌≡◌, ◌∙◌, Err, ap, refl, rules, subst, sym}
+use Rattle.typecodes.specs.declared.refusal.Refusal.TheVariants.{TypeMismatch}
+use Rattle.typecodes.proofs.Messages.{content-read, some-content}
+use Rattle.lms.specs.Verification.{LeavesMessage, LevelVerdict, digest_of}
+use Rattle.lms.specs.View.{signature_of}
+use Rattle.lms.proofs.Verdicts.{leaves_of_digest, level_of_digest}
 use Rattle.lms.proofs.signature.LmsSigView.verify.Goals as goal
 
 -- the types are others
-pub returns-then-ne-clause-verdict : goal.returns-then-ne-clause-verdict
-returns-then-ne-clause-verdict c = (refl, other_pair c.args.self.now.pair _ c.if-ne.ensures)
+pub returns-in_err-check_types : goal.returns-in_err-check_types
+returns-in_err-check_types g c =
+    let (text, fits) = some-content (g.M.Message.remaining c.args.message.now) in
+    let error : c.from_residual.result ≡ Err c.in_err-check_types.field-0.0 = search rules in
+    let is : c.from_residual.result ≡ Err (TypeMismatch c.args.level) = error ∙ ap Err c.in_err-check_types.ensures.0 in
+    (
+      text,
+      fits,
+      subst (LevelVerdict c.args.public.now text (signature_of c.args.self.now) c.args.level) (sym is) (refl, c.in_err-check_types.ensures.1),
+      subst (LeavesMessage g.M.Message.step g.M.Message.remaining text c.args.message.now c.args.message.now) (sym is) refl,
+    )
 
--- the root is the key's: the signature is valid
-pub returns-then-leads_to_root-clause-verdict : goal.returns-then-leads_to_root-clause-verdict
-returns-then-leads_to_root-clause-verdict c =
-    let view = c.args.self.now in
-    let types = same_pair view.pair c.args.public.now.pair c.if-ne.ensures in
-    record {
-      types = types;
-      chains = view.chain_count ∙ ap (λ pair. chains_of pair.ots) types;
-      leaf = subst (λ pair. view.q < 2 ^ height_of pair.tree) types view.inside;
-      height = view.path_length ∙ ap (λ pair. height_of pair.tree) types;
-      leads = c.if-leads_to_root.ensures.0 refl;
-    }
+-- the message was read
+pub returns-in-Ok : goal.returns-in-Ok
+returns-in-Ok g c =
+    let (text, read, digest) = c.in-Ok.ensures.ok in
+    let same : c.in-Ok.digest ≡ digest_of c.args.public.now text (signature_of c.args.self.now) = search rules in (
+      text,
+      content-read _ _ _ _ _ read,
+      level_of_digest _ _ _ _ _ c.verify_digest.result same c.in_ok-check_types.ensures c.verify_digest.ensures,
+      leaves_of_digest _ _ _ _ _ _ _ _ _ c.verify_digest.result c.verify_digest.ensures read,
+    )
 
--- it is another: a valid signature would lead to the key's
-pub returns-else-leads_to_root-clause-verdict : goal.returns-else-leads_to_root-clause-verdict
-returns-else-leads_to_root-clause-verdict c =
-    let types = same_pair c.args.self.now.pair c.args.public.now.pair c.if-ne.ensures in
-    (refl, types, λ valid. let root = c.if-leads_to_root.ensures.1 valid.leads in absurd (cc))
+-- it can't be read
+pub returns-in-Err : goal.returns-in-Err
+returns-in-Err g c =
+    let (text, fits) = some-content (g.M.Message.remaining c.args.message.now) in
+    (text, fits, c.in_ok-check_types.ensures, c.in-Err.ensures.err)
