@@ -2,9 +2,7 @@
 use Rattle.std.proofs.Common.{◌≡◌, ◌∙◌, refl, sym, ap, ap₂, ℕ, zero, suc, ◌-◌, ◌<◌, ◌≤◌, ◌^◌, List, [], ◌++◌, length, take, drop, Option, Some, None, Ok, subst, arith, append-nil, append_assoc, take_at}
 use Rattle.std.proofs.lemmas.List.{take-append-drop}
 use Rattle.typecodes.specs.declared.types.LmsType.{LmsType}
-use Rattle.typecodes.specs.declared.types.LmsType.TheVariants.{H5, H10, H15, H20, H25}
 use Rattle.typecodes.specs.declared.types.OtsType.{OtsType}
-use Rattle.typecodes.specs.declared.types.OtsType.TheVariants.{W1, W2, W4, W8}
 use Rattle.typecodes.specs.Types.{lms_code, lms_types, named, ots_code, ots_types}
 use Rattle.typecodes.specs.Layout.{Layout, Spells, done, ◌>>=◌, AreBytes}
 use Rattle.typecodes.specs.Fields.{block, known, lms_type, number, ots_type, typed}
@@ -18,7 +16,7 @@ use Rattle.lmots.specs.Hashes.{u32str}
 use Rattle.lms.specs.declared.key.LmsPublic.{LmsPublic}
 use Rattle.lms.specs.Key.{public_key as lms_public_key}
 use Rattle.lms.specs.Writing.{public_bytes as lms_public_bytes}
-use Rattle.typecodes.proofs.FieldBytes.{number_spelled}
+use Rattle.typecodes.proofs.FieldBytes.{lms_named, number_spelled, ots_named}
 
 -- a number's digits are bytes
 u32-bytes : (c : ℕ) → AreBytes (u32str c)
@@ -41,19 +39,6 @@ typed-bytes code types t bytes small are spelled =
     let code_is : code t ≡ c = named-has code types c t found in
     let a_is : a ≡ u32str c = one_way-number c a (u32str c) (AreBytes-front a b (subst AreBytes bytes_are are)) (u32-bytes c) a_spelled (number_spelled c (subst (λ c. c < 2 ^ 32) code_is small)) in
     bytes_are ∙ ap (λ b. a ++ b) b_is ∙ append-nil a ∙ a_is ∙ ap u32str (sym code_is)
-
-lms_code-small : (tree : LmsType) → lms_code tree < 2 ^ 32
-lms_code-small H5 = omega arith
-lms_code-small H10 = omega arith
-lms_code-small H15 = omega arith
-lms_code-small H20 = omega arith
-lms_code-small H25 = omega arith
-
-ots_code-small : (ots : OtsType) → ots_code ots < 2 ^ 32
-ots_code-small W1 = omega arith
-ots_code-small W2 = omega arith
-ots_code-small W4 = omega arith
-ots_code-small W8 = omega arith
 
 -- a block is its bytes
 block-bytes : (n : ℕ) (v bytes : List ℕ) → Spells (block n) v bytes → bytes ≡ v
@@ -82,8 +67,8 @@ public-spelled key bytes are spelled =
     let rest = subst AreBytes b_is (AreBytes-rest a b parts) in
     let (identifier, e, f, d_is, e_spelled, f_spelled) = in_turn (block 16) (of_identifier tree ots) key d d_spelled in
     let (root, g, h, f_is, g_spelled, ended) = in_turn (block 32) (of_root tree ots identifier) key f f_spelled in
-    let a_is = typed-bytes lms_code lms_types tree a (lms_code-small tree) (AreBytes-front a b parts) a_spelled in
-    let c_is = typed-bytes ots_code ots_types ots c (ots_code-small ots) (AreBytes-front c d rest) c_spelled in
+    let a_is = typed-bytes lms_code lms_types tree a (lms_named tree).0 (AreBytes-front a b parts) a_spelled in
+    let c_is = typed-bytes ots_code ots_types ots c (ots_named ots).0 (AreBytes-front c d rest) c_spelled in
     let f_ends : f ≡ root = f_is ∙ ap₂ (λ g h. g ++ h) (block-bytes 32 root g g_spelled) ended.1 ∙ append-nil root in
     let d_ends : d ≡ identifier ++ root = d_is ∙ ap₂ (λ e f. e ++ f) (block-bytes 16 identifier e e_spelled) f_ends in
     let b_ends : b ≡ u32str (ots_code ots) ++ (identifier ++ root) = b_is ∙ ap₂ (λ c d. c ++ d) c_is d_ends in

@@ -1,33 +1,25 @@
 -- Signed keys that are read one after the other.
 use Rattle.std.proofs.Common.{◌≡◌, ◌∙◌, refl, sym, ap, ℕ, zero, suc, ◌+◌, ◌<◌, ◌≤◌, List, [], ◌∷◌, ◌++◌, Ok, Err, arith, add-one}
 use Rattle.typecodes.specs.declared.fault.ReadFault.{ReadFault}
-use Rattle.typecodes.specs.declared.types.LmsType.{LmsType}
 use Rattle.typecodes.specs.declared.types.OtsType.{OtsType}
-use Rattle.typecodes.specs.declared.types.LmsType.TheVariants.{H5, H10, H15, H20, H25}
 use Rattle.typecodes.specs.declared.types.OtsType.TheVariants.{W1, W2, W4, W8}
-use Rattle.typecodes.specs.Types.{height_of, signature_len_of}
+use Rattle.typecodes.specs.Types.{signature_len_of}
 use Rattle.typecodes.specs.Layout.{Layout, done, ◌>>=◌}
 use Rattle.typecodes.specs.Cursor.{and_then, read}
 use Rattle.typecodes.proofs.Read.{read-bind}
 use Rattle.lms.specs.Signature.{Signature as LmsSignature, signature as lms_signature}
 use Rattle.lms.specs.Key.{public_key as lms_public_key}
 use Rattle.typecodes.proofs.Steps.{reading}
+use Rattle.typecodes.proofs.Leaves.{lms_most}
 use Rattle.typecodes.proofs.Parts.{in_turn}
 use Rattle.hss.specs.SignedKey.{SignedKey, signed_key, signed_keys}
 
--- no one-time signature is longer than W1's, and no tree is higher than H25's
+-- no one-time signature is longer than W1's
 pub ots_most : (ots : OtsType) → signature_len_of ots ≤ 8516
 ots_most W1 = omega arith
 ots_most W2 = omega arith
 ots_most W4 = omega arith
 ots_most W8 = omega arith
-
-pub height_most : (tree : LmsType) → height_of tree ≤ 25
-height_most H5 = omega arith
-height_most H10 = omega arith
-height_most H15 = omega arith
-height_most H20 = omega arith
-height_most H25 = omega arith
 
 -- what follows a layout that is read is read after it
 pub read-after : {V W : Type 0} (first : Layout V) (next : V → Layout W) (bytes : List ℕ) (place : ℕ) (x : V × ℕ) → read first bytes place ≡ Ok x
@@ -103,4 +95,4 @@ signed_key-faulty bytes place middle s fault s_read key_faulty =
     ∙ read-bind lms_public_key (λ key. done (record { signature = s; key = key })) bytes middle
     ∙ ap (λ r. and_then r (λ x. Ok (record { signature = s; key = x.0 }, x.1))) key_faulty
 
-pub ruleset one = (reading, ots_most, height_most, signed_key-faulty)
+pub ruleset one = (reading, ots_most, lms_most, signed_key-faulty)

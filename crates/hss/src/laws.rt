@@ -3,7 +3,8 @@
 
 ghost use Rattle.std.specs.Prelude.{◌≡◌, List, [], ◌∷◌, ◌++◌, ℕ, ◌+◌, ◌≤◌, length, Result, Err, IsOk};
 ghost use Rattle.typecodes.specs.declared.refusal.Refusal.{Refusal};
-ghost use Rattle.typecodes.specs.Layout.{Spells, OneSpelling};
+ghost use Rattle.typecodes.specs.Layout.{Spells};
+ghost use Rattle.typecodes.specs.Unambiguous.{IsUnambiguous};
 ghost use Rattle.hss.specs.declared.key.HssPublic.{HssPublic};
 ghost use Rattle.lmots.specs.Hashes.{u32str};
 ghost use Rattle.lms.specs.Signature.{signature as lms_signature};
@@ -18,16 +19,8 @@ ghost use Rattle.hss.specs.Writing.{public_bytes, public_of, signature_bytes, te
 /// What holds of the spellings of public keys and of signatures: no value has two, no bytes spell two
 /// values, and no spelling begins another.
 pub fn spelling_laws()
-    ensures key_once { OneSpelling public_key }
-    ensures one_key { (key other : HssPublic) (a : List ℕ) → Spells public_key key a → Spells public_key other a
-        → key ≡ other }
-    ensures no_longer_key { (key other : HssPublic) (a b : List ℕ) → Spells public_key key a
-        → Spells public_key other (a ++ b) → b ≡ [] }
-    ensures signature_once { OneSpelling signature }
-    ensures one_signature { (s other : Signature) (a : List ℕ) → Spells signature s a → Spells signature other a
-        → s ≡ other }
-    ensures no_longer_signature { (s other : Signature) (a b : List ℕ) → Spells signature s a
-        → Spells signature other (a ++ b) → b ≡ [] }
+    ensures keys { IsUnambiguous public_key }
+    ensures signatures { IsUnambiguous signature }
 {}
 
 /// What holds of the answers of verification: bytes that spell a valid signature are refused by none

@@ -18,8 +18,8 @@ pub(crate) fn repeat(
 ) -> Result<(), SignFault>
     requires { bound.now.leaf < 2 ^ height_of key.now.pair.tree }
     // Memory is requested only where there is no room for the signature yet.
-    ensures answer { Repeats key.now bound.now message.old.now (vec_capacity out.old < lms_signature_len_of key.now.pair)
-        (answered result out.new.items) }
+    ensures answer { Repeats key.now bound.now message.old.now
+        (vec_capacity out.old < lms_signature_len_of key.now.pair) (answered result out.new.items) }
     // It calls neither the source nor the store.
     ensures random { (n : ℕ) → RandomCount result n n }
     ensures store { (n : ℕ) → StoreCount result n n }

@@ -1,4 +1,4 @@
-use Rattle.typecodes.proofs.Spelling.{no_longer, one_value}
+use Rattle.typecodes.proofs.Unambiguous.{unambiguous}
 use Rattle.hss.specs.Key.{public_key}
 use Rattle.hss.specs.Signature.{signature}
 use Rattle.hss.proofs.OneWay.{one_way-public_key, one_way-signature}
@@ -6,10 +6,6 @@ use Rattle.hss.proofs.laws.spelling_laws.Goals as goal
 
 pub returns : goal.returns
 returns c = record {
-  key_once = one_way-public_key;
-  one_key = one_value public_key;
-  no_longer_key = λ key other a b first second. (no_longer public_key key other a b first second).0;
-  signature_once = one_way-signature;
-  one_signature = one_value signature;
-  no_longer_signature = λ s other a b first second. (no_longer signature s other a b first second).0;
+  keys = unambiguous public_key one_way-public_key;
+  signatures = unambiguous signature one_way-signature;
 }

@@ -44,28 +44,20 @@ returns-in_err-append-clause-step g c =
     let answer : published c.from_residual-in_err-append.result ≡ Err c.in_err-append.field-0.0 = search rules in
     let closed : is_ok c.from_residual-in_err-append.result ≡ false = search rules in
     let none = c.in_ok-find_none.ensures.finds in
-    let first = c.in_ok-identifier.ensures in
-    let second = c.in_ok-seed.ensures in
-    let identifier = c.in_ok-identifier.identifier in
-    let seed = c.in_ok-seed.seed in
-    let key = new_key c.args.pair identifier seed in
+    let key = new_key c.args.pair c.in_ok-identifier.identifier c.in_ok-seed.seed in
     let same = c.record.ensures ∙ ap key_record c.key_from_seed-key.ensures.key in
     let list = g.S.Store.list c.append.new.store in
     let stored = subst (λ (t : List Record × Record). AppendsEntry {A = Unit {0}} t.0 t.1 list (g.S.Store.stopped c.append.new.store) (g.S.Store.failures c.find_none.new.store) (g.S.Store.failures c.append.new.store) (Err c.in_err-append.field-0.0)) (λ i. (c.find_none.ensures.same i, same i)) c.in_err-append.ensures.stored in
     let made = append_fails false _ _ _ _ _ _ _ (public_key_of key) stored in
-    creates_along (appended_creates c.args.pair _ _ _ _ _ _ _ identifier seed made.0 _ none.0 none.1 c.key_from_seed-key.ensures.drawn (gives_both _ _ _ _ _ first.drawn.1 second.drawn.1) made.1)
+    creates_along (appended_creates _ _ _ _ _ _ _ _ _ _ made.0 _ none.0 none.1 c.key_from_seed-key.ensures.drawn (gives_both _ _ _ _ _ c.in_ok-identifier.ensures.drawn.1 c.in_ok-seed.ensures.drawn.1) made.1)
     (ap (state_of _) (sym closed)) refl (sym answer)
 
 pub returns-clause-step : goal.returns-clause-step
 returns-clause-step g c =
     let none = c.in_ok-find_none.ensures.finds in
-    let first = c.in_ok-identifier.ensures in
-    let second = c.in_ok-seed.ensures in
-    let identifier = c.in_ok-identifier.identifier in
-    let seed = c.in_ok-seed.seed in
-    let key = new_key c.args.pair identifier seed in
+    let key = new_key c.args.pair c.in_ok-identifier.identifier c.in_ok-seed.seed in
     let same = c.key_from_seed-key.ensures.key in
     let list : g.S.Store.list c.append.new.store ≡ g.S.Store.list c.args.store.now ++ key_record key ∷ [] =
     c.in_ok-append.ensures.stored.0 ∙ (λ i. c.find_none.ensures.same i ++ (c.record.ensures ∙ ap key_record same) i ∷ []) in
-    creates_along (appended_creates c.args.pair _ _ _ (g.S.Store.list c.args.store.now ++ key_record key ∷ []) true _ _ identifier seed acked (Ok (public_key_of key)) none.0 none.1 c.key_from_seed-key.ensures.drawn (gives_both _ _ _ _ _ first.drawn.1 second.drawn.1) refl)
+    creates_along (appended_creates _ _ _ _ (g.S.Store.list c.args.store.now ++ key_record key ∷ []) true _ _ _ _ acked (Ok (public_key_of key)) none.0 none.1 c.key_from_seed-key.ensures.drawn (gives_both _ _ _ _ _ c.in_ok-identifier.ensures.drawn.1 c.in_ok-seed.ensures.drawn.1) refl)
     (λ i. state_of (sym list i) true) refl (λ i. Ok (public_key_of (sym same i)))

@@ -5,7 +5,7 @@ use Rattle.sign_core.specs.Signing.{AppendsEntry}
 use Rattle.sign_core.specs.Fault.{closes}
 use Rattle.sign_core.specs.World.{Outcome, acked, new_bound}
 use Rattle.sign_core.specs.Signer.{answered, state_of}
-use Rattle.sign_core.proofs.SignSteps.{append_fails, draw_fails, key_appended, key_snoc, key_stays_first, kept_along, free_name, leaves_grown, signs_along, hindered_signs, undrawn_signs, appended_signs, kept_more}
+use Rattle.sign_core.proofs.SignSteps.{append_fails, draw_fails, key_appended, key_snoc, key_stays_first, kept_along, free_in_view, leaves_grown, signs_in_view, hindered_signs, undrawn_signs, appended_signs, kept_more}
 use Rattle.sign_core.proofs.signer.Signer.bind.Goals as goal
 
 pub append-requires-clause-key_first : goal.append-requires-clause-key_first
@@ -16,13 +16,12 @@ append-requires-clause-key_first g c =
 pub returns-in_err-prepare-clause-step : goal.returns-in_err-prepare-clause-step
 returns-in_err-prepare-clause-step g c =
     let i = c.self.inside in
-    let list = ap (λ w. g.S.Store.list w.store) c.self.view_is in
-    let upcoming = ap (λ w. g.R.Source.upcoming w.random) c.self.view_is in
-    let open_now = ap (λ w. w.is_open) c.self.view_is ∙ c.requires.open in
-    let free = free_name _ (c.self.invariant.1 open_now) c.in_err-prepare.ensures.hindrance list (ap (λ w. w.key) c.self.view_is) (ap (λ w. w.spare) c.self.view_is) c.requires.unbound in
+    let free = free_in_view g.S.Store.list _ c.self.view_is c.requires.open c.self.invariant.1 c.in_err-prepare.ensures.hindrance c.requires.unbound in
+    let is_open = ap (λ w. w.is_open) c.self.view_is ∙ c.requires.open in
     let answer : answered c.from_residual.result c.prepare.new.out.items ≡ Err c.in_err-prepare.field-0.0 = search rules in
-    signs_along (hindered_signs c.limit.result _ (g.S.Store.list i.store) (g.S.Store.stopped i.store) i.ledger.key i.ledger.bounds.items i.ledger.next (g.R.Source.upcoming i.random) c.args.name.now c.args.message.now.now c.in_err-prepare.field-0.0 free)
-    (c.limit.ensures ∙ ap (λ w. g.S.Store.most w.store) c.self.view_is) (λ j. state_of (list j) (sym c.requires.open j)) (ap (state_of (g.S.Store.list i.store)) (sym open_now)) upcoming refl refl (sym answer)
+    signs_in_view g.S.Store.list g.S.Store.most g.R.Source.upcoming c.self.view_is c.requires.open
+    (hindered_signs _ _ _ _ _ _ _ (g.R.Source.upcoming i.random) c.args.name.now c.args.message.now.now c.in_err-prepare.field-0.0 free)
+    c.limit.ensures (ap (state_of (g.S.Store.list i.store)) (sym is_open)) refl (sym answer)
 
 pub returns-in_err-prepare-clause-leaves : goal.returns-in_err-prepare-clause-leaves
 returns-in_err-prepare-clause-leaves g c =
@@ -32,33 +31,27 @@ returns-in_err-prepare-clause-leaves g c =
 pub returns-in_err-randomizer-clause-step : goal.returns-in_err-randomizer-clause-step
 returns-in_err-randomizer-clause-step g c =
     let i = c.self.inside in
-    let list = ap (λ w. g.S.Store.list w.store) c.self.view_is in
-    let upcoming = ap (λ w. g.R.Source.upcoming w.random) c.self.view_is in
-    let most = c.limit.ensures ∙ ap (λ w. g.S.Store.most w.store) c.self.view_is in
-    let open_now = ap (λ w. w.is_open) c.self.view_is ∙ c.requires.open in
-    let free = free_name _ (c.self.invariant.1 open_now) c.in_ok-prepare.ensures.hindrance list (ap (λ w. w.key) c.self.view_is) (ap (λ w. w.spare) c.self.view_is) c.requires.unbound in
+    let free = free_in_view g.S.Store.list _ c.self.view_is c.requires.open c.self.invariant.1 c.in_ok-prepare.ensures.hindrance c.requires.unbound in
+    let is_open = ap (λ w. w.is_open) c.self.view_is ∙ c.requires.open in
     let answer : answered c.from_residual-in_err-randomizer.result c.prepare.new.out.items ≡ Err c.in_err-randomizer.field-0.0 = search rules in
     let failed = draw_fails _ _ _ _ _ c.in_err-randomizer.ensures.drawn in
-    signs_along (undrawn_signs c.limit.result _ (g.S.Store.list i.store) (g.S.Store.stopped i.store) i.ledger.key i.ledger.bounds.items i.ledger.next (g.R.Source.upcoming i.random) (g.R.Source.upcoming c.draw.new.random) c.args.name.now c.args.message.now.now free failed.1)
-    most (λ j. state_of (list j) (sym c.requires.open j)) (ap (state_of (g.S.Store.list i.store)) (sym open_now)) upcoming refl refl (ap Err (sym failed.0) ∙ sym answer)
+    signs_in_view g.S.Store.list g.S.Store.most g.R.Source.upcoming c.self.view_is c.requires.open
+    (undrawn_signs _ _ _ _ _ _ _ (g.R.Source.upcoming i.random) (g.R.Source.upcoming c.draw.new.random) c.args.name.now c.args.message.now.now free failed.1)
+    c.limit.ensures (ap (state_of (g.S.Store.list i.store)) (sym is_open)) refl (ap Err (sym failed.0) ∙ sym answer)
 
 pub returns-in-Err-clause-step : goal.returns-in-Err-clause-step
 returns-in-Err-clause-step g c =
     let i = c.self.inside in
-    let list = ap (λ w. g.S.Store.list w.store) c.self.view_is in
-    let upcoming = ap (λ w. g.R.Source.upcoming w.random) c.self.view_is in
-    let most = c.limit.ensures ∙ ap (λ w. g.S.Store.most w.store) c.self.view_is in
-    let open_now = ap (λ w. w.is_open) c.self.view_is ∙ c.requires.open in
-    let free = free_name _ (c.self.invariant.1 open_now) c.in_ok-prepare.ensures.hindrance list (ap (λ w. w.key) c.self.view_is) (ap (λ w. w.spare) c.self.view_is) c.requires.unbound in
-    let p = c.prepare.ensures in
-    let randomizer = c.in_ok-randomizer.randomizer in
-    let bound = new_bound i.ledger.key i.ledger.next c.args.name.now c.args.message.now.now randomizer in
+    let list = g.S.Store.list c.append.new.store in
+    let free = free_in_view g.S.Store.list _ c.self.view_is c.requires.open c.self.invariant.1 c.in_ok-prepare.ensures.hindrance c.requires.unbound in
+    let bound = new_bound i.ledger.key i.ledger.next c.args.name.now c.args.message.now.now c.in_ok-randomizer.randomizer in
     let same : c.copied.result ≡ bound = c.copied.ensures ∙ c.next_bound-bound.ensures.bound
-    ∙ (λ j. new_bound (p.key j) (p.next j) c.args.name.now (c.take_all.ensures.text j) randomizer) in
-    let stored = subst (λ entry. AppendsEntry {A = Unit {0}} (g.S.Store.list i.store) (BoundRecord entry) (g.S.Store.list c.append.new.store) (g.S.Store.stopped c.append.new.store) (g.S.Store.failures i.store) (g.S.Store.failures c.append.new.store) (Err c.in-Err.fault)) same c.in-Err.ensures.stored in
+    ∙ (λ j. new_bound (c.prepare.ensures.key j) (c.prepare.ensures.next j) c.args.name.now (c.take_all.ensures.text j) c.in_ok-randomizer.randomizer) in
+    let stored = subst (λ entry. AppendsEntry {A = Unit {0}} (g.S.Store.list i.store) (BoundRecord entry) list (g.S.Store.stopped c.append.new.store) (g.S.Store.failures i.store) (g.S.Store.failures c.append.new.store) (Err c.in-Err.fault)) same c.in-Err.ensures.stored in
     let made = append_fails true _ _ _ _ _ _ _ (signature_of i.ledger.key bound) stored in
-    signs_along (appended_signs c.limit.result _ (g.S.Store.list i.store) (g.S.Store.list c.append.new.store) (not (closes c.in-Err.fault)) (g.S.Store.stopped i.store) i.ledger.key i.ledger.bounds.items i.ledger.next (g.R.Source.upcoming i.random) (g.R.Source.upcoming c.draw.new.random) c.args.name.now c.args.message.now.now randomizer made.0 (Err c.in-Err.fault) free c.next_bound-bound.ensures.drawn c.in_ok-randomizer.ensures.drawn.1 made.1)
-    most (λ j. state_of (list j) (sym c.requires.open j)) (ap (λ b. state_of (g.S.Store.list c.append.new.store) (not b)) (sym c.closes.ensures)) upcoming refl (sym c.take_all.ensures.rest) refl
+    signs_in_view g.S.Store.list g.S.Store.most g.R.Source.upcoming c.self.view_is c.requires.open
+    (appended_signs _ _ _ list (not (closes c.in-Err.fault)) _ _ _ _ (g.R.Source.upcoming i.random) (g.R.Source.upcoming c.draw.new.random) c.args.name.now c.args.message.now.now c.in_ok-randomizer.randomizer made.0 (Err c.in-Err.fault) free c.next_bound-bound.ensures.drawn c.in_ok-randomizer.ensures.drawn.1 made.1)
+    c.limit.ensures (ap (λ b. state_of list (not b)) (sym c.closes.ensures)) (sym c.take_all.ensures.rest) refl
 
 pub invariant_of-self-in-Ok : goal.invariant_of-self-in-Ok
 invariant_of-self-in-Ok g c =
@@ -89,20 +82,15 @@ invariant_of-self-in-Err g c =
 pub returns-in-Ok-clause-step : goal.returns-in-Ok-clause-step
 returns-in-Ok-clause-step g c =
     let i = c.self.inside in
-    let list = ap (λ w. g.S.Store.list w.store) c.self.view_is in
-    let upcoming = ap (λ w. g.R.Source.upcoming w.random) c.self.view_is in
-    let most = c.limit.ensures ∙ ap (λ w. g.S.Store.most w.store) c.self.view_is in
-    let open_now = ap (λ w. w.is_open) c.self.view_is ∙ c.requires.open in
-    let free = free_name _ (c.self.invariant.1 open_now) c.in_ok-prepare.ensures.hindrance list (ap (λ w. w.key) c.self.view_is) (ap (λ w. w.spare) c.self.view_is) c.requires.unbound in
-    let p = c.prepare.ensures in
-    let randomizer = c.in_ok-randomizer.randomizer in
-    let bound = new_bound i.ledger.key i.ledger.next c.args.name.now c.args.message.now.now randomizer in
+    let bound = new_bound i.ledger.key i.ledger.next c.args.name.now c.args.message.now.now c.in_ok-randomizer.randomizer in
+    let free = free_in_view g.S.Store.list _ c.self.view_is c.requires.open c.self.invariant.1 c.in_ok-prepare.ensures.hindrance c.requires.unbound in
     let same : c.next_bound-bound.result ≡ bound = c.next_bound-bound.ensures.bound
-    ∙ (λ j. new_bound (p.key j) (p.next j) c.args.name.now (c.take_all.ensures.text j) randomizer) in
-    let stored = c.in-Ok.ensures.stored in
+    ∙ (λ j. new_bound (c.prepare.ensures.key j) (c.prepare.ensures.next j) c.args.name.now (c.take_all.ensures.text j) c.in_ok-randomizer.randomizer) in
+    let is_open = ap (λ w. w.is_open) c.self.view_is ∙ c.requires.open in
     let new : g.S.Store.list c.append.new.store ≡ g.S.Store.list i.store ++ BoundRecord bound ∷ [] =
-    stored.0 ∙ ap (λ b. g.S.Store.list i.store ++ BoundRecord b ∷ []) (c.copied.ensures ∙ same) in
+    c.in-Ok.ensures.stored.0 ∙ ap (λ b. g.S.Store.list i.store ++ BoundRecord b ∷ []) (c.copied.ensures ∙ same) in
     let out : c.write_bound.new.out.items ≡ signature_of i.ledger.key bound =
-    c.write_bound.ensures ∙ (λ j. signature_of (p.key j) (same j)) in
-    signs_along (appended_signs c.limit.result _ (g.S.Store.list i.store) (g.S.Store.list i.store ++ BoundRecord bound ∷ []) true (g.S.Store.stopped i.store) i.ledger.key i.ledger.bounds.items i.ledger.next (g.R.Source.upcoming i.random) (g.R.Source.upcoming c.draw.new.random) c.args.name.now c.args.message.now.now randomizer acked (Ok (signature_of i.ledger.key bound)) free c.next_bound-bound.ensures.drawn c.in_ok-randomizer.ensures.drawn.1 refl)
-    most (λ j. state_of (list j) (sym c.requires.open j)) (λ j. state_of (sym new j) (sym open_now j)) upcoming refl (sym c.take_all.ensures.rest) (ap Ok (sym out))
+    c.write_bound.ensures ∙ (λ j. signature_of (c.prepare.ensures.key j) (same j)) in
+    signs_in_view g.S.Store.list g.S.Store.most g.R.Source.upcoming c.self.view_is c.requires.open
+    (appended_signs _ _ _ (g.S.Store.list i.store ++ BoundRecord bound ∷ []) true _ _ _ _ (g.R.Source.upcoming i.random) (g.R.Source.upcoming c.draw.new.random) c.args.name.now c.args.message.now.now c.in_ok-randomizer.randomizer acked (Ok (signature_of i.ledger.key bound)) free c.next_bound-bound.ensures.drawn c.in_ok-randomizer.ensures.drawn.1 refl)
+    c.limit.ensures (λ j. state_of (sym new j) (sym is_open j)) (sym c.take_all.ensures.rest) (ap Ok (sym out))
