@@ -1,9 +1,9 @@
 -- The key, the message and the bytes determine what verification answers.
-use Rattle.std.proofs.Common.{◌≡◌, ℕ, inl, inr, List, Result, Ok, Err, refl, sym, ap, subst, ◌∙◌}
-use Rattle.std.specs.Prelude.{◌≢◌, IsOk}
+use Rattle.std.proofs.Common.{◌≡◌, ℕ, ◌+◌, ◌<◌, inl, inr, arith, length, List, Result, Ok, Err, refl, sym, ap, subst, ◌∙◌}
+use Rattle.std.specs.Prelude.{◌≢◌, ◌⊎◌, IsOk}
 use Rattle.std.proofs.lemmas.Bool.{cases_order}
 use Rattle.typecodes.specs.declared.refusal.Refusal.{Refusal}
-use Rattle.typecodes.specs.declared.refusal.Refusal.TheVariants.{Unreadable, TypeMismatch, LevelMismatch, RootMismatch}
+use Rattle.typecodes.specs.declared.refusal.Refusal.TheVariants.{Unreadable, TypeMismatch, LevelMismatch, RootMismatch, MessageRead}
 use Rattle.typecodes.specs.Layout.{Spells}
 use Rattle.typecodes.proofs.Spelling.{no_value, one_fault, one_value}
 use Rattle.hss.specs.declared.key.HssPublic.{HssPublic}
@@ -44,37 +44,70 @@ same_types key message bytes s t i j s_reaches t_reaches same types =
 counted : (key : HssPublic) (message bytes : List ℕ) (s t : Signature) (i : ℕ) → Reaches key message bytes s i → Spells signature t bytes → level_count t ≡ key.levels
 counted key message bytes s t i reaches spelled = ap level_count (one_value signature t s bytes spelled reaches.spelled) ∙ reaches.count
 
--- a valid signature is refused by no answer
-pub accepted : {A : Type 0} (key : HssPublic) (message bytes : List ℕ) (result : Result A Refusal) → Verdict key message bytes result → (s : Signature) → Spells signature s bytes → IsValid key message s → IsOk result
-accepted key message bytes (Ok x) verdict s spelled valid = refl
-accepted key message bytes (Err (Unreadable fault)) faulty s spelled valid = absurd (no_value signature s bytes 0 fault spelled faulty)
-accepted key message bytes (Err LevelMismatch) (t, t_spelled, differs) s spelled valid =
+-- a valid signature is refused by no answer, unless the message can't be read
+pub accepted : {A : Type 0} (key : HssPublic) (message bytes : List ℕ) (result : Result A Refusal) → Verdict key message bytes result → result ≢ Err MessageRead → (s : Signature) → Spells signature s bytes → IsValid key message s → IsOk result
+accepted key message bytes (Ok x) verdict read s spelled valid = refl
+accepted key message bytes (Err (Unreadable fault)) faulty read s spelled valid = absurd (no_value signature s bytes 0 fault spelled faulty)
+accepted key message bytes (Err LevelMismatch) (t, t_spelled, differs) read s spelled valid =
     absurd (differs (ap level_count (one_value signature t s bytes t_spelled spelled) ∙ valid.count))
-accepted key message bytes (Err (TypeMismatch i)) (t, reaches, differs) s spelled valid =
+accepted key message bytes (Err (TypeMismatch i)) (t, reaches, differs) read s spelled valid =
     absurd (never-fails key message bytes s t i (fails-types key message bytes t i reaches differs) spelled valid)
-accepted key message bytes (Err (RootMismatch i)) (t, reaches, types, fails) s spelled valid = absurd (never-fails key message bytes s t i (reaches, fails) spelled valid)
+accepted key message bytes (Err MessageRead) verdict read s spelled valid = absurd (read refl)
+accepted key message bytes (Err (RootMismatch i)) (t, reaches, types, fails) read s spelled valid = absurd (never-fails key message bytes s t i (reaches, fails) spelled valid)
 
--- two refusals of the same bytes are one
-pub one_refusal : (A : Type 0) (key : HssPublic) (message bytes : List ℕ) (first second : Refusal) → Verdict {A = A} key message bytes (Err first) → Verdict {A = A} key message bytes (Err second) → first ≡ second
-one_refusal A key message bytes (Unreadable f) (Unreadable g) first second = ap Unreadable (one_fault signature bytes 0 f g first second)
-one_refusal A key message bytes (Unreadable f) LevelMismatch first (s, spelled, _) = absurd (no_value signature s bytes 0 f spelled first)
-one_refusal A key message bytes (Unreadable f) (TypeMismatch j) first (s, reaches, _) = absurd (no_value signature s bytes 0 f reaches.spelled first)
-one_refusal A key message bytes (Unreadable f) (RootMismatch j) first (s, reaches, _, _) = absurd (no_value signature s bytes 0 f reaches.spelled first)
-one_refusal A key message bytes LevelMismatch (Unreadable g) (s, spelled, _) second = absurd (no_value signature s bytes 0 g spelled second)
-one_refusal A key message bytes LevelMismatch LevelMismatch first second = refl
-one_refusal A key message bytes LevelMismatch (TypeMismatch j) (s, spelled, differs) (t, reaches, _) = absurd (differs (counted key message bytes t s j reaches spelled))
-one_refusal A key message bytes LevelMismatch (RootMismatch j) (s, spelled, differs) (t, reaches, _, _) = absurd (differs (counted key message bytes t s j reaches spelled))
-one_refusal A key message bytes (TypeMismatch i) (Unreadable g) (s, reaches, _) second = absurd (no_value signature s bytes 0 g reaches.spelled second)
-one_refusal A key message bytes (TypeMismatch i) LevelMismatch (s, reaches, _) (t, spelled, differs) = absurd (differs (counted key message bytes s t i reaches spelled))
-one_refusal A key message bytes (TypeMismatch i) (TypeMismatch j) (s, s_reaches, s_differs) (t, t_reaches, t_differs) =
+-- two refusals of the same bytes are one, but for those of the message and of the root
+pub one_refusal : (A : Type 0) (key : HssPublic) (message bytes : List ℕ) (first second : Refusal) → Verdict {A = A} key message bytes (Err first) → Verdict {A = A} key message bytes (Err second)
+    → first ≢ MessageRead → second ≢ MessageRead → first ≡ second
+one_refusal A key message bytes (Unreadable f) (Unreadable g) first second read read_too = ap Unreadable (one_fault signature bytes 0 f g first second)
+one_refusal A key message bytes (Unreadable f) LevelMismatch first (s, spelled, _) read read_too = absurd (no_value signature s bytes 0 f spelled first)
+one_refusal A key message bytes (Unreadable f) (TypeMismatch j) first (s, reaches, _) read read_too = absurd (no_value signature s bytes 0 f reaches.spelled first)
+one_refusal A key message bytes (Unreadable f) (RootMismatch j) first (s, reaches, _, _) read read_too = absurd (no_value signature s bytes 0 f reaches.spelled first)
+one_refusal A key message bytes LevelMismatch (Unreadable g) (s, spelled, _) second read read_too = absurd (no_value signature s bytes 0 g spelled second)
+one_refusal A key message bytes LevelMismatch LevelMismatch first second read read_too = refl
+one_refusal A key message bytes LevelMismatch (TypeMismatch j) (s, spelled, differs) (t, reaches, _) read read_too = absurd (differs (counted key message bytes t s j reaches spelled))
+one_refusal A key message bytes LevelMismatch (RootMismatch j) (s, spelled, differs) (t, reaches, _, _) read read_too = absurd (differs (counted key message bytes t s j reaches spelled))
+one_refusal A key message bytes (TypeMismatch i) (Unreadable g) (s, reaches, _) second read read_too = absurd (no_value signature s bytes 0 g reaches.spelled second)
+one_refusal A key message bytes (TypeMismatch i) LevelMismatch (s, reaches, _) (t, spelled, differs) read read_too = absurd (differs (counted key message bytes s t i reaches spelled))
+one_refusal A key message bytes (TypeMismatch i) (TypeMismatch j) (s, s_reaches, s_differs) (t, t_reaches, t_differs) read read_too =
     ap TypeMismatch (same_level key message bytes s t i j (fails-types key message bytes s i s_reaches s_differs) (fails-types key message bytes t j t_reaches t_differs))
-one_refusal A key message bytes (TypeMismatch i) (RootMismatch j) (s, s_reaches, differs) (t, t_reaches, types, fails) =
+one_refusal A key message bytes (TypeMismatch i) (RootMismatch j) (s, s_reaches, differs) (t, t_reaches, types, fails) read read_too =
     let same = same_level key message bytes t s j i (t_reaches, fails) (fails-types key message bytes s i s_reaches differs) in
     absurd (differs (same_types key message bytes t s j i t_reaches s_reaches same types))
-one_refusal A key message bytes (RootMismatch i) (Unreadable g) (s, reaches, _, _) second = absurd (no_value signature s bytes 0 g reaches.spelled second)
-one_refusal A key message bytes (RootMismatch i) LevelMismatch (s, reaches, _, _) (t, spelled, differs) = absurd (differs (counted key message bytes s t i reaches spelled))
-one_refusal A key message bytes (RootMismatch i) (TypeMismatch j) (s, s_reaches, types, fails) (t, t_reaches, differs) =
+one_refusal A key message bytes (RootMismatch i) (Unreadable g) (s, reaches, _, _) second read read_too = absurd (no_value signature s bytes 0 g reaches.spelled second)
+one_refusal A key message bytes (RootMismatch i) LevelMismatch (s, reaches, _, _) (t, spelled, differs) read read_too = absurd (differs (counted key message bytes s t i reaches spelled))
+one_refusal A key message bytes (RootMismatch i) (TypeMismatch j) (s, s_reaches, types, fails) (t, t_reaches, differs) read read_too =
     let same = same_level key message bytes s t i j (s_reaches, fails) (fails-types key message bytes t j t_reaches differs) in
     absurd (differs (same_types key message bytes s t i j s_reaches t_reaches same types))
-one_refusal A key message bytes (RootMismatch i) (RootMismatch j) (s, s_reaches, _, s_fails) (t, t_reaches, _, t_fails) =
+one_refusal A key message bytes (RootMismatch i) (RootMismatch j) (s, s_reaches, _, s_fails) (t, t_reaches, _, t_fails) read read_too =
     ap RootMismatch (same_level key message bytes s t i j (s_reaches, s_fails) (t_reaches, t_fails))
+one_refusal A key message bytes MessageRead second _ _ read read_too = absurd (read refl)
+one_refusal A key message bytes (Unreadable f) MessageRead _ _ read read_too = absurd (read_too refl)
+one_refusal A key message bytes LevelMismatch MessageRead _ _ read read_too = absurd (read_too refl)
+one_refusal A key message bytes (TypeMismatch i) MessageRead _ _ read read_too = absurd (read_too refl)
+one_refusal A key message bytes (RootMismatch i) MessageRead _ _ read read_too = absurd (read_too refl)
+
+-- where all levels above the bottom are valid, none but the bottom fails
+fails-at-bottom : (key : HssPublic) (message bytes : List ℕ) (s t : Signature) (i : ℕ) → Reaches key message bytes s (length s.signed)
+    → Fails key message bytes t i → i ≡ length s.signed
+fails-at-bottom key message bytes s t i s_reaches (t_reaches, t_fails) =
+    let same = one_value signature s t bytes s_reaches.spelled t_reaches.spelled in
+    elim (cases_order i (length s.signed)) [
+      | inl e ↦ e
+      | inr (inl below) ↦ absurd (t_fails (subst (λ s. IsValidAt key.top message s i) same (s_reaches.above i below)))
+      | inr (inr past) ↦ absurd (omega (arith, past, t_reaches.inside, s_reaches.count))
+    ]
+
+-- where the message may be refused, no refusal comes that stands before it
+pub read_in_turn : (A : Type 0) (key : HssPublic) (message bytes : List ℕ) (first : Refusal) → Verdict {A = A} key message bytes (Err MessageRead)
+    → Verdict {A = A} key message bytes (Err first)
+    → (first ≡ MessageRead) ⊎ ((bottom : ℕ) × (bottom + 1 ≡ key.levels) × (first ≡ RootMismatch bottom))
+read_in_turn A key message bytes (Unreadable f) (s, reaches, types) first = absurd (no_value signature s bytes 0 f reaches.spelled first)
+read_in_turn A key message bytes LevelMismatch (s, reaches, types) (t, spelled, differs) =
+    absurd (differs (counted key message bytes s t (length s.signed) reaches spelled))
+read_in_turn A key message bytes (TypeMismatch i) (s, reaches, types) (t, t_reaches, differs) =
+    let same = fails-at-bottom key message bytes s t i reaches (fails-types key message bytes t i t_reaches differs) in
+    absurd (differs (same_types key message bytes s t (length s.signed) i reaches t_reaches (sym same) types))
+read_in_turn A key message bytes MessageRead read first = inl refl
+read_in_turn A key message bytes (RootMismatch i) (s, reaches, types) (t, t_reaches, t_types, fails) =
+    let same = fails-at-bottom key message bytes s t i reaches (t_reaches, fails) in
+    inr (i, omega (arith, same, reaches.count), refl)

@@ -3,7 +3,9 @@ use Rattle.std.proofs.Common.{◌≡◌, ◌∙◌, refl, sym, ap, ℕ, ◌+◌,
 use Rattle.std.proofs.lemmas.Bool.{cases_lt, eq-eqb}
 use Rattle.std.proofs.lemmas.List.{get_or-map, get_or_append_left, get_or_at, length-map}
 use Rattle.typecodes.specs.declared.refusal.Refusal.{Refusal}
-use Rattle.typecodes.specs.declared.refusal.Refusal.TheVariants.{Unreadable, TypeMismatch, LevelMismatch, RootMismatch}
+use Rattle.typecodes.specs.declared.refusal.Refusal.TheVariants.{Unreadable, TypeMismatch, LevelMismatch, RootMismatch, MessageRead}
+use Rattle.typecodes.specs.Message.{CantBeRead, ReadWhole, Step}
+use Rattle.std.specs.Prelude.{◌≢◌, Option}
 use Rattle.lms.specs.declared.key.LmsPublic.{LmsPublic}
 use Rattle.lms.specs.Signature.{Signature as LmsSignature}
 use Rattle.lms.specs.Writing.{public_bytes}
@@ -36,6 +38,7 @@ pub level-refused : (A B : Type 0) (key : LmsPublic) (message : List ℕ) (s : L
 level-refused A B key message s i (Unreadable fault) refused = refused
 level-refused A B key message s i (TypeMismatch level) refused = refused
 level-refused A B key message s i LevelMismatch refused = refused
+level-refused A B key message s i MessageRead refused = refused
 level-refused A B key message s i (RootMismatch level) refused = refused
 
 -- what a level above the bottom answers for the key after it is its answer, whatever the message
@@ -49,14 +52,15 @@ pub valid-at : (top : LmsPublic) (s : Signature) (i : ℕ) (key : LmsPublic) (me
 valid-at top s i key message key_is valid = subst (λ k. IsLmsValid k (message_at message s i) (signature_at s i)) key_is valid
 
 -- a level that is refused is the first that isn't valid
-pub above-refused : (top : LmsPublic) (s : Signature) (i : ℕ) (key : LmsPublic) (refusal : Refusal) → i < length s.signed → key ≡ key_at top s i → AreValidAbove top s i
+pub above-refused : (top : LmsPublic) (s : Signature) (i : ℕ) (key : LmsPublic) (refusal : Refusal) → refusal ≢ MessageRead → i < length s.signed → key ≡ key_at top s i → AreValidAbove top s i
     → ((message : List ℕ) → LevelVerdict {A = LmsPublic} key (message_at message s i) (signature_at s i) i (Err refusal)) → AboveVerdict top s (Err refusal)
-above-refused top s i key (Unreadable fault) within key_is above refused = absurd (refused [])
-above-refused top s i key LevelMismatch within key_is above refused = absurd (refused [])
-above-refused top s i key (TypeMismatch level) within key_is above refused =
+above-refused top s i key (Unreadable fault) read within key_is above refused = absurd (refused [])
+above-refused top s i key LevelMismatch read within key_is above refused = absurd (refused [])
+above-refused top s i key MessageRead read within key_is above refused = absurd (read refl)
+above-refused top s i key (TypeMismatch level) read within key_is above refused =
     let known = refused [] in
     subst (λ i. AboveVerdict top s (Err (TypeMismatch i))) (sym known.0) (within, above, λ same. known.1 (same ∙ sym (ap (λ k. k.pair) key_is)))
-above-refused top s i key (RootMismatch level) within key_is above refused =
+above-refused top s i key (RootMismatch level) read within key_is above refused =
     let known = refused [] in
     subst (λ i. AboveVerdict top s (Err (RootMismatch i))) (sym known.0)
     (within, above, known.1 ∙ ap (λ k. k.pair) key_is, λ message valid. (refused message).2 (subst (λ k. IsLmsValid k (message_at message s i) (signature_at s i)) (sym key_is) valid))
@@ -94,6 +98,7 @@ pub above-verdict : (A : Type 0) (key : HssPublic) (message bytes : List ℕ) (s
     → AboveVerdict key.top s (Err refusal) → Verdict {A = A} key message bytes (Err refusal)
 above-verdict A key message bytes s (Unreadable fault) spelled count refused = absurd refused
 above-verdict A key message bytes s LevelMismatch spelled count refused = absurd refused
+above-verdict A key message bytes s MessageRead spelled count refused = absurd refused
 above-verdict A key message bytes s (TypeMismatch i) spelled count (within, above, differs) =
     (s, record { spelled = spelled; count = count; inside = omega (arith, count); above = above message }, differs)
 above-verdict A key message bytes s (RootMismatch i) spelled count (within, above, types, never) =
@@ -108,6 +113,7 @@ bottom-verdict key message bytes s (Err (Unreadable fault)) spelled count above 
 bottom-verdict {A = A} key message bytes s (Err (TypeMismatch level)) spelled count above (is, differs) =
     subst (λ i. Verdict {A = A} key message bytes (Err (TypeMismatch i))) (sym is) (s, bottom-reached key message bytes s spelled count above, differs)
 bottom-verdict key message bytes s (Err LevelMismatch) spelled count above never = elim never [ ]
+bottom-verdict key message bytes s (Err MessageRead) spelled count above types = (s, bottom-reached key message bytes s spelled count above, types)
 bottom-verdict {A = A} key message bytes s (Err (RootMismatch level)) spelled count above (is, types, invalid) =
     subst (λ i. Verdict {A = A} key message bytes (Err (RootMismatch i))) (sym is) (s, bottom-reached key message bytes s spelled count above, types, invalid)
 
@@ -120,14 +126,16 @@ bottom-read key message bytes s k read i result spelled count (key_is, above) at
     bottom-verdict key message bytes s result spelled count above (subst (λ k. LevelVerdict k (message_at message s n) (signature_at s n) n result) key_is same)
 
 -- the bottom leaves of the message what verification leaves
-pub bottom-leaves : {A : Type 0} (key : HssPublic) (k : LmsPublic) (read : LmsSignature) (old new : List ℕ) (i : ℕ) (result : Result A Refusal) → i + 1 ≡ key.levels
-    → LevelVerdict k old read i result → LmsLeavesMessage old new result → LeavesMessage key old new result
-bottom-leaves key k read old new i (Ok x) last verdict leaves = leaves
-bottom-leaves key k read old new i (Err (Unreadable fault)) last verdict leaves = leaves
-bottom-leaves key k read old new i (Err (TypeMismatch level)) last verdict leaves = leaves
-bottom-leaves key k read old new i (Err LevelMismatch) last never leaves = elim never [ ]
-bottom-leaves key k read old new i (Err (RootMismatch level)) last (is, _, _) leaves =
-    rw (eq-eqb (level + 1) key.levels (ap (λ i. i + 1) is ∙ last)) leaves
+pub bottom-leaves : {M A : Type 0} (step : Step M) (remaining : M → Option (List ℕ)) (text : List ℕ) (old new : M) (key : HssPublic) (k : LmsPublic) (read : LmsSignature) (i : ℕ)
+    (result : Result A Refusal) → i + 1 ≡ key.levels → LevelVerdict k text read i result → LmsLeavesMessage step remaining text old new result
+    → LeavesMessage step remaining key text old new result
+bottom-leaves step remaining text old new key k read i (Ok x) last verdict leaves = leaves
+bottom-leaves step remaining text old new key k read i (Err (Unreadable fault)) last verdict leaves = leaves
+bottom-leaves step remaining text old new key k read i (Err (TypeMismatch level)) last verdict leaves = leaves
+bottom-leaves step remaining text old new key k read i (Err LevelMismatch) last never leaves = elim never [ ]
+bottom-leaves step remaining text old new key k read i (Err MessageRead) last verdict leaves = leaves
+bottom-leaves step remaining text old new key k read i (Err (RootMismatch level)) last (is, _, _) leaves =
+    inl (ap (λ i. i + 1) is ∙ last, leaves)
 
 -- the bottom level's signature is the last one
 pub signature_at-bottom : (s : Signature) (i : ℕ) → i ≡ length s.signed → s.bottom ≡ signature_at s i
@@ -136,9 +144,11 @@ signature_at-bottom s i last =
     sym (get_or_at (map of s.signed) s.bottom [] s.bottom i (length-map s.signed of ∙ sym last))
 
 -- a refusal above the bottom leaves the message
-pub above-leaves : (A : Type 0) (key : HssPublic) (s : Signature) (message : List ℕ) (refusal : Refusal) → level_count s ≡ key.levels → AboveVerdict key.top s (Err refusal)
-    → LeavesMessage {A = A} key message message (Err refusal)
-above-leaves A key s message (Unreadable fault) count refused = absurd refused
-above-leaves A key s message LevelMismatch count refused = absurd refused
-above-leaves A key s message (TypeMismatch i) count refused = refl
-above-leaves A key s message (RootMismatch i) count (within, _, _, _) = rw (ne_eqb (i + 1) key.levels (λ same. omega (arith, count))) refl
+pub above-leaves : {M : Type 0} (step : Step M) (remaining : M → Option (List ℕ)) (A : Type 0) (key : HssPublic) (s : Signature) (text : List ℕ) (message : M) (refusal : Refusal)
+    → level_count s ≡ key.levels → AboveVerdict key.top s (Err refusal) → LeavesMessage {A = A} step remaining key text message message (Err refusal)
+above-leaves step remaining A key s text message (Unreadable fault) count refused = absurd refused
+above-leaves step remaining A key s text message LevelMismatch count refused = absurd refused
+above-leaves step remaining A key s text message MessageRead count refused = absurd refused
+above-leaves step remaining A key s text message (TypeMismatch i) count refused = refl
+above-leaves step remaining A key s text message (RootMismatch i) count (within, _, _, _) =
+    inr (λ same. omega (arith, count), refl)

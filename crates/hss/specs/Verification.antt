@@ -1,8 +1,10 @@
 -- Which signatures are valid (RFC 8554 6.3), what verification answers, and which refusal comes first.
-use Rattle.std.specs.Prelude.{◌≡◌, ◌≢◌, ◌==◌, ℕ, ◌+◌, ◌<◌, List, [], length, Result, Ok, Err, if◌then◌else◌}
+use Rattle.std.specs.Prelude.{◌≡◌, ◌≢◌, ◌⊎◌, ℕ, ◌+◌, ◌<◌, List, Option, length, Result, Ok, Err}
 use Rattle.typecodes.specs.declared.refusal.Refusal.{Refusal}
-use Rattle.typecodes.specs.declared.refusal.Refusal.TheVariants.{Unreadable, TypeMismatch, LevelMismatch, RootMismatch}
+use Rattle.typecodes.specs.declared.refusal.Refusal.TheVariants.{Unreadable, TypeMismatch, LevelMismatch}
+use Rattle.typecodes.specs.declared.refusal.Refusal.TheVariants.{RootMismatch, MessageRead}
 use Rattle.typecodes.specs.Layout.{Spells, HasFault}
+use Rattle.typecodes.specs.Message.{CantBeRead, ReadWhole, Step}
 use Rattle.lms.specs.declared.key.LmsPublic.{LmsPublic}
 use Rattle.lms.specs.Verification.{IsValid as IsLmsValid}
 use Rattle.hss.specs.declared.key.HssPublic.{HssPublic}
@@ -30,7 +32,8 @@ HasKeyTypes top s i = (signature_at s i).pair ≡ (key_at top s i).pair
 
 -- Ok: the bytes spell a valid signature. Else they spell none, and have this fault; or one of other
 -- levels than the key's; or this level is the first from the top that isn't valid, since its types
--- aren't its key's, or though they are.
+-- aren't its key's, or though they are; or all above the bottom are valid, the bottom's types are its key's, and the
+-- message can't be read.
 abbrev pub Verdict : {A : Type 0} → HssPublic → List ℕ → List ℕ → Result A Refusal → Type 0
 Verdict key message bytes (Ok _) = (s : Signature) × Spells signature s bytes × IsValid key message s
 Verdict key message bytes (Err (Unreadable fault)) = HasFault signature bytes 0 fault
@@ -38,17 +41,22 @@ Verdict key message bytes (Err LevelMismatch) =
     (s : Signature) × Spells signature s bytes × (level_count s ≢ key.levels)
 Verdict key message bytes (Err (TypeMismatch i)) =
     (s : Signature) × Reaches key message bytes s i × (HasKeyTypes key.top s i → ⊥)
+Verdict key message bytes (Err MessageRead) =
+    (s : Signature) × Reaches key message bytes s (length s.signed) × HasKeyTypes key.top s (length s.signed)
 Verdict key message bytes (Err (RootMismatch i)) =
     (s : Signature) × Reaches key message bytes s i × HasKeyTypes key.top s i × (IsValidAt key.top message s i → ⊥)
 
--- What is left of the message: nothing where it was read to its end, which only the bottom level does;
--- all of it where a refusal came before.
-abbrev pub LeavesMessage : {A : Type 0} → HssPublic → List ℕ → List ℕ → Result A Refusal → Type 0
-LeavesMessage key old new (Ok _) = new ≡ []
-LeavesMessage key old new (Err (Unreadable fault)) = new ≡ old
-LeavesMessage key old new (Err LevelMismatch) = new ≡ old
-LeavesMessage key old new (Err (TypeMismatch i)) = new ≡ old
-LeavesMessage key old new (Err (RootMismatch i)) = new ≡ (if i + 1 == key.levels then [] else old)
+-- What becomes of the message: it was read whole, and gave this text, where the bottom level's root was compared; it
+-- can't be read; and it is as it was where a refusal came before it was read.
+abbrev pub LeavesMessage : {M A : Type 0} → Step M → (M → Option (List ℕ)) → HssPublic → List ℕ → M → M
+    → Result A Refusal → Type 0
+LeavesMessage step remaining key text old new (Ok _) = ReadWhole step remaining text old new
+LeavesMessage step remaining key text old new (Err (Unreadable fault)) = new ≡ old
+LeavesMessage step remaining key text old new (Err LevelMismatch) = new ≡ old
+LeavesMessage step remaining key text old new (Err (TypeMismatch i)) = new ≡ old
+LeavesMessage step remaining key text old new (Err MessageRead) = CantBeRead step old new
+LeavesMessage step remaining key text old new (Err (RootMismatch i)) =
+    ((i + 1 ≡ key.levels) × ReadWhole step remaining text old new) ⊎ ((i + 1 ≢ key.levels) × (new ≡ old))
 
 -- ---- the steps of verification
 
@@ -61,6 +69,7 @@ abbrev pub AboveVerdict : LmsPublic → Signature → Result LmsPublic Refusal �
 AboveVerdict top s (Ok key) = (key ≡ key_at top s (length s.signed)) × AreValidAbove top s (length s.signed)
 AboveVerdict top s (Err (Unreadable fault)) = ⊥
 AboveVerdict top s (Err LevelMismatch) = ⊥
+AboveVerdict top s (Err MessageRead) = ⊥
 AboveVerdict top s (Err (TypeMismatch i)) =
     (i < length s.signed) × AreValidAbove top s i × (HasKeyTypes top s i → ⊥)
 AboveVerdict top s (Err (RootMismatch i)) =

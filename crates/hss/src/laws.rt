@@ -1,7 +1,7 @@
 //! Laws of spellings, of verdicts and of textbook signatures. The functions do nothing: what their
 //! contracts say is proved of every key and every signature.
 
-ghost use Rattle.std.specs.Prelude.{◌≡◌, List, [], ◌∷◌, ◌++◌, ℕ, ◌+◌, ◌≤◌, length, Result, Err, IsOk};
+ghost use Rattle.std.specs.Prelude.{◌≡◌, ◌⊎◌, ◌≢◌, List, [], ◌∷◌, ◌++◌, ℕ, ◌+◌, ◌≤◌, length, Result, Err, IsOk};
 ghost use Rattle.typecodes.specs.declared.refusal.Refusal.{Refusal};
 ghost use Rattle.typecodes.specs.Layout.{Spells};
 ghost use Rattle.typecodes.specs.Unambiguous.{IsUnambiguous};
@@ -23,15 +23,22 @@ pub fn spelling_laws()
     ensures signatures { IsUnambiguous signature }
 {}
 
-/// What holds of the answers of verification: bytes that spell a valid signature are refused by none
-/// (`accepted`), and no bytes have two refusals (`one_refusal`).
+/// What holds of the answers of verification: bytes that spell a valid signature are refused by none, unless the
+/// message can't be read (`accepted`); no bytes have two other refusals (`one_refusal`); and where this one may come, none
+/// comes that stands before it (`read_in_turn`).
 pub fn verdict_laws()
     ensures accepted { (key : HssPublic) (message bytes : List ℕ) (result : Result (Unit {0}) Refusal)
-        → Verdict key message bytes result
+        → Verdict key message bytes result → result ≢ Err Refusal.MessageRead
         → (s : Signature) → Spells signature s bytes → IsValid key message s → IsOk result }
     ensures one_refusal { (key : HssPublic) (message bytes : List ℕ) (first second : Refusal)
         → Verdict {A = Unit {0}} key message bytes (Err first)
-        → Verdict {A = Unit {0}} key message bytes (Err second) → first ≡ second }
+        → Verdict {A = Unit {0}} key message bytes (Err second)
+        → first ≢ Refusal.MessageRead → second ≢ Refusal.MessageRead → first ≡ second }
+    ensures read_in_turn { (key : HssPublic) (message bytes : List ℕ) (first : Refusal)
+        → Verdict {A = Unit {0}} key message bytes (Err Refusal.MessageRead)
+        → Verdict {A = Unit {0}} key message bytes (Err first)
+        → (first ≡ Refusal.MessageRead)
+        ⊎ ((bottom : ℕ) × (bottom + 1 ≡ key.levels) × (first ≡ Refusal.RootMismatch bottom)) }
 {}
 
 /// What holds of the textbook signatures of any levels.

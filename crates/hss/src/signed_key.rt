@@ -1,6 +1,6 @@
 //! The signature of a level above the bottom with the key that it signs, as a view of their bytes.
 
-ghost use Rattle.std.specs.Prelude.{◌≡◌, ◌+◌, ◌<◌, ◌≤◌, ◌^◌, Ok, IfOk, OnErr, OnOk, drop, length, take};
+ghost use Rattle.std.specs.Prelude.{◌≡◌, ◌≢◌, ◌+◌, ◌<◌, ◌≤◌, ◌^◌, Ok, Err, IfOk, OnErr, OnOk, drop, length, take};
 ghost use Rattle.lms.specs.Key.{public_key as lms_public_key};
 ghost use Rattle.typecodes.specs.Cursor.{Gives, read};
 ghost use Rattle.lms.specs.Writing.{public_bytes};
@@ -54,11 +54,11 @@ impl<'a> SignedKeyView<'a> {
     /// Verifies that the signature signs the key under this level's key. The first refusal comes of: other
     /// types than the level's key's (10, with the level), another root than its (12, with the level).
     pub fn verify(&self, public: &LmsPublic, level: u8) -> Result<(), Refusal>
-        ensures { LevelVerdict public.now (public_bytes self.now.key)
+        ensures verdict { LevelVerdict public.now (public_bytes self.now.key)
             (lms_signature_of self.now.signature) level result }
+        ensures read { result ≢ Err Refusal.MessageRead }
     {
-        let mut message = self.key_bytes;
-        self.signature.verify(public, &mut message, level)
+        self.signature.verify_bytes(public, self.key_bytes, level)
     }
 }
 

@@ -1,22 +1,30 @@
 //! Verification.
 
+ghost use Rattle.std.specs.Prelude.{List, ℕ};
 ghost use Rattle.hss.specs.Verification.{AboveVerdict, LeavesMessage, Verdict};
 ghost use Rattle.hss.specs.View.{signature_of};
+ghost use Rattle.typecodes.specs.Message.{IsContent};
 
 use crate::key::HssPublic;
 use crate::signature::HssSigView;
 use lms::LmsPublic;
-use typecodes::Refusal;
+use typecodes::{Message, Refusal};
 
 /// Verifies that the bytes of a signature sign the message under the key (RFC 8554 6.3).
 ///
 /// The first refusal comes of: a fault of the signature's bytes (1 to 5); other levels than the key's
 /// (11); and then level by level from the top, other types than those of the level's key (10, with the
-/// level), and another root than the key's (12, with the level). The message is read to its end where
-/// none of these comes before the bottom level's root, and else left as it is.
-pub fn verify(public: &HssPublic, message: &mut &[u8], signature: &[u8]) -> Result<(), Refusal>
-    ensures verdict { Verdict public.now message.old.now signature.now result }
-    ensures message { LeavesMessage public.now message.old.now message.new.now result }
+/// level), and another root than the key's (12, with the level), with a message that can't be read (14) between the two
+/// at the bottom. The message is any reader. It is read to its end, in pieces that aren't kept, where none of these comes
+/// before the bottom level's root, and else left as it is.
+pub fn verify<M: Message>(
+    public: &HssPublic,
+    message: &mut M,
+    signature: &[u8],
+) -> Result<(), Refusal>
+    ensures { (text : List ℕ) × IsContent (M.remaining message.old) text
+        × Verdict public.now text signature.now result
+        × LeavesMessage M.step M.remaining public.now text message.old message.new result }
 {
     let view = HssSigView::read(signature).map_err(Refusal::Unreadable)?;
     if view.levels() != public.levels.get() {

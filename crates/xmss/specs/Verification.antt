@@ -1,9 +1,11 @@
 -- Which signatures are valid (RFC 8391 4.1.10, 3.1.6 and 4.1.5), and what verification answers, with the refusal that
 -- comes first.
-use Rattle.std.specs.Prelude.{◌≡◌, ℕ, ◌<◌, ◌^◌, List, [], length, Result, Ok, Err}
+use Rattle.std.specs.Prelude.{◌≡◌, ℕ, ◌<◌, ◌^◌, List, Option, length, Result, Ok, Err}
 use Rattle.typecodes.specs.declared.refusal.Refusal.{Refusal}
-use Rattle.typecodes.specs.declared.refusal.Refusal.TheVariants.{Unreadable, TypeMismatch, LevelMismatch, RootMismatch}
+use Rattle.typecodes.specs.declared.refusal.Refusal.TheVariants.{Unreadable, TypeMismatch, LevelMismatch}
+use Rattle.typecodes.specs.declared.refusal.Refusal.TheVariants.{RootMismatch, MessageRead}
 use Rattle.typecodes.specs.Layout.{Spells, HasFault}
+use Rattle.typecodes.specs.Message.{CantBeRead, ReadWhole, Step}
 use Rattle.typecodes.specs.Types.{xmss_height_of}
 use Rattle.merkle.specs.Ascent.{IsAscent, at}
 use Rattle.wots_plus.specs.Key.{ClimbTo}
@@ -12,38 +14,56 @@ use Rattle.xmss.specs.Digest.{message_digest_of}
 use Rattle.xmss.specs.Nodes.{join_of, leaf_of}
 use Rattle.xmss.specs.Signature.{Signature, signature}
 
--- The node to which a signature of a message leads under a key: from the digits of the message's
--- digest the signature's values climb to the ends of their chains; the L-tree over these is the leaf;
--- and from this leaf the path leads, node by node, to a node of the path's height.
-pub record LeadsTo (key : XmssPublic) (message : List ℕ) (s : Signature) (node : List ℕ) : Type 0 where
+-- The node to which a signature of a digest M' leads under a key: from the digits of M' the signature's values climb to
+-- the ends of their chains; the L-tree over these is the leaf; and from this leaf the path leads, node by node, to a
+-- node of the path's height.
+pub record LeadsTo (key : XmssPublic) (digest : List ℕ) (s : Signature) (node : List ℕ) : Type 0 where
   pub ends : List (List ℕ)
-  pub climbed : ClimbTo key.seed s.index (message_digest_of s.randomizer key.root s.index message) s.chains ends
+  pub climbed : ClimbTo key.seed s.index digest s.chains ends
   pub nodes : List (List ℕ)
   pub ascent : IsAscent (join_of key.seed) s.index (leaf_of key.seed s.index ends) s.path nodes
   pub last : at nodes (length s.path) ≡ node
 
 -- The signature has a value for each chain (3.1.1); its index is one of a leaf of the key's tree, and the path is
--- as long as the tree is high; and it leads to the key's root.
-pub record IsValid (key : XmssPublic) (message : List ℕ) (s : Signature) : Type 0 where
+-- as long as the tree is high; and as that of a digest it leads to the key's root.
+pub record IsValidFor (key : XmssPublic) (digest : List ℕ) (s : Signature) : Type 0 where
   pub chains : length s.chains ≡ 67
   pub leaf : s.index < 2 ^ xmss_height_of key.tree
   pub height : length s.path ≡ xmss_height_of key.tree
-  pub leads : LeadsTo key message s key.root
+  pub leads : LeadsTo key digest s key.root
+
+-- M', the digest of a message that a signature signs
+abbrev pub digest_of : XmssPublic → List ℕ → Signature → List ℕ
+digest_of key message s = message_digest_of s.randomizer key.root s.index message
+
+-- It is valid for the digest of the message.
+abbrev pub IsValid : XmssPublic → List ℕ → Signature → Type 0
+IsValid key message s = IsValidFor key (digest_of key message s) s
 
 -- Ok: the bytes spell a valid signature of the key's type. Else the bytes spell none of that type, and
--- have this fault; or they spell one that isn't valid.
+-- have this fault; or they spell one, and the message can't be read; or one that isn't valid.
 abbrev pub Verdict : {A : Type 0} → XmssPublic → List ℕ → List ℕ → Result A Refusal → Type 0
 Verdict key message bytes (Ok _) = (s : Signature) × Spells (signature key.tree) s bytes × IsValid key message s
 Verdict key message bytes (Err (Unreadable fault)) = HasFault (signature key.tree) bytes 0 fault
 Verdict key message bytes (Err (TypeMismatch level)) = ⊥
 Verdict key message bytes (Err LevelMismatch) = ⊥
+Verdict key message bytes (Err MessageRead) = (s : Signature) × Spells (signature key.tree) s bytes
 Verdict key message bytes (Err (RootMismatch level)) =
     (level ≡ 0) × ((s : Signature) × Spells (signature key.tree) s bytes × (IsValid key message s → ⊥))
 
--- What is left of the message: nothing where it was read to its end; all of it where a refusal came first.
-abbrev pub LeavesMessage : {A : Type 0} → List ℕ → List ℕ → Result A Refusal → Type 0
-LeavesMessage old new (Ok _) = new ≡ []
-LeavesMessage old new (Err (Unreadable fault)) = new ≡ old
-LeavesMessage old new (Err (TypeMismatch level)) = ⊥
-LeavesMessage old new (Err LevelMismatch) = ⊥
-LeavesMessage old new (Err (RootMismatch level)) = new ≡ []
+-- what verification answers of a signature of the key's type, by the digest of what it signs
+abbrev pub DigestVerdict : {A : Type 0} → XmssPublic → List ℕ → Signature → Result A Refusal → Type 0
+DigestVerdict key digest s (Ok _) = IsValidFor key digest s
+DigestVerdict key digest s (Err (RootMismatch level)) = (level ≡ 0) × (IsValidFor key digest s → ⊥)
+DigestVerdict key digest s (Err other) = ⊥
+
+-- What becomes of the message: it was read whole, and gave this text, where the root was compared; it can't be read;
+-- and it is as it was where a refusal came before it was read.
+abbrev pub LeavesMessage : {M A : Type 0} → Step M → (M → Option (List ℕ)) → List ℕ → M → M → Result A Refusal
+    → Type 0
+LeavesMessage step remaining text old new (Ok _) = ReadWhole step remaining text old new
+LeavesMessage step remaining text old new (Err (Unreadable fault)) = new ≡ old
+LeavesMessage step remaining text old new (Err (TypeMismatch level)) = ⊥
+LeavesMessage step remaining text old new (Err LevelMismatch) = ⊥
+LeavesMessage step remaining text old new (Err MessageRead) = CantBeRead step old new
+LeavesMessage step remaining text old new (Err (RootMismatch level)) = ReadWhole step remaining text old new

@@ -1,11 +1,12 @@
 //! The digests of messages.
 
-ghost use Rattle.std.specs.Prelude.{◌≡◌, ◌++◌};
+ghost use Rattle.std.specs.Prelude.{◌≡◌, ◌++◌, List, ℕ, IfOk, OnErr};
+ghost use Rattle.typecodes.specs.Message.{CantBeRead, ReadWhole};
 ghost use Rattle.xmss.specs.Digest as spec;
 ghost use Rattle.xmss.specs.Digest.{message_digest_of};
 
-use typecodes::put;
-use wots_plus::hash_message;
+use typecodes::{Message, MessageFailed, put};
+use wots_plus::{hash_message, hash_message_from};
 
 /// M', the digest of a message that a leaf signs in the tree with this root, by the randomizer r
 /// of the signature (RFC 8391 4.1.9).
@@ -13,6 +14,21 @@ pub fn message_digest(randomizer: &[u8; 32], root: &[u8; 32], leaf: u32, message
     ensures { result ≡ message_digest_of randomizer.now root.now leaf message.now }
 {
     hash_message(&digest_key(randomizer, root, leaf), message)
+}
+
+/// M' of the message that a reader gives, however it is cut: it is read to its end, in pieces that aren't kept. Refused
+/// where a read fails, or where the reader gives 2^60 bytes.
+pub fn message_digest_from<M: Message>(
+    randomizer: &[u8; 32],
+    root: &[u8; 32],
+    leaf: u32,
+    message: &mut M,
+) -> Result<[u8; 32], MessageFailed>
+    ensures ok { IfOk result (λ digest. (text : List ℕ) × ReadWhole M.step M.remaining text message.old message.new
+        × (digest ≡ message_digest_of randomizer.now root.now leaf text)) }
+    ensures err { OnErr result (CantBeRead M.step message.old message.new) }
+{
+    hash_message_from(&digest_key(randomizer, root, leaf), message)
 }
 
 // r || root || toByte(idx, 32), the key of the digest.

@@ -1,7 +1,7 @@
 //! Laws of spellings and of verdicts. The functions do nothing: what their contracts say is proved of
 //! every key and every signature.
 
-ghost use Rattle.std.specs.Prelude.{◌≡◌, List, ℕ, Result, Err, IsOk};
+ghost use Rattle.std.specs.Prelude.{◌≡◌, ◌≢◌, ◌⊎◌, List, ℕ, Result, Err, IsOk};
 ghost use Rattle.typecodes.specs.Layout.{Spells};
 ghost use Rattle.typecodes.specs.Unambiguous.{IsUnambiguous};
 ghost use Rattle.typecodes.specs.declared.refusal.Refusal.{Refusal};
@@ -18,13 +18,19 @@ pub fn spelling_laws()
     ensures signatures { (tree : XmssType) → IsUnambiguous (signature tree) }
 {}
 
-/// What holds of the answers of verification: bytes that spell a valid signature of the key's type are
-/// refused by none (`accepted`), and no bytes have two refusals (`one_refusal`).
+/// What holds of the answers of verification: bytes that spell a valid signature of the key's type are refused by none,
+/// unless the message can't be read (`accepted`); no bytes have two other refusals (`one_refusal`); and where this one may
+/// come, none comes that stands before it (`read_in_turn`).
 pub fn verdict_laws()
-    ensures accepted { (key : XmssPublic) (message bytes : List ℕ) (result : Result (Unit {0}) Refusal) →
-        Verdict key message bytes result →
-        (s : Signature) → Spells (signature key.tree) s bytes → IsValid key message s → IsOk result }
-    ensures one_refusal { (key : XmssPublic) (message bytes : List ℕ) (first second : Refusal) →
-        Verdict {A = Unit {0}} key message bytes (Err first) →
-        Verdict {A = Unit {0}} key message bytes (Err second) → first ≡ second }
+    ensures accepted { (key : XmssPublic) (message bytes : List ℕ) (result : Result (Unit {0}) Refusal)
+        → Verdict key message bytes result → result ≢ Err Refusal.MessageRead
+        → (s : Signature) → Spells (signature key.tree) s bytes → IsValid key message s → IsOk result }
+    ensures one_refusal { (key : XmssPublic) (message bytes : List ℕ) (first second : Refusal)
+        → Verdict {A = Unit {0}} key message bytes (Err first)
+        → Verdict {A = Unit {0}} key message bytes (Err second)
+        → first ≢ Refusal.MessageRead → second ≢ Refusal.MessageRead → first ≡ second }
+    ensures read_in_turn { (key : XmssPublic) (message bytes : List ℕ) (first : Refusal)
+        → Verdict {A = Unit {0}} key message bytes (Err Refusal.MessageRead)
+        → Verdict {A = Unit {0}} key message bytes (Err first)
+        → (first ≡ Refusal.MessageRead) ⊎ (first ≡ Refusal.RootMismatch 0) }
 {}

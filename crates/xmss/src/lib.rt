@@ -29,7 +29,7 @@ mod tests;
 mod verification;
 mod writing;
 
-pub use crate::digest::message_digest;
+pub use crate::digest::{message_digest, message_digest_from};
 pub use crate::key::XmssPublic;
 pub use crate::laws::{spelling_laws, verdict_laws};
 pub use crate::secret::{XmssSecret, XmssTree};

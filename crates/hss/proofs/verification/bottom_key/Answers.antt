@@ -18,7 +18,7 @@ loop-i-preserved c =
       | in-Some+in_ok-verify w ↦
           let inside : i < n = omega (arith, w.in-Some.ensures.some.0 refl) in
           let next : c.match-signed_key.key ≡ key_at top s (i + 1) = w.key-is ∙ w.in-Some.ensures.key top in
-          let verified = level-at {A = Unit {0}} top s i c.loop-i.key w.in-Some.signed.key _ (Ok tt) inside w.in-Some.ensures.signature w.in-Some.ensures.key w.in_ok-verify.ensures in
+          let verified = level-at {A = Unit {0}} top s i c.loop-i.key w.in-Some.signed.key _ (Ok tt) inside w.in-Some.ensures.signature w.in-Some.ensures.key w.in_ok-verify.ensures.verdict in
           record {
             key = λ _. next;
             last = λ past. let same : i + 1 ≡ n = omega arith in next ∙ ap (key_at top s) same;
@@ -54,7 +54,7 @@ returns-in_err-verify c =
     let i = c.loop-i.i in
     let inside : i < length s.signed = omega (arith, c.in-Some.ensures.some.0 refl) in
     let is : c.from_residual.result ≡ Err c.in_err-verify.field-0.0 = search rules in
-    let refused = level-at {A = Unit {0}} top s i c.loop-i.key c.in-Some.signed.key _ (Err c.in_err-verify.field-0.0) inside c.in-Some.ensures.signature c.in-Some.ensures.key c.in_err-verify.ensures in
+    let refused = level-at {A = Unit {0}} top s i c.loop-i.key c.in-Some.signed.key _ (Err c.in_err-verify.field-0.0) inside c.in-Some.ensures.signature c.in-Some.ensures.key c.in_err-verify.ensures.verdict in
     subst (AboveVerdict top s) (sym is)
-    (above-refused top s i c.loop-i.key c.in_err-verify.field-0.0 inside (c.loop-i.invariant.key (omega arith)) (λ message j below. c.loop-i.invariant.valid message j below (omega arith))
+    (above-refused top s i c.loop-i.key c.in_err-verify.field-0.0 (λ same. c.in_err-verify.ensures.read (ap Err same)) inside (c.loop-i.invariant.key (omega arith)) (λ message j below. c.loop-i.invariant.valid message j below (omega arith))
     (λ message. level-refused (Unit {0}) LmsPublic c.loop-i.key _ _ i c.in_err-verify.field-0.0 (refused message)))

@@ -1,15 +1,38 @@
-use Rattle.std.proofs.Common.{refl}
-use Rattle.xmss.proofs.Verifying.{is_read, read_valid}
+use Rattle.std.proofs.Common.{◌≡◌, rules}
+use Rattle.typecodes.proofs.Messages.{content-read, some-content}
+use Rattle.xmss.specs.Verification.{digest_of}
+use Rattle.xmss.specs.View.{signature_of}
+use Rattle.xmss.proofs.Verdicts.{leaves_of_digest, verdict_of_digest}
+use Rattle.xmss.proofs.Verifying.{is_read}
 use Rattle.xmss.proofs.verification.verify.Goals as goal
 
--- the root is the key's: the signature is valid
-pub returns-then-leads_to_root-clause-verdict : goal.returns-then-leads_to_root-clause-verdict
-returns-then-leads_to_root-clause-verdict c =
+-- the tree of the signature that was read is the key's
+pub verify_digest-requires : goal.verify_digest-requires
+verify_digest-requires g c =
     let read = is_read _ c.args.public.now _ c.read.result _ _ c.read.ensures.reads c.read.ensures.tree c.in_ok-view.ensures.cases (λ _ never. never) in
-    (_, read.spelled, read_valid c.args.public.now _ _ _ read (c.if-leads_to_root.ensures.0 refl))
+    read.tree
 
--- it is another: a valid signature would lead to the key's
-pub returns-else-leads_to_root-clause-verdict : goal.returns-else-leads_to_root-clause-verdict
-returns-else-leads_to_root-clause-verdict c =
+-- the bytes have a fault
+pub returns-in_err-view : goal.returns-in_err-view
+returns-in_err-view g c =
+    let (text, fits) = some-content (g.M.Message.remaining c.args.message.now) in
+    (text, fits, search rules, search rules)
+
+-- the message was read
+pub returns-in-Ok : goal.returns-in-Ok
+returns-in-Ok g c =
     let read = is_read _ c.args.public.now _ c.read.result _ _ c.read.ensures.reads c.read.ensures.tree c.in_ok-view.ensures.cases (λ _ never. never) in
-    (refl, (_, read.spelled, λ valid. let root = c.if-leads_to_root.ensures.1 valid.leads in absurd (cc)))
+    let (text, whole, digest) = c.in-Ok.ensures.ok in
+    let same : c.in-Ok.digest ≡ digest_of c.args.public.now text (signature_of c.in_ok-view.view) = search rules in (
+      text,
+      content-read _ _ _ _ _ whole,
+      verdict_of_digest _ _ _ _ _ c.verify_digest.result same read.spelled c.verify_digest.ensures,
+      leaves_of_digest _ _ _ _ _ _ _ _ c.verify_digest.result c.verify_digest.ensures whole,
+    )
+
+-- it can't be read
+pub returns-in-Err : goal.returns-in-Err
+returns-in-Err g c =
+    let read = is_read _ c.args.public.now _ c.read.result _ _ c.read.ensures.reads c.read.ensures.tree c.in_ok-view.ensures.cases (λ _ never. never) in
+    let (text, fits) = some-content (g.M.Message.remaining c.args.message.now) in
+    (text, fits, (_, read.spelled), c.in-Err.ensures.err)

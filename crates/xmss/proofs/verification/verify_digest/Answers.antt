@@ -1,0 +1,26 @@
+use Rattle.std.proofs.Common.{◌<◌, ◌^◌, ap, refl, subst, sym, ◌∙◌}
+use Rattle.std.proofs.lemmas.Bool.Decides.{Decides-eqb}
+use Rattle.std.proofs.lemmas.Slice.Eq.{slice_eq-Decides}
+use Rattle.typecodes.specs.Types.{xmss_height_of}
+use Rattle.xmss.specs.Verification.{LeadsTo}
+use Rattle.xmss.specs.View.{signature_of}
+use Rattle.xmss.proofs.verification.verify_digest.Goals as goal
+
+-- the root is the key's: the signature is valid
+pub returns-then-eq : goal.returns-then-eq
+returns-then-eq c =
+    let view = c.args.view.now in
+    let key = c.args.public.now in
+    let decides = slice_eq-Decides Decides-eqb _ _ _ c.eq.ensures in
+    record {
+      chains = view.chain_count;
+      leaf = subst (λ t. view.index < 2 ^ xmss_height_of t) c.requires view.inside;
+      height = view.path_length ∙ ap xmss_height_of c.requires;
+      leads = subst (LeadsTo key c.args.digest.now (signature_of view)) (decides.0 c.if-eq.true) c.candidate.ensures.leads;
+    }
+
+-- it is another: a valid signature would lead to the key's
+pub returns-else-eq : goal.returns-else-eq
+returns-else-eq c =
+    let decides = slice_eq-Decides Decides-eqb _ _ _ c.eq.ensures in
+    (refl, λ valid. let root = decides.1 (sym (c.candidate.ensures.only _ valid.leads)) in absurd (cc))
