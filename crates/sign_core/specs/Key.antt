@@ -1,7 +1,8 @@
 -- Public keys of every scheme: how they are spelled, and what their verification answers.
-use Rattle.std.specs.Prelude.{◌≡◌, ◌≢◌, ◌⊎◌, ℕ, List, length, Result}
+use Rattle.std.specs.Prelude.{◌≡◌, ◌≢◌, ◌⊎◌, ℕ, List, Option, length, Result}
 use Rattle.typecodes.specs.declared.refusal.Refusal.{Refusal}
 use Rattle.typecodes.specs.Layout.{Spells, HasFault}
+use Rattle.typecodes.specs.Message.{Step}
 use Rattle.lms.specs.Key.{public_key as lms_public_key}
 use Rattle.lms.specs.Verification.{Verdict as LmsVerdict, LeavesMessage as LmsLeavesMessage}
 use Rattle.hss.specs.Key.{public_key as hss_public_key}
@@ -34,8 +35,9 @@ KeyVerdict (Lms key) message bytes result = LmsVerdict key message bytes result
 KeyVerdict (Hss key) message bytes result = HssVerdict key message bytes result
 KeyVerdict (Xmss key) message bytes result = XmssVerdict key message bytes result
 
--- and leaves of the message what the key's scheme says
-abbrev pub KeyLeavesMessage : {A : Type 0} → AnyPublic → List ℕ → List ℕ → Result A Refusal → Type 0
-KeyLeavesMessage (Lms key) old new result = LmsLeavesMessage old new result
-KeyLeavesMessage (Hss key) old new result = HssLeavesMessage key old new result
-KeyLeavesMessage (Xmss key) old new result = XmssLeavesMessage old new result
+-- and becomes of the message what the key's scheme says
+abbrev pub KeyLeavesMessage : {M A : Type 0} → Step M → (M → Option (List ℕ)) → AnyPublic → List ℕ → M → M
+    → Result A Refusal → Type 0
+KeyLeavesMessage step remaining (Lms key) text old new result = LmsLeavesMessage step remaining text old new result
+KeyLeavesMessage step remaining (Hss key) text old new result = HssLeavesMessage step remaining key text old new result
+KeyLeavesMessage step remaining (Xmss key) text old new result = XmssLeavesMessage step remaining text old new result

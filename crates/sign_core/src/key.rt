@@ -1,13 +1,14 @@
 //! Public keys of every scheme.
 
-ghost use Rattle.std.specs.Prelude.{◌≡◌, ◌≤◌, length, IfErr, IfOk, Ok};
+ghost use Rattle.std.specs.Prelude.{◌≡◌, ◌≤◌, List, ℕ, length, IfErr, IfOk, Ok};
+ghost use Rattle.typecodes.specs.Message.{IsContent};
 ghost use Rattle.sign_core.specs.Key.{KeyHasFault, KeyLeavesMessage, KeyVerdict, SpellsKey};
 
 use arrayvec::ArrayVec;
 use hss::HssPublic;
 use lms::LmsPublic;
 use thiserror::Error;
-use typecodes::{ReadFault, Refusal};
+use typecodes::{Message, ReadFault, Refusal};
 use xmss::XmssPublic;
 
 /// A public key of one of the schemes. Its length in bytes names the scheme.
@@ -100,11 +101,16 @@ fn to_array_vec(bytes: &[u8]) -> ArrayVec<u8, 68>
 }
 
 /// Verifies that the bytes of a signature sign the message under the key, by the key's scheme (RFC 8554
-/// 5.4.2 and 6.3, RFC 8391 4.1.10). The refusals, their order, and what is left of the message are the
-/// scheme's: see `lms::verify`, `hss::verify` and `xmss::verify`.
-pub fn verify_any(public: &AnyPublic, message: &mut &[u8], signature: &[u8]) -> Result<(), Refusal>
-    ensures verdict { KeyVerdict public.now message.old.now signature.now result }
-    ensures message { KeyLeavesMessage public.now message.old.now message.new.now result }
+/// 5.4.2 and 6.3, RFC 8391 4.1.10). The message is any reader, which is read in pieces. The refusals, their order, and
+/// what becomes of the message are the scheme's: see `lms::verify`, `hss::verify` and `xmss::verify`.
+pub fn verify_any<M: Message>(
+    public: &AnyPublic,
+    message: &mut M,
+    signature: &[u8],
+) -> Result<(), Refusal>
+    ensures { (text : List ℕ) × IsContent (M.remaining message.old) text
+        × KeyVerdict public.now text signature.now result
+        × KeyLeavesMessage M.step M.remaining public.now text message.old message.new result }
 {
     match public {
         AnyPublic::Lms(key) => lms::verify(key, message, signature),
