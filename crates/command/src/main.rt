@@ -15,6 +15,7 @@
 mod answer;
 mod files;
 mod line;
+mod line_fault;
 mod output;
 mod program;
 mod refusal;
