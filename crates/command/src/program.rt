@@ -11,7 +11,7 @@ use crate::answer::{OUTPUT_FAILED, report};
 use crate::files::Folder;
 use crate::line::LineReader;
 use crate::line_fault::LineFault;
-use crate::output::Output;
+use crate::output::{Output, Part};
 use crate::refusal::Refusal;
 use std::alloc::Global;
 use std::convert::AsStr;
@@ -73,7 +73,7 @@ fn explain<O: Output, E: Output>(fault: &LineFault, output: &mut O, errors: &mut
         LineFault::Help(text) => print(text.as_str(), output),
         LineFault::Version => print(VERSION_LINE, output),
         LineFault::Refused(text) => {
-            let _ = errors.print(text.as_str());
+            let _ = errors.print(&[Part::Text(text.as_str())]);
             LINE_REFUSED
         }
         LineFault::OutOfMemory => report(&Err(Refusal::OutOfMemory), output),
@@ -84,7 +84,7 @@ fn explain<O: Output, E: Output>(fault: &LineFault, output: &mut O, errors: &mut
 fn print<O: Output>(text: &str, output: &mut O) -> u8
     ensures { Helps text.now (O.taken output.old) (O.taken output.new) result }
 {
-    match output.print(text) {
+    match output.print(&[Part::Text(text)]) {
         Ok(()) => 0,
         Err(_) => OUTPUT_FAILED,
     }
