@@ -22,7 +22,8 @@ pub trait Output {
     // the bytes that it took, where they are known, and how many texts it couldn't write
     ghost taken: { Self → Taken };
 
-    /// Writes the parts of a text one after another, and passes the text on.
+    /// Writes the parts of a text one after another, and passes the text on. That it fails only where what it writes to
+    /// does, and doesn't keep the text back, is tested.
     fn print(&mut self, parts: &[Part<'_>]) -> io::Result<()>
         ensures { Prints (text_of parts.now) (taken self.old) (taken self.new) result };
 }
@@ -75,7 +76,7 @@ fn write_part<W: Write>(writer: &mut W, part: &Part<'_>) -> io::Result<()>
     }
 }
 
-// What a writer answered, which is counted where the writer failed. No other function counts.
+// What a writer answered, which is counted where it failed. No other function counts.
 fn counted(answer: io::Result<()>, failures: &mut Count) -> io::Result<()>
     ensures answer { result ≡ answer }
     ensures counts { CountsFailure answer failures.old failures.new }
