@@ -1,8 +1,8 @@
 -- From what a parse says to what is requested.
 use Rattle.std.proofs.Common.{◌≡◌, ◌∙◌, List, [], ◌∷◌, Option, Some, None, Result, Ok, Err, MatchResult, IfErr, IsErrAnd, inl, inr, ap, sym, subst, option_map, unwrap_or}
+use Rattle.clap.specs.Kinds.{or_else}
 use Rattle.clap.specs.Words.{HasKind, Kinds, Row, Text, kind_of}
 use Rattle.clap.specs.declared.error.Error.{Error}
-use Rattle.clap.specs.declared.error.kind.ErrorKind.{ErrorKind}
 use Rattle.clap.specs.declared.error.kind.ErrorKind.TheVariants.{OutOfMemory}
 use Rattle.command.specs.Line.{Files, files_of, named_files}
 
@@ -36,7 +36,8 @@ only_memory [] e none (inl memory) = memory
 only_memory [] e none (inr among) = absurd among
 only_memory (k ∷ ks) e none has = cc
 
--- one more kind may come
-pub or_another : (k : ErrorKind) (kinds : Kinds) (e : Error) → HasKind kinds e → HasKind (k ∷ kinds) e
-or_another k kinds e (inl memory) = inl memory
-or_another k kinds e (inr among) = inr (inr among)
+-- others may come where none of these does
+pub or_others : (kinds others : Kinds) (e : Error) → HasKind kinds e → HasKind (or_else kinds others) e
+or_others [] others e (inl memory) = inl memory
+or_others [] others e (inr among) = absurd among
+or_others (k ∷ ks) others e has = has

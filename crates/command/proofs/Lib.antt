@@ -3,6 +3,7 @@ pub mod Deciding
 pub mod Explaining
 pub mod Finding
 pub mod Judging
+pub mod LineFaults
 pub mod Reading
 pub mod Taking
 pub mod Visiting

@@ -6,8 +6,8 @@ use Rattle.std.proofs.KnownBytes.{Consumes-trans}
 use Rattle.std.specs.IoError.{error_kind}
 use Rattle.std.specs.declared.io.Error.{Error}
 use Rattle.std.specs.declared.io.ErrorKind.TheVariants.{FileTooLarge, Interrupted, OutOfMemory, TimedOut}
-use Rattle.command.specs.Files.{CollectsOrFails, FailsToCollect, FailsToRead, FillsOrFails, ReadsOrFails}
-use Rattle.command.specs.Trace.{Happening, Read, Reads, ReadsSome, failed, given, not_opened, opened}
+use Rattle.command.specs.Files.{CollectsOrFails, FailsToRead, FillsOrFails, ReadsOrFails}
+use Rattle.command.specs.Trace.{Happening, Read, Reads, failed, given, not_opened, opened}
 use Rattle.command.specs.declared.trace.Role.{Role}
 
 read-append : (role : Role) (xs ys : List Happening) (a b : ℕ) → Read role xs a → Read role ys b → Read role (xs ++ ys) (a + b)

@@ -1,5 +1,5 @@
 -- Files that are opened and read in turn.
-use Rattle.std.proofs.Common.{◌≡◌, ◌∙◌, ℕ, List, [], ◌∷◌, ◌++◌, Option, Result, Ok, Err, IsErrAnd, codes, inl, inr, refl, sym, ap, subst, append_assoc}
+use Rattle.std.proofs.Common.{◌≡◌, ◌∙◌, ℕ, List, [], ◌∷◌, ◌++◌, Option, Result, Ok, Err, IsErrAnd, codes, inl, inr, sym, ap, subst, append_assoc}
 use Rattle.command.specs.Verify.{AnswersOf, FailsToOpen, IsVerdict, Judgement, OpensInTurn, ReadsInTurn, Verifies, all_opened}
 use Rattle.command.specs.Files.{Shows}
 use Rattle.command.specs.Line.{Serves, line_of, paths_of}

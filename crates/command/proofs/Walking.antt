@@ -3,7 +3,7 @@ use Rattle.std.proofs.Common.{◌≡◌, ◌≢◌, ◌==◌, ◌∙◌, ℕ, Bo
 use Rattle.std.specs.Prelude.{⊤}
 use Rattle.std.proofs.lemmas.Bool.{cases_eq, ne_eqb}
 use Rattle.clap.specs.Simple.{App, Shape, built, built_leaf, entered, names_of, inherited, with_leaf_noted, marked_built}
-use Rattle.clap.specs.Walk.{Held, Names, Walk, idle, walked, word_met, value, to_positional, arg_by_index, rows_after, nothing_held, walk_from, finished, settled, walk}
+use Rattle.clap.specs.Walk.{Held as Collected, Names, Walk, idle, walked, word_met, value, to_positional, arg_by_index, rows_after, nothing_held as nothing_collected, walk_from, finished, settled, walk}
 use Rattle.clap.specs.Faults.{turn_fault, step_fault, word_fault, walk_fault, settle_fault, defaults_fault, check_fault, entered_fault, level_fault}
 use Rattle.clap.specs.Kinds.{Kinds, or_else}
 use Rattle.clap.specs.Words.{Rule, is_simple, subcommand_of, fault_of, is_simple_and_free}
@@ -21,9 +21,9 @@ unfolding clap_on_literals
 simple_and_free = refl
 
 -- a walk that waits for a positional, before `--` or after it
-abbrev at : Bool → Held → ℕ → Walk
-at trailing held position =
-    record { held = held; waiting = idle; position = position; is_trailing = trailing; stopped = None }
+abbrev at : Bool → Collected → ℕ → Walk
+at trailing collected position =
+    record { held = collected; waiting = idle; position = position; is_trailing = trailing; stopped = None }
 
 -- a word that is taken for a file: it is no option, or stands after `--`
 abbrev IsTaken : Bool → List ℕ → Type 0
@@ -35,7 +35,7 @@ is_no_hyphen : (byte : ℕ) → byte ≢ 45 → (nat_eq byte 45 ≡ false) × ((
 is_no_hyphen byte file = (ne_eqb byte 45 file, ne_eqb byte 45 file)
 
 -- a file's word is a value
-word_is_value : (c : List Rule) (b : Bool) (position : ℕ) (word : List ℕ) (h : Held) → IsTaken b word
+word_is_value : (c : List Rule) (b : Bool) (position : ℕ) (word : List ℕ) (h : Collected) → IsTaken b word
     → word_met c [] b idle position word h ≡ (h, value)
 word_is_value c true position word h taken = refl
 word_is_value c false position [] h file = refl
@@ -46,13 +46,13 @@ word_is_value c false position (x ∷ []) h file = elim (cases_eq x 45) [
 word_is_value c false position (x ∷ y ∷ xs) h file = rw ((is_no_hyphen x file).0, (is_no_hyphen x file).1) refl
 
 -- so the walk takes it to the positional whose turn it is
-word_walks : (c : List Rule) (b : Bool) (position : ℕ) (word : List ℕ) (h : Held) → IsTaken b word
+word_walks : (c : List Rule) (b : Bool) (position : ℕ) (word : List ℕ) (h : Collected) → IsTaken b word
     → walked c [] (at b h position) word ≡ to_positional c (arg_by_index c position) word (at b h position) h
 unfolding walked
 word_walks c b position word h taken = rw (word_is_value c b position word h taken) refl
 
 -- nothing is wrong with it as a word
-word_passes : (s : Shape) (b : Bool) (word : List ℕ) (h : Held) → IsTaken b word → word_fault s [] b idle word h ≡ []
+word_passes : (s : Shape) (b : Bool) (word : List ℕ) (h : Collected) → IsTaken b word → word_fault s [] b idle word h ≡ []
 word_passes s true word h taken = refl
 word_passes s false [] h file = refl
 word_passes s false (x ∷ []) h file = elim (cases_eq x 45) [
@@ -62,7 +62,7 @@ word_passes s false (x ∷ []) h file = elim (cases_eq x 45) [
 word_passes s false (x ∷ y ∷ xs) h file = rw ((is_no_hyphen x file).0, (is_no_hyphen x file).1) refl
 
 -- so its turn fails only by that positional
-turn_passes : (s : Shape) (b : Bool) (position : ℕ) (word : List ℕ) (h : Held) → IsTaken b word
+turn_passes : (s : Shape) (b : Bool) (position : ℕ) (word : List ℕ) (h : Collected) → IsTaken b word
     → turn_fault s [] (at b h position) word ≡ step_fault s position h value
 turn_passes s b position word h taken = rw (word_is_value s.rules b position word h taken, word_passes s b word h taken) refl
 
@@ -90,30 +90,30 @@ goes from next to word words step well (ends, passes) = (
 )
 
 -- what the parser has after the first file,
-abbrev after_1 : List ℕ → Held
-after_1 p = record nothing_held { pending = Some (codes "PUBLIC", p ∷ []) }
+abbrev after_1 : List ℕ → Collected
+after_1 p = record nothing_collected { pending = Some (codes "PUBLIC", p ∷ []) }
 
 -- after the second,
-abbrev after_2 : List ℕ → List ℕ → Held
+abbrev after_2 : List ℕ → List ℕ → Collected
 after_2 p m = (to_positional leaf.rules (arg_by_index leaf.rules 2) m (at false (after_1 p) 2) (after_1 p)).held
 
 -- and after the third
-abbrev after_3 : List ℕ → List ℕ → List ℕ → Held
+abbrev after_3 : List ℕ → List ℕ → List ℕ → Collected
 after_3 p m s = (to_positional leaf.rules (arg_by_index leaf.rules 3) s (at false (after_2 p m) 3) (after_2 p m)).held
 
 -- the walk goes on after `--`
-over_hyphens : (h : Held) (position : ℕ) (words : List (List ℕ)) (to : Walk) → Goes (at true h position) words to
+over_hyphens : (h : Collected) (position : ℕ) (words : List (List ℕ)) (to : Walk) → Goes (at true h position) words to
     → Goes (at false h position) (codes "--" ∷ words) to
 unfolding walked
 over_hyphens h position words to rest = goes _ (at true h position) to (codes "--") words refl refl rest
 
 -- and over each file
 over_1 : (b : Bool) (p : List ℕ) (words : List (List ℕ)) (to : Walk) → IsTaken b p → Goes (at b (after_1 p) 2) words to
-    → Goes (at b nothing_held 1) (p ∷ words) to
+    → Goes (at b nothing_collected 1) (p ∷ words) to
 over_1 true p words to taken rest =
-    goes _ _ to p words (word_walks leaf.rules true 1 p nothing_held taken) (turn_passes leaf true 1 p nothing_held taken) rest
+    goes _ _ to p words (word_walks leaf.rules true 1 p nothing_collected taken) (turn_passes leaf true 1 p nothing_collected taken) rest
 over_1 false p words to taken rest =
-    goes _ _ to p words (word_walks leaf.rules false 1 p nothing_held taken) (turn_passes leaf false 1 p nothing_held taken) rest
+    goes _ _ to p words (word_walks leaf.rules false 1 p nothing_collected taken) (turn_passes leaf false 1 p nothing_collected taken) rest
 
 over_2 : (b : Bool) (p m : List ℕ) (words : List (List ℕ)) (to : Walk) → IsTaken b m → Goes (at b (after_2 p m) 3) words to
     → Goes (at b (after_1 p) 2) (m ∷ words) to
@@ -131,7 +131,7 @@ over_3 false p m s words to taken rest =
 
 -- The walk over words that name three files ends with the three.
 abbrev Takes : List (List ℕ) → List ℕ → List ℕ → List ℕ → Type 0
-Takes words p m s = (b : Bool) × Goes (walk_from nothing_held) words (at b (after_3 p m s) 4)
+Takes words p m s = (b : Bool) × Goes (walk_from nothing_collected) words (at b (after_3 p m s) 4)
 
 takes_with_hyphens : (p m s : List ℕ) (before after : List (List ℕ)) → p ∷ m ∷ s ∷ [] ≡ before ++ after
     → AreFileWords before → Takes (before ++ codes "--" ∷ after) p m s
@@ -177,7 +177,7 @@ finds_all p m s = refl
 
 -- where the walk over the line stops: at the word `verify`, with these words after it
 abbrev stopped_at : List (List ℕ) → Walk
-stopped_at words = record (walk_from nothing_held) { stopped = Some (codes "verify", words) }
+stopped_at words = record (walk_from nothing_collected) { stopped = Some (codes "verify", words) }
 
 -- more words are added to those,
 stops : (c : List Rule) (subcommands : Names) (words more : List (List ℕ))
@@ -197,21 +197,21 @@ stops_well s subcommands words (word ∷ more) = stops_well s subcommands (words
 abbrev whole : App
 whole = built hbsign_app
 
-first_step : walked whole.top.rules (names_of whole) (walk_from nothing_held) (codes "verify") ≡ stopped_at []
+first_step : walked whole.top.rules (names_of whole) (walk_from nothing_collected) (codes "verify") ≡ stopped_at []
 unfolding clap_on_literals
 first_step = refl
 
-first_well : turn_fault whole.top (names_of whole) (walk_from nothing_held) (codes "verify") ≡ []
+first_well : turn_fault whole.top (names_of whole) (walk_from nothing_collected) (codes "verify") ≡ []
 unfolding clap_on_literals
 first_well = refl
 
-line_walk : (names : List (List ℕ)) → walk whole.top.rules (names_of whole) nothing_held (codes "verify" ∷ names) ≡ stopped_at names
+line_walk : (names : List (List ℕ)) → walk whole.top.rules (names_of whole) nothing_collected (codes "verify" ∷ names) ≡ stopped_at names
 line_walk names = ap (λ w. fold (walked whole.top.rules (names_of whole)) w names) first_step ∙ stops whole.top.rules (names_of whole) [] names
 
-line_well : (names : List (List ℕ)) → walk_fault whole.top (names_of whole) (walk_from nothing_held) (codes "verify" ∷ names) ≡ []
+line_well : (names : List (List ℕ)) → walk_fault whole.top (names_of whole) (walk_from nothing_collected) (codes "verify" ∷ names) ≡ []
 unfolding walk_fault
 line_well names =
-    ap (λ k. or_else k (walk_fault whole.top (names_of whole) (walked whole.top.rules (names_of whole) (walk_from nothing_held) (codes "verify")) names)) first_well
+    ap (λ k. or_else k (walk_fault whole.top (names_of whole) (walked whole.top.rules (names_of whole) (walk_from nothing_collected) (codes "verify")) names)) first_well
     ∙ ap (λ w. walk_fault whole.top (names_of whole) w names) first_step ∙ stops_well whole.top (names_of whole) [] names
 
 -- so the line enters `verify` with the words after it
@@ -233,9 +233,9 @@ unfolding clap_on_literals
 ends_well b p m s = refl
 
 -- so `verify` takes the three files
-verifies_well : (names : List (List ℕ)) (p m s : List ℕ) → Takes names p m s → level_fault leaf [] nothing_held names false [] ≡ []
+verifies_well : (names : List (List ℕ)) (p m s : List ℕ) → Takes names p m s → level_fault leaf [] nothing_collected names false [] ≡ []
 verifies_well names p m s (b, (ends, passes)) =
-    ap (λ k. or_else k (end_fault (walk leaf.rules [] nothing_held names))) passes
+    ap (λ k. or_else k (end_fault (walk leaf.rules [] nothing_collected names))) passes
     ∙ ap end_fault ends ∙ ends_well b p m s
 
 -- the faults of the line, from those of its walk and what the walk comes to
@@ -246,14 +246,14 @@ whole_fault w walking = or_else walking (or_else (entered_fault whole w.stopped)
     (check_fault whole.top (finished whole.top.rules w.held) (is_some (entered whole w.stopped))))))
 
 -- they are those of `verify`
-leaf_fault : (names : List (List ℕ)) → whole_fault (stopped_at names) [] ≡ or_else (level_fault leaf [] nothing_held names false []) []
+leaf_fault : (names : List (List ℕ)) → whole_fault (stopped_at names) [] ≡ or_else (level_fault leaf [] nothing_collected names false []) []
 unfolding clap_on_literals
 leaf_fault names = refl
 
 -- and no fault is in the line
 verifies_name : (names : List (List ℕ)) (p m s : List ℕ) → Takes names p m s → fault_of hbsign_app (codes "verify" ∷ names) ≡ []
 verifies_name names p m s takes =
-    ap (λ w. whole_fault w (walk_fault whole.top (names_of whole) (walk_from nothing_held) (codes "verify" ∷ names))) (line_walk names)
+    ap (λ w. whole_fault w (walk_fault whole.top (names_of whole) (walk_from nothing_collected) (codes "verify" ∷ names))) (line_walk names)
     ∙ ap (whole_fault (stopped_at names)) (line_well names) ∙ leaf_fault names
     ∙ ap (λ k. or_else k []) (verifies_well names p m s takes)
 

@@ -1,9 +1,11 @@
 -- The line that reports each answer, and the exit status.
+use Rattle.std.proofs.Common.{arith}
 use Rattle.std.specs.Prelude.{ℕ, List, codes, ◌++◌, Result, Ok, Err, ◌≡◌, ◌⊎◌}
 use Rattle.command.specs.declared.answer.Done.{Done}
 use Rattle.command.specs.declared.answer.Done.TheVariants.{Verified}
 use Rattle.command.specs.declared.refusal.Refusal.{Refusal}
 use Rattle.command.specs.declared.refusal.Refusal.TheVariants.{Key, Signature, OutOfMemory, FileFailed}
+use Rattle.command.specs.LineFault.{BeginsWithCapital}
 use Rattle.command.specs.Refusal.{refusal_line}
 use Rattle.command.specs.Output.{Taken, Writes, Fails}
 
@@ -28,3 +30,8 @@ status_of (Err (Signature refusal)) = 1
 abbrev pub Reports : Result Done Refusal → Taken → Taken → ℕ → Type 0
 Reports answer old new status =
     ((status ≡ status_of answer) × Writes (answer_line answer) old new) ⊎ ((status ≡ 3) × Fails old new)
+
+-- No answer's line begins with a capital letter.
+pub line_is_lower : (answer : Result Done Refusal) → BeginsWithCapital (answer_line answer) → ⊥
+line_is_lower (Ok Verified) capital = omega (arith, capital)
+line_is_lower (Err refusal) capital = omega (arith, capital)

@@ -1,6 +1,7 @@
 pub mod Answer
 pub mod Files
 pub mod Line
+pub mod LineFault
 pub mod Output
 pub mod Program
 pub mod Refusal

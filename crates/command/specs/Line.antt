@@ -1,15 +1,11 @@
 -- Lines: the program's commands as `clap` knows them, what a line requests, and how it is served.
 use Rattle.std.specs.Prelude.{true, codes, ◌≢◌, ⊤, ℕ, List, [], ◌∷◌, ◌≡◌}
-use Rattle.std.specs.Prelude.{◌⊎◌, ◌++◌, Option, Result, option_map, ◌+◌, Ok, Err}
-use Rattle.clap.specs.Words.{App, new_app, with_subcommand, Text, Row, first_of, Kinds, fault_of, kind_of}
+use Rattle.std.specs.Prelude.{◌⊎◌, ◌++◌, Option, Result, option_map}
+use Rattle.clap.specs.Words.{App, new_app, with_subcommand, Text, Row, first_of}
 use Rattle.command.specs.declared.verify.Verify.{Verify as VerifyFiles}
 use Rattle.command.specs.declared.line.Request.{Request}
 use Rattle.command.specs.declared.line.Request.TheVariants.{Verify}
 use Rattle.command.specs.declared.refusal.Refusal.{Refusal}
-use Rattle.clap.specs.declared.error.kind.ErrorKind.TheVariants as kind
-use Rattle.clap.specs.declared.error.kind.ErrorKind.{ErrorKind}
-use Rattle.clap.specs.declared.error.kind.ErrorKind.TheVariants.{OutOfMemory}
-use Rattle.clap.specs.declared.error.Error.{Error}
 use Rattle.command.specs.Verify.{verify_app, Verifies}
 use Rattle.command.specs.Trace.{Happening}
 
@@ -79,16 +75,3 @@ files_of rows = (first_of (codes "PUBLIC") rows, first_of (codes "MESSAGE") rows
 -- a subcommand's name and its files
 abbrev pub named_files : Option (Text × List Row) → Option (Text × Files)
 named_files = option_map (λ entered. (entered.0, files_of entered.1))
-
--- the kinds of error that a line may have
-abbrev pub line_faults : List (List ℕ) → Kinds
-line_faults words = kind.MissingSubcommand ∷ fault_of hbsign_app words
-
--- One more refusal of memory is counted exactly where the error is one.
-abbrev pub CountsKind : ErrorKind → ℕ → ℕ → Type 0
-CountsKind OutOfMemory old new = new ≡ old + 1
-CountsKind other old new = new ≡ old
-
-abbrev pub CountsRefusals : {A : Type 0} → Result A Error → ℕ → ℕ → Type 0
-CountsRefusals (Ok request) old new = new ≡ old
-CountsRefusals (Err error) old new = CountsKind (kind_of error) old new

@@ -1,11 +1,31 @@
 -- What an output has taken, and what printing a text does to it.
-use Rattle.std.specs.Prelude.{ℕ, List, Option, ◌≡◌, ◌+◌, Result, Ok, Err, IfSome}
+use Rattle.std.specs.Prelude.{ℕ, List, [], Option, ◌≡◌, ◌+◌, ◌++◌, Result, Ok, Err, decimal}
+use Rattle.std.specs.List.{fold}
 use Rattle.std.specs.Io.KnownBytes.{Appends}
+use Rattle.command.specs.declared.output.Part.{Part}
+use Rattle.command.specs.declared.output.Part.TheVariants.{Text, Number}
+
+-- the text of a part
+abbrev pub part_text : Part → List ℕ
+part_text (Text text) = text.now
+part_text (Number number) = decimal number
+
+-- the text of parts, one after another
+abbrev pub text_of : List Part → List ℕ
+text_of parts = fold (λ text part. text ++ part_text part) [] parts
 
 -- the bytes that an output took, where they are known, and how many texts it couldn't write
 pub record Taken : Type 0 where
   pub contents : Option (List ℕ)
   pub failures : ℕ
+
+abbrev pub taken_of : Option (List ℕ) → ℕ → Taken
+taken_of bytes count = record { contents = bytes; failures = count }
+
+-- One more failure is counted exactly where there is one.
+abbrev pub CountsFailure : {A E : Type 0} → Result A E → ℕ → ℕ → Type 0
+CountsFailure (Ok _) old new = new ≡ old
+CountsFailure (Err _) old new = new ≡ old + 1
 
 -- The text was written after what was there.
 abbrev pub Writes : List ℕ → Taken → Taken → Type 0
@@ -15,7 +35,7 @@ Writes text old new = (new.failures ≡ old.failures) × Appends old.contents ne
 abbrev pub Fails : Taken → Taken → Type 0
 Fails old new = new.failures ≡ old.failures + 1
 
--- What printing a text does, where the text is known.
-abbrev pub Prints : {A E : Type 0} → Option (List ℕ) → Taken → Taken → Result A E → Type 0
-Prints text old new (Ok _) = (new.failures ≡ old.failures) × IfSome text (Appends old.contents new.contents)
+-- What printing a text does.
+abbrev pub Prints : {A E : Type 0} → List ℕ → Taken → Taken → Result A E → Type 0
+Prints text old new (Ok _) = Writes text old new
 Prints text old new (Err _) = Fails old new

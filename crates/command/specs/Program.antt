@@ -1,12 +1,13 @@
 -- What a run of the program does: what it prints, and what it does to files.
-use Rattle.std.specs.Prelude.{ℕ, List, Option, Result, ◌≡◌, ◌⊎◌, ◌++◌, codes, ◌<◌, length, Err, []}
+use Rattle.std.specs.Prelude.{ℕ, List, Option, Result, ◌≡◌, ◌⊎◌, codes, ◌<◌, length, Err, [], string_bytes}
 use Rattle.command.specs.declared.refusal.Refusal.{Refusal}
 use Rattle.command.specs.declared.answer.Done.{Done}
-use Rattle.clap.specs.declared.error.kind.ErrorKind.{ErrorKind}
-use Rattle.clap.specs.declared.error.kind.ErrorKind.TheVariants as kind
+use Rattle.command.specs.declared.line_fault.LineFault.{LineFault}
+use Rattle.command.specs.declared.line_fault.LineFault.TheVariants as fault
 use Rattle.command.specs.declared.refusal.Refusal.TheVariants.{OutOfMemory}
-use Rattle.clap.specs.Words.{IsAmong, fault_of}
-use Rattle.command.specs.Line.{hbsign_app, line_faults}
+use Rattle.clap.specs.Words.{fault_of}
+use Rattle.command.specs.Line.{hbsign_app}
+use Rattle.command.specs.LineFault.{HasLineFault, HasText}
 use Rattle.command.specs.Verify.{Verifies}
 use Rattle.command.specs.Answer.{Reports}
 use Rattle.command.specs.Output.{Taken, Writes, Fails}
@@ -23,18 +24,6 @@ ReportsVerify content public message signature before after old new status =
 abbrev pub Helps : List ℕ → Taken → Taken → ℕ → Type 0
 Helps text old new status = ((status ≡ 0) × Writes text old new) ⊎ ((status ≡ 3) × Fails old new)
 
--- how the program is called
-abbrev pub help_text : List ℕ
-help_text =
-    codes "Verifies hash-based signatures: LMS and HSS of RFC 8554, XMSS of RFC 8391.\n\n"
-    ++ codes "Usage: hbsign verify [--] PUBLIC MESSAGE SIGNATURE\n"
-    ++ codes "       hbsign --help | --version\n\n"
-    ++ codes "Commands:\n"
-    ++ codes "  verify  Reports whether SIGNATURE is the signature of MESSAGE under the key PUBLIC\n\n"
-    ++ codes "Options:\n"
-    ++ codes "  -h, --help     Print this text\n"
-    ++ codes "  -V, --version  Print the version\n"
-
 -- the line of the program's name and version
 abbrev pub version_line : List ℕ
 version_line = codes "hbsign 0.1.0\n"
@@ -47,13 +36,18 @@ Says old new = ((text : List ℕ) × (0 < length text) × Writes text old new) �
 abbrev pub Refuses : Taken → Taken → Taken → Taken → Type 0
 Refuses old new errors_old errors_new = (new ≡ old) × Says errors_old errors_new
 
--- What comes of a line for which `clap` gives an error of this kind: the answer that there is no memory; help; the
--- version; or nothing on the output, and status 2.
-abbrev pub Explains : ErrorKind → Taken → Taken → ℕ → Type 0
-Explains kind.OutOfMemory old new status = Reports (Err OutOfMemory) old new status
-Explains kind.DisplayHelp old new status = Helps help_text old new status
-Explains kind.DisplayVersion old new status = Helps version_line old new status
-Explains other old new status = (status ≡ 2) × (new ≡ old)
+-- What comes of a line with this fault: the text of help, the version, nothing on the output and status 2, or the
+-- answer that there is no memory.
+abbrev pub Explains : LineFault → Taken → Taken → ℕ → Type 0
+Explains (fault.Help text) old new status = Helps (string_bytes text) old new status
+Explains fault.Version old new status = Helps version_line old new status
+Explains (fault.Refused text) old new status = (status ≡ 2) × (new ≡ old)
+Explains fault.OutOfMemory old new status = Reports (Err OutOfMemory) old new status
+
+-- The words have a fault, of which this comes. A text of help begins with a capital letter, and so is no answer's line.
+abbrev pub ExplainsLine : List (List ℕ) → Taken → Taken → ℕ → Type 0
+ExplainsLine words old new status =
+    (why : LineFault) × HasLineFault words why × HasText why × Explains why old new status
 
 -- Memory was refused to the reader of the line: this is reported, and no file was opened.
 abbrev pub ReportsNoMemory : Type 0 → List Happening → List Happening → Taken → Taken → ℕ → Type 0
@@ -67,7 +61,7 @@ abbrev pub Runs : List (List ℕ) → (List ℕ → Option (List ℕ)) → Type 
 Runs words content refused before after old new status =
     ((fault_of hbsign_app words ≡ []) × ((p : List ℕ) × (m : List ℕ) × (s : List ℕ)
     × ReportsVerify content p m s before after old new status))
-    ⊎ ((fault : ErrorKind) × IsAmong fault (line_faults words) × (after ≡ before) × Explains fault old new status)
+    ⊎ ((after ≡ before) × ExplainsLine words old new status)
     ⊎ ReportsNoMemory refused before after old new status
 
 -- Of a line `verify p m s` it answers for these paths, unless there is no memory.

@@ -1,13 +1,14 @@
 //! The words of a command line, as `clap` reads them.
 
-ghost use Rattle.std.specs.Prelude.{◌≡◌, ℕ, List, ◌∷◌, [], IfErr, IfOk};
+ghost use Rattle.std.specs.Prelude.{◌≡◌, ◌⊎◌, ℕ, List, ◌∷◌, [], IfErr, IfOk};
 ghost use Rattle.std.specs.Prelude.{IfSome, IsSomeAnd, MatchResult, Some, codes, map};
 ghost use Rattle.clap.specs.Words.{HasKind, app_of, fault_of, kind_of, subcommand_name_of, subcommand_rows_of};
-ghost use Rattle.command.specs.Line.{CountsRefusals, IsVerifyLine, command_of, hbsign_app};
-ghost use Rattle.command.specs.Line.{line_faults, line_of, named_files, paths_of};
+ghost use Rattle.command.specs.Line.{IsVerifyLine, command_of, hbsign_app, line_of, named_files, paths_of};
+ghost use Rattle.command.specs.LineFault.{CountsRefusals, HasLineFault, HasText, line_faults};
 
 use crate::answer::Answer;
 use crate::files::Folder;
+use crate::line_fault::LineFault;
 use crate::verify::Verify;
 use clap::error::ErrorKind;
 use clap::{ArgMatches, Command, Error};
@@ -50,14 +51,16 @@ pub trait LineReader {
     // how often memory was refused
     ghost refusals: { Self → ℕ };
 
-    /// Reads the words of a line, without the program's name. An error has one of the kinds that `clap` gives for
-    /// these words, or there is no memory.
-    fn read<'a, S: AsStr>(&mut self, words: &'a [S]) -> Result<Request<'a>, Error>
+    /// Reads the words of a line, without the program's name. The fault is one that `clap` gives for these words, or
+    /// there is no memory.
+    fn read<'a, S: AsStr>(&mut self, words: &'a [S]) -> Result<Request<'a>, LineFault>
         ensures verifies { (p m s : List ℕ) → IsVerifyLine (map S.text words.now) p m s
             → MatchResult result (λ request. line_of request ≡ codes "verify" ∷ p ∷ m ∷ s ∷ [])
-            (λ error. kind_of error ≡ ErrorKind.OutOfMemory) }
+            (λ fault. fault ≡ LineFault.OutOfMemory) }
         ensures ok { IfOk result (λ _. fault_of hbsign_app (map S.text words.now) ≡ []) }
-        ensures err { IfErr result (HasKind (line_faults (map S.text words.now))) }
+        ensures err { IfErr result (λ fault. (fault ≡ LineFault.OutOfMemory)
+            ⊎ HasLineFault (map S.text words.now) fault) }
+        ensures text { IfErr result HasText }
         ensures counts { CountsRefusals result (refusals self.old) (refusals self.new) };
 }
 
@@ -81,14 +84,17 @@ impl ClapReader {
 impl LineReader for ClapReader {
     ghost refusals = { λ reader. reader.refusals };
 
-    fn read<'a, S: AsStr>(&mut self, words: &'a [S]) -> Result<Request<'a>, Error> {
-        let request = read(self.alloc, words);
-        if let Err(error) = &request {
-            if error.kind() == ErrorKind::OutOfMemory {
-                self.refusals.add_one();
+    fn read<'a, S: AsStr>(&mut self, words: &'a [S]) -> Result<Request<'a>, LineFault> {
+        match read(self.alloc, words) {
+            Ok(request) => Ok(request),
+            Err(error) => {
+                let fault = LineFault::of(self.alloc, &error);
+                if matches!(fault, LineFault::OutOfMemory) {
+                    self.refusals.add_one();
+                }
+                Err(fault)
             }
         }
-        request
     }
 }
 

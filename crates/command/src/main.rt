@@ -15,6 +15,7 @@
 mod answer;
 mod files;
 mod line;
+mod line_fault;
 mod output;
 mod program;
 mod refusal;
@@ -25,7 +26,7 @@ mod verify;
 
 use files::Machine;
 use line::ClapReader;
-use output::{Output, Printer};
+use output::{Output, Part, Printer};
 use refusal::Refusal;
 use std::process::ExitCode;
 use std::{env, io};
@@ -48,7 +49,7 @@ fn main(rt: HostRuntime) -> ExitCode {
             answer::report(&Err(Refusal::OutOfMemory), &mut output)
         }
         Err(_) => {
-            let _ = errors.print("error: a word of the line isn't UTF-8\n");
+            let _ = errors.print(&[Part::Text("error: a word of the line isn't UTF-8\n")]);
             program::LINE_REFUSED
         }
     })

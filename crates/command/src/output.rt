@@ -1,22 +1,31 @@
 //! Where the program writes, with a count of the texts that it couldn't write.
 
-ghost use Rattle.std.specs.Prelude.{◌≡◌, IfSome, OnOk};
+ghost use Rattle.std.specs.Prelude.{◌≡◌, OnOk};
 ghost use Rattle.std.specs.Io.KnownBytes.{Appends};
-ghost use Rattle.command.specs.Output.{Prints, Taken};
+ghost use Rattle.command.specs.Output.{CountsFailure, Prints, Taken, part_text, taken_of, text_of};
 
-use std::fmt::Display;
 use std::io;
 use std::io::Write;
 use typecodes::Count;
+
+/// A part of a text.
+#[derive(Clone, Copy, Debug)]
+pub enum Part<'a> {
+    /// These characters.
+    Text(&'a str),
+    /// A number, by its decimal digits.
+    Number(u64),
+}
 
 /// What takes the texts of the program.
 pub trait Output {
     // the bytes that it took, where they are known, and how many texts it couldn't write
     ghost taken: { Self → Taken };
 
-    /// Writes a text to its end, and passes it on.
-    fn print<D: Display + Drop>(&mut self, text: D) -> io::Result<()>
-        ensures { Prints (D.output text) (taken self.old) (taken self.new) result };
+    /// Writes the parts of a text one after another, and passes the text on. That it fails only where what it writes to
+    /// does, and doesn't keep the text back, is tested.
+    fn print(&mut self, parts: &[Part<'_>]) -> io::Result<()>
+        ensures { Prints (text_of parts.now) (taken self.old) (taken self.new) result };
 }
 
 /// A writer, with its count.
@@ -41,19 +50,39 @@ impl<W: Write> Printer<W> {
 impl<W: Write> Output for Printer<W> {
     ghost taken = { λ p. record { contents = W.contents p.writer; failures = p.failures } };
 
-    fn print<D: Display + Drop>(&mut self, text: D) -> io::Result<()> {
-        let written = write_out(&mut self.writer, text);
-        if written.is_err() {
-            self.failures.add_one();
-        }
-        written
+    fn print(&mut self, parts: &[Part<'_>]) -> io::Result<()> {
+        write_text(&mut self.writer, &mut self.failures, parts)
     }
 }
 
-// Writes a text to its end, and passes it on.
-fn write_out<W: Write, D: Display + Drop>(writer: &mut W, text: D) -> io::Result<()>
-    ensures { OnOk result (IfSome (D.output text) (Appends (W.contents writer.old) (W.contents writer.new))) }
+// Writes the parts of a text one after another, up to one that fails, and passes the text on.
+fn write_text<W: Write>(writer: &mut W, failures: &mut Count, parts: &[Part<'_>]) -> io::Result<()>
+    ensures { Prints (text_of parts.now) (taken_of (W.contents writer.old) failures.old)
+        (taken_of (W.contents writer.new) failures.new) result }
 {
-    writer.write_fmt(text)?;
-    writer.flush()
+    for part in parts {
+        counted(write_part(writer, part), failures)?;
+    }
+    counted(writer.flush(), failures)
+}
+
+// Writes a part.
+fn write_part<W: Write>(writer: &mut W, part: &Part<'_>) -> io::Result<()>
+    ensures { OnOk result (Appends (W.contents writer.old) (W.contents writer.new) (part_text part.now)) }
+{
+    match part {
+        Part::Text(text) => writer.write_all(text.as_bytes()),
+        Part::Number(number) => writer.write_fmt(*number),
+    }
+}
+
+// What a writer answered, which is counted where it failed. No other function counts.
+fn counted(answer: io::Result<()>, failures: &mut Count) -> io::Result<()>
+    ensures answer { result ≡ answer }
+    ensures counts { CountsFailure answer failures.old failures.new }
+{
+    if answer.is_err() {
+        failures.add_one();
+    }
+    answer
 }

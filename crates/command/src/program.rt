@@ -1,41 +1,24 @@
 //! The whole program.
 
 ghost use Rattle.std.specs.Prelude.{◌≡◌, ◌≢◌, ◌+◌, ◌<◌, ◌⊎◌, ℕ, List, [], length, map};
-ghost use Rattle.clap.specs.Words.{fault_of, kind_of};
+ghost use Rattle.clap.specs.Words.{fault_of};
 ghost use Rattle.command.specs.Line.{IsVerifyLine, hbsign_app};
+ghost use Rattle.command.specs.LineFault.{HasText};
 ghost use Rattle.command.specs.Program.{Explains, Helps, Refuses, Runs, RunsVerify, Says};
 ghost use Rattle.command.specs.Output.{Fails, Writes};
 
 use crate::answer::{OUTPUT_FAILED, report};
 use crate::files::Folder;
 use crate::line::LineReader;
-use crate::output::Output;
+use crate::line_fault::LineFault;
+use crate::output::{Output, Part};
 use crate::refusal::Refusal;
-use clap::error::ErrorKind;
 use std::alloc::Global;
 use std::convert::AsStr;
 use std::io::Read;
 
 /// The exit status of a line that is refused.
 pub const LINE_REFUSED: u8 = 2;
-
-// What is printed of a refused line where there is no memory for more.
-const REFUSED_LINE: &str = "error: this line can't be read\n";
-
-// How the program is called.
-const HELP: &str = "\
-Verifies hash-based signatures: LMS and HSS of RFC 8554, XMSS of RFC 8391.
-
-Usage: hbsign verify [--] PUBLIC MESSAGE SIGNATURE
-       hbsign --help | --version
-
-Commands:
-  verify  Reports whether SIGNATURE is the signature of MESSAGE under the key PUBLIC
-
-Options:
-  -h, --help     Print this text
-  -V, --version  Print the version
-";
 
 // The program's name and version.
 const VERSION_LINE: &str = "hbsign 0.1.0\n";
@@ -73,31 +56,27 @@ where
 {
     match lines.read(words) {
         Ok(request) => report(&request.answer(alloc, folder), output),
-        Err(error) => explain(alloc, &error, output, errors),
+        Err(fault) => explain(&fault, output, errors),
     }
 }
 
-// Reports why `clap` gives no request: the help or the version that was requested, what is wrong with the
-// line, or that there is no memory.
-fn explain<O: Output, E: Output>(
-    alloc: Global,
-    error: &clap::Error,
-    output: &mut O,
-    errors: &mut E,
-) -> u8
-    ensures explains { Explains (kind_of error.now) (O.taken output.old) (O.taken output.new) result }
+// Reports why there is no request: the help or the version that was requested, what is wrong with the line, or that
+// there is no memory.
+fn explain<O: Output, E: Output>(fault: &LineFault, output: &mut O, errors: &mut E) -> u8
+    requires { HasText fault.now }
+    ensures explains { Explains fault.now (O.taken output.old) (O.taken output.new) result }
     ensures refuses { result ≡ 2
         → Refuses (O.taken output.old) (O.taken output.new) (E.taken errors.old) (E.taken errors.new) }
     ensures silent { result ≢ 2 → E.taken errors.new ≡ E.taken errors.old }
 {
-    match error.kind() {
-        ErrorKind::OutOfMemory => report(&Err(Refusal::OutOfMemory), output),
-        ErrorKind::DisplayHelp => print(HELP, output),
-        ErrorKind::DisplayVersion => print(VERSION_LINE, output),
-        _ => {
-            refuse(alloc, error, errors);
+    match fault {
+        LineFault::Help(text) => print(text.as_str(), output),
+        LineFault::Version => print(VERSION_LINE, output),
+        LineFault::Refused(text) => {
+            let _ = errors.print(&[Part::Text(text.as_str())]);
             LINE_REFUSED
         }
+        LineFault::OutOfMemory => report(&Err(Refusal::OutOfMemory), output),
     }
 }
 
@@ -105,25 +84,8 @@ fn explain<O: Output, E: Output>(
 fn print<O: Output>(text: &str, output: &mut O) -> u8
     ensures { Helps text.now (O.taken output.old) (O.taken output.new) result }
 {
-    match output.print(text) {
+    match output.print(&[Part::Text(text)]) {
         Ok(()) => 0,
         Err(_) => OUTPUT_FAILED,
     }
-}
-
-// Says what is wrong with a line.
-fn refuse<E: Output>(alloc: Global, error: &clap::Error, errors: &mut E)
-    ensures { Says (E.taken errors.old) (E.taken errors.new) }
-{
-    let _ = match format!(in alloc; "{error}") {
-        Ok(text) => errors.print(text_or_refusal(&text)),
-        Err(_) => errors.print(REFUSED_LINE),
-    };
-}
-
-// The text, or one that isn't empty.
-fn text_or_refusal(text: &str) -> &str
-    ensures { 0 < length result.now }
-{
-    if text.is_empty() { REFUSED_LINE } else { text }
 }

@@ -1,12 +1,14 @@
 //! Why a command refuses: each refusal with its number, its name and its line.
 
-ghost use Rattle.std.specs.Prelude.{◌≡◌, Some};
+ghost use Rattle.std.specs.Prelude.{◌≡◌, ◌++◌, codes};
 ghost use Rattle.std.specs.IoError.{error_kind};
-ghost use Rattle.command.specs.Refusal.{fault_name_of, name_of, number_of, refusal_line, refusal_of};
+ghost use Rattle.command.specs.Output.{text_of};
+ghost use Rattle.command.specs.Refusal.{detail_of, fault_name_of, name_of, number_of, refusal_line, refusal_of};
 
+use crate::output::Part;
 use sign_core::KeyFault;
+use std::io;
 use std::io::ErrorKind;
-use std::{error, fmt, io};
 use typecodes::{Cause, Refusal as SignatureRefusal};
 
 /// Why a command doesn't do what was requested.
@@ -51,6 +53,43 @@ impl Refusal {
             Refusal::FileFailed => "FileFailed",
         }
     }
+    // What follows the name: a word and a number, or nothing.
+    fn detail(&self) -> [Part<'static>; 2]
+        ensures { text_of result ≡ detail_of self.now }
+    {
+        match self {
+            Refusal::Key(KeyFault::Unreadable(fault))
+            | Refusal::Signature(SignatureRefusal::Unreadable(fault)) => {
+                [Part::Text(" at "), Part::Number(u64::from(fault.place))]
+            }
+            Refusal::Key(KeyFault::Length(length)) => [
+                Part::Text(" of "),
+                Part::Number(*length as u64),
+            ],
+            Refusal::Signature(
+                SignatureRefusal::TypeMismatch(level) | SignatureRefusal::RootMismatch(level),
+            ) => [Part::Text(" level "), Part::Number(u64::from(*level))],
+            Refusal::Signature(SignatureRefusal::LevelMismatch)
+            | Refusal::OutOfMemory
+            | Refusal::FileFailed => [Part::Text(""), Part::Text("")],
+        }
+    }
+
+    /// Its line with the end, in parts, which take no memory.
+    pub fn line(&self) -> [Part<'static>; 7]
+        ensures { text_of result ≡ refusal_line self.now ++ codes "\n" }
+    {
+        let [word, number] = self.detail();
+        [
+            Part::Text("refused "),
+            Part::Number(u64::from(self.number())),
+            Part::Text(" "),
+            Part::Text(self.name()),
+            word,
+            number,
+            Part::Text("\n"),
+        ]
+    }
 }
 
 // The name of a fault.
@@ -65,33 +104,6 @@ fn fault_name(cause: Cause) -> &'static str
         Cause::Trailing => "Trailing",
     }
 }
-
-/// Writes the refusal's line, without the end.
-impl fmt::Display for Refusal {
-    ghost output = { λ refusal. Some (refusal_line refusal) };
-
-    fn fmt<W: fmt::Write>(&self, f: &mut fmt::Formatter<W>) -> fmt::Result {
-        let number = self.number();
-        let name = self.name();
-        write!(f, "refused {number} {name}")?;
-        match self {
-            Refusal::Key(KeyFault::Unreadable(fault))
-            | Refusal::Signature(SignatureRefusal::Unreadable(fault)) => {
-                let place = fault.place;
-                write!(f, " at {place}")
-            }
-            Refusal::Key(KeyFault::Length(length)) => write!(f, " of {length}"),
-            Refusal::Signature(
-                SignatureRefusal::TypeMismatch(level) | SignatureRefusal::RootMismatch(level),
-            ) => write!(f, " level {level}"),
-            Refusal::Signature(SignatureRefusal::LevelMismatch)
-            | Refusal::OutOfMemory
-            | Refusal::FileFailed => Ok(()),
-        }
-    }
-}
-
-impl error::Error for Refusal {}
 
 /// 46 exactly where memory was refused, and 53 for every other failure of a file.
 impl From<io::Error> for Refusal {

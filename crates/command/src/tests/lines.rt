@@ -60,19 +60,24 @@ fn explains_a_wrong_line(rt: HostRuntime) -> Result<(), Fail> {
     Ok(())
 }
 
+// What a text of help begins with, and what it names.
+const PROGRAM: &[u8] = b"Hash-based signatures on files\n\nUsage: hbsign";
+
+const VERIFY: &[u8] = b"Verifies a signature of a message\n\nUsage: hbsign verify";
+
 #[test]
 fn helps(rt: HostRuntime) -> Result<(), Fail> {
-    for line in [
-        "--help",
-        "-h",
-        "help",
-        "help verify",
-        "verify --help",
-        "verify a --help b",
+    for (line, beginning) in [
+        ("--help", PROGRAM),
+        ("-h", PROGRAM),
+        ("help", PROGRAM),
+        ("help verify", VERIFY),
+        ("verify --help", VERIFY),
+        ("verify a --help b", VERIFY),
     ] {
         let words: Vec<&str> = line.split_whitespace().collect(rt.alloc())?;
         let outcome = run_words(&rt, &words);
-        assert!(rt; has_usage(&outcome.output), "{line}");
+        assert!(rt; outcome.output.starts_with(beginning), "{line}");
         assert!(rt; outcome.errors.is_empty(), "{line}");
         assert_eq!(rt; outcome.status, 0, "{line}");
     }

@@ -1,4 +1,4 @@
-use Rattle.std.proofs.Common.{rules, ◌≡◌, ◌∙◌, ◌+◌, arith, inl}
+use Rattle.std.proofs.Common.{rules, ◌∙◌, arith, inl}
 use Rattle.command.proofs.Reading.{collects_err, collects_no_memory, consumes_more, fails_later, gives_forever, grown, reads_more, too_large}
 use Rattle.command.specs.Trace.{Reads}
 use Rattle.std.proofs.Common.{subst, sym}

@@ -1,7 +1,7 @@
 use Rattle.std.proofs.Common.{ap, ◌∙◌, map, sym, subst}
 use Rattle.clap.specs.Words.{HasKind, fault_of, is_simple, is_simple_and_free, subcommand_of}
-use Rattle.command.specs.Line.{named_files}
-use Rattle.command.proofs.Finding.{handed_err, handed_on, only_memory, or_another}
+use Rattle.command.specs.Line.{hbsign_app, named_files}
+use Rattle.command.proofs.Finding.{handed_err, handed_on, only_memory, or_others}
 use Rattle.command.proofs.Walking.{finds_line, no_fault, simple, simple_and_free}
 use Rattle.command.proofs.line.read.Goals as goal
 
@@ -18,7 +18,7 @@ returns-in_err-matches-clause-err g c =
     let has = c.in_err-matches.ensures.kinds (ap is_simple_and_free built ∙ simple_and_free) in
     let error = c.in_err-matches.field-0.0 in
     handed_err c.from_residual-in_err-matches.result error _ c.from_residual-in_err-matches.ensures.1
-    (or_another _ _ error (subst (λ app. HasKind (fault_of app (map g.S.AsStr.text c.args.words.now)) error) built has))
+    (or_others (fault_of hbsign_app (map g.S.AsStr.text c.args.words.now)) _ error (subst (λ app. HasKind (fault_of app (map g.S.AsStr.text c.args.words.now)) error) built has))
 
 pub returns-in-Some-clause-verifies : goal.returns-in-Some-clause-verifies
 returns-in-Some-clause-verifies g c p m s line =

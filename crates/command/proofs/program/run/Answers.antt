@@ -1,5 +1,5 @@
 use Rattle.std.proofs.Common.{inl, inr}
-use Rattle.command.proofs.Explaining.{explains_error, explains_memory}
+use Rattle.command.proofs.Explaining.{explains_fault, explains_memory}
 use Rattle.command.proofs.Visiting.{serves_line, serves_some}
 use Rattle.command.proofs.program.run.Goals as goal
 
@@ -15,8 +15,8 @@ returns-in-Ok-clause-verifies g c p m s line =
 
 pub returns-in-Err-clause-runs : goal.returns-in-Err-clause-runs
 returns-in-Err-clause-runs g c =
-    explains_error _ _ c.in-Err.error _ _ _ _ _ _ c.in-Err.ensures.err c.in-Err.ensures.counts c.explain.ensures.explains
+    explains_fault _ _ c.in-Err.fault _ _ _ _ _ _ c.in-Err.ensures.err c.in-Err.ensures.text c.in-Err.ensures.counts c.explain.ensures.explains
 
 pub returns-in-Err-clause-verifies : goal.returns-in-Err-clause-verifies
 returns-in-Err-clause-verifies g c p m s line =
-    inr (explains_memory c.in-Err.error _ _ _ _ _ _ (c.in-Err.ensures.verifies p m s line) c.in-Err.ensures.counts c.explain.ensures.explains)
+    inr (explains_memory c.in-Err.fault _ _ _ _ _ _ (c.in-Err.ensures.verifies p m s line) c.in-Err.ensures.counts c.explain.ensures.explains)

@@ -1,6 +1,5 @@
-use Rattle.std.proofs.Common.{List, ℕ, subst}
+use Rattle.std.proofs.Common.{subst}
 use Rattle.command.specs.Verify.{Judgement}
-use Rattle.command.specs.Files.{ReadsKey}
 use Rattle.command.proofs.Deciding.{decided}
 use Rattle.command.proofs.Judging.{judged, read_key}
 use Rattle.command.proofs.verify.judge.Goals as goal

@@ -1,0 +1,53 @@
+-- Why a line gives no request: the kinds of `clap`'s errors, and the texts that are printed.
+use Rattle.std.specs.Prelude.{ℕ, List, [], ◌∷◌, ◌≡◌, ◌≤◌, ◌<◌, ◌+◌, ⊤, Result, Ok, Err, length, string_bytes}
+use Rattle.clap.specs.Kinds.{or_else}
+use Rattle.clap.specs.Words.{IsAmong, Kinds, fault_of}
+use Rattle.clap.specs.declared.error.kind.ErrorKind.{ErrorKind}
+use Rattle.clap.specs.declared.error.kind.ErrorKind.TheVariants as kind
+use Rattle.command.specs.Line.{hbsign_app}
+use Rattle.command.specs.declared.line_fault.LineFault.{LineFault}
+use Rattle.command.specs.declared.line_fault.LineFault.TheVariants.{Help, Version, Refused, OutOfMemory}
+
+-- A text begins with a letter from A to Z.
+abbrev pub BeginsWithCapital : List ℕ → Type 0
+BeginsWithCapital [] = ⊥
+BeginsWithCapital (byte ∷ bytes) = (65 ≤ byte) × (byte ≤ 90)
+
+-- The text of help begins with a capital letter, and that of a refusal isn't empty.
+abbrev pub HasText : LineFault → Type 0
+HasText (Help text) = BeginsWithCapital (string_bytes text)
+HasText Version = ⊤
+HasText (Refused text) = 0 < length (string_bytes text)
+HasText OutOfMemory = ⊤
+
+-- an error of this kind is a mistake in the line: neither a request for help or the version, nor refused memory
+abbrev pub IsMistake : ErrorKind → Type 0
+IsMistake kind.DisplayHelp = ⊥
+IsMistake kind.DisplayVersion = ⊥
+IsMistake kind.OutOfMemory = ⊥
+IsMistake other = ⊤
+
+-- It is the fault of a line for which `clap` gives an error of this kind: help exactly where help was requested, and
+-- the version exactly where the version was.
+abbrev pub IsFaultOf : LineFault → ErrorKind → Type 0
+IsFaultOf (Help text) error = error ≡ kind.DisplayHelp
+IsFaultOf Version error = error ≡ kind.DisplayVersion
+IsFaultOf (Refused text) error = IsMistake error
+IsFaultOf OutOfMemory error = error ≡ kind.OutOfMemory
+
+-- the kinds of error that a line may have: those that `clap` gives, or where it gives none that no command was given
+abbrev pub line_faults : List (List ℕ) → Kinds
+line_faults words = or_else (fault_of hbsign_app words) (kind.MissingSubcommand ∷ [])
+
+-- The words have this fault: `clap` gives an error of its kind for them.
+abbrev pub HasLineFault : List (List ℕ) → LineFault → Type 0
+HasLineFault words fault = (error : ErrorKind) × IsAmong error (line_faults words) × IsFaultOf fault error
+
+-- One more refusal of memory is counted exactly where the fault is one.
+abbrev pub CountsFault : LineFault → ℕ → ℕ → Type 0
+CountsFault OutOfMemory old new = new ≡ old + 1
+CountsFault other old new = new ≡ old
+
+abbrev pub CountsRefusals : {A : Type 0} → Result A LineFault → ℕ → ℕ → Type 0
+CountsRefusals (Ok request) old new = new ≡ old
+CountsRefusals (Err fault) old new = CountsFault fault old new

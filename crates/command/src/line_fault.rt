@@ -1,0 +1,85 @@
+//! What comes of a line that requests nothing of the program's commands.
+
+ghost use Rattle.std.specs.Prelude.{◌≡◌, ◌<◌, ◌⊎◌, IfOk, IsTrue, length, string_bytes};
+ghost use Rattle.clap.specs.Words.{kind_of};
+ghost use Rattle.command.specs.LineFault.{BeginsWithCapital, HasText, IsFaultOf};
+
+use clap::Error;
+use clap::error::ErrorKind;
+use std::alloc::{AllocError, Global};
+
+/// Why a line gives no request.
+#[derive(Debug, Drop)]
+pub enum LineFault {
+    /// Help was requested. Its text begins with a capital letter, as no answer's line does.
+    Help(String),
+    /// The version was requested.
+    Version,
+    /// The line is wrong. The text, which isn't empty, says how.
+    Refused(String),
+    /// There is no memory.
+    OutOfMemory,
+}
+
+// How the program is called.
+const USAGE: &str = "Usage: hbsign <COMMAND>\n";
+
+// What is said of a line of which nothing else is said.
+const REFUSED_LINE: &str = "error: this line can't be read\n";
+
+impl LineFault {
+    /// The fault of a line for which `clap` gives this error, or that there is no memory for its text.
+    pub fn of(alloc: Global, error: &Error) -> LineFault
+        ensures kind { (result ≡ LineFault.OutOfMemory) ⊎ IsFaultOf result (kind_of error.now) }
+        ensures text { HasText result }
+    {
+        match LineFault::with_text(alloc, error) {
+            Ok(fault) => fault,
+            Err(_) => LineFault::OutOfMemory,
+        }
+    }
+
+    // The same, with the text that `clap` makes for the error.
+    fn with_text(alloc: Global, error: &Error) -> Result<LineFault, AllocError>
+        ensures kind { IfOk result (λ fault. IsFaultOf fault (kind_of error.now)) }
+        ensures text { IfOk result HasText }
+    {
+        Ok(match error.kind() {
+            ErrorKind::OutOfMemory => LineFault::OutOfMemory,
+            ErrorKind::DisplayHelp => {
+                LineFault::Help(help_or_usage(alloc, format!(in alloc; "{error}")?)?)
+            }
+            ErrorKind::DisplayVersion => LineFault::Version,
+            _ => LineFault::Refused(text_or_refusal(alloc, format!(in alloc; "{error}")?)?),
+        })
+    }
+}
+
+// The text, or one that begins with a capital letter.
+fn help_or_usage(alloc: Global, text: String) -> Result<String, AllocError>
+    ensures { IfOk result (λ help. BeginsWithCapital (string_bytes help)) }
+{
+    if begins_with_capital(text.as_str()) {
+        Ok(text)
+    } else {
+        String::from_str(alloc, USAGE)
+    }
+}
+
+// Whether a text begins with a capital letter.
+fn begins_with_capital(text: &str) -> bool
+    ensures { IsTrue result → BeginsWithCapital text.now }
+{
+    matches!(text.as_bytes().first(), Some(b'A'..=b'Z'))
+}
+
+// The text, or one that isn't empty.
+fn text_or_refusal(alloc: Global, text: String) -> Result<String, AllocError>
+    ensures { IfOk result (λ refusal. 0 < length (string_bytes refusal)) }
+{
+    if text.is_empty() {
+        String::from_str(alloc, REFUSED_LINE)
+    } else {
+        Ok(text)
+    }
+}
