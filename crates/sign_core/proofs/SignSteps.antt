@@ -241,11 +241,26 @@ free_name {name = name} capacity kept hinders a b c none = record {
 }
 
 -- the same of a signer that is open, from its fields to its view
-pub free_in_view : {S R : Type 0} (list : S → List Record) {fields view : View S R} {limit : ℕ} {stopped : Bool} {bounds : List Bound} {leaf : ℕ} {name : List ℕ} (capacity : ℕ) {fault : Option SignFault} → fields ≡ view → view.is_open ≡ true → (fields.is_open ≡ true → IsLedgerOf (list fields.store) stopped fields.key bounds leaf) → Hinders limit (height_of fields.key.pair.tree) leaf (length bounds + 1) (LacksMemory None (lms_signature_len_of fields.key.pair) capacity fields.spare) (is_sound fields.key) fault → binding_of (list view.store) name ≡ None → FreeName limit (LacksMemory (binding_of (list view.store) name) (lms_signature_len_of view.key.pair) capacity view.spare) (list fields.store) stopped fields.key bounds leaf name fault
+pub free_in_view : {S R : Type 0} (list : S → List Record) {fields view : View S R} {limit : ℕ} {stopped : Bool}
+    {bounds : List Bound} {leaf : ℕ} {name : List ℕ} (capacity : ℕ) {fault : Option SignFault}
+    → fields ≡ view → view.is_open ≡ true
+    → (fields.is_open ≡ true → IsLedgerOf (list fields.store) stopped fields.key bounds leaf)
+    → Hinders limit (height_of fields.key.pair.tree) leaf (length bounds + 1)
+    (LacksMemory None (lms_signature_len_of fields.key.pair) capacity fields.spare) (is_sound fields.key) fault
+    → binding_of (list view.store) name ≡ None
+    → FreeName limit (LacksMemory (binding_of (list view.store) name) (lms_signature_len_of view.key.pair) capacity view.spare)
+    (list fields.store) stopped fields.key bounds leaf name fault
 free_in_view list capacity is view_open kept hinders none =
     free_name capacity (kept (ap (λ w. w.is_open) is ∙ view_open)) hinders (ap (λ w. list w.store) is) (ap (λ w. w.key) is) (ap (λ w. w.spare) is) none
 
-pub signs_in_view : {S R : Type 0} (list : S → List Record) (most : S → ℕ) (upcoming : R → Option (List ℕ)) {fields view : View S R} {limit : ℕ} {lacking : Type 0} {new new' : State} {left : Option (List ℕ)} {name message rest rest' : List ℕ} {answer answer' : Result (List ℕ) SignFault} → fields ≡ view → view.is_open ≡ true → Signs limit lacking (state_of (list fields.store) true) new (upcoming fields.random) left name message rest answer → limit ≡ most fields.store → new ≡ new' → rest ≡ rest' → answer ≡ answer' → Signs (most view.store) lacking (state_of (list view.store) view.is_open) new' (upcoming view.random) left name message rest' answer'
+pub signs_in_view : {S R : Type 0} (list : S → List Record) (most : S → ℕ) (upcoming : R → Option (List ℕ))
+    {fields view : View S R} {limit : ℕ} {lacking : Type 0} {new new' : State} {left : Option (List ℕ)}
+    {name message rest rest' : List ℕ} {answer answer' : Result (List ℕ) SignFault}
+    → fields ≡ view → view.is_open ≡ true
+    → Signs limit lacking (state_of (list fields.store) true) new (upcoming fields.random) left name message rest answer
+    → limit ≡ most fields.store → new ≡ new' → rest ≡ rest' → answer ≡ answer'
+    → Signs (most view.store) lacking (state_of (list view.store) view.is_open) new' (upcoming view.random) left
+    name message rest' answer'
 signs_in_view list most upcoming is view_open signs limit_is new_is rest_is answer_is =
     signs_along signs (limit_is ∙ ap (λ w. most w.store) is) (λ j. state_of (list (is j).store) (sym view_open j)) new_is (ap (λ w. upcoming w.random) is) refl rest_is answer_is
 
