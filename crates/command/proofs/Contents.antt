@@ -8,7 +8,8 @@ use Rattle.sign_core.specs.declared.key.AnyPublic.{AnyPublic}
 use Rattle.sign_core.specs.declared.key.KeyFault.{KeyFault}
 use Rattle.sign_core.specs.Key.{KeyHasFault, SpellsKey}
 use Rattle.command.specs.Verify.{Answers, AnswersOf}
-use Rattle.command.specs.Files.{IsContent, ReadsKey, Shows}
+use Rattle.typecodes.specs.Message.{IsContent}
+use Rattle.command.specs.Files.{ReadsKey, Shows}
 use Rattle.command.specs.Refusal.{refusal_of}
 use Rattle.command.specs.declared.refusal.Refusal.{Refusal}
 use Rattle.command.specs.declared.refusal.Refusal.TheVariants.{OutOfMemory, FileFailed}

@@ -1,5 +1,5 @@
 -- The first bytes of a signature decide, one more than the greatest has.
-use Rattle.std.proofs.Common.{◌≡◌, ℕ, ◌+◌, ◌*◌, ◌^◌, ◌<◌, ◌≤◌, zero, suc, Bool, true, false, cond, nat_lt, nat_le, List, [], ◌∷◌, take, Result, Ok, Err, refl, subst, arith, leb-true}
+use Rattle.std.proofs.Common.{◌≡◌, ℕ, ◌+◌, ◌*◌, ◌^◌, ◌<◌, ◌≤◌, zero, suc, Bool, true, false, cond, nat_lt, nat_le, List, [], ◌∷◌, take, Result, Ok, Err, refl, subst, arith, leb-true, inl, inr}
 use Rattle.std.specs.Prelude.{◌&&◌}
 use Rattle.typecodes.specs.declared.fault.Cause.TheVariants.{LeafOutOfRange, LevelCount}
 use Rattle.typecodes.specs.declared.types.OtsType.{OtsType}
@@ -9,7 +9,7 @@ use Rattle.typecodes.specs.declared.types.LmsType.TheVariants.{H5, H10, H15, H20
 use Rattle.typecodes.specs.declared.types.XmssType.{XmssType}
 use Rattle.typecodes.specs.declared.types.XmssType.TheVariants.{H10 as X10, H16 as X16, H20 as X20}
 use Rattle.typecodes.specs.declared.refusal.Refusal.{Refusal as SignatureRefusal}
-use Rattle.typecodes.specs.declared.refusal.Refusal.TheVariants.{Unreadable, TypeMismatch, LevelMismatch, RootMismatch}
+use Rattle.typecodes.specs.declared.refusal.Refusal.TheVariants.{Unreadable, TypeMismatch, LevelMismatch, RootMismatch, MessageRead}
 use Rattle.typecodes.specs.Types.{chains_of, height_of, ots_code, ots_types, lms_code, lms_types, xmss_height_of}
 use Rattle.typecodes.specs.Layout.{Layout, done, refuse, ◌>>=◌}
 use Rattle.typecodes.specs.Fields.{number, block, values, ots_type, lms_type}
@@ -28,7 +28,7 @@ use Rattle.xmss.specs.Verification.{Verdict as XmssVerdict}
 use Rattle.sign_core.specs.declared.key.AnyPublic.{AnyPublic}
 use Rattle.sign_core.specs.declared.key.AnyPublic.TheVariants.{Lms, Hss, Xmss}
 use Rattle.sign_core.specs.Key.{KeyVerdict}
-use Rattle.command.specs.Verify.{Judgement, decisive}
+use Rattle.command.specs.Verify.{Decides, Judgement, decisive}
 use Rattle.command.specs.declared.refusal.Refusal.{Refusal}
 use Rattle.command.specs.declared.refusal.Refusal.TheVariants.{Key, Signature, OutOfMemory, FileFailed}
 use Rattle.command.proofs.Taking.{TakesAtMost, Any, most-greater, most-bind, most-if, most-done, most-refuse, most-number, most-block, most-typed, most-values, spells-first, fault-first}
@@ -102,6 +102,8 @@ lms_decided count key message bytes (Err (Unreadable fault)) less has =
 lms_decided count key message bytes (Err (TypeMismatch level)) less (top, (s, spelled, other)) =
     (top, (s, spells-first lms_signature 9324 count Any s bytes most-lms_signature less spelled, other))
 lms_decided count key message bytes (Err LevelMismatch) less never = absurd never
+lms_decided count key message bytes (Err MessageRead) less (s, spelled, same) =
+    (s, spells-first lms_signature 9324 count Any s bytes most-lms_signature less spelled, same)
 lms_decided count key message bytes (Err (RootMismatch level)) less (top, (s, spelled, same, invalid)) =
     (top, (s, spells-first lms_signature 9324 count Any s bytes most-lms_signature less spelled, same, invalid))
 
@@ -159,6 +161,8 @@ hss_decided count key message bytes (Err LevelMismatch) less (s, spelled, other)
     (s, spells-first hss_signature 74988 count Any s bytes most-hss_signature less spelled, other)
 hss_decided count key message bytes (Err (TypeMismatch i)) less (s, reaches, other) =
     (s, record { spelled = spells-first hss_signature 74988 count Any s bytes most-hss_signature less reaches.spelled; count = reaches.count; inside = reaches.inside; above = reaches.above }, other)
+hss_decided count key message bytes (Err MessageRead) less (s, reaches, same) =
+    (s, record { spelled = spells-first hss_signature 74988 count Any s bytes most-hss_signature less reaches.spelled; count = reaches.count; inside = reaches.inside; above = reaches.above }, same)
 hss_decided count key message bytes (Err (RootMismatch i)) less (s, reaches, same, invalid) =
     (s, record { spelled = spells-first hss_signature 74988 count Any s bytes most-hss_signature less reaches.spelled; count = reaches.count; inside = reaches.inside; above = reaches.above }, same, invalid)
 
@@ -193,6 +197,8 @@ xmss_decided count key message bytes (Err (Unreadable fault)) less has =
     fault-first (xmss_signature key.tree) 2820 count Any bytes 0 fault (most-xmss_signature key.tree) less has
 xmss_decided count key message bytes (Err (TypeMismatch level)) less never = absurd never
 xmss_decided count key message bytes (Err LevelMismatch) less never = absurd never
+xmss_decided count key message bytes (Err MessageRead) less (s, spelled) =
+    (s, spells-first (xmss_signature key.tree) 2820 count Any s bytes (most-xmss_signature key.tree) less spelled)
 xmss_decided count key message bytes (Err (RootMismatch level)) less (top, (s, spelled, invalid)) =
     (top, (s, spells-first (xmss_signature key.tree) 2820 count Any s bytes (most-xmss_signature key.tree) less spelled, invalid))
 
@@ -222,5 +228,11 @@ unfolding decisive
 more_than_the_greatest = omega arith
 
 -- The judgement of the first bytes of a signature is that of all.
-pub decided : {A : Type 0} (public message signature : List ℕ) (r : Result A Refusal) → Judgement public message (take decisive signature) r → Judgement public message signature r
+decided : {A : Type 0} (public message signature : List ℕ) (r : Result A Refusal) → Judgement public message (take decisive signature) r → Judgement public message signature r
 decided public message signature r judged = decided_by decisive public message signature r more_than_the_greatest judged
+
+pub decides_all : {A : Type 0} (public message all first : List ℕ) (r : Result A Refusal) → Decides all first
+    → Judgement public message first r → Judgement public message all r
+decides_all public message all first r (inl same) judged = subst (λ l. Judgement public message l r) same judged
+decides_all public message all first r (inr same) judged =
+    decided public message all r (subst (λ l. Judgement public message l r) same judged)

@@ -9,3 +9,4 @@ pub mod Taking
 pub mod Visiting
 pub mod Walking
 pub mod Walks
+pub mod MessageReading

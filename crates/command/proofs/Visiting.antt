@@ -1,6 +1,6 @@
 -- Files that are opened and read in turn.
 use Rattle.std.proofs.Common.{◌≡◌, ◌∙◌, ℕ, List, [], ◌∷◌, ◌++◌, Option, Result, Ok, Err, IsErrAnd, codes, inl, inr, sym, ap, subst, append_assoc}
-use Rattle.command.specs.Verify.{AnswersOf, FailsToOpen, IsVerdict, Judgement, OpensInTurn, ReadsInTurn, Verifies, all_opened}
+use Rattle.command.specs.Verify.{AnswersOf, FailsToOpen, OpensInTurn, ReadsInTurn, Verifies, all_opened}
 use Rattle.command.specs.Files.{Shows}
 use Rattle.command.specs.Line.{Serves, line_of, paths_of}
 use Rattle.command.specs.Trace.{Happening}
@@ -33,30 +33,17 @@ verifies_failed {A = A} content p m s refusal (Err error) old new is same fails 
 
 -- files that were opened
 pub verifies_opened : {A : Type 0} (content : List ℕ → Option (List ℕ)) (p m s : List ℕ) (p_left m_left s_left : Option (List ℕ))
-    (p_role m_role s_role : Role) (answer : Result A Refusal) (old opened new : List Happening)
+    (p_role s_role m_role : Role) (answer : Result A Refusal) (old opened new : List Happening)
     → (p_role ≡ role.Public) × Shows (content p) p_left → (m_role ≡ role.Message) × Shows (content m) m_left
     → (s_role ≡ role.Signature) × Shows (content s) s_left → opened ≡ old ++ all_opened p m s
-    → AnswersOf p_left m_left s_left answer → ReadsInTurn p_role m_role s_role answer opened new → Verifies content p m s answer old new
-verifies_opened content p m s p_left m_left s_left p_role m_role s_role answer old opened new (p_is, p_shows) (m_is, m_shows) (s_is, s_shows) opened_is answers reads = (
+    → AnswersOf p_left m_left s_left answer → ReadsInTurn p_role s_role m_role answer opened new → Verifies content p m s answer old new
+verifies_opened content p m s p_left m_left s_left p_role s_role m_role answer old opened new (p_is, p_shows) (m_is, m_shows) (s_is, s_shows) opened_is answers reads = (
   answers_of_files (content p) (content m) (content s) p_left m_left s_left answer p_shows m_shows s_shows answers,
-  inr (subst (λ t. ReadsInTurn role.Public role.Message role.Signature answer t new) opened_is
-      (subst (λ r. ReadsInTurn role.Public role.Message r answer opened new) s_is
-      (subst (λ r. ReadsInTurn role.Public r s_role answer opened new) m_is
-      (subst (λ r. ReadsInTurn r m_role s_role answer opened new) p_is reads)))),
+  inr (subst (λ t. ReadsInTurn role.Public role.Signature role.Message answer t new) opened_is
+      (subst (λ r. ReadsInTurn role.Public role.Signature r answer opened new) m_is
+      (subst (λ r. ReadsInTurn role.Public r m_role answer opened new) s_is
+      (subst (λ r. ReadsInTurn r s_role m_role answer opened new) p_is reads)))),
 )
-
--- a judgement is a verdict
-verdict_of : (A B : Type 0) (p m s : List ℕ) (refusal : Refusal) → Judgement {A = B} p m s (Err refusal) → IsVerdict {A = A} (Err refusal)
-verdict_of A B p m s (Key fault) judged = tt
-verdict_of A B p m s (Signature refusal) judged = tt
-verdict_of A B p m s OutOfMemory judged = absurd judged
-verdict_of A B p m s FileFailed judged = absurd judged
-
-pub verdict_err : {A : Type 0} (B : Type 0) (p m s : List ℕ) (refusal : Refusal) (answer : Result A Refusal)
-    → Judgement {A = B} p m s (Err refusal) → IsErrAnd answer (λ e. e ≡ refusal) → IsVerdict answer
-verdict_err B p m s refusal (Ok a) judged same = absurd same
-verdict_err {A = A} B p m s refusal (Err error) judged same =
-    subst (λ e. IsVerdict {A = A} (Err e)) (sym same) (verdict_of A B p m s refusal judged)
 
 -- a request to verify these files
 pub serves_files : {A : Type 0} (request : Request) (files : VerifyFiles) (content : List ℕ → Option (List ℕ)) (answer : Result A Refusal)

@@ -5,6 +5,7 @@ use Rattle.command.specs.declared.answer.Done.{Done}
 use Rattle.command.specs.declared.answer.Done.TheVariants.{Verified}
 use Rattle.command.specs.declared.refusal.Refusal.{Refusal}
 use Rattle.command.specs.declared.refusal.Refusal.TheVariants.{Key, Signature, OutOfMemory, FileFailed}
+use Rattle.typecodes.specs.declared.refusal.Refusal.TheVariants.{MessageRead}
 use Rattle.command.specs.LineFault.{BeginsWithCapital}
 use Rattle.command.specs.Refusal.{refusal_line}
 use Rattle.command.specs.Output.{Taken, Writes, Fails}
@@ -23,6 +24,7 @@ status_of (Ok done) = 0
 status_of (Err OutOfMemory) = 3
 status_of (Err FileFailed) = 3
 status_of (Err (Key fault)) = 1
+status_of (Err (Signature MessageRead)) = 3
 status_of (Err (Signature refusal)) = 1
 
 -- The answer was reported: its line was written, and the status is its own; or the output failed, and the status

@@ -1,5 +1,6 @@
 -- What is read of files, and how reading them fails.
-use Rattle.std.specs.Prelude.{ℕ, List, Result, Ok, Err, ◌≡◌, ⊤, Option, Some, None, IfSome, ◌≢◌, ◌⊎◌}
+use Rattle.typecodes.specs.Message.{Outcome}
+use Rattle.std.specs.Prelude.{length, ℕ, List, Result, Ok, Err, ◌≡◌, ⊤, Option, Some, None, IfSome, ◌≢◌, ◌⊎◌}
 use Rattle.sign_core.specs.declared.key.AnyPublic.{AnyPublic}
 use Rattle.sign_core.specs.declared.key.KeyFault.{KeyFault}
 use Rattle.sign_core.specs.Key.{KeyHasFault, SpellsKey}
@@ -26,10 +27,10 @@ abbrev pub reading : Role → Result ℕ Error → Happening
 reading role (Ok count) = given role count
 reading role (Err error) = failed role (error_kind error)
 
--- The bytes are what the file holds, where that is known.
-abbrev pub IsContent : Option (List ℕ) → List ℕ → Type 0
-IsContent None bytes = ⊤
-IsContent (Some content) bytes = bytes ≡ content
+-- what a read of it with this outcome is
+abbrev pub happened : Role → Outcome → Happening
+happened role (Ok bytes) = given role (length bytes)
+happened role (Err kind) = failed role kind
 
 -- Where it is known what a file holds, these bytes are before a reader of it.
 abbrev pub Shows : Option (List ℕ) → Option (List ℕ) → Type 0

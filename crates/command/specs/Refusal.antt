@@ -10,7 +10,8 @@ use Rattle.sign_core.specs.declared.key.KeyFault.TheVariants.{Length as KeyLengt
 use Rattle.typecodes.specs.declared.fault.Cause.{Cause}
 use Rattle.typecodes.specs.declared.fault.Cause.TheVariants.{Truncated, UnknownType, LevelCount}
 use Rattle.typecodes.specs.declared.fault.Cause.TheVariants.{LeafOutOfRange, Trailing}
-use Rattle.typecodes.specs.declared.refusal.Refusal.TheVariants.{Unreadable, TypeMismatch, LevelMismatch, RootMismatch}
+use Rattle.typecodes.specs.declared.refusal.Refusal.TheVariants.{Unreadable, TypeMismatch, LevelMismatch}
+use Rattle.typecodes.specs.declared.refusal.Refusal.TheVariants.{RootMismatch, MessageRead}
 
 -- what a failed call on a file is reported as: 46 where memory was refused, and else 53
 abbrev pub refusal_of : ErrorKind → Refusal
@@ -41,6 +42,7 @@ name_of (Key (KeyLength length)) = codes "KeyLength"
 name_of (Signature (TypeMismatch level)) = codes "TypeMismatch"
 name_of (Signature LevelMismatch) = codes "LevelMismatch"
 name_of (Signature (RootMismatch level)) = codes "RootMismatch"
+name_of (Signature MessageRead) = codes "MessageRead"
 name_of OutOfMemory = codes "OutOfMemory"
 name_of FileFailed = codes "FileFailed"
 
@@ -52,6 +54,7 @@ detail_of (Key (KeyLength length)) = codes " of " ++ decimal length
 detail_of (Signature (TypeMismatch level)) = codes " level " ++ decimal level
 detail_of (Signature LevelMismatch) = []
 detail_of (Signature (RootMismatch level)) = codes " level " ++ decimal level
+detail_of (Signature MessageRead) = []
 detail_of OutOfMemory = []
 detail_of FileFailed = []
 

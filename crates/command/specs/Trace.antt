@@ -34,6 +34,10 @@ Reads role count old new = (reads : List Happening) × (new ≡ old ++ reads) ×
 abbrev pub ReadsSome : Role → List Happening → List Happening → Type 0
 ReadsSome role old new = (count : ℕ) × Reads role count old new
 
+-- It was read to its end, where a read gives nothing.
+abbrev pub ReadsToEnd : Role → List Happening → List Happening → Type 0
+ReadsToEnd role old new = (before : List Happening) × ReadsSome role old before × (new ≡ before ++ given role 0 ∷ [])
+
 -- It was read until a read failed, by this kind of error.
 abbrev pub ReadsToFailure : Role → ErrorKind → List Happening → List Happening → Type 0
 ReadsToFailure role kind old new =

@@ -1,5 +1,5 @@
 -- What `verify` answers to three files: the judgement of their bytes, and what it does to the files for it.
-use Rattle.std.specs.Prelude.{ℕ, true, List, codes, [], ◌∷◌, ◌≡◌, ◌⊎◌, ◌++◌, Result, Ok, Err, ⊤, Option, IsErrAnd}
+use Rattle.std.specs.Prelude.{ℕ, true, List, codes, take, [], ◌∷◌, ◌≡◌, ◌⊎◌, ◌++◌, Result, Ok, Err, ⊤, Option, IsErrAnd}
 use Rattle.clap.specs.Words.{Rule, new_rule, App, new_app, with_rule}
 use Rattle.command.specs.declared.trace.Role.TheVariants as role
 use Rattle.sign_core.specs.declared.key.AnyPublic.{AnyPublic}
@@ -9,8 +9,11 @@ use Rattle.command.specs.declared.refusal.Refusal.TheVariants.{Key, Signature, O
 use Rattle.std.specs.declared.io.ErrorKind.{ErrorKind}
 use Rattle.command.specs.declared.trace.Role.{Role}
 use Rattle.command.specs.Refusal.{refusal_of}
-use Rattle.command.specs.Files.{IsContent, FailsToRead, FailsToCollect}
-use Rattle.command.specs.Trace.{Happening, opened, not_opened, ReadsSome}
+use Rattle.command.specs.Files.{FailsToRead, FailsToCollect}
+use Rattle.typecodes.specs.Message.{CantBeRead, GivesAll, IsContent, Step}
+use Rattle.typecodes.specs.declared.refusal.Refusal.TheVariants.{Unreadable, TypeMismatch, LevelMismatch}
+use Rattle.typecodes.specs.declared.refusal.Refusal.TheVariants.{RootMismatch, MessageRead}
+use Rattle.command.specs.Trace.{Happening, opened, not_opened, ReadsForever, ReadsSome, ReadsToEnd, ReadsToFailure}
 
 -- a file that has to be named
 abbrev pub file_rule : List ℕ → Rule
@@ -68,36 +71,59 @@ AnswersOf public message signature answer =
     (p : List ℕ) × (m : List ℕ) × (s : List ℕ) × IsContent public p × IsContent message m × IsContent signature s
     × Answers p m s answer
 
--- The answer is a verdict, and no failure.
-abbrev pub IsVerdict : {A : Type 0} → Result A Refusal → Type 0
-IsVerdict (Ok a) = ⊤
-IsVerdict (Err (Key fault)) = ⊤
-IsVerdict (Err (Signature refusal)) = ⊤
-IsVerdict (Err OutOfMemory) = ⊥
-IsVerdict (Err FileFailed) = ⊥
-
 -- how many bytes decide of a signature: one more than the greatest has, of eight levels of H25/W1
 unfoldable pub decisive : ℕ
 decisive = 74989
+
+-- These are all bytes of a signature, or as many of the first as decide.
+abbrev pub Decides : List ℕ → List ℕ → Type 0
+Decides all first = (first ≡ all) ⊎ (first ≡ take decisive all)
+
+-- What becomes of a message for an answer: it was read to its end where it was judged; it can't be read; and it is as it
+-- was where a refusal came before it was read, as that of a level above the bottom.
+abbrev pub LeavesMessage : {M A : Type 0} → Step M → M → M → Result A Refusal → Type 0
+LeavesMessage step old new (Ok a) = (text : List ℕ) × GivesAll step text old new
+LeavesMessage step old new (Err (Key fault)) = new ≡ old
+LeavesMessage step old new (Err (Signature (Unreadable fault))) = new ≡ old
+LeavesMessage step old new (Err (Signature (TypeMismatch level))) = new ≡ old
+LeavesMessage step old new (Err (Signature LevelMismatch)) = new ≡ old
+LeavesMessage step old new (Err (Signature MessageRead)) = CantBeRead step old new
+LeavesMessage step old new (Err (Signature (RootMismatch level))) =
+    ((text : List ℕ) × GivesAll step text old new) ⊎ (new ≡ old)
+LeavesMessage step old new (Err OutOfMemory) = ⊥
+LeavesMessage step old new (Err FileFailed) = ⊥
 
 -- The answer is this failure, reported by its number.
 abbrev pub IsRefusalOf : {A : Type 0} → ErrorKind → Result A Refusal → Type 0
 IsRefusalOf kind answer = IsErrAnd answer (λ refusal. refusal ≡ refusal_of kind)
 
--- The files of these roles were read one after the other. A verdict was given after all had been read; the first that
--- failed was reported, and nothing was read after it.
+-- A file was read until a read failed, or without end.
+abbrev pub FailsBeforeItsEnd : Role → List Happening → List Happening → Type 0
+FailsBeforeItsEnd role old new = ((kind : ErrorKind) × ReadsToFailure role kind old new) ⊎ ReadsForever role old new
+
+-- What is done to the message's file for an answer: it is read to its end where the message is judged, a read of it
+-- fails, or nothing is done.
+abbrev pub ReadsMessage : {A : Type 0} → Role → Result A Refusal → List Happening → List Happening → Type 0
+ReadsMessage role (Ok a) old new = ReadsToEnd role old new
+ReadsMessage role (Err (Key fault)) old new = new ≡ old
+ReadsMessage role (Err (Signature (Unreadable fault))) old new = new ≡ old
+ReadsMessage role (Err (Signature (TypeMismatch level))) old new = new ≡ old
+ReadsMessage role (Err (Signature LevelMismatch)) old new = new ≡ old
+ReadsMessage role (Err (Signature MessageRead)) old new = FailsBeforeItsEnd role old new
+ReadsMessage role (Err (Signature (RootMismatch level))) old new = ReadsToEnd role old new ⊎ (new ≡ old)
+ReadsMessage role (Err OutOfMemory) old new = ⊥
+ReadsMessage role (Err FileFailed) old new = ⊥
+
+-- The files of these roles were read one after the other: the key's and the signature's, of which the first that failed
+-- was reported, and nothing was read after it; and then, for the verdict, the message's.
 abbrev pub ReadsInTurn : {A : Type 0} → Role → Role → Role → Result A Refusal → List Happening → List Happening
     → Type 0
-ReadsInTurn public message signature answer old new =
+ReadsInTurn public signature message answer old new =
     ((kind : ErrorKind) × IsRefusalOf kind answer × FailsToRead public kind old new)
     ⊎ ((first : List Happening) × ReadsSome public old first
-    × ((kind : ErrorKind) × IsRefusalOf kind answer × FailsToCollect message kind first new))
+    × ((kind : ErrorKind) × IsRefusalOf kind answer × FailsToCollect signature kind first new))
     ⊎ ((first : List Happening) × (second : List Happening)
-    × ReadsSome public old first × ReadsSome message first second
-    × ((kind : ErrorKind) × IsRefusalOf kind answer × FailsToCollect signature kind second new))
-    ⊎ ((first : List Happening) × (second : List Happening)
-    × ReadsSome public old first × ReadsSome message first second
-    × ReadsSome signature second new × IsVerdict answer)
+    × ReadsSome public old first × ReadsSome signature first second × ReadsMessage message answer second new)
 
 -- The files of these paths were opened one after the other, up to one that couldn't be, which was reported; then they
 -- were read in turn.
@@ -105,7 +131,7 @@ abbrev pub Visits : {A : Type 0} → List ℕ → List ℕ → List ℕ → Resu
     → Type 0
 Visits public message signature answer old new =
     (IsErrAnd answer (λ refusal. refusal ≡ FileFailed) × FailsToOpen public message signature old new)
-    ⊎ ReadsInTurn role.Public role.Message role.Signature answer (old ++ all_opened public message signature) new
+    ⊎ ReadsInTurn role.Public role.Signature role.Message answer (old ++ all_opened public message signature) new
 
 -- `verify` of these paths answers so: rightly for what is known of the files, which it opens and reads in turn.
 abbrev pub Verifies : {A : Type 0} → (List ℕ → Option (List ℕ)) → List ℕ → List ℕ → List ℕ → Result A Refusal

@@ -5,6 +5,7 @@ ghost use Rattle.command.specs.Answer.{Reports, done_line, status_of};
 
 use crate::output::{Output, Part};
 use crate::refusal::Refusal;
+use typecodes::Refusal as SignatureRefusal;
 
 /// What a command has done.
 #[derive(Clone, Copy, Debug, PartialEq, Eq)]
@@ -50,7 +51,11 @@ fn status(answer: &Answer) -> u8
 {
     match answer {
         Ok(_) => 0,
-        Err(Refusal::OutOfMemory | Refusal::FileFailed) => 3,
+        Err(
+            Refusal::OutOfMemory
+            | Refusal::FileFailed
+            | Refusal::Signature(SignatureRefusal::MessageRead),
+        ) => 3,
         Err(_) => 1,
     }
 }

@@ -4,8 +4,9 @@ ghost use Rattle.std.specs.Prelude.{◌≡◌, ◌++◌, ◌∷◌, ◌<◌, ◌
 ghost use Rattle.std.specs.Io.{ReadsAtMost};
 ghost use Rattle.std.specs.Io.KnownBytes.{Consumes, IsAtEnd, ReadConsumes};
 ghost use Rattle.std.specs.declared.option.Option.{Option};
-ghost use Rattle.command.specs.Files.{CollectsOrFails, FillsOrFails, IsContent, ReadsKey};
-ghost use Rattle.command.specs.Files.{ReadsOrFails, Shows, opening, reading};
+ghost use Rattle.typecodes.specs.Message.{IsContent};
+ghost use Rattle.command.specs.Files.{CollectsOrFails, FillsOrFails, ReadsKey};
+ghost use Rattle.command.specs.Files.{ReadsOrFails, Shows, happened, opening, reading};
 ghost use Rattle.command.specs.Trace.{Happening};
 ghost use Rattle.command.specs.declared.trace.Role.{Role as FileRole};
 
@@ -17,6 +18,7 @@ use std::fs::Files;
 use std::io::{ErrorKind, Read};
 use std::marker::Model;
 use std::{fs, io};
+use typecodes::Message;
 
 /// A file that was opened.
 pub trait Source {
@@ -123,36 +125,33 @@ impl<R: Files> Folder for Machine<R> {
     }
 }
 
+/// An opened file of a folder, as a message, which is read in pieces.
+#[derive(Drop)]
+pub struct FileReader<'a, D, F> {
+    pub folder: &'a mut D,
+    pub file: &'a mut F,
+}
+
+impl<D: Folder> Message for FileReader<'_, D, D::File> {
+    ghost remaining = { λ reader. D.File.remaining reader.file.now };
+
+    // A read is the file's, and the folder notes it.
+    ghost step = { λ old outcome new. (new.folder.ghost_name ≡ old.folder.ghost_name)
+        × (new.file.ghost_name ≡ old.file.ghost_name)
+        × (D.File.role new.file.now ≡ D.File.role old.file.now)
+        × (D.trace new.folder.now ≡ D.trace old.folder.now ++ happened (D.File.role old.file.now) outcome ∷ []) };
+
+    fn read_into(&mut self, buffer: &mut [u8]) -> io::Result<usize> {
+        self.folder.read(self.file, buffer)
+    }
+}
+
 /// As many bytes as decide of a signature: one more than the greatest has, which is of eight levels of
 /// H25/W1.
 pub const DECISIVE: usize = 74_989;
 
 // More bytes than any file has. A file that goes on after them counts as failed.
 const MOST: usize = 1 << 60;
-
-/// Reads to the end.
-pub fn read_whole<D: Folder>(
-    alloc: Global,
-    folder: &mut D,
-    file: &mut D::File,
-) -> io::Result<Vec<u8>>
-    ensures whole { IfOk result (λ bytes. IsContent (D.File.remaining file.old) bytes.items) }
-    ensures trace { CollectsOrFails (D.File.role file.old) result (D.trace folder.old) (D.trace folder.new) }
-{
-    let mut bytes = Vec::new(alloc);
-    let mut piece = [0; 4096];
-    for turn in 0..u64::MAX {
-        let n = fill(folder, file, &mut piece)?;
-        bytes.extend_from_slice(&piece[..n])?;
-        if n < piece.len() {
-            return Ok(bytes);
-        }
-        if bytes.len() >= MOST {
-            break;
-        }
-    }
-    Err(io::Error::from(ErrorKind::FileTooLarge))
-}
 
 /// Reads the first bytes, so many or all.
 pub fn read_first<D: Folder>(

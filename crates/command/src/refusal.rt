@@ -16,7 +16,7 @@ use typecodes::{Cause, Refusal as SignatureRefusal};
 pub enum Refusal {
     /// 2, 3 and 6: the bytes of a public key spell none.
     Key(KeyFault),
-    /// 1 to 5 and 10 to 12: a signature isn't verified.
+    /// 1 to 5, 10 to 12 and 14: a signature isn't verified.
     Signature(SignatureRefusal),
     /// 46: there is no memory.
     OutOfMemory,
@@ -49,6 +49,7 @@ impl Refusal {
             Refusal::Signature(SignatureRefusal::TypeMismatch(_)) => "TypeMismatch",
             Refusal::Signature(SignatureRefusal::LevelMismatch) => "LevelMismatch",
             Refusal::Signature(SignatureRefusal::RootMismatch(_)) => "RootMismatch",
+            Refusal::Signature(SignatureRefusal::MessageRead) => "MessageRead",
             Refusal::OutOfMemory => "OutOfMemory",
             Refusal::FileFailed => "FileFailed",
         }
@@ -69,7 +70,7 @@ impl Refusal {
             Refusal::Signature(
                 SignatureRefusal::TypeMismatch(level) | SignatureRefusal::RootMismatch(level),
             ) => [Part::Text(" level "), Part::Number(u64::from(*level))],
-            Refusal::Signature(SignatureRefusal::LevelMismatch)
+            Refusal::Signature(SignatureRefusal::LevelMismatch | SignatureRefusal::MessageRead)
             | Refusal::OutOfMemory
             | Refusal::FileFailed => [Part::Text(""), Part::Text("")],
         }

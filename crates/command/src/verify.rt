@@ -3,17 +3,20 @@
 ghost use Rattle.std.specs.Prelude.{◌≡◌, ◌↔◌, ℕ, List, Some, take, codes, IfErr, IfOk, IfSome, IsSome};
 ghost use Rattle.clap.specs.declared.builder.command.Command.{Command as ClapCommand};
 ghost use Rattle.clap.specs.Words.{AddsSubcommand, app_of, first_value, found_of, with_subcommand};
-ghost use Rattle.command.specs.Verify.{AnswersOf, Judgement, OpensInTurn, ReadsInTurn, Verifies, decisive, verify_app};
+ghost use Rattle.command.specs.Verify.{AnswersOf, Decides, Judgement, LeavesMessage, OpensInTurn};
+ghost use Rattle.command.specs.Verify.{ReadsInTurn, Verifies, verify_app};
 ghost use Rattle.command.specs.Files.{ReadsKey, Shows};
+ghost use Rattle.typecodes.specs.Message.{IsContent};
 
 use crate::answer::{Answer, Done};
 use crate::files;
-use crate::files::{DECISIVE, Folder};
+use crate::files::{DECISIVE, FileReader, Folder};
 use crate::refusal::Refusal;
 use crate::trace::Role;
 use clap::{Arg, ArgMatches, Command};
 use sign_core::{AnyPublic, KeyFault, verify_any};
 use std::alloc::{AllocError, Global};
+use typecodes::Message;
 
 /// The files of the line, by their paths.
 #[derive(Clone, Copy, Debug)]
@@ -119,7 +122,7 @@ impl<'a> Verify<'a> {
     }
 }
 
-// Reads the files in this order, and then judges what they hold.
+// Reads the key and the signature, and judges the message by them, which is read only where no refusal comes before it.
 fn judge_files<D: Folder>(
     alloc: Global,
     folder: &mut D,
@@ -129,28 +132,34 @@ fn judge_files<D: Folder>(
 ) -> Answer
     ensures answers { AnswersOf (D.File.remaining public.old) (D.File.remaining message.old)
         (D.File.remaining signature.old) result }
-    ensures order { ReadsInTurn (D.File.role public.old) (D.File.role message.old) (D.File.role signature.old) result
+    ensures order { ReadsInTurn (D.File.role public.old) (D.File.role signature.old) (D.File.role message.old) result
         (D.trace folder.old) (D.trace folder.new) }
 {
     let key = files::read_key(folder, public)?;
-    let message = files::read_whole(alloc, folder, message)?;
     let signature = files::read_first(alloc, folder, signature, DECISIVE)?;
-    judge(key, &message, &signature)?;
+    let mut message = FileReader {
+        folder,
+        file: message,
+    };
+    let verdict = judge(key, &mut message, &signature);
+    let FileReader { folder, .. } = message;
+    // What the folder noted is seen through this use of it.
+    let _ = &*folder;
+    verdict?;
     Ok(Done::Verified)
 }
 
 /// Whether the bytes of a signature sign the message under the public key that was read, or why there is
 /// none. The first bytes of a signature decide: see `DECISIVE`.
-pub fn judge(
+pub fn judge<M: Message>(
     key: Result<AnyPublic, KeyFault>,
-    message: &[u8],
+    message: &mut M,
     signature: &[u8],
 ) -> Result<(), Refusal>
-    ensures judges { (p : List ℕ) → ReadsKey p key → Judgement p message.now signature.now result }
-    ensures first_decide { (p s : List ℕ) → ReadsKey p key → signature.now ≡ take decisive s
-        → Judgement p message.now s result }
+    ensures { (p s : List ℕ) → ReadsKey p key → Decides s signature.now
+        → (m : List ℕ) × IsContent (M.remaining message.old) m × Judgement p m s result
+        × LeavesMessage M.step message.old message.new result }
 {
     let key = key.map_err(Refusal::Key)?;
-    let mut message = message;
-    verify_any(&key, &mut message, signature).map_err(Refusal::Signature)
+    verify_any(&key, message, signature).map_err(Refusal::Signature)
 }

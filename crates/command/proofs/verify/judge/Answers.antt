@@ -1,16 +1,27 @@
-use Rattle.std.proofs.Common.{subst}
-use Rattle.command.specs.Verify.{Judgement}
-use Rattle.command.proofs.Deciding.{decided}
-use Rattle.command.proofs.Judging.{judged, read_key}
+use Rattle.command.proofs.Deciding.{decides_all}
+use Rattle.command.proofs.Judging.{judged, no_key, read_key}
+use Rattle.command.proofs.MessageReading.{answer-leaves, no-key-leaves}
+use Rattle.typecodes.proofs.Messages.{some-content}
 use Rattle.command.proofs.verify.judge.Goals as goal
 
-pub returns-clause-judges : goal.returns-clause-judges
-returns-clause-judges c p reads =
-    let spelled = read_key p c.in_ok-key.key c.args.key c.map_err.result reads c.map_err.ensures.cases c.in_ok-key.was in
-    judged p c.args.message.now c.args.signature.now c.in_ok-key.key c.verify_any.result c.map_err-2.result spelled c.verify_any.ensures.verdict c.map_err-2.ensures.cases
+-- the bytes spell no key
+pub returns-in_err-key : goal.returns-in_err-key
+returns-in_err-key g c p s reads decides =
+    let (m, fits) = some-content (g.M.Message.remaining c.args.message.now) in (
+      m,
+      fits,
+      no_key p m s c.args.key c.map_err.result c.in_err-key.field-0.0 c.from_residual.result reads c.map_err.ensures.cases c.in_err-key.was c.from_residual.ensures.1,
+      no-key-leaves g.M.Message.step c.args.message.now c.args.key c.map_err.result c.in_err-key.field-0.0 c.from_residual.result c.map_err.ensures.cases c.in_err-key.was c.from_residual.ensures.1,
+    )
 
-pub returns-clause-first_decide : goal.returns-clause-first_decide
-returns-clause-first_decide c p s reads first =
+-- the message is verified
+pub returns : goal.returns
+returns g c p s reads decides =
     let spelled = read_key p c.in_ok-key.key c.args.key c.map_err.result reads c.map_err.ensures.cases c.in_ok-key.was in
-    let judgement = judged p c.args.message.now c.args.signature.now c.in_ok-key.key c.verify_any.result c.map_err-2.result spelled c.verify_any.ensures.verdict c.map_err-2.ensures.cases in
-    decided p c.args.message.now s c.map_err-2.result (subst (λ l. Judgement p c.args.message.now l c.map_err-2.result) first judgement)
+    let (m, fits, verdict, leaves) = c.verify_any.ensures in (
+      m,
+      fits,
+      decides_all p m s c.args.signature.now c.map_err-2.result decides
+        (judged p m c.args.signature.now c.in_ok-key.key c.verify_any.result c.map_err-2.result spelled verdict c.map_err-2.ensures.cases),
+      answer-leaves g.M.Message.step g.M.Message.remaining c.in_ok-key.key m c.args.message.now c.verify_any.new.message c.verify_any.result c.map_err-2.result leaves c.map_err-2.ensures.cases,
+    )
