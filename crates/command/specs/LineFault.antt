@@ -28,12 +28,12 @@ IsMistake kind.OutOfMemory = ⊥
 IsMistake other = ⊤
 
 -- It is the fault of a line for which `clap` gives an error of this kind: help exactly where help was requested, and
--- the version exactly where the version was.
+-- the version exactly where the version was. That memory is refused is the fault of no line.
 abbrev pub IsFaultOf : LineFault → ErrorKind → Type 0
 IsFaultOf (Help text) error = error ≡ kind.DisplayHelp
 IsFaultOf Version error = error ≡ kind.DisplayVersion
 IsFaultOf (Refused text) error = IsMistake error
-IsFaultOf OutOfMemory error = error ≡ kind.OutOfMemory
+IsFaultOf OutOfMemory error = ⊥
 
 -- the kinds of error that a line may have: those that `clap` gives, or where it gives none that no command was given
 abbrev pub line_faults : List (List ℕ) → Kinds

@@ -45,7 +45,7 @@ impl LineFault {
         ensures text { IfOk result HasText }
     {
         Ok(match error.kind() {
-            ErrorKind::OutOfMemory => LineFault::OutOfMemory,
+            ErrorKind::OutOfMemory => return Err(AllocError),
             ErrorKind::DisplayHelp => {
                 LineFault::Help(help_or_usage(alloc, format!(in alloc; "{error}")?)?)
             }
