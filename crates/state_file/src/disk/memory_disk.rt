@@ -3,8 +3,8 @@
 ghost use Rattle.std.specs.Prelude.{if◌then◌else◌, nat_le, IsTrue, ◌-◌, ◌≡◌, ◌+◌, ◌≤◌, ◌<◌, length, slice_range};
 ghost use Rattle.std.specs.Prelude.{IfOk, OnOk, ℕ, List};
 ghost use Rattle.std.proofs.Props.{props};
-ghost use Rattle.state_file.specs.Disk.{State, MayLeave, ChangesOnly, settled, Writes, Syncs, CountsFailure};
-ghost use Rattle.state_file.specs.Disk.{CountsPastEnd, Elapses};
+ghost use Rattle.state_file.specs.Disk.{DiskState, MayLeave, ChangesOnly, settled, Writes, Syncs, Counts};
+ghost use Rattle.state_file.specs.Disk.{is_failure, is_past_end, TimePasses};
 ghost use Rattle.state_file.specs.Log.{LeftBy, left_now, left_only_now};
 
 use crate::disk::log::{Entry, base, keep, longest_left, part, write};
@@ -170,10 +170,8 @@ impl Disk for MemoryDisk {
         ensures value { result ≡ answer_of (next_fate self.old) (Ok (length (state_in self.old).content)) }
         ensures length { IsTrue (is_honest self.old) → IfOk result (λ n. n ≡ length (state_in self.old).content) }
         ensures stays { IsTrue (is_honest self.old) → state_in self.new ≡ state_in self.old }
-        ensures time { IsTrue (is_honest self.old) →
-            Elapses (moment_in self.old) (moment_in self.new) (left_in self.old) (left_in self.new)
-            (MayLeave (state_in self.new)) }
-        ensures failures { CountsFailure (failures_in self.old) (failures_in self.new) result }
+        ensures time { IsTrue (is_honest self.old) → TimePasses state_in moment_in left_in self.old self.new }
+        ensures failures { Counts is_failure (failures_in self.old) (failures_in self.new) result }
         ensures past_ends { past_ends_in self.new ≡ past_ends_in self.old }
         ensures honest { is_honest self.new ≡ is_honest self.old }
         ensures plan { PlanAfterCall self.old self.new }
@@ -194,12 +192,10 @@ impl Disk for MemoryDisk {
             OnOk result (into.new ≡ slice_range (state_in self.old).content at (at + length into.old)) }
         ensures past_end { IsTrue (is_honest self.old) → result ≡ Err DiskFault.PastEnd →
             length (state_in self.old).content < at + length into.old }
-        ensures past_ends { CountsPastEnd (past_ends_in self.old) (past_ends_in self.new) result }
+        ensures past_ends { Counts is_past_end (past_ends_in self.old) (past_ends_in self.new) result }
         ensures stays { IsTrue (is_honest self.old) → state_in self.new ≡ state_in self.old }
-        ensures time { IsTrue (is_honest self.old) →
-            Elapses (moment_in self.old) (moment_in self.new) (left_in self.old) (left_in self.new)
-            (MayLeave (state_in self.new)) }
-        ensures failures { CountsFailure (failures_in self.old) (failures_in self.new) result }
+        ensures time { IsTrue (is_honest self.old) → TimePasses state_in moment_in left_in self.old self.new }
+        ensures failures { Counts is_failure (failures_in self.old) (failures_in self.new) result }
         ensures honest { is_honest self.new ≡ is_honest self.old }
         ensures plan { PlanAfterCall self.old self.new }
     {
@@ -223,10 +219,8 @@ impl Disk for MemoryDisk {
             result }
         ensures written { IsTrue (is_honest self.old) →
             Writes at bytes.now (state_in self.old) (state_in self.new) result }
-        ensures time { IsTrue (is_honest self.old) →
-            Elapses (moment_in self.old) (moment_in self.new) (left_in self.old) (left_in self.new)
-            (MayLeave (state_in self.new)) }
-        ensures failures { CountsFailure (failures_in self.old) (failures_in self.new) result }
+        ensures time { IsTrue (is_honest self.old) → TimePasses state_in moment_in left_in self.old self.new }
+        ensures failures { Counts is_failure (failures_in self.old) (failures_in self.new) result }
         ensures past_ends { past_ends_in self.new ≡ past_ends_in self.old }
         ensures honest { is_honest self.new ≡ is_honest self.old }
         ensures plan { PlanAfterCall self.old self.new }
@@ -253,10 +247,8 @@ impl Disk for MemoryDisk {
     fn sync(&mut self) -> Result<(), DiskFault>
         ensures flushes { SyncsInMemory (state_in self.old) (state_in self.new) (next_fate self.old) result }
         ensures synced { IsTrue (is_honest self.old) → Syncs (state_in self.old) (state_in self.new) result }
-        ensures time { IsTrue (is_honest self.old) →
-            Elapses (moment_in self.old) (moment_in self.new) (left_in self.old) (left_in self.new)
-            (MayLeave (state_in self.new)) }
-        ensures failures { CountsFailure (failures_in self.old) (failures_in self.new) result }
+        ensures time { IsTrue (is_honest self.old) → TimePasses state_in moment_in left_in self.old self.new }
+        ensures failures { Counts is_failure (failures_in self.old) (failures_in self.new) result }
         ensures past_ends { past_ends_in self.new ≡ past_ends_in self.old }
         ensures honest { is_honest self.new ≡ is_honest self.old }
         ensures plan { PlanAfterCall self.old self.new }
