@@ -1,7 +1,7 @@
 //! A disk in memory, to show what a stop may leave.
 
 ghost use Rattle.std.specs.Prelude.{if◌then◌else◌, nat_le, IsTrue, ◌-◌, ◌≡◌, ◌+◌, ◌≤◌, ◌<◌, length, slice_range};
-ghost use Rattle.std.specs.Prelude.{IfOk, OnOk, ℕ, List};
+ghost use Rattle.std.specs.Prelude.{IfOk, IfErr, OnOk, OnErr, ◌≢◌, ℕ, List};
 ghost use Rattle.std.proofs.Props.{props};
 ghost use Rattle.state_file.specs.Disk.{DiskState, MayLeave, ChangesOnly, settled, Writes, Syncs, Counts};
 ghost use Rattle.state_file.specs.Disk.{is_failure, is_past_end, TimePasses};
@@ -55,6 +55,21 @@ impl Plan {
         self.stop = self.stop.map(|before| before.saturating_sub(1));
         self.fail = self.fail.and_then(|before| before.checked_sub(1));
         fate
+    }
+
+    // Refuses the call that comes now, unless it runs.
+    fn admit(&mut self, failures: &mut Count) -> Result<(), DiskFault>
+        ensures runs { OnOk result (fate_of self.old.stop self.old.fail ≡ Fate.Runs) }
+        ensures refused { OnErr result (fate_of self.old.stop self.old.fail ≢ Fate.Runs) }
+        ensures fault { IfErr result (λ fault. fault ≡ DiskFault.Failed) }
+        ensures stop { self.new.stop ≡ stop_after self.old.stop }
+        ensures fail { self.new.fail ≡ fail_after self.old.fail }
+        ensures failures { Counts is_failure failures.old failures.new result }
+    {
+        if self.next() != Fate::Runs {
+            return refuse(failures, DiskFault::Failed);
+        }
+        Ok(())
     }
 }
 
@@ -176,9 +191,7 @@ impl Disk for MemoryDisk {
         ensures honest { is_honest self.new ≡ is_honest self.old }
         ensures plan { PlanAfterCall self.old self.new }
     {
-        if self.plan.next() != Fate::Runs {
-            return refuse(&mut self.failures, DiskFault::Failed);
-        }
+        self.plan.admit(&mut self.failures)?;
         Ok(self.content.len() as u64)
     }
 
@@ -199,9 +212,7 @@ impl Disk for MemoryDisk {
         ensures honest { is_honest self.new ≡ is_honest self.old }
         ensures plan { PlanAfterCall self.old self.new }
     {
-        if self.plan.next() != Fate::Runs {
-            return refuse(&mut self.failures, DiskFault::Failed);
-        }
+        self.plan.admit(&mut self.failures)?;
         match part(&self.content, at, into.len()) {
             Some(part) => {
                 into.copy_from_slice(part);
@@ -253,9 +264,7 @@ impl Disk for MemoryDisk {
         ensures honest { is_honest self.new ≡ is_honest self.old }
         ensures plan { PlanAfterCall self.old self.new }
     {
-        if self.plan.next() != Fate::Runs {
-            return refuse(&mut self.failures, DiskFault::Failed);
-        }
+        self.plan.admit(&mut self.failures)?;
         match keep(self.alloc, &self.content, &mut self.log) {
             Ok(()) => Ok(()),
             Err(_) => refuse(&mut self.failures, DiskFault::OutOfMemory),
