@@ -3,7 +3,7 @@
 ghost use Rattle.std.specs.Prelude.{◌≡◌, ◌+◌, ◌*◌, ◌-◌, ◌^◌, ◌<◌, ◌≤◌, ◌==◌, ◌∷◌, [], ◌++◌, IsTrue, IfOk, IfErr};
 ghost use Rattle.std.specs.Prelude.{OnOk, MatchOption, length, replicate, slice_index};
 ghost use Rattle.typecodes.specs.Layout.{Spells};
-ghost use Rattle.state_file.specs.File.{fields_at, open_value, previous_tag, tag_at, tag_of};
+ghost use Rattle.state_file.specs.File.{MayHaveKey, fields_at, open_value, previous_tag, tag_at, tag_of};
 ghost use Rattle.state_file.specs.Slot.{slot_record};
 ghost use Rattle.state_file.specs.declared.record.Record.{Record as Entry};
 ghost use Rattle.state_file.specs.Disk.{settled, MayLeave, Counts, is_failure};
@@ -207,10 +207,12 @@ fn entry_of(previous: &[u8; 32], body: &Body) -> Option<Record>
     }
 }
 
-// Whether the first slot is that of a Key of a known version.
-fn check_key<D: Disk>(disk: &mut D, len: u64) -> Result<(), OpenFault>
+// The fields of the first slot, if a key may stand there.
+fn read_first_fields<D: Disk>(disk: &mut D, len: u64) -> Result<[u8; 223], OpenFault>
     requires len { IsTrue (D.honest disk.old) → len ≡ length (D.state disk.old).content }
-    ensures key { IsTrue (D.honest disk.old) → OnOk result (StartsWithKey (D.state disk.old).content) }
+    ensures may { IsTrue (D.honest disk.old) → OnOk result (MayHaveKey (D.state disk.old).content) }
+    ensures fields { IsTrue (D.honest disk.old) →
+        IfOk result (λ fields. fields ≡ fields_at (D.state disk.old).content 0) }
     ensures fault { IsTrue (D.honest disk.old) → IfErr result (Reports (D.state disk.old).content) }
     ensures reads { IsTrue (D.honest disk.old) → OnlyReads D.state D.moment D.left_since disk.old disk.new }
     ensures failures { Counts is_failed_opening (D.failures disk.old) (D.failures disk.new) result }
@@ -223,7 +225,20 @@ fn check_key<D: Disk>(disk: &mut D, len: u64) -> Result<(), OpenFault>
     if !read_gate(disk, 0)? {
         return Err(OpenFault::NoKey);
     }
-    let fields = read_fields(disk, 0)?;
+    Ok(read_fields(disk, 0)?)
+}
+
+// Whether the first slot is that of a Key of a known version.
+fn check_key<D: Disk>(disk: &mut D, len: u64) -> Result<(), OpenFault>
+    requires len { IsTrue (D.honest disk.old) → len ≡ length (D.state disk.old).content }
+    ensures key { IsTrue (D.honest disk.old) → OnOk result (StartsWithKey (D.state disk.old).content) }
+    ensures fault { IsTrue (D.honest disk.old) → IfErr result (Reports (D.state disk.old).content) }
+    ensures reads { IsTrue (D.honest disk.old) → OnlyReads D.state D.moment D.left_since disk.old disk.new }
+    ensures failures { Counts is_failed_opening (D.failures disk.old) (D.failures disk.new) result }
+    ensures past_ends { IsTrue (D.honest disk.old) → D.past_ends disk.new ≡ D.past_ends disk.old }
+    ensures honest { D.honest disk.new ≡ D.honest disk.old }
+{
+    let fields = read_first_fields(disk, len)?;
     if !begins_key(&fields) {
         Err(OpenFault::NotKeyFile)
     } else if version(&fields).is_none() {
