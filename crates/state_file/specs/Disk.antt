@@ -91,7 +91,7 @@ pub record Elapses {C : Type 0} (before now : ℕ) (past since : ℕ → C → T
   pub nothing_else : (t : ℕ) (c : C) → t ≤ before → since t c → past t c ⊎ may_leave c
   pub keeps : (t : ℕ) (c : C) → t ≤ before → past t c → since t c
 
--- The same from a disk's members: a stop may leave what it may at the new moment.
+-- Time goes on in a call of a disk, after which a stop may leave what it may leave of its new state.
 abbrev pub TimePasses : {D : Type 0} (state : D → DiskState) (moment : D → ℕ) (left_since : D → ℕ → List ℕ → Type 0)
     (old new : D) → Type 0
 TimePasses state moment left_since old new =

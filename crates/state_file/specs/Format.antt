@@ -1,5 +1,5 @@
 -- What preparing a place does.
-use Rattle.std.specs.Prelude.{◌≡◌, ◌⊎◌, ℕ, ◌+◌, ◌<◌, ◌≤◌, List, [], ◌∷◌, length, slice_index, slice_range, Result, Ok}
+use Rattle.std.specs.Prelude.{◌≡◌, ◌⊎◌, ℕ, ◌<◌, ◌≤◌, List, [], ◌∷◌, length, slice_index, slice_range, Result, Ok}
 use Rattle.std.specs.Prelude.{Err, Bool, true, false}
 use Rattle.state_file.specs.File.{IsClosed, open_value}
 use Rattle.state_file.specs.Disk.{DiskState, MayLeave, settled, ChangesOnly, range_of}

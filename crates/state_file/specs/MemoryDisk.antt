@@ -1,5 +1,5 @@
 -- A disk in memory: what callers see of it, and what its calls do.
-use Rattle.std.specs.Prelude.{◌≡◌, ℕ, zero, suc, ◌-◌, List, [], ◌∷◌, length, take, Option, Some, None, Result, Ok}
+use Rattle.std.specs.Prelude.{◌≡◌, ℕ, zero, suc, ◌-◌, List, ◌∷◌, length, take, Option, Some, None, Result, Ok}
 use Rattle.std.specs.Prelude.{Err, ◌/◌, ◌↔◌, Bool, true}
 use Rattle.state_file.specs.Disk.{range_of, DiskState, settled}
 use Rattle.state_file.specs.declared.disk.DiskFault.{DiskFault}
