@@ -3,7 +3,7 @@ use Rattle.std.proofs.Common.{◌≡◌, inl, inr, ⊎_elim, ℕ, ◌+◌, ◌-�
 use Rattle.std.proofs.lemmas.List.{get_or_at, get_or-take}
 use Rattle.std.specs.Prelude.{max}
 use Rattle.state_file.specs.File.{HasNoKey}
-use Rattle.state_file.specs.Disk.{State, ChangesOnly, range_of, IsSynced}
+use Rattle.state_file.specs.Disk.{DiskState, ChangesOnly, range_of, IsSynced}
 use Rattle.state_file.specs.FileStore.{closed_gate}
 use Rattle.state_file.specs.Format.{Prepares}
 use Rattle.state_file.specs.Gates.{AddsSlot, slot_and_gate}
@@ -30,7 +30,7 @@ both_stay k bytes content mid c size first second = record {
 pub block_size : (body bytes : List ℕ) → length body ≡ 255 → bytes ≡ body ++ 0 ∷ [] → length bytes ≡ 256
 block_size body bytes body_len is = omega (arith, ap length is, length-append body (0 ∷ []))
 
-pub slot_added : (k : ℕ) (body bytes content mid : List ℕ) (new : State) → length body ≡ 255 → bytes ≡ body ++ 0 ∷ [] → ChangesOnly (range_of (256 * k + 1) bytes ∷ []) content mid
+pub slot_added : (k : ℕ) (body bytes content mid : List ℕ) (new : DiskState) → length body ≡ 255 → bytes ≡ body ++ 0 ∷ [] → ChangesOnly (range_of (256 * k + 1) bytes ∷ []) content mid
     → slice_range mid (256 * k + 1) (256 * k + 1 + length bytes) ≡ bytes → IsSynced new → ChangesOnly (range_of (256 * k) (165 ∷ []) ∷ []) mid new.content → AddsSlot k content new
 slot_added k body bytes content mid new body_len is first put synced second =
     let tail = drop (256 * k + 1) mid in
@@ -51,7 +51,7 @@ slot_added k body bytes content mid new body_len is first put synced second =
     }
 
 -- a place that was prepared is as long as it was, and has a byte
-pub prepared_len : (content : List ℕ) (new : State) → Prepares content new → length new.content ≡ max (length content) 1
+pub prepared_len : (content : List ℕ) (new : DiskState) → Prepares content new → length new.content ≡ max (length content) 1
 prepared_len content new (rest, inl (short, put, changes)) = omega (arith, rest.ends.closed.0, changes.no_shorter, changes.no_longer)
 prepared_len content new (rest, inr (long, closed, same)) = omega (arith, ap length same)
 

@@ -40,12 +40,12 @@ pub closed-reaches : (content : List ℕ) (k : ℕ) → IsClosed content k → 2
 closed-reaches content k shut = shut.0
 
 -- a slot holds one record
-one_held : (content : List ℕ) (k : ℕ) (entry other : Record) → Holds content k entry → Holds content k other → entry ≡ other
-one_held content k entry other first second = one_value slot_record entry other (fields_at content k) first.spelled second.spelled
+one_record_at : (content : List ℕ) (k : ℕ) (entry other : Record) → Holds content k entry → Holds content k other → entry ≡ other
+one_record_at content k entry other first second = one_value slot_record entry other (fields_at content k) first.spelled second.spelled
 
 -- a slot holds a record or none
-held_or_not : (content : List ℕ) (k : ℕ) → ((entry : Record) × Holds content k entry) ⊎ ((entry : Record) → Holds content k entry → ⊥)
-held_or_not content k =
+holds_or_not : (content : List ℕ) (k : ℕ) → ((entry : Record) × Holds content k entry) ⊎ ((entry : Record) → Holds content k entry → ⊥)
+holds_or_not content k =
     let fields = fields_at content k in
     let tag = tag_of (previous_tag content k) fields in
     elim (either slot_record fields) [
@@ -61,7 +61,7 @@ pub whole_or_not : (content : List ℕ) (k : ℕ) → IsOpen content k → IsWho
 whole_or_not content k opened =
     elim (cases_lt k most_records) [
       | inl few ↦ elim (cases_lt (256 * (k + 1)) (length content)) [
-        | inl ends ↦ elim (held_or_not content k) [
+        | inl ends ↦ elim (holds_or_not content k) [
           | inl (entry, holds) ↦ inl (record { opened = opened; few = few; ends = ends; entry = entry; holds = holds })
           | inr none ↦ inr (λ whole. none whole.entry whole.holds)
         ]
@@ -168,21 +168,21 @@ judged content records begins may key version more =
     ]
 
 -- so from whole slot to whole slot, up to the most
-told_from : (content : List ℕ) (left : ℕ) (records : List Record) → left + length records ≡ most_records → Begins content records → MayHaveKey content → begins_key (fields_at content 0) ≡ true
+opening_from : (content : List ℕ) (left : ℕ) (records : List Record) → left + length records ≡ most_records → Begins content records → MayHaveKey content → begins_key (fields_at content 0) ≡ true
     → ((version : Version) × (version_of (fields_at content 0) ≡ Some version)) → (opening : Opening) × OpensAs content opening
-told_from content zero records count begins may key version = judged content records begins may key version (λ whole. absurd (omega (arith, count, whole.few)))
-told_from content (suc left) records count begins may key version =
+opening_from content zero records count begins may key version = judged content records begins may key version (λ whole. absurd (omega (arith, count, whole.few)))
+opening_from content (suc left) records count begins may key version =
     judged content records begins may key version (λ whole.
-    told_from content left (records ++ whole.entry ∷ []) (omega (arith, count, length-append records (whole.entry ∷ []))) (begins-more content records begins whole) may key version)
+    opening_from content left (records ++ whole.entry ∷ []) (omega (arith, count, length-append records (whole.entry ∷ []))) (begins-more content records begins whole) may key version)
 
-told_version : (content : List ℕ) → MayHaveKey content → begins_key (fields_at content 0) ≡ true → (found : Option Version) → version_of (fields_at content 0) ≡ found → (opening : Opening) × OpensAs content opening
-told_version content may key None is = (unknown_version, record { may = may; key = key; other = is })
-told_version content may key (Some version) is = told_from content most_records [] (omega arith) (begins-none content may) may key (version, is)
+opening_by_version : (content : List ℕ) → MayHaveKey content → begins_key (fields_at content 0) ≡ true → (found : Option Version) → version_of (fields_at content 0) ≡ found → (opening : Opening) × OpensAs content opening
+opening_by_version content may key None is = (unknown_version, record { may = may; key = key; other = is })
+opening_by_version content may key (Some version) is = opening_from content most_records [] (omega arith) (begins-none content may) may key (version, is)
 
-told_key : (content : List ℕ) → MayHaveKey content → (opening : Opening) × OpensAs content opening
-told_key content may =
+opening_with_key : (content : List ℕ) → MayHaveKey content → (opening : Opening) × OpensAs content opening
+opening_with_key content may =
     elim (cases_Bool (begins_key (fields_at content 0))) [
-      | inl key ↦ told_version content may key (version_of (fields_at content 0)) refl
+      | inl key ↦ opening_by_version content may key (version_of (fields_at content 0)) refl
       | inr other ↦ (no_key_file, record { may = may; other = other })
     ]
 
@@ -192,7 +192,7 @@ some_opening content =
     elim (cases_lt (length content) 257) [
       | inl short ↦ (no_key, inl short)
       | inr long ↦ elim (open_or_closed content 0 (omega (arith, long))) [
-        | inl opened ↦ told_key content (record { long = long; opened = opened })
+        | inl opened ↦ opening_with_key content (record { long = long; opened = opened })
         | inr closed ↦ (no_key, inr closed)
       ]
     ]
@@ -231,7 +231,7 @@ pub one_list : (content : List ℕ) (xs ys : List Record) → SpellsRecords cont
 one_list content xs ys first second =
     let count = one_length content xs ys first second in
     same_lists xs ys count (λ k d below.
-    one_held content k (get_or xs k d) (get_or ys k d)
+    one_record_at content k (get_or xs k d) (get_or ys k d)
     (first.holds k (get_or xs k d) (slice_get-get_or xs k d below))
     (second.holds k (get_or ys k d) (slice_get-get_or ys k d (omega (arith, below, count)))))
 

@@ -4,7 +4,7 @@ use Rattle.std.specs.Prelude.{◌==◌, IfErr, slice_get}
 use Rattle.std.proofs.lemmas.Option.{slice_get-get_or, slice_get_within, get_or_from_slice_get}
 use Rattle.typecodes.specs.Layout.{Spells}
 use Rattle.state_file.specs.File.{Begins, Holds, IsClosed, IsDamagedAt, IsOpen, IsWhole, SpellsRecords, fields_at, most_records, previous_tag, tag_at, tag_of, IsFileOf, IsSyncedFile}
-use Rattle.state_file.specs.Disk.{State, MayLeave, settled, Elapses, LeavesOnly}
+use Rattle.state_file.specs.Disk.{DiskState, MayLeave, settled, Elapses, LeavesOnly}
 use Rattle.state_file.specs.FileStore.{closed_gate, fields_length}
 use Rattle.state_file.specs.Opening.{HasEntry, HasSlot, IsFound, OnlyReads, StartsWithKey, Reports, ReportsSlot}
 use Rattle.state_file.specs.Slot.{slot_record}
@@ -20,7 +20,7 @@ use Rattle.state_file.specs.FileStore.{synced_left}
 
 -- ---- calls that only read
 
-module _ {D : Type 0} (state : D → State) (moment : D → ℕ) (left_since : D → ℕ → List ℕ → Type 0) where
+module _ {D : Type 0} (state : D → DiskState) (moment : D → ℕ) (left_since : D → ℕ → List ℕ → Type 0) where
   -- no call
   pub reads_none : (old : D) → ((c : List ℕ) → left_since old (moment old) c → MayLeave (state old) c) → OnlyReads state moment left_since old old
   reads_none old only = record { stays = refl; leaves = started moment left_since old (MayLeave (state old)) only }
@@ -31,7 +31,7 @@ module _ {D : Type 0} (state : D → State) (moment : D → ℕ) (left_since : D
   reads_one old new only stays time = record {
     stays = stays;
     leaves = goes_on moment left_since old old new (MayLeave (state old)) (MayLeave (state new)) (started moment left_since old (MayLeave (state old)) only) time
-        (λ c left. subst (λ (s : State). MayLeave s c) stays left);
+        (λ c left. subst (λ (s : DiskState). MayLeave s c) stays left);
   }
 
   -- a run, and one more
@@ -39,7 +39,7 @@ module _ {D : Type 0} (state : D → State) (moment : D → ℕ) (left_since : D
   reads_on old mid new first second = record {
     stays = second.stays ∙ first.stays;
     leaves = combined moment left_since old mid new (MayLeave (state old)) first.leaves
-        (weaker moment left_since mid new (MayLeave (state mid)) (MayLeave (state old)) (λ c left. subst (λ (s : State). MayLeave s c) first.stays left) second.leaves);
+        (weaker moment left_since mid new (MayLeave (state mid)) (MayLeave (state old)) (λ c left. subst (λ (s : DiskState). MayLeave s c) first.stays left) second.leaves);
   }
 
   -- what is synced is left by a stop before the sync, too
@@ -49,7 +49,7 @@ module _ {D : Type 0} (state : D → State) (moment : D → ℕ) (left_since : D
       combined moment left_since old mid new (MayLeave (state old)) first
       (weaker moment left_since mid new (MayLeave (state mid)) (MayLeave (state old))
       (λ c left.
-      let same : c ≡ (state old).content = synced_left (state old).content c (subst (λ (s : State). MayLeave s c) settled_now left) in
+      let same : c ≡ (state old).content = synced_left (state old).content c (subst (λ (s : DiskState). MayLeave s c) settled_now left) in
       subst (MayLeave (state old)) (sym same) shows)
       second.leaves)
 
@@ -168,7 +168,7 @@ spelled_file records content is =
     missing (entry ∷ rest) k below past = let clash = sym (slice_get-get_or (entry ∷ rest) k entry below) ∙ past in cc
 
 -- what is found is kept
-pub found_kept : (records : List Record) (tag content : List ℕ) (after : State) → after ≡ settled content → IsFound content records tag → IsSyncedFile records tag after
+pub found_kept : (records : List Record) (tag content : List ℕ) (after : DiskState) → after ≡ settled content → IsFound content records tag → IsSyncedFile records tag after
 found_kept records tag content after same found = subst (IsSyncedFile records tag) (sym same) (record {
   synced = refl;
   file = spelled_file records content found.spelled;
@@ -181,11 +181,11 @@ pub fault_reported : {A : Type 0} (P : OpenFault → Type 0) (result : Result A 
 fault_reported P result fault is reported = subst (λ (r : Result _ OpenFault). IfErr r P) (sym is) reported
 
 -- the next gate lies in the content
-pub gate_within : (first now : State) (count : ℕ) (records : List Record) (tag : List ℕ) → now ≡ first → count ≡ length records → BeginsFound first.content count records tag → 256 * count < length now.content
-gate_within first now count records tag same counted found = subst (λ (s : State). 256 * count < length s.content) (sym same) (omega (arith, found.begins.ends, counted))
+pub gate_within : (first now : DiskState) (count : ℕ) (records : List Record) (tag : List ℕ) → now ≡ first → count ≡ length records → BeginsFound first.content count records tag → 256 * count < length now.content
+gate_within first now count records tag same counted found = subst (λ (s : DiskState). 256 * count < length s.content) (sym same) (omega (arith, found.begins.ends, counted))
 
-pub open_gate : (first now : State) (k : ℕ) (opened : Bool) → now ≡ first → 256 * k < length now.content → opened ≡ (slice_index now.content (256 * k) == 165) → opened ≡ true → IsOpen first.content k
-open_gate first now k opened same within gate is = subst (λ (s : State). IsOpen s.content k) same (gate_open now.content k within (sym gate ∙ is))
+pub open_gate : (first now : DiskState) (k : ℕ) (opened : Bool) → now ≡ first → 256 * k < length now.content → opened ≡ (slice_index now.content (256 * k) == 165) → opened ≡ true → IsOpen first.content k
+open_gate first now k opened same within gate is = subst (λ (s : DiskState). IsOpen s.content k) same (gate_open now.content k within (sym gate ∙ is))
 
-pub shut_gate : (first now : State) (k : ℕ) (opened : Bool) → now ≡ first → 256 * k < length now.content → opened ≡ (slice_index now.content (256 * k) == 165) → opened ≡ false → IsClosed first.content k
-shut_gate first now k opened same within gate is = subst (λ (s : State). IsClosed s.content k) same (gate_shut now.content k within (sym gate ∙ is))
+pub shut_gate : (first now : DiskState) (k : ℕ) (opened : Bool) → now ≡ first → 256 * k < length now.content → opened ≡ (slice_index now.content (256 * k) == 165) → opened ≡ false → IsClosed first.content k
+shut_gate first now k opened same within gate is = subst (λ (s : DiskState). IsClosed s.content k) same (gate_shut now.content k within (sym gate ∙ is))

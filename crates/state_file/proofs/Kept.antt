@@ -10,10 +10,11 @@ use Rattle.typecodes.specs.Cursor.{read}
 use Rattle.state_file.specs.File.{Holds, fields_at, tag_at, previous_tag, tag_of, most_records, StandsFor, IsFileOf, IsSyncedFile}
 use Rattle.state_file.specs.FileStore.{fields_length, file_stands}
 use Rattle.state_file.specs.Store.{begins_with_key, is_key}
-use Rattle.state_file.specs.Disk.{State}
+use Rattle.state_file.specs.Disk.{DiskState, LeavesOnly}
 use Rattle.state_file.specs.Gates.{IsClosedAfter, IsAtRest}
 use Rattle.state_file.specs.Slot.{slot_record}
 use Rattle.state_file.specs.declared.record.Record.{Record}
+use Rattle.state_file.proofs.Moments.{weaker}
 
 -- contents that begin alike have the same parts there
 same_part : (m n w : ℕ) (c content : List ℕ) → take m c ≡ take m content → n + w ≤ m → take w (drop n c) ≡ take w (drop n content)
@@ -200,14 +201,14 @@ read_record entry fields len spelled =
     spelled-read slot_record entry fields [] fields 0 (omega arith) (sym (append-nil fields)) spelled ∙ ap (λ (m : ℕ). Ok (entry, m)) (let end : 0 + length fields ≡ 223 = omega arith in end)
 
 -- a disk at rest after a file's slots
-pub kept_rests : (records : List Record) (tag : List ℕ) (state : State) → IsSyncedFile records tag state → IsAtRest (take (256 * length records) state.content) state
+pub kept_rests : (records : List Record) (tag : List ℕ) (state : DiskState) → IsSyncedFile records tag state → IsAtRest (take (256 * length records) state.content) state
 kept_rests records tag state kept = record { synced = kept.synced; ends = file_ends records state.content kept.file }
 
-pub kept_size : (records : List Record) (tag : List ℕ) (state : State) (count : ℕ) → IsSyncedFile records tag state → count ≡ length records → length (take (256 * length records) state.content) ≡ 256 * count
+pub kept_size : (records : List Record) (tag : List ℕ) (state : DiskState) (count : ℕ) → IsSyncedFile records tag state → count ≡ length records → length (take (256 * length records) state.content) ≡ 256 * count
 kept_size records tag state count kept counted = length-take-le (256 * length records) state.content (omega (arith, kept.file.closed.0)) ∙ ap (λ m. 256 * m) (sym counted)
 
 -- a slot is added to what is kept
-module _ (records : List Record) (last : List ℕ) (state : State) (count : ℕ) (entry : Record) (fields tag body : List ℕ) (counted : count ≡ length records) (room : count < most_records)
+module _ (records : List Record) (last : List ℕ) (state : DiskState) (count : ℕ) (entry : Record) (fields tag body : List ℕ) (counted : count ≡ length records) (room : count < most_records)
     (key : begins_with_key (records ++ entry ∷ []) ≡ true) (fields_len : length fields ≡ 223) (tag_len : length tag ≡ 32) (body_is : body ≡ fields ++ tag) (spelled : Spells slot_record entry fields)
     (tagged : tag ≡ tag_of last fields) (kept : IsSyncedFile records last state) where
   tag_is : tag ≡ tag_of (previous_tag state.content (length records)) fields
@@ -225,21 +226,31 @@ module _ (records : List Record) (last : List ℕ) (state : State) (count : ℕ)
   added_leaves c either =
       ⊎_elim (λ old. inl (file_stands records c (file_stays records state.content c kept.file old))) (λ new. inr (file_stands (records ++ entry ∷ []) c (grown c new))) either
 
-  grown_kept : (after : State) → IsAtRest (take (256 * length records) state.content ++ 165 ∷ body) after → IsSyncedFile (records ++ entry ∷ []) tag after
+  grown_kept : (after : DiskState) → IsAtRest (take (256 * length records) state.content ++ 165 ∷ body) after → IsSyncedFile (records ++ entry ∷ []) tag after
   grown_kept after rest = record {
     synced = rest.synced;
     file = grown after.content rest.ends;
     last = sym (file_last records state.content after.content entry fields tag fields_len tag_len kept.file (ends_are after.content rest.ends));
   }
 
-pub kept_grows : (records after : List Record) (last : List ℕ) (state new : State) (count : ℕ) (entry : Record) (fields tag body : List ℕ) → after ≡ records ++ entry ∷ [] → count ≡ length records → count < most_records
+pub kept_grows : (records after : List Record) (last : List ℕ) (state new : DiskState) (count : ℕ) (entry : Record) (fields tag body : List ℕ) → after ≡ records ++ entry ∷ [] → count ≡ length records → count < most_records
     → begins_with_key (records ++ entry ∷ []) ≡ true → length fields ≡ 223 → length tag ≡ 32 → body ≡ fields ++ tag → Spells slot_record entry fields → tag ≡ tag_of last fields → IsSyncedFile records last state
     → IsAtRest (take (256 * length records) state.content ++ 165 ∷ body) new → IsSyncedFile after tag new
 kept_grows records after last state new count entry fields tag body is counted room key fields_len tag_len body_is spelled tagged kept rest =
     subst (λ (l : List Record). IsSyncedFile l tag new) (sym is) (grown_kept records last state count entry fields tag body counted room key fields_len tag_len body_is spelled tagged kept new rest)
 
+-- what an append leaves at any moment, from what adding its slot leaves
+pub appended_leaves : {D : Type 0} (moment : D → ℕ) (left_since : D → ℕ → List ℕ → Type 0) (old new : D) (records : List Record) (last : List ℕ) (state : DiskState) (count : ℕ) (entry : Record) (fields tag : List ℕ) → count ≡ length records → count < most_records
+    → begins_with_key (records ++ entry ∷ []) ≡ true → length fields ≡ 223 → length tag ≡ 32 → Spells slot_record entry fields → tag ≡ tag_of last fields → IsSyncedFile records last state
+    → ((front : List ℕ) → IsAtRest front state → length front ≡ 256 * count → LeavesOnly moment left_since old new (λ c. IsClosedAfter front c ⊎ IsClosedAfter (front ++ 165 ∷ (fields ++ tag)) c))
+    → LeavesOnly moment left_since old new (λ c. StandsFor records c ⊎ StandsFor (records ++ entry ∷ []) c)
+appended_leaves moment left_since old new records last state count entry fields tag counted room key fields_len tag_len spelled tagged kept leaves =
+    weaker moment left_since old new _ _
+    (added_leaves records last state count entry fields tag (fields ++ tag) counted room key fields_len tag_len refl spelled tagged kept)
+    (leaves (take (256 * length records) state.content) (kept_rests records last state kept) (kept_size records last state count kept counted))
+
 -- slot k of what is kept holds record k
-pub kept_holds : (records : List Record) (tag : List ℕ) (state : State) (k : ℕ) → IsSyncedFile records tag state → k < length records → (entry : Record) × (slice_get records k ≡ Some entry) × Holds state.content k entry
+pub kept_holds : (records : List Record) (tag : List ℕ) (state : DiskState) (k : ℕ) → IsSyncedFile records tag state → k < length records → (entry : Record) × (slice_get records k ≡ Some entry) × Holds state.content k entry
 kept_holds [] tag state k kept below = absurd (omega arith)
 kept_holds (first ∷ rest) tag state k kept below =
     let entry = get_or (first ∷ rest) k first in

@@ -1,6 +1,6 @@
 -- From the contents that a stop leaves of a disk to the lists that it leaves of a store over it.
 use Rattle.std.proofs.Common.{◌≡◌, ◌⊎◌, inl, inr, ⊎_elim, ℕ, Bool, true, false, List, Some, refl, sym, subst, slice_get}
-use Rattle.state_file.specs.Disk.{LeavesOnly, ChangesOnly, Range, State, MayLeave}
+use Rattle.state_file.specs.Disk.{LeavesOnly, ChangesOnly, Range, DiskState, MayLeave}
 use Rattle.state_file.specs.File.{StandsFor, LeftLists, IsSyncedFile}
 use Rattle.state_file.specs.FileStore.{one_of_two, kept_leaves}
 use Rattle.state_file.specs.Store.{IsRecordAt}
@@ -32,15 +32,15 @@ module _ {S D : Type 0} (disk_of : S → D) (moment : D → ℕ) (left_since : D
   }
 
 -- calls that only read
-pub reads_leave : {D : Type 0} (state : D → State) (moment : D → ℕ) (left_since : D → ℕ → List ℕ → Type 0) (old new : D) (records : List Record) (tag : List ℕ) → IsSyncedFile records tag (state old)
+pub reads_leave : {D : Type 0} (state : D → DiskState) (moment : D → ℕ) (left_since : D → ℕ → List ℕ → Type 0) (old new : D) (records : List Record) (tag : List ℕ) → IsSyncedFile records tag (state old)
     → OnlyReads state moment left_since old new → LeavesOnly moment left_since old new (StandsFor records)
 reads_leave state moment left_since old new records tag kept reads =
     weaker moment left_since old new (MayLeave (state old)) (StandsFor records) (λ c left. kept_leaves records tag (state old) c kept left) reads.leaves
 
 -- of what is kept a stop changes nothing
-pub kept_alone : (records : List Record) (tag : List ℕ) (state : State) (c : List ℕ) (ranges : List Range) → IsSyncedFile records tag state → MayLeave state c → ChangesOnly ranges state.content c
+pub kept_alone : (records : List Record) (tag : List ℕ) (state : DiskState) (c : List ℕ) (ranges : List Range) → IsSyncedFile records tag state → MayLeave state c → ChangesOnly ranges state.content c
 kept_alone records tag state c ranges kept left =
-    let same : c ≡ state.content = synced_left state.content c (subst (λ (s : State). MayLeave s c) kept.synced left) in
+    let same : c ≡ state.content = synced_left state.content c (subst (λ (s : DiskState). MayLeave s c) kept.synced left) in
     subst (ChangesOnly ranges state.content) (sym same) (changes_nothing ranges state.content)
 
 pub record_at : (honest : Bool) (list : List Record) (k : ℕ) (entry : Record) → (honest ≡ true → slice_get list k ≡ Some entry) → IsRecordAt honest list k entry

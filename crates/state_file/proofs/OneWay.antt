@@ -22,7 +22,7 @@ use Rattle.state_file.specs.declared.record.Secret.{Secret}
 use Rattle.state_file.specs.declared.record.Secret.TheVariants.{Lms, Hss, Xmss}
 use Rattle.state_file.specs.declared.record.Version.{Version}
 use Rattle.state_file.specs.declared.record.Version.TheVariants.{One}
-use Rattle.state_file.specs.Slot.{are_visible, bound_fields, byte, byte_within, exactly, extend_fields, fields_of, hss_secret, key_fields, levels_field, lms_secret, magic, moved_fields, name_field, no_record, only_if, pair_field, pairs, retire_fields, secret_of, slot_record, version_code, version_field, versions, xmss_secret, zeros, kind_of, scheme_of}
+use Rattle.state_file.specs.Slot.{after_parent_leaf, are_visible, bound_fields, byte, byte_within, exactly, extend_fields, fields_of, hss_secret, key_fields, levels_field, lms_secret, magic, moved_fields, name_field, no_record, only_if, pair_field, pairs, retire_fields, secret_of, slot_record, version_code, version_field, versions, xmss_secret, zeros, kind_of, scheme_of}
 use Rattle.state_file.proofs.Shown.{byte-is, exactly-is, fields-show, only_if-is, schemes-show, version-is}
 
 -- ---- fields
@@ -104,63 +104,63 @@ pairs-length (suc n) all bytes spelled =
     let (rest, c, d, _, others, end) = in_turn (pairs n) (λ rest. done (first ∷ rest)) all b after in
     ap length (sym end.0) ∙ ap suc (pairs-length n rest c others)
 
-behind_levels : ℕ → List LmsPair → Layout (List LmsPair)
-behind_levels count levels = zeros (64 - 8 * count) >>= λ rest. done levels
+after_levels : ℕ → List LmsPair → Layout (List LmsPair)
+after_levels count levels = zeros (64 - 8 * count) >>= λ rest. done levels
 
-behind_count : ℕ → Layout (List LmsPair)
-behind_count count = pairs count >>= behind_levels count
+after_count : ℕ → Layout (List LmsPair)
+after_count count = pairs count >>= after_levels count
 
 one_way-levels : OneSpelling levels_field
-unfolding levels_field behind_levels behind_count
+unfolding levels_field after_levels after_count
 one_way-levels =
-    one_way-bind (byte_within 1 8) behind_count length (one_way-byte_within 1 8)
-    (λ count. one_way-bind (pairs count) (behind_levels count) (λ all. all) (one_way-pairs count)
+    one_way-bind (byte_within 1 8) after_count length (one_way-byte_within 1 8)
+    (λ count. one_way-bind (pairs count) (after_levels count) (λ all. all) (one_way-pairs count)
     (λ levels. one_way-bind (zeros (64 - 8 * count)) (λ rest. done levels) (λ _. tt) (one_way-zeros (64 - 8 * count)) (λ rest. one_way-done levels) (λ rest. shows-done levels (λ _. tt)))
     (λ levels. shows-bind (zeros (64 - 8 * count)) (λ rest. done levels) (λ all. all) levels (λ rest. shows-done levels (λ all. all))))
     (λ count levels bytes spelled.
-    let (all, a, b, _, of_count, after) = in_turn (pairs count) (behind_levels count) levels bytes spelled in
+    let (all, a, b, _, of_count, after) = in_turn (pairs count) (after_levels count) levels bytes spelled in
     let same : levels ≡ all = shows-bind (zeros (64 - 8 * count)) (λ rest. done all) (λ l. l) all (λ rest. shows-done all (λ l. l)) levels b after in
     ap length same ∙ pairs-length count all a of_count)
 
 -- ---- names
 
-behind_visible : ℕ → List ℕ → Layout (List ℕ)
-behind_visible count name = zeros (64 - count) >>= λ rest. done name
+after_visible : ℕ → List ℕ → Layout (List ℕ)
+after_visible count name = zeros (64 - count) >>= λ rest. done name
 
-behind_name : ℕ → List ℕ → Layout (List ℕ)
-behind_name count bytes = only_if (are_visible bytes) count bytes >>= behind_visible count
+after_name : ℕ → List ℕ → Layout (List ℕ)
+after_name count bytes = only_if (are_visible bytes) count bytes >>= after_visible count
 
-behind_length : ℕ → Layout (List ℕ)
-behind_length count = block count >>= behind_name count
+after_length : ℕ → Layout (List ℕ)
+after_length count = block count >>= after_name count
 
-shows-visible : (count : ℕ) (name : List ℕ) → Shows (behind_visible count name) (λ v. v) name
-unfolding behind_visible
+shows-visible : (count : ℕ) (name : List ℕ) → Shows (after_visible count name) (λ v. v) name
+unfolding after_visible
 shows-visible count name = shows-bind (zeros (64 - count)) (λ rest. done name) (λ v. v) name (λ rest. shows-done name (λ v. v))
 
-shows-name : (count : ℕ) (bytes : List ℕ) → Shows (behind_name count bytes) (λ v. v) bytes
-unfolding behind_name
+shows-name : (count : ℕ) (bytes : List ℕ) → Shows (after_name count bytes) (λ v. v) bytes
+unfolding after_name
 shows-name count bytes v all spelled =
-    let (name, a, b, _, first, after) = in_turn (only_if (are_visible bytes) count bytes) (behind_visible count) v all spelled in
+    let (name, a, b, _, first, after) = in_turn (only_if (are_visible bytes) count bytes) (after_visible count) v all spelled in
     shows-visible count name v b after ∙ shows-only_if (are_visible bytes) count bytes (λ w. w) name a first
 
-one_way-visible : (count : ℕ) (name : List ℕ) → OneSpelling (behind_visible count name)
-unfolding behind_visible
+one_way-visible : (count : ℕ) (name : List ℕ) → OneSpelling (after_visible count name)
+unfolding after_visible
 one_way-visible count name =
     one_way-bind (zeros (64 - count)) (λ rest. done name) (λ _. tt) (one_way-zeros (64 - count)) (λ rest. one_way-done name) (λ rest. shows-done name (λ _. tt))
 
-one_way-named : (count : ℕ) (bytes : List ℕ) → OneSpelling (behind_name count bytes)
-unfolding behind_name
+one_way-named : (count : ℕ) (bytes : List ℕ) → OneSpelling (after_name count bytes)
+unfolding after_name
 one_way-named count bytes =
-    one_way-bind (only_if (are_visible bytes) count bytes) (behind_visible count) (λ v. v) (one_way-only_if (are_visible bytes) count bytes)
+    one_way-bind (only_if (are_visible bytes) count bytes) (after_visible count) (λ v. v) (one_way-only_if (are_visible bytes) count bytes)
     (one_way-visible count) (shows-visible count)
 
 one_way-name : OneSpelling name_field
-unfolding name_field behind_length behind_name behind_visible
+unfolding name_field after_length after_name after_visible
 one_way-name =
-    one_way-bind (byte_within 1 64) behind_length length (one_way-byte_within 1 64)
-    (λ count. one_way-bind (block count) (behind_name count) (λ v. v) (one_way-block count) (one_way-named count) (shows-name count))
+    one_way-bind (byte_within 1 64) after_length length (one_way-byte_within 1 64)
+    (λ count. one_way-bind (block count) (after_name count) (λ v. v) (one_way-block count) (one_way-named count) (shows-name count))
     (λ count name bytes spelled.
-    let (all, a, b, _, (front, _, _, len, (same, _)), after) = in_turn (block count) (behind_name count) name bytes spelled in
+    let (all, a, b, _, (front, _, _, len, (same, _)), after) = in_turn (block count) (after_name count) name bytes spelled in
     ap length (shows-name count all name b after ∙ sym same) ∙ len)
 
 -- ---- secrets
@@ -315,75 +315,57 @@ name_in (Retire upto) = []
 name_in Moved = []
 
 -- what follows each field of a Key
-behind_secret : Version → Secret → Layout Record
-behind_secret version secret = do
+after_secret : Version → Secret → Layout Record
+after_secret version secret = do
   root ← block 32
   rest ← zeros 2
   done (KeyRecord (record { version = version; secret = secret; root = root }))
 
-behind_scheme : Version → ℕ → Layout Record
-behind_scheme version scheme = secret_of scheme >>= behind_secret version
+after_scheme : Version → ℕ → Layout Record
+after_scheme version scheme = secret_of scheme >>= after_secret version
 
-behind_version : Version → Layout Record
-behind_version version = byte >>= behind_scheme version
+after_version : Version → Layout Record
+after_version version = byte >>= after_scheme version
 
 abbrev IsOf : Version → Secret → Record → Type 0
 IsOf version secret entry = (secret_in entry ≡ secret) × (version_in entry ≡ version)
 
-way-secret : (version : Version) (secret : Secret) → Way (behind_secret version secret) (IsOf version secret)
-unfolding behind_secret secret_in version_in root_in
+way-secret : (version : Version) (secret : Secret) → Way (after_secret version secret) (IsOf version secret)
+unfolding after_secret secret_in version_in root_in
 way-secret version secret =
     way-bind (block 32) _ root_in _ (one_way-block 32) (λ root.
     way-bind (zeros 2) _ (λ _. tt) _ (one_way-zeros 2) (λ rest.
     way-done _ _ (refl, (refl, (refl, refl)))))
 
 -- a Key's secret is of its scheme
-way-scheme : (version : Version) (scheme : ℕ) → Way (behind_scheme version scheme) (λ entry. (scheme_of (secret_in entry) ≡ scheme) × (version_in entry ≡ version))
-unfolding behind_scheme
+way-scheme : (version : Version) (scheme : ℕ) → Way (after_scheme version scheme) (λ entry. (scheme_of (secret_in entry) ≡ scheme) × (version_in entry ≡ version))
+unfolding after_scheme
 way-scheme version scheme = record {
-  one = one_way-bind (secret_of scheme) (behind_secret version) secret_in (one_way-secret scheme) (λ secret. (way-secret version secret).one)
+  one = one_way-bind (secret_of scheme) (after_secret version) secret_in (one_way-secret scheme) (λ secret. (way-secret version secret).one)
       (λ secret entry bytes spelled. ((way-secret version secret).has entry bytes spelled).0);
   has = λ entry bytes spelled.
-      let (secret, a, b, _, of_scheme, after) = in_turn (secret_of scheme) (behind_secret version) entry bytes spelled in
+      let (secret, a, b, _, of_scheme, after) = in_turn (secret_of scheme) (after_secret version) entry bytes spelled in
       let (same, of_version) = (way-secret version secret).has entry b after in
       (ap scheme_of same ∙ schemes-show scheme secret a of_scheme, of_version);
 }
 
 one_way-key : OneSpelling key_fields
-unfolding key_fields behind_version behind_scheme behind_secret
+unfolding key_fields after_version after_scheme after_secret
 one_way-key =
     let way : Way key_fields (λ _. Unit {0}) =
-    way-bind (exactly 8 magic) (λ _. version_field >>= behind_version) (λ _. tt) _ (one_way-exactly 8 magic) (λ begins.
-    way-bind version_field behind_version version_in (λ entry. (tt ≡ begins) × Unit {0}) one_way-version (λ version.
-    let inner : Way (behind_version version) (λ entry. version_in entry ≡ version) =
-    way-bind byte (behind_scheme version) (λ entry. scheme_of (secret_in entry)) _ one_way-byte (λ scheme. way-scheme version scheme) in
+    way-bind (exactly 8 magic) (λ _. version_field >>= after_version) (λ _. tt) _ (one_way-exactly 8 magic) (λ begins.
+    way-bind version_field after_version version_in (λ entry. (tt ≡ begins) × Unit {0}) one_way-version (λ version.
+    let inner : Way (after_version version) (λ entry. version_in entry ≡ version) =
+    way-bind byte (after_scheme version) (λ entry. scheme_of (secret_in entry)) _ one_way-byte (λ scheme. way-scheme version scheme) in
     record { one = inner.one; has = λ entry bytes spelled. (inner.has entry bytes spelled, (refl, tt)) })) in
     way.one
 
-behind_parent : ℕ → ℕ → Layout Record
-behind_parent level parent_leaf = do
-  identifier ← block 16
-  seed ← block 32
-  randomizer ← block 32
-  digest ← block 32
-  root ← block 32
-  rest ← zeros 73
-  done (ExtendRecord (record {
-    level = level;
-    parent_leaf = parent_leaf;
-    identifier = identifier;
-    seed = seed;
-    randomizer = randomizer;
-    digest = digest;
-    root = root;
-  }))
-
 one_way-extend : OneSpelling extend_fields
-unfolding extend_fields behind_parent level_in leaf_in identifier_in seed_in randomizer_in digest_in root_in
+unfolding extend_fields level_in leaf_in identifier_in seed_in randomizer_in digest_in root_in
 one_way-extend =
     let way : Way extend_fields (λ _. Unit {0}) =
     way-bind byte _ level_in _ one_way-byte (λ level.
-    way-bind number (behind_parent level) leaf_in _ one_way-number (λ parent_leaf.
+    way-bind number (after_parent_leaf level) leaf_in _ one_way-number (λ parent_leaf.
     way-bind (block 16) _ identifier_in _ (one_way-block 16) (λ identifier.
     way-bind (block 32) _ seed_in _ (one_way-block 32) (λ seed.
     way-bind (block 32) _ randomizer_in _ (one_way-block 32) (λ randomizer.
@@ -393,19 +375,19 @@ one_way-extend =
     way-done _ _ (refl, (refl, (refl, (refl, (refl, (refl, (refl, (refl, tt)))))))))))))))) in
     way.one
 
-behind_leaf : List ℕ → ℕ → Layout Record
-behind_leaf name leaf = do
+after_leaf : List ℕ → ℕ → Layout Record
+after_leaf name leaf = do
   randomizer ← block 32
   digest ← block 32
   rest ← zeros 89
   done (BoundRecord (record { name = name; leaf = leaf; randomizer = randomizer; digest = digest }))
 
 one_way-bound : OneSpelling bound_fields
-unfolding bound_fields behind_leaf name_in leaf_in randomizer_in digest_in
+unfolding bound_fields after_leaf name_in leaf_in randomizer_in digest_in
 one_way-bound =
     let way : Way bound_fields (λ _. Unit {0}) =
     way-bind name_field _ name_in _ one_way-name (λ name.
-    way-bind number (behind_leaf name) leaf_in _ one_way-number (λ leaf.
+    way-bind number (after_leaf name) leaf_in _ one_way-number (λ leaf.
     way-bind (block 32) _ randomizer_in _ (one_way-block 32) (λ randomizer.
     way-bind (block 32) _ digest_in _ (one_way-block 32) (λ digest.
     way-bind (zeros 89) _ (λ _. tt) _ (one_way-zeros 89) (λ rest.

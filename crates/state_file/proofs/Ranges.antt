@@ -1,6 +1,5 @@
 -- Ranges that are open, and contents that differ in them.
-use Rattle.std.proofs.Common.{◌≡◌, ℕ, ◌≤◌, List, [], ◌∷◌, length, refl, ◌∙◌, arith}
-use Rattle.std.proofs.lemmas.List.{same_lists, get_or_default}
+use Rattle.std.proofs.Common.{ℕ, ◌≤◌, List, [], ◌∷◌, length, refl, ◌∙◌, arith}
 use Rattle.state_file.specs.Disk.{Range, greatest_end, ChangesOnly}
 
 pub no_shorter : (n : ℕ) (ranges : List Range) → n ≤ greatest_end n ranges

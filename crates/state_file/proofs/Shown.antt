@@ -132,16 +132,16 @@ version-is version bytes (front, rest, is, len, spelled) =
 -- ---- Keys
 
 -- what follows the magic and the version
-abbrev behind_version : Version → Layout Record
-behind_version version = do
+abbrev after_version : Version → Layout Record
+after_version version = do
   scheme ← byte
   secret ← secret_of scheme
   root ← block 32
   rest ← zeros 2
   done (KeyRecord (record { version = version; secret = secret; root = root }))
 
-abbrev behind_magic : Unit {0} → Layout Record
-behind_magic _ = version_field >>= behind_version
+abbrev after_magic : Unit {0} → Layout Record
+after_magic _ = version_field >>= after_version
 
 -- a record's kind, and what stands after it
 pub record-parts : (entry : Record) (fields : List ℕ) → Spells slot_record entry fields → (rest : List ℕ) × (fields ≡ kind_of entry ∷ rest) × Spells (fields_of (kind_of entry)) entry rest
@@ -162,8 +162,8 @@ pub key-begins : (key : Key) (fields : List ℕ) → Spells slot_record (KeyReco
 unfolding key_fields
 key-begins key fields spelled =
     let (rest, is, after) = record-parts (KeyRecord key) fields spelled in
-    let (u, a, b, rest_is, magic_spelled, behind_it) = in_turn (exactly 8 magic) behind_magic (KeyRecord key) rest after in
-    let (version, w, others, b_is, version_spelled, _) = in_turn version_field behind_version (KeyRecord key) b behind_it in
+    let (u, a, b, rest_is, magic_spelled, from_version) = in_turn (exactly 8 magic) after_magic (KeyRecord key) rest after in
+    let (version, w, others, b_is, version_spelled, _) = in_turn version_field after_version (KeyRecord key) b from_version in
     let (len, found) = version-is version w version_spelled in
     let bytes : fields ≡ 1 ∷ (magic ++ (w ++ others)) = is ∙ ap (λ l. 1 ∷ l) (rest_is ∙ ap (λ l. l ++ b) (exactly-is 8 magic a u magic_spelled) ∙ ap (λ l. magic ++ l) b_is) in
     (ap begins_key bytes, (version, ap version_of bytes ∙ version_first version w others len found))

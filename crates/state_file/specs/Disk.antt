@@ -1,6 +1,6 @@
 -- What the calls of a disk do, and what a stop may leave between two syncs.
 use Rattle.std.specs.Prelude.{◌≡◌, ◌⊎◌, ℕ, ◌+◌, ◌<◌, ◌≤◌, max, List, [], ◌∷◌, length, slice_index, slice_range}
-use Rattle.std.specs.Prelude.{Result, Ok, Err}
+use Rattle.std.specs.Prelude.{Result, Ok, Err, Bool, true, false, if◌then◌else◌}
 use Rattle.state_file.specs.declared.disk.DiskFault.{DiskFault}
 use Rattle.state_file.specs.declared.disk.DiskFault.TheVariants.{Failed, PastEnd, OutOfMemory}
 
@@ -30,7 +30,7 @@ pub record ChangesOnly (ranges : List Range) (old new : List ℕ) : Type 0 where
   pub no_longer : length new ≤ greatest_end (length old) ranges
 
 -- a disk at one moment
-pub record State : Type 0 where
+pub record DiskState : Type 0 where
   -- what a read gives
   pub content : List ℕ
   -- what a read gave right after the last sync that succeeded
@@ -39,46 +39,49 @@ pub record State : Type 0 where
   pub ranges : List Range
 
 -- a disk with this content, all of it synced
-abbrev pub settled : List ℕ → State
+abbrev pub settled : List ℕ → DiskState
 settled content = record { content = content; base = content; ranges = [] }
 
 -- a stop leaves what a read gives
-abbrev pub IsSynced : State → Type 0
+abbrev pub IsSynced : DiskState → Type 0
 IsSynced state = state ≡ settled state.content
 
 -- what a stop at this moment may leave: any bytes in the ranges and past the base's end
-abbrev pub MayLeave : State → List ℕ → Type 0
+abbrev pub MayLeave : DiskState → List ℕ → Type 0
 MayLeave state = ChangesOnly state.ranges state.base
 
 -- One range more is open, and what a read gives changed at most there.
-pub record OpensRange (range : Range) (old new : State) : Type 0 where
+pub record OpensRange (range : Range) (old new : DiskState) : Type 0 where
   pub changes : ChangesOnly (range ∷ []) old.content new.content
   pub more : new.ranges ≡ range ∷ old.ranges
   pub same_base : new.base ≡ old.base
 
 -- What a write does. One that is refused may have written any part of its range, or nothing.
-abbrev pub Writes : {A E : Type 0} (at : ℕ) (bytes : List ℕ) (old new : State) → Result A E → Type 0
+abbrev pub Writes : {A E : Type 0} (at : ℕ) (bytes : List ℕ) (old new : DiskState) → Result A E → Type 0
 Writes at bytes old new (Ok _) = OpensRange (range_of at bytes) old new
     × (slice_range new.content at (at + length bytes) ≡ bytes)
 Writes at bytes old new (Err _) = (new ≡ old) ⊎ OpensRange (range_of at bytes) old new
 
 -- What a sync does. One that is refused promises nothing: what a read gives after it is one of the contents
 -- that a stop may leave, as ever.
-abbrev pub Syncs : {A E : Type 0} (old new : State) → Result A E → Type 0
+abbrev pub Syncs : {A E : Type 0} (old new : DiskState) → Result A E → Type 0
 Syncs old new (Ok _) = new ≡ settled old.content
 Syncs old new (Err _) = (new.base ≡ old.base) × (new.ranges ≡ old.ranges)
 
--- The count of failures, which grows by one with each call that is refused.
-abbrev pub CountsFailure : {A E : Type 0} (before after : ℕ) → Result A E → Type 0
-CountsFailure before after (Ok _) = after ≡ before
-CountsFailure before after (Err _) = after ≡ before + 1
+-- A count grows by one with each refusal that counts, and with no other answer.
+abbrev pub Counts : {A E : Type 0} (is_counted : E → Bool) (before after : ℕ) → Result A E → Type 0
+Counts is_counted before after (Ok _) = after ≡ before
+Counts is_counted before after (Err fault) = after ≡ (if is_counted fault then before + 1 else before)
 
--- The count of reads past the end, which grows by one with each call that is refused as one.
-abbrev pub CountsPastEnd : {A : Type 0} (before after : ℕ) → Result A DiskFault → Type 0
-CountsPastEnd before after (Ok _) = after ≡ before
-CountsPastEnd before after (Err Failed) = after ≡ before
-CountsPastEnd before after (Err PastEnd) = after ≡ before + 1
-CountsPastEnd before after (Err OutOfMemory) = after ≡ before
+-- Each refusal of a disk is a failure.
+abbrev pub is_failure : DiskFault → Bool
+is_failure fault = true
+
+-- the read was refused as one past the end
+abbrev pub is_past_end : DiskFault → Bool
+is_past_end Failed = false
+is_past_end PastEnd = true
+is_past_end OutOfMemory = false
 
 -- ---- moments, of a disk or of a store, and what a stop at one of them leaves
 
@@ -87,6 +90,12 @@ pub record Elapses {C : Type 0} (before now : ℕ) (past since : ℕ → C → T
   pub later : before ≤ now
   pub nothing_else : (t : ℕ) (c : C) → t ≤ before → since t c → past t c ⊎ may_leave c
   pub keeps : (t : ℕ) (c : C) → t ≤ before → past t c → since t c
+
+-- Time goes on in a call of a disk, after which a stop may leave what it may leave of its new state.
+abbrev pub TimePasses : {D : Type 0} (state : D → DiskState) (moment : D → ℕ) (left_since : D → ℕ → List ℕ → Type 0)
+    (old new : D) → Type 0
+TimePasses state moment left_since old new =
+    Elapses (moment old) (moment new) (left_since old) (left_since new) (MayLeave (state new))
 
 -- What a stop at any moment from old on leaves has P.
 pub record LeavesOnly {D C : Type 0} (moment : D → ℕ) (left_since : D → ℕ → C → Type 0) (old new : D) (P : C

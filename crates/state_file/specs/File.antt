@@ -15,7 +15,7 @@ use Rattle.state_file.specs.declared.record.Version.{Version}
 use Rattle.state_file.specs.Slot.{magic, slot_record, version_code, versions}
 use Rattle.std.proofs.Props.{props}
 use Rattle.typecodes.specs.Cursor.{read}
-use Rattle.state_file.specs.Disk.{State, IsSynced}
+use Rattle.state_file.specs.Disk.{DiskState, IsSynced}
 use Rattle.state_file.specs.Store.{begins_with_key}
 
 -- ---- the parts of a slot
@@ -155,7 +155,7 @@ LeftLists left_since t list = (content : List ℕ) × left_since t content
     × (StandsFor list content ⊎ ((other : List Record) → StandsFor other content → ⊥))
 
 -- all of it is synced, and this is the last slot's tag
-pub record IsSyncedFile (records : List Record) (tag : List ℕ) (state : State) : Type 0 where
+pub record IsSyncedFile (records : List Record) (tag : List ℕ) (state : DiskState) : Type 0 where
   pub synced : IsSynced state
   pub file : IsFileOf records state.content
   pub last : tag ≡ previous_tag state.content (length records)
@@ -163,5 +163,6 @@ pub record IsSyncedFile (records : List Record) (tag : List ℕ) (state : State)
 pub IsFileOf-prop : (records : List Record) (content : List ℕ) → IsProp (IsFileOf records content)
 IsFileOf-prop records content = hlevel props
 
-pub IsSyncedFile-prop : (records : List Record) (tag : List ℕ) (state : State) → IsProp (IsSyncedFile records tag state)
+pub IsSyncedFile-prop : (records : List Record) (tag : List ℕ) (state : DiskState)
+    → IsProp (IsSyncedFile records tag state)
 IsSyncedFile-prop records tag state = hlevel (props, IsFileOf-prop)

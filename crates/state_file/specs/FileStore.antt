@@ -12,7 +12,7 @@ use Rattle.typecodes.proofs.Spelling.{one_value}
 use Rattle.typecodes.proofs.Steps.{ends-spelled}
 use Rattle.state_file.specs.File.{HasNoKey, IsClosed, SpellsRecords, fields_at, open_value, StandsFor, IsFileOf}
 use Rattle.state_file.specs.File.{IsSyncedFile}
-use Rattle.state_file.specs.Disk.{State, MayLeave, settled}
+use Rattle.state_file.specs.Disk.{DiskState, MayLeave, settled}
 use Rattle.state_file.specs.Slot.{slot_record}
 use Rattle.state_file.specs.Store.{is_key}
 use Rattle.state_file.specs.declared.record.Key.{Key}
@@ -76,7 +76,7 @@ file_stands (entry ∷ entries) content file = record {
       };
 }
 
-pub kept_stands : (records : List Record) (tag : List ℕ) (state : State) → IsSyncedFile records tag state
+pub kept_stands : (records : List Record) (tag : List ℕ) (state : DiskState) → IsSyncedFile records tag state
     → StandsFor records state.content
 kept_stands records tag state kept = file_stands records state.content kept.file
 
@@ -127,13 +127,14 @@ synced_left content c changes =
     ∙ get_or_default content k 0 d (omega (arith, changes.no_shorter, changes.no_longer)))
 
 -- what a stop leaves of what is kept
-pub kept_leaves : (records : List Record) (tag : List ℕ) (state : State) (c : List ℕ) → IsSyncedFile records tag state
-    → MayLeave state c → StandsFor records c
+pub kept_leaves : (records : List Record) (tag : List ℕ) (state : DiskState) (c : List ℕ)
+    → IsSyncedFile records tag state → MayLeave state c → StandsFor records c
 kept_leaves records tag state c kept left =
-    let same : c ≡ state.content = synced_left state.content c (subst (λ (s : State). MayLeave s c) kept.synced left) in
+    let same : c ≡ state.content =
+    synced_left state.content c (subst (λ (s : DiskState). MayLeave s c) kept.synced left) in
     file_stands records c (subst (IsFileOf records) (sym same) kept.file)
 
-pub kept_list : (records list : List Record) (tag : List ℕ) (state : State) (c : List ℕ)
+pub kept_list : (records list : List Record) (tag : List ℕ) (state : DiskState) (c : List ℕ)
     → IsSyncedFile records tag state → MayLeave state c → StandsFor list c
     ⊎ ((other : List Record) → StandsFor other c → ⊥) → list ≡ records
 kept_list records list tag state c kept left either =

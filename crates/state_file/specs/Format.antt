@@ -1,14 +1,14 @@
 -- What preparing a place does.
-use Rattle.std.specs.Prelude.{◌≡◌, ◌⊎◌, ℕ, ◌+◌, ◌<◌, ◌≤◌, List, [], ◌∷◌, length, slice_index, slice_range, Result, Ok}
-use Rattle.std.specs.Prelude.{Err}
+use Rattle.std.specs.Prelude.{◌≡◌, ◌⊎◌, ℕ, ◌<◌, ◌≤◌, List, [], ◌∷◌, length, slice_index, slice_range, Result, Ok}
+use Rattle.std.specs.Prelude.{Err, Bool, true, false}
 use Rattle.state_file.specs.File.{IsClosed, open_value}
-use Rattle.state_file.specs.Disk.{State, MayLeave, settled, ChangesOnly, range_of}
+use Rattle.state_file.specs.Disk.{DiskState, MayLeave, settled, ChangesOnly, range_of}
 use Rattle.state_file.specs.Gates.{IsAtRest}
 use Rattle.state_file.specs.declared.file.format.FormatFault.{FormatFault}
 use Rattle.state_file.specs.declared.file.format.FormatFault.TheVariants.{NotKeyFile, DeviceFailed, KeyThere}
 
 -- What preparing leaves: of under 257 bytes the first is zero and no other has changed, and of 257 none has.
-abbrev pub Prepares : (content : List ℕ) (new : State) → Type 0
+abbrev pub Prepares : (content : List ℕ) (new : DiskState) → Type 0
 Prepares content new =
     IsAtRest [] new
     × (((length content < 257) × (slice_range new.content 0 1 ≡ 0 ∷ [])
@@ -16,25 +16,24 @@ Prepares content new =
     ⊎ ((length content ≡ 257) × IsClosed content 0 × (new.content ≡ content)))
 
 -- when each refusal comes, by what a read gave, and what it leaves
-abbrev pub RefusesFormat : (content : List ℕ) (new : State) → FormatFault → Type 0
+abbrev pub RefusesFormat : (content : List ℕ) (new : DiskState) → FormatFault → Type 0
 RefusesFormat content new KeyThere = (257 ≤ length content) × (slice_index content 0 ≡ open_value)
     × (new ≡ settled content)
 RefusesFormat content new NotKeyFile = (257 < length content) × IsClosed content 0 × (new ≡ settled content)
 RefusesFormat content new DeviceFailed = Unit {0}
 
-abbrev pub Formats : {A : Type 0} (content : List ℕ) (new : State) → Result A FormatFault → Type 0
+abbrev pub Formats : {A : Type 0} (content : List ℕ) (new : DiskState) → Result A FormatFault → Type 0
 Formats content new (Ok _) = Prepares content new
 Formats content new (Err fault) = RefusesFormat content new fault
 
 -- What a stop in it may leave: what it might leave before, or, of a content of under 257 bytes, this one with any first
 -- byte. So of 257 bytes or more none is written.
-abbrev pub LeftByFormat : State → List ℕ → Type 0
+abbrev pub LeftByFormat : DiskState → List ℕ → Type 0
 LeftByFormat old c = MayLeave old c
     ⊎ ((length old.content < 257) × ChangesOnly (range_of 0 (0 ∷ []) ∷ []) old.content c)
 
--- The count of failures grows by one with a 45, and with no other answer.
-abbrev pub CountsFormat : {A : Type 0} (before after : ℕ) → Result A FormatFault → Type 0
-CountsFormat before after (Ok _) = after ≡ before
-CountsFormat before after (Err KeyThere) = after ≡ before
-CountsFormat before after (Err NotKeyFile) = after ≡ before
-CountsFormat before after (Err DeviceFailed) = after ≡ before + 1
+-- A 45 counts as a failure, and no other refusal does.
+abbrev pub is_failed_format : FormatFault → Bool
+is_failed_format KeyThere = false
+is_failed_format NotKeyFile = false
+is_failed_format DeviceFailed = true

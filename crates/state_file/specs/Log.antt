@@ -1,10 +1,9 @@
 -- The log of a disk in memory, and what a stop leaves after it. Its moments are the beginnings of the log.
-use Rattle.std.specs.Prelude.{◌≡◌, ℕ, ◌+◌, ◌-◌, ◌<◌, ◌≤◌, ◌==◌, if◌then◌else◌, max, List, [], ◌∷◌, length, take}
+use Rattle.std.specs.Prelude.{◌≡◌, ℕ, ◌+◌, ◌<◌, ◌≤◌, ◌==◌, if◌then◌else◌, max, List, [], ◌∷◌, length, take}
 use Rattle.std.specs.Prelude.{reverse, slice_index}
-use Rattle.state_file.specs.Disk.{Range, IsOutside, greatest_end, ChangesOnly, State}
+use Rattle.state_file.specs.Disk.{Range, IsOutside, greatest_end, ChangesOnly, DiskState}
 use Rattle.state_file.specs.declared.disk.log.Entry.{Entry}
 use Rattle.state_file.specs.declared.disk.log.Entry.TheVariants.{Wrote, Synced}
-use Rattle.state_file.specs.declared.disk.memory_disk.Pick.TheVariants.{New}
 use Rattle.std.proofs.Common.{sym, subst, arith}
 use Rattle.std.proofs.lemmas.List.{take_all}
 
@@ -21,7 +20,7 @@ ranges_of (Wrote from to ∷ earlier) = record { from = from; to = to } ∷ rang
 ranges_of (Synced content ∷ earlier) = []
 
 -- the disk with this content after this log, whose oldest entry comes first
-abbrev pub state_of : (content first : List ℕ) (log : List Entry) → State
+abbrev pub state_of : (content first : List ℕ) (log : List Entry) → DiskState
 state_of content first log =
     record { content = content; base = base_of first (reverse log); ranges = ranges_of (reverse log) }
 

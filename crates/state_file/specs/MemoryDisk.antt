@@ -1,7 +1,7 @@
 -- A disk in memory: what callers see of it, and what its calls do.
-use Rattle.std.specs.Prelude.{◌≡◌, ℕ, zero, suc, ◌-◌, List, [], ◌∷◌, length, take, Option, Some, None, Result, Ok}
+use Rattle.std.specs.Prelude.{◌≡◌, ℕ, zero, suc, ◌-◌, List, ◌∷◌, length, take, Option, Some, None, Result, Ok}
 use Rattle.std.specs.Prelude.{Err, ◌/◌, ◌↔◌, Bool, true}
-use Rattle.state_file.specs.Disk.{range_of, State, settled}
+use Rattle.state_file.specs.Disk.{range_of, DiskState, settled}
 use Rattle.state_file.specs.declared.disk.DiskFault.{DiskFault}
 use Rattle.state_file.specs.declared.disk.DiskFault.TheVariants.{Failed, OutOfMemory}
 use Rattle.state_file.specs.declared.disk.memory_disk.Fate.{Fate}
@@ -45,7 +45,7 @@ answer_of Stopped answer = Err Failed
 
 -- What a write does, by how it fares and its answer. Where memory is refused it does nothing. One that fails
 -- writes the first half of its bytes, rounded down, and counts with its whole range.
-abbrev pub WritesInMemory : {A : Type 0} (at : ℕ) (bytes : List ℕ) (old new : State) → Fate → Result A DiskFault
+abbrev pub WritesInMemory : {A : Type 0} (at : ℕ) (bytes : List ℕ) (old new : DiskState) → Fate → Result A DiskFault
     → Type 0
 WritesInMemory at bytes old new Runs (Ok _) = Overlays at bytes old.content new.content
     × (new.ranges ≡ range_of at bytes ∷ old.ranges) × (new.base ≡ old.base)
@@ -58,20 +58,20 @@ WritesInMemory at bytes old new Stopped (Err Failed) = new ≡ old
 WritesInMemory at bytes old new fate result = ⊥
 
 -- What a sync does, by how it fares and its answer. One that is refused does nothing.
-abbrev pub SyncsInMemory : {A : Type 0} (old new : State) → Fate → Result A DiskFault → Type 0
+abbrev pub SyncsInMemory : {A : Type 0} (old new : DiskState) → Fate → Result A DiskFault → Type 0
 SyncsInMemory old new Runs (Ok _) = new ≡ settled old.content
 SyncsInMemory old new Runs (Err OutOfMemory) = new ≡ old
 SyncsInMemory old new Fails (Err Failed) = new ≡ old
 SyncsInMemory old new Stopped (Err Failed) = new ≡ old
 SyncsInMemory old new fate result = ⊥
 
-abbrev pub Picks : Pick → State → List ℕ → Type 0
+abbrev pub Picks : Pick → DiskState → List ℕ → Type 0
 Picks Old state c = c ≡ state.base
 Picks New state c = c ≡ state.content
 Picks (Fill byte) state c = IsLongestLeft byte state.base state.ranges c
 
 -- what a read gives, and what a stop may leave
-abbrev pub state_in : MemoryDisk → State
+abbrev pub state_in : MemoryDisk → DiskState
 state_in disk = state_of disk.content.items disk.first.items disk.log.items
 
 -- this moment: how many writes and syncs there were

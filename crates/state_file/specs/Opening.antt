@@ -1,9 +1,10 @@
 -- What opening a place reports, and what its parts do.
-use Rattle.std.specs.Prelude.{◌≡◌, ℕ, ◌+◌, ◌*◌, ◌<◌, true, List, length, Option, Some, None, Result, Ok, Err}
+use Rattle.std.specs.Prelude.{◌≡◌, ℕ, ◌+◌, ◌*◌, ◌<◌, Bool, true, false, List, length, Option, Some, None}
+use Rattle.std.specs.Prelude.{Result, Ok, Err}
 use Rattle.state_file.specs.File.{Holds, IsWhole, MayHaveKey, SpellsRecords, begins_key, fields_at, most_records}
 use Rattle.state_file.specs.File.{previous_tag, tag_at, version_of, HasNoKey, HasUnknownVersion, IsDamagedAt}
 use Rattle.state_file.specs.File.{IsNoKeyFile}
-use Rattle.state_file.specs.Disk.{State, MayLeave, settled, LeavesOnly}
+use Rattle.state_file.specs.Disk.{DiskState, MayLeave, settled, LeavesOnly}
 use Rattle.state_file.specs.declared.file.opening.OpenFault.{OpenFault}
 use Rattle.state_file.specs.declared.file.opening.OpenFault.TheVariants.{NoKey, NotKeyFile, Version as VersionFault}
 use Rattle.state_file.specs.declared.file.opening.OpenFault.TheVariants.{Damaged, DeviceFailed}
@@ -40,7 +41,7 @@ Reports content (Damaged k) = OpensAs content (damaged k)
 Reports content DeviceFailed = Unit {0}
 
 -- A refusal for what stands there leaves it as it was, and all of it is synced.
-abbrev pub KeepsContent : List ℕ → State → OpenFault → Type 0
+abbrev pub KeepsContent : List ℕ → DiskState → OpenFault → Type 0
 KeepsContent content new NoKey = new ≡ settled content
 KeepsContent content new NotKeyFile = new ≡ settled content
 KeepsContent content new VersionFault = new ≡ settled content
@@ -48,21 +49,20 @@ KeepsContent content new (Damaged k) = new ≡ settled content
 KeepsContent content new DeviceFailed = Unit {0}
 
 -- What opening leaves: a store, or a refusal for what stands there, leaves the content as it was, and all of it synced.
-abbrev pub Settles : {A : Type 0} → List ℕ → State → Result A OpenFault → Type 0
+abbrev pub Settles : {A : Type 0} → List ℕ → DiskState → Result A OpenFault → Type 0
 Settles content new (Ok _) = new ≡ settled content
 Settles content new (Err fault) = KeepsContent content new fault
 
--- The count of failures grows by one with a 45, and with no other answer.
-abbrev pub CountsOpening : {A : Type 0} (before after : ℕ) → Result A OpenFault → Type 0
-CountsOpening before after (Ok _) = after ≡ before
-CountsOpening before after (Err NoKey) = after ≡ before
-CountsOpening before after (Err NotKeyFile) = after ≡ before
-CountsOpening before after (Err VersionFault) = after ≡ before
-CountsOpening before after (Err (Damaged k)) = after ≡ before
-CountsOpening before after (Err DeviceFailed) = after ≡ before + 1
+-- A 45 counts as a failure, and no other refusal does.
+abbrev pub is_failed_opening : OpenFault → Bool
+is_failed_opening NoKey = false
+is_failed_opening NotKeyFile = false
+is_failed_opening VersionFault = false
+is_failed_opening (Damaged k) = false
+is_failed_opening DeviceFailed = true
 
 -- calls that only read
-pub record OnlyReads {D : Type 0} (state : D → State) (moment : D → ℕ) (left_since : D → ℕ → List ℕ
+pub record OnlyReads {D : Type 0} (state : D → DiskState) (moment : D → ℕ) (left_since : D → ℕ → List ℕ
     → Type 0) (old new : D) : Type 0 where
   pub stays : state new ≡ state old
   pub leaves : LeavesOnly moment left_since old new (MayLeave (state old))

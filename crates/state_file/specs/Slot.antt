@@ -141,11 +141,9 @@ key_fields = do
 
 -- ---- the other kinds
 
--- the level, the parent leaf, I, SEED, C, Q and the root
-unfoldable pub extend_fields : Layout Record
-extend_fields = do
-  level ← byte
-  parent_leaf ← number
+-- what follows the parent leaf of an Extend: I, SEED, C, Q and the root
+abbrev pub after_parent_leaf : (level parent_leaf : ℕ) → Layout Record
+after_parent_leaf level parent_leaf = do
   identifier ← block 16
   seed ← block 32
   randomizer ← block 32
@@ -161,6 +159,13 @@ extend_fields = do
     digest = digest;
     root = root;
   }))
+
+-- the level, the parent leaf and what follows
+unfoldable pub extend_fields : Layout Record
+extend_fields = do
+  level ← byte
+  parent_leaf ← number
+  after_parent_leaf level parent_leaf
 
 -- each byte is a visible character of ASCII
 abbrev pub are_visible : List ℕ → Bool

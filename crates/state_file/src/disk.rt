@@ -1,8 +1,8 @@
 //! What a disk is: bytes that may get lost, where they weren't synced, when the power goes.
 
 ghost use Rattle.std.specs.Prelude.{◌≡◌, ◌+◌, ◌<◌, ◌≤◌, ℕ, List, Bool, IsTrue, length, slice_range, IfOk, OnOk};
-ghost use Rattle.state_file.specs.Disk.{State, MayLeave, Writes, Syncs, CountsFailure, CountsPastEnd};
-ghost use Rattle.state_file.specs.Disk.{Elapses};
+ghost use Rattle.state_file.specs.Disk.{DiskState, MayLeave, Writes, Syncs, Counts, is_failure, is_past_end};
+ghost use Rattle.state_file.specs.Disk.{TimePasses};
 
 mod log;
 mod memory_disk;
@@ -32,7 +32,7 @@ pub enum DiskFault {
 /// for each to say: of one in memory it is proved, of a file of the machine it is a premise.
 pub trait Disk {
     // what a read gives, and what a stop at this moment may leave
-    ghost state: { Self → State };
+    ghost state: { Self → DiskState };
 
     // this moment, as a number that doesn't fall
     ghost moment: { Self → ℕ };
@@ -53,10 +53,8 @@ pub trait Disk {
     fn len(&mut self) -> Result<u64, DiskFault>
         ensures length { IsTrue (honest self.old) → IfOk result (λ n. n ≡ length (state self.old).content) }
         ensures stays { IsTrue (honest self.old) → state self.new ≡ state self.old }
-        ensures time { IsTrue (honest self.old) →
-            Elapses (moment self.old) (moment self.new) (left_since self.old) (left_since self.new)
-            (MayLeave (state self.new)) }
-        ensures failures { CountsFailure (failures self.old) (failures self.new) result }
+        ensures time { IsTrue (honest self.old) → TimePasses state moment left_since self.old self.new }
+        ensures failures { Counts is_failure (failures self.old) (failures self.new) result }
         ensures past_ends { past_ends self.new ≡ past_ends self.old }
         ensures honest { honest self.new ≡ honest self.old };
 
@@ -70,12 +68,10 @@ pub trait Disk {
             OnOk result (into.new ≡ slice_range (state self.old).content at (at + length into.old)) }
         ensures past_end { IsTrue (honest self.old) → result ≡ Err DiskFault.PastEnd →
             length (state self.old).content < at + length into.old }
-        ensures past_ends { CountsPastEnd (past_ends self.old) (past_ends self.new) result }
+        ensures past_ends { Counts is_past_end (past_ends self.old) (past_ends self.new) result }
         ensures stays { IsTrue (honest self.old) → state self.new ≡ state self.old }
-        ensures time { IsTrue (honest self.old) →
-            Elapses (moment self.old) (moment self.new) (left_since self.old) (left_since self.new)
-            (MayLeave (state self.new)) }
-        ensures failures { CountsFailure (failures self.old) (failures self.new) result }
+        ensures time { IsTrue (honest self.old) → TimePasses state moment left_since self.old self.new }
+        ensures failures { Counts is_failure (failures self.old) (failures self.new) result }
         ensures honest { honest self.new ≡ honest self.old };
 
     /// Writes these bytes, one at least, over what is there and past the end. Until a sync succeeds, a stop may
@@ -83,20 +79,16 @@ pub trait Disk {
     fn write_at(&mut self, at: u64, bytes: &[u8]) -> Result<(), DiskFault>
         requires { 0 < length bytes.now }
         ensures written { IsTrue (honest self.old) → Writes at bytes.now (state self.old) (state self.new) result }
-        ensures time { IsTrue (honest self.old) →
-            Elapses (moment self.old) (moment self.new) (left_since self.old) (left_since self.new)
-            (MayLeave (state self.new)) }
-        ensures failures { CountsFailure (failures self.old) (failures self.new) result }
+        ensures time { IsTrue (honest self.old) → TimePasses state moment left_since self.old self.new }
+        ensures failures { Counts is_failure (failures self.old) (failures self.new) result }
         ensures past_ends { past_ends self.new ≡ past_ends self.old }
         ensures honest { honest self.new ≡ honest self.old };
 
     /// After it, a stop leaves what a read gives.
     fn sync(&mut self) -> Result<(), DiskFault>
         ensures synced { IsTrue (honest self.old) → Syncs (state self.old) (state self.new) result }
-        ensures time { IsTrue (honest self.old) →
-            Elapses (moment self.old) (moment self.new) (left_since self.old) (left_since self.new)
-            (MayLeave (state self.new)) }
-        ensures failures { CountsFailure (failures self.old) (failures self.new) result }
+        ensures time { IsTrue (honest self.old) → TimePasses state moment left_since self.old self.new }
+        ensures failures { Counts is_failure (failures self.old) (failures self.new) result }
         ensures past_ends { past_ends self.new ≡ past_ends self.old }
         ensures honest { honest self.new ≡ honest self.old };
 

@@ -1,10 +1,10 @@
 //! A disk in memory, to show what a stop may leave.
 
 ghost use Rattle.std.specs.Prelude.{if◌then◌else◌, nat_le, IsTrue, ◌-◌, ◌≡◌, ◌+◌, ◌≤◌, ◌<◌, length, slice_range};
-ghost use Rattle.std.specs.Prelude.{IfOk, OnOk, ℕ, List};
+ghost use Rattle.std.specs.Prelude.{IfOk, IfErr, OnOk, OnErr, ◌≢◌, ℕ, List};
 ghost use Rattle.std.proofs.Props.{props};
-ghost use Rattle.state_file.specs.Disk.{State, MayLeave, ChangesOnly, settled, Writes, Syncs, CountsFailure};
-ghost use Rattle.state_file.specs.Disk.{CountsPastEnd, Elapses};
+ghost use Rattle.state_file.specs.Disk.{DiskState, MayLeave, ChangesOnly, settled, Writes, Syncs, Counts};
+ghost use Rattle.state_file.specs.Disk.{is_failure, is_past_end, TimePasses};
 ghost use Rattle.state_file.specs.Log.{LeftBy, left_now, left_only_now};
 
 use crate::disk::log::{Entry, base, keep, longest_left, part, write};
@@ -55,6 +55,21 @@ impl Plan {
         self.stop = self.stop.map(|before| before.saturating_sub(1));
         self.fail = self.fail.and_then(|before| before.checked_sub(1));
         fate
+    }
+
+    // Refuses the call that comes now, unless it runs.
+    fn admit(&mut self, failures: &mut Count) -> Result<(), DiskFault>
+        ensures runs { OnOk result (fate_of self.old.stop self.old.fail ≡ Fate.Runs) }
+        ensures refused { OnErr result (fate_of self.old.stop self.old.fail ≢ Fate.Runs) }
+        ensures fault { IfErr result (λ fault. fault ≡ DiskFault.Failed) }
+        ensures stop { self.new.stop ≡ stop_after self.old.stop }
+        ensures fail { self.new.fail ≡ fail_after self.old.fail }
+        ensures failures { Counts is_failure failures.old failures.new result }
+    {
+        if self.next() != Fate::Runs {
+            return refuse(failures, DiskFault::Failed);
+        }
+        Ok(())
     }
 }
 
@@ -170,17 +185,13 @@ impl Disk for MemoryDisk {
         ensures value { result ≡ answer_of (next_fate self.old) (Ok (length (state_in self.old).content)) }
         ensures length { IsTrue (is_honest self.old) → IfOk result (λ n. n ≡ length (state_in self.old).content) }
         ensures stays { IsTrue (is_honest self.old) → state_in self.new ≡ state_in self.old }
-        ensures time { IsTrue (is_honest self.old) →
-            Elapses (moment_in self.old) (moment_in self.new) (left_in self.old) (left_in self.new)
-            (MayLeave (state_in self.new)) }
-        ensures failures { CountsFailure (failures_in self.old) (failures_in self.new) result }
+        ensures time { IsTrue (is_honest self.old) → TimePasses state_in moment_in left_in self.old self.new }
+        ensures failures { Counts is_failure (failures_in self.old) (failures_in self.new) result }
         ensures past_ends { past_ends_in self.new ≡ past_ends_in self.old }
         ensures honest { is_honest self.new ≡ is_honest self.old }
         ensures plan { PlanAfterCall self.old self.new }
     {
-        if self.plan.next() != Fate::Runs {
-            return refuse(&mut self.failures, DiskFault::Failed);
-        }
+        self.plan.admit(&mut self.failures)?;
         Ok(self.content.len() as u64)
     }
 
@@ -194,18 +205,14 @@ impl Disk for MemoryDisk {
             OnOk result (into.new ≡ slice_range (state_in self.old).content at (at + length into.old)) }
         ensures past_end { IsTrue (is_honest self.old) → result ≡ Err DiskFault.PastEnd →
             length (state_in self.old).content < at + length into.old }
-        ensures past_ends { CountsPastEnd (past_ends_in self.old) (past_ends_in self.new) result }
+        ensures past_ends { Counts is_past_end (past_ends_in self.old) (past_ends_in self.new) result }
         ensures stays { IsTrue (is_honest self.old) → state_in self.new ≡ state_in self.old }
-        ensures time { IsTrue (is_honest self.old) →
-            Elapses (moment_in self.old) (moment_in self.new) (left_in self.old) (left_in self.new)
-            (MayLeave (state_in self.new)) }
-        ensures failures { CountsFailure (failures_in self.old) (failures_in self.new) result }
+        ensures time { IsTrue (is_honest self.old) → TimePasses state_in moment_in left_in self.old self.new }
+        ensures failures { Counts is_failure (failures_in self.old) (failures_in self.new) result }
         ensures honest { is_honest self.new ≡ is_honest self.old }
         ensures plan { PlanAfterCall self.old self.new }
     {
-        if self.plan.next() != Fate::Runs {
-            return refuse(&mut self.failures, DiskFault::Failed);
-        }
+        self.plan.admit(&mut self.failures)?;
         match part(&self.content, at, into.len()) {
             Some(part) => {
                 into.copy_from_slice(part);
@@ -223,10 +230,8 @@ impl Disk for MemoryDisk {
             result }
         ensures written { IsTrue (is_honest self.old) →
             Writes at bytes.now (state_in self.old) (state_in self.new) result }
-        ensures time { IsTrue (is_honest self.old) →
-            Elapses (moment_in self.old) (moment_in self.new) (left_in self.old) (left_in self.new)
-            (MayLeave (state_in self.new)) }
-        ensures failures { CountsFailure (failures_in self.old) (failures_in self.new) result }
+        ensures time { IsTrue (is_honest self.old) → TimePasses state_in moment_in left_in self.old self.new }
+        ensures failures { Counts is_failure (failures_in self.old) (failures_in self.new) result }
         ensures past_ends { past_ends_in self.new ≡ past_ends_in self.old }
         ensures honest { is_honest self.new ≡ is_honest self.old }
         ensures plan { PlanAfterCall self.old self.new }
@@ -253,17 +258,13 @@ impl Disk for MemoryDisk {
     fn sync(&mut self) -> Result<(), DiskFault>
         ensures flushes { SyncsInMemory (state_in self.old) (state_in self.new) (next_fate self.old) result }
         ensures synced { IsTrue (is_honest self.old) → Syncs (state_in self.old) (state_in self.new) result }
-        ensures time { IsTrue (is_honest self.old) →
-            Elapses (moment_in self.old) (moment_in self.new) (left_in self.old) (left_in self.new)
-            (MayLeave (state_in self.new)) }
-        ensures failures { CountsFailure (failures_in self.old) (failures_in self.new) result }
+        ensures time { IsTrue (is_honest self.old) → TimePasses state_in moment_in left_in self.old self.new }
+        ensures failures { Counts is_failure (failures_in self.old) (failures_in self.new) result }
         ensures past_ends { past_ends_in self.new ≡ past_ends_in self.old }
         ensures honest { is_honest self.new ≡ is_honest self.old }
         ensures plan { PlanAfterCall self.old self.new }
     {
-        if self.plan.next() != Fate::Runs {
-            return refuse(&mut self.failures, DiskFault::Failed);
-        }
+        self.plan.admit(&mut self.failures)?;
         match keep(self.alloc, &self.content, &mut self.log) {
             Ok(()) => Ok(()),
             Err(_) => refuse(&mut self.failures, DiskFault::OutOfMemory),

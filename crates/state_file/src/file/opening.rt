@@ -3,12 +3,12 @@
 ghost use Rattle.std.specs.Prelude.{◌≡◌, ◌+◌, ◌*◌, ◌-◌, ◌^◌, ◌<◌, ◌≤◌, ◌==◌, ◌∷◌, [], ◌++◌, IsTrue, IfOk, IfErr};
 ghost use Rattle.std.specs.Prelude.{OnOk, MatchOption, length, replicate, slice_index};
 ghost use Rattle.typecodes.specs.Layout.{Spells};
-ghost use Rattle.state_file.specs.File.{fields_at, open_value, previous_tag, tag_at, tag_of};
+ghost use Rattle.state_file.specs.File.{MayHaveKey, fields_at, open_value, previous_tag, tag_at, tag_of};
 ghost use Rattle.state_file.specs.Slot.{slot_record};
 ghost use Rattle.state_file.specs.declared.record.Record.{Record as Entry};
-ghost use Rattle.state_file.specs.Disk.{settled, MayLeave, CountsFailure};
+ghost use Rattle.state_file.specs.Disk.{settled, MayLeave, Counts, is_failure};
 ghost use Rattle.state_file.specs.Disk.{LeavesOnly};
-ghost use Rattle.state_file.specs.Opening.{CountsOpening, HasEntry, HasSlot, IsFound, KeepsContent, OnlyReads};
+ghost use Rattle.state_file.specs.Opening.{is_failed_opening, HasEntry, HasSlot, IsFound, KeepsContent, OnlyReads};
 ghost use Rattle.state_file.specs.Opening.{StartsWithKey, Reports, ReportsSlot};
 
 use crate::disk::{Disk, DiskFault};
@@ -79,7 +79,7 @@ fn read_gate<D: Disk>(disk: &mut D, k: u32) -> Result<bool, DiskFault>
     ensures gate { IsTrue (D.honest disk.old) →
         IfOk result (λ opened. opened ≡ (slice_index (D.state disk.old).content (256 * k) == open_value)) }
     ensures reads { IsTrue (D.honest disk.old) → OnlyReads D.state D.moment D.left_since disk.old disk.new }
-    ensures failures { CountsFailure (D.failures disk.old) (D.failures disk.new) result }
+    ensures failures { Counts is_failure (D.failures disk.old) (D.failures disk.new) result }
     ensures past_ends { IsTrue (D.honest disk.old) → D.past_ends disk.new ≡ D.past_ends disk.old }
     ensures honest { D.honest disk.new ≡ D.honest disk.old }
 {
@@ -94,7 +94,7 @@ fn read_fields<D: Disk>(disk: &mut D, k: u32) -> Result<[u8; 223], DiskFault>
     ensures fields { IsTrue (D.honest disk.old) →
         IfOk result (λ fields. fields ≡ fields_at (D.state disk.old).content k) }
     ensures reads { IsTrue (D.honest disk.old) → OnlyReads D.state D.moment D.left_since disk.old disk.new }
-    ensures failures { CountsFailure (D.failures disk.old) (D.failures disk.new) result }
+    ensures failures { Counts is_failure (D.failures disk.old) (D.failures disk.new) result }
     ensures past_ends { IsTrue (D.honest disk.old) → D.past_ends disk.new ≡ D.past_ends disk.old }
     ensures honest { D.honest disk.new ≡ D.honest disk.old }
 {
@@ -108,7 +108,7 @@ pub(crate) fn read_tag<D: Disk>(disk: &mut D, k: u32) -> Result<[u8; 32], DiskFa
     requires { IsTrue (D.honest disk.old) → 256 * k + 256 ≤ length (D.state disk.old).content }
     ensures tag { IsTrue (D.honest disk.old) → IfOk result (λ tag. tag ≡ tag_at (D.state disk.old).content k) }
     ensures reads { IsTrue (D.honest disk.old) → OnlyReads D.state D.moment D.left_since disk.old disk.new }
-    ensures failures { CountsFailure (D.failures disk.old) (D.failures disk.new) result }
+    ensures failures { Counts is_failure (D.failures disk.old) (D.failures disk.new) result }
     ensures past_ends { IsTrue (D.honest disk.old) → D.past_ends disk.new ≡ D.past_ends disk.old }
     ensures honest { D.honest disk.new ≡ D.honest disk.old }
 {
@@ -124,7 +124,7 @@ fn read_body<D: Disk>(disk: &mut D, k: u32) -> Result<Body, DiskFault>
         IfOk result (λ body. body.fields ≡ fields_at (D.state disk.old).content k) }
     ensures tag { IsTrue (D.honest disk.old) → IfOk result (λ body. body.tag ≡ tag_at (D.state disk.old).content k) }
     ensures reads { IsTrue (D.honest disk.old) → OnlyReads D.state D.moment D.left_since disk.old disk.new }
-    ensures failures { CountsFailure (D.failures disk.old) (D.failures disk.new) result }
+    ensures failures { Counts is_failure (D.failures disk.old) (D.failures disk.new) result }
     ensures past_ends { IsTrue (D.honest disk.old) → D.past_ends disk.new ≡ D.past_ends disk.old }
     ensures honest { D.honest disk.new ≡ D.honest disk.old }
 {
@@ -138,7 +138,7 @@ fn read_previous_tag<D: Disk>(disk: &mut D, k: u32) -> Result<[u8; 32], DiskFaul
     requires { IsTrue (D.honest disk.old) → 256 * k ≤ length (D.state disk.old).content }
     ensures tag { IsTrue (D.honest disk.old) → IfOk result (λ tag. tag ≡ previous_tag (D.state disk.old).content k) }
     ensures reads { IsTrue (D.honest disk.old) → OnlyReads D.state D.moment D.left_since disk.old disk.new }
-    ensures failures { CountsFailure (D.failures disk.old) (D.failures disk.new) result }
+    ensures failures { Counts is_failure (D.failures disk.old) (D.failures disk.new) result }
     ensures past_ends { IsTrue (D.honest disk.old) → D.past_ends disk.new ≡ D.past_ends disk.old }
     ensures honest { D.honest disk.new ≡ D.honest disk.old }
 {
@@ -153,7 +153,7 @@ pub(crate) fn read_entry<D: Disk>(disk: &mut D, k: u32) -> Result<Option<Record>
     requires { IsTrue (D.honest disk.old) → 256 * k + 256 ≤ length (D.state disk.old).content }
     ensures entry { IsTrue (D.honest disk.old) → IfOk result (HasEntry (D.state disk.old).content k) }
     ensures reads { IsTrue (D.honest disk.old) → OnlyReads D.state D.moment D.left_since disk.old disk.new }
-    ensures failures { CountsFailure (D.failures disk.old) (D.failures disk.new) result }
+    ensures failures { Counts is_failure (D.failures disk.old) (D.failures disk.new) result }
     ensures past_ends { IsTrue (D.honest disk.old) → D.past_ends disk.new ≡ D.past_ends disk.old }
     ensures honest { D.honest disk.new ≡ D.honest disk.old }
 {
@@ -176,7 +176,7 @@ fn read_slot<D: Disk>(
         IfOk result (λ slot. HasSlot (D.state disk.old).content k slot.entry slot.tag) }
     ensures fault { IsTrue (D.honest disk.old) → IfErr result (ReportsSlot (D.state disk.old).content k) }
     ensures reads { IsTrue (D.honest disk.old) → OnlyReads D.state D.moment D.left_since disk.old disk.new }
-    ensures failures { CountsOpening (D.failures disk.old) (D.failures disk.new) result }
+    ensures failures { Counts is_failed_opening (D.failures disk.old) (D.failures disk.new) result }
     ensures past_ends { IsTrue (D.honest disk.old) → D.past_ends disk.new ≡ D.past_ends disk.old }
     ensures honest { D.honest disk.new ≡ D.honest disk.old }
 {
@@ -207,13 +207,15 @@ fn entry_of(previous: &[u8; 32], body: &Body) -> Option<Record>
     }
 }
 
-// Whether the first slot is that of a Key of a known version.
-fn check_key<D: Disk>(disk: &mut D, len: u64) -> Result<(), OpenFault>
+// The fields of the first slot, if a key may stand there.
+fn read_first_fields<D: Disk>(disk: &mut D, len: u64) -> Result<[u8; 223], OpenFault>
     requires len { IsTrue (D.honest disk.old) → len ≡ length (D.state disk.old).content }
-    ensures key { IsTrue (D.honest disk.old) → OnOk result (StartsWithKey (D.state disk.old).content) }
+    ensures may { IsTrue (D.honest disk.old) → OnOk result (MayHaveKey (D.state disk.old).content) }
+    ensures fields { IsTrue (D.honest disk.old) →
+        IfOk result (λ fields. fields ≡ fields_at (D.state disk.old).content 0) }
     ensures fault { IsTrue (D.honest disk.old) → IfErr result (Reports (D.state disk.old).content) }
     ensures reads { IsTrue (D.honest disk.old) → OnlyReads D.state D.moment D.left_since disk.old disk.new }
-    ensures failures { CountsOpening (D.failures disk.old) (D.failures disk.new) result }
+    ensures failures { Counts is_failed_opening (D.failures disk.old) (D.failures disk.new) result }
     ensures past_ends { IsTrue (D.honest disk.old) → D.past_ends disk.new ≡ D.past_ends disk.old }
     ensures honest { D.honest disk.new ≡ D.honest disk.old }
 {
@@ -223,7 +225,20 @@ fn check_key<D: Disk>(disk: &mut D, len: u64) -> Result<(), OpenFault>
     if !read_gate(disk, 0)? {
         return Err(OpenFault::NoKey);
     }
-    let fields = read_fields(disk, 0)?;
+    Ok(read_fields(disk, 0)?)
+}
+
+// Whether the first slot is that of a Key of a known version.
+fn check_key<D: Disk>(disk: &mut D, len: u64) -> Result<(), OpenFault>
+    requires len { IsTrue (D.honest disk.old) → len ≡ length (D.state disk.old).content }
+    ensures key { IsTrue (D.honest disk.old) → OnOk result (StartsWithKey (D.state disk.old).content) }
+    ensures fault { IsTrue (D.honest disk.old) → IfErr result (Reports (D.state disk.old).content) }
+    ensures reads { IsTrue (D.honest disk.old) → OnlyReads D.state D.moment D.left_since disk.old disk.new }
+    ensures failures { Counts is_failed_opening (D.failures disk.old) (D.failures disk.new) result }
+    ensures past_ends { IsTrue (D.honest disk.old) → D.past_ends disk.new ≡ D.past_ends disk.old }
+    ensures honest { D.honest disk.new ≡ D.honest disk.old }
+{
+    let fields = read_first_fields(disk, len)?;
     if !begins_key(&fields) {
         Err(OpenFault::NotKeyFile)
     } else if version(&fields).is_none() {
@@ -268,7 +283,7 @@ fn read_slots<D: Disk>(disk: &mut D, len: u64) -> Result<Found, OpenFault>
         IfOk result (λ found. IsFound (D.state disk.old).content found.records found.tag) }
     ensures fault { IsTrue (D.honest disk.old) → IfErr result (Reports (D.state disk.old).content) }
     ensures reads { IsTrue (D.honest disk.old) → OnlyReads D.state D.moment D.left_since disk.old disk.new }
-    ensures failures { CountsOpening (D.failures disk.old) (D.failures disk.new) result }
+    ensures failures { Counts is_failed_opening (D.failures disk.old) (D.failures disk.new) result }
     ensures past_ends { IsTrue (D.honest disk.old) → D.past_ends disk.new ≡ D.past_ends disk.old }
     ensures honest { D.honest disk.new ≡ D.honest disk.old }
 {
@@ -293,7 +308,7 @@ pub(crate) fn find_records<D: Disk>(disk: &mut D) -> Result<Found, OpenFault>
         IfErr result (KeepsContent (D.state disk.old).content (D.state disk.new)) }
     ensures any_moment { IsTrue (D.honest disk.old) →
         LeavesOnly D.moment D.left_since disk.old disk.new (MayLeave (D.state disk.old)) }
-    ensures failures { CountsOpening (D.failures disk.old) (D.failures disk.new) result }
+    ensures failures { Counts is_failed_opening (D.failures disk.old) (D.failures disk.new) result }
     ensures past_ends { IsTrue (D.honest disk.old) → D.past_ends disk.new ≡ D.past_ends disk.old }
     ensures honest { D.honest disk.new ≡ D.honest disk.old }
 {

@@ -108,8 +108,8 @@ fn each_kind_as_drawn(rt: HostRuntime) -> Result<(), Fail> {
     assert_drawn(&rt, &xmss_key(), &drawn::XMSS_KEY);
     assert_drawn(&rt, &extend(), &drawn::EXTEND);
     assert_drawn(&rt, &bound()?, &drawn::BOUND);
-    assert_drawn(&rt, &Record::Retire { upto: 0x0200_0001 }, &drawn::RETIRE);
-    assert_drawn(&rt, &Record::Moved, &drawn::MOVED);
+    assert_drawn(&rt, &Record::Retire { upto: 0x0200_0001 }, &drawn::retire());
+    assert_drawn(&rt, &Record::Moved, &drawn::moved());
     Ok(())
 }
 
@@ -132,91 +132,102 @@ fn first_place(drawn: &[u8; 223], changes: &[(usize, u8)], spelled: bool) -> Opt
     None
 }
 
+// Kinds, and kinds whose fields stand elsewhere.
+const NO_KIND: [(usize, u8); 8] = [
+    (1, 0),
+    (1, 2),
+    (1, 3),
+    (1, 4),
+    (1, 5),
+    (1, 6),
+    (1, 0xa5),
+    (1, 255),
+];
+
+// The magic, the version, the scheme and the levels of a Key.
+const NO_KEY: [(usize, u8); 10] = [
+    (2, b'h'),
+    (9, b'e'),
+    (10, 1),
+    (11, 0),
+    (11, 2),
+    (12, 0),
+    (12, 3),
+    (12, 4),
+    (13, 0),
+    (13, 2),
+];
+
+// Codes, pairs past the levels, SK_PRF, the public SEED, and what follows the root.
+const NO_SECRET: [(usize, u8); 12] = [
+    (17, 4),
+    (17, 10),
+    (21, 0),
+    (21, 5),
+    (25, 5),
+    (77, 4),
+    (126, 1),
+    (157, 1),
+    (158, 1),
+    (189, 1),
+    (222, 1),
+    (223, 1),
+];
+
+// Levels of HSS.
+const NO_LEVELS: [(usize, u8); 7] = [
+    (13, 0),
+    (13, 1),
+    (13, 2),
+    (13, 4),
+    (13, 8),
+    (13, 9),
+    (13, 255),
+];
+
+// An XMSS code, its one-time code, pairs past it, and an I.
+const NO_XMSS: [(usize, u8); 7] = [
+    (13, 2),
+    (17, 0),
+    (17, 4),
+    (21, 1),
+    (25, 5),
+    (78, 1),
+    (93, 1),
+];
+
+// A name's length, its characters and what follows it.
+const NO_BOUND: [(usize, u8); 10] = [
+    (2, 0),
+    (2, 3),
+    (2, 5),
+    (2, 65),
+    (2, 255),
+    (3, 0x20),
+    (6, 0x7f),
+    (7, 1),
+    (66, 1),
+    (135, 1),
+];
+
+// A new version, and unused bytes.
+const NO_MOVED: [(usize, u8); 6] = [(2, 1), (3, 0), (3, 1), (3, 3), (4, 1), (223, 1)];
+
 #[test]
 fn what_a_slot_may_not_contain(rt: HostRuntime) {
-    // kinds, and kinds whose fields stand elsewhere
-    let kinds = [
-        (1, 0),
-        (1, 2),
-        (1, 3),
-        (1, 4),
-        (1, 5),
-        (1, 6),
-        (1, 0xa5),
-        (1, 255),
-    ];
-    assert_eq!(rt; first_place(&drawn::LMS_KEY, &kinds, true), None);
-    // the magic, the version, the scheme and the levels of a Key
-    let key = [
-        (2, b'h'),
-        (9, b'e'),
-        (10, 1),
-        (11, 0),
-        (11, 2),
-        (12, 0),
-        (12, 3),
-        (12, 4),
-        (13, 0),
-        (13, 2),
-    ];
-    assert_eq!(rt; first_place(&drawn::LMS_KEY, &key, true), None);
-    // codes, pairs past the levels, SK_PRF, the public SEED, and what follows the root
-    let secret = [
-        (17, 4),
-        (17, 10),
-        (21, 0),
-        (21, 5),
-        (25, 5),
-        (77, 4),
-        (126, 1),
-        (157, 1),
-        (158, 1),
-        (189, 1),
-        (222, 1),
-        (223, 1),
-    ];
-    assert_eq!(rt; first_place(&drawn::LMS_KEY, &secret, true), None);
-    // levels of HSS
-    let levels = [
-        (13, 0),
-        (13, 1),
-        (13, 2),
-        (13, 4),
-        (13, 8),
-        (13, 9),
-        (13, 255),
-    ];
-    assert_eq!(rt; first_place(&drawn::HSS_KEY, &levels, true), None);
-    // an XMSS code, its one-time code, pairs past it, and an I
-    let xmss = [
-        (13, 2),
-        (17, 0),
-        (17, 4),
-        (21, 1),
-        (25, 5),
-        (78, 1),
-        (93, 1),
-    ];
-    assert_eq!(rt; first_place(&drawn::XMSS_KEY, &xmss, true), None);
-    // a name's length, its characters and what follows it
-    let bound = [
-        (2, 0),
-        (2, 3),
-        (2, 5),
-        (2, 65),
-        (2, 255),
-        (3, 0x20),
-        (6, 0x7f),
-        (7, 1),
-        (66, 1),
-        (135, 1),
-    ];
-    assert_eq!(rt; first_place(&drawn::BOUND, &bound, true), None);
-    // a new version, and unused bytes
-    let moved = [(2, 1), (3, 0), (3, 1), (3, 3), (4, 1), (223, 1)];
-    assert_eq!(rt; first_place(&drawn::MOVED, &moved, true), None);
-    assert_eq!(rt; first_place(&drawn::EXTEND, &[(151, 1)], true), None);
-    assert_eq!(rt; first_place(&drawn::RETIRE, &[(6, 1)], true), None);
+    for (drawn, changes) in [
+        (&drawn::LMS_KEY, NO_KIND.as_slice()),
+        (&drawn::LMS_KEY, NO_KEY.as_slice()),
+        (&drawn::LMS_KEY, NO_SECRET.as_slice()),
+        (&drawn::HSS_KEY, NO_LEVELS.as_slice()),
+        (&drawn::XMSS_KEY, NO_XMSS.as_slice()),
+        (&drawn::BOUND, NO_BOUND.as_slice()),
+        (&drawn::moved(), NO_MOVED.as_slice()),
+        (&drawn::EXTEND, [(151, 1)].as_slice()),
+        (&drawn::retire(), [(6, 1)].as_slice()),
+    ] {
+        assert_eq!(rt; first_place(drawn, changes, true), None);
+    }
 }
 
 // Which records a signer may stand on is another matter: levels, leaves and C are what they are.
@@ -227,7 +238,7 @@ fn what_a_slot_may_contain(rt: HostRuntime) {
     let bound = [(3, 0x21), (6, 0x7e), (67, 255), (71, 0)];
     assert_eq!(rt; first_place(&drawn::BOUND, &bound, false), None);
     assert_eq!(rt;
-        first_place(&drawn::RETIRE, &[(2, 0x80), (2, 0xff)], false),
+        first_place(&drawn::retire(), &[(2, 0x80), (2, 0xff)], false),
         None
     );
     // HSS of one level has the fields of an LMS key

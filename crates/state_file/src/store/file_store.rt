@@ -4,12 +4,12 @@ ghost use Rattle.std.specs.Prelude.{◌≡◌, ◌≢◌, ◌⊎◌, ◌≤◌, 
 ghost use Rattle.std.specs.Prelude.{IfOk, IfErr, OnOk, OnErr, MatchResult, length, max, replicate};
 ghost use Rattle.typecodes.specs.Layout.{Spells};
 ghost use Rattle.state_file.specs.Disk.{Elapses, LeavesOnly};
-ghost use Rattle.state_file.specs.Disk.{State, settled, ChangesOnly, MayLeave, CountsFailure};
+ghost use Rattle.state_file.specs.Disk.{DiskState, settled, ChangesOnly, MayLeave, Counts};
 ghost use Rattle.state_file.specs.File.{SpellsRecords, fields_at, tag_at, tag_of};
 ghost use Rattle.state_file.specs.File.{StandsFor, LeftLists, IsSyncedFile, IsSyncedFile-prop};
 ghost use Rattle.state_file.specs.Gates.{AddsSlot, slot_and_gate};
-ghost use Rattle.state_file.specs.Format.{CountsFormat, Formats, LeftByFormat};
-ghost use Rattle.state_file.specs.Opening.{CountsOpening, OnlyReads, Settles, Reports};
+ghost use Rattle.state_file.specs.Format.{is_failed_format, Formats, LeftByFormat};
+ghost use Rattle.state_file.specs.Opening.{is_failed_opening, OnlyReads, Settles, Reports};
 ghost use Rattle.std.proofs.Common.{inl};
 ghost use Rattle.state_file.specs.Slot.{slot_record};
 ghost use Rattle.state_file.specs.Store.{Appends, CanFollow, Loads, ReadsTag};
@@ -69,7 +69,8 @@ impl<D: Disk + Drop> FileStore<D> {
             OnOk result (length (D.state (disk_after result)).content ≡ max (length (D.state disk).content) 1) }
         ensures any_moment { IsTrue (D.honest disk) →
             LeavesOnly D.moment D.left_since disk (disk_after result) (LeftByFormat (D.state disk)) }
-        ensures failures { CountsFormat (D.failures disk) (D.failures (disk_after result)) (outcome_of result) }
+        ensures failures { Counts is_failed_format (D.failures disk)
+            (D.failures (disk_after result)) (outcome_of result) }
         ensures past_ends { IsTrue (D.honest disk) → D.past_ends (disk_after result) ≡ D.past_ends disk }
         ensures honest { D.honest (disk_after result) ≡ D.honest disk }
     {
@@ -99,7 +100,8 @@ impl<D: Disk + Drop> FileStore<D> {
             LeavesOnly D.moment D.left_since disk (disk_after result) (MayLeave (D.state disk)) }
         ensures settled { IsTrue (D.honest disk) →
             Settles (D.state disk).content (D.state (disk_after result)) (outcome_of result) }
-        ensures failures { CountsOpening (D.failures disk) (D.failures (disk_after result)) (outcome_of result) }
+        ensures failures { Counts is_failed_opening (D.failures disk)
+            (D.failures (disk_after result)) (outcome_of result) }
         ensures past_ends { IsTrue (D.honest disk) → D.past_ends (disk_after result) ≡ D.past_ends disk }
         ensures honest { D.honest (disk_after result) ≡ D.honest disk }
     {

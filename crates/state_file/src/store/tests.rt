@@ -18,21 +18,10 @@ enum Call {
     Reopen,
 }
 
-// Appends a record. The first of a store is a Key, and else it isn't tried.
-fn append(store: &mut MemoryStore, entry: &Record) -> Result<(), StoreFault> {
-    match entry {
-        Record::Key(_) => store.append(entry),
-        _ => match store.load(0)? {
-            Some(_) => store.append(entry),
-            None => Err(StoreFault::Damaged(0)),
-        },
-    }
-}
-
 // Appends the record of this number, and says whether the answer is this.
 fn appends(store: &mut MemoryStore, k: u32, wanted: Result<(), StoreFault>) -> bool {
     match record(k) {
-        Some(entry) => append(store, &entry) == wanted,
+        Some(entry) => store.append(&entry) == wanted,
         None => false,
     }
 }
@@ -85,7 +74,7 @@ fn cut_that_leaves_the_old_records(rt: HostRuntime) {
         Call::Append(KEY, Ok(())),
         Call::CutAt(1, Cut::Old),
         Call::Append(BOUND, Err(StoreFault::DeviceFailed)),
-        Call::Append(KEY, Err(StoreFault::Stopped)),
+        Call::Append(BOUND, Err(StoreFault::Stopped)),
         Call::Load(0, Err(StoreFault::Stopped)),
         Call::Reopen,
         Call::Load(0, Ok(Some(KEY))),

@@ -11,10 +11,10 @@ pub returns-clause-writes : goal.returns-clause-writes
 unfolding bound_fields
 returns-clause-writes c =
     let entry : Record = Bound c.args.bound.now in
-    let behind_leaf : ℕ → Layout Record = λ leaf.
+    let after_leaf : ℕ → Layout Record = λ leaf.
     block 32 >>= λ randomizer. block 32 >>= λ digest. zeros 89 >>= λ rest. done (Bound (record { name = c.args.bound.now.name; leaf = leaf; randomizer = randomizer; digest = digest })) in
     writes-bind name_field _ c.args.bound.now.name entry _ _ _ c.put_name.ensures.writes
-    (writes-bind number behind_leaf c.args.bound.now.leaf entry _ _ _ c.put_number.ensures.writes
+    (writes-bind number after_leaf c.args.bound.now.leaf entry _ _ _ c.put_number.ensures.writes
     (writes-bind (block 32) _ c.args.bound.now.randomizer entry _ _ _ c.put_array.ensures.writes
     (writes-bind (block 32) _ c.args.bound.now.digest entry _ _ _ c.put_array-2.ensures.writes
     (writes-bind (zeros 89) _ tt entry _ _ _ c.put_zeros.ensures.writes

@@ -1,11 +1,11 @@
 use Rattle.std.proofs.Common.{inl, ◌*◌, [], ◌∷◌, ◌++◌, ℕ, length, take, refl, sym, ◌∙◌, ap, subst, arith, length-append}
 use Rattle.state_file.proofs.Lists.{kept_alone, lists_leave}
-use Rattle.state_file.proofs.Moments.{started, weaker}
+use Rattle.state_file.proofs.Moments.{started}
 use Rattle.state_file.specs.declared.store.file_store.FileStore.{FileStore}
 use Rattle.state_file.specs.FileStore.{kept_leaves}
 use Rattle.state_file.specs.Disk.{ChangesOnly, LeavesOnly}
 use Rattle.state_file.specs.Gates.{AddsSlot, slot_and_gate}
-use Rattle.state_file.proofs.Kept.{follows_key, kept_rests, kept_size, kept_grows, added_leaves}
+use Rattle.state_file.proofs.Kept.{appended_leaves, follows_key, kept_grows, kept_rests, kept_size}
 use Rattle.state_file.proofs.store.file_store.FileStoreStore.append.Goals as goal
 
 pub returns-then-self-ge-MOST-clause-contents : goal.returns-then-self-ge-MOST-clause-contents
@@ -33,24 +33,16 @@ invariant_of-self g c = record {
 pub returns-in-Ok-clause-contents : goal.returns-in-Ok-clause-contents
 returns-in-Ok-clause-contents g c honest running =
     let self = c.args.self.now in
-    let state = g.D.Disk.state self.disk in
     let kept = self.kept honest running in
-    let front = take (256 * length self.records) state.content in
-    weaker g.D.Disk.moment g.D.Disk.left_since self.disk c.add_slot.new.disk _ _
-    (added_leaves self.records self.tag state self.count c.args.new.now c.record_bytes-fields.result c.tag-next_tag.result (c.record_bytes-fields.result ++ c.tag-next_tag.result) self.counted (omega arith) (follows_key c.args.self.now.records c.args.new.now kept.file.first c.requires)
-    c.add_slot.ensures.fields c.add_slot.ensures.tag refl c.record_bytes-fields.ensures c.tag-next_tag.ensures kept)
-    (c.add_slot.ensures.any_moment front honest (kept_rests self.records self.tag state kept) (kept_size self.records self.tag state self.count kept self.counted))
+    appended_leaves g.D.Disk.moment g.D.Disk.left_since self.disk c.add_slot.new.disk self.records self.tag (g.D.Disk.state self.disk) self.count c.args.new.now c.record_bytes-fields.result c.tag-next_tag.result self.counted (omega arith) (follows_key self.records c.args.new.now kept.file.first c.requires)
+    c.add_slot.ensures.fields c.add_slot.ensures.tag c.record_bytes-fields.ensures c.tag-next_tag.ensures kept (λ front rest size. c.add_slot.ensures.any_moment front honest rest size)
 
 pub returns-in-Err-clause-contents : goal.returns-in-Err-clause-contents
 returns-in-Err-clause-contents g c honest running =
     let self = c.args.self.now in
-    let state = g.D.Disk.state self.disk in
     let kept = self.kept honest running in
-    let front = take (256 * length self.records) state.content in
-    weaker g.D.Disk.moment g.D.Disk.left_since self.disk c.add_slot.new.disk _ _
-    (added_leaves self.records self.tag state self.count c.args.new.now c.record_bytes-fields.result c.tag-next_tag.result (c.record_bytes-fields.result ++ c.tag-next_tag.result) self.counted (omega arith) (follows_key c.args.self.now.records c.args.new.now kept.file.first c.requires)
-    c.add_slot.ensures.fields c.add_slot.ensures.tag refl c.record_bytes-fields.ensures c.tag-next_tag.ensures kept)
-    (c.add_slot.ensures.any_moment front honest (kept_rests self.records self.tag state kept) (kept_size self.records self.tag state self.count kept self.counted))
+    appended_leaves g.D.Disk.moment g.D.Disk.left_since self.disk c.add_slot.new.disk self.records self.tag (g.D.Disk.state self.disk) self.count c.args.new.now c.record_bytes-fields.result c.tag-next_tag.result self.counted (omega arith) (follows_key self.records c.args.new.now kept.file.first c.requires)
+    c.add_slot.ensures.fields c.add_slot.ensures.tag c.record_bytes-fields.ensures c.tag-next_tag.ensures kept (λ front rest size. c.add_slot.ensures.any_moment front honest rest size)
 
 pub returns-in-Ok-clause-adds : goal.returns-in-Ok-clause-adds
 returns-in-Ok-clause-adds g c honest =
