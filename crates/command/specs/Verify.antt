@@ -79,8 +79,8 @@ decisive = 74989
 abbrev pub Decides : List ℕ → List ℕ → Type 0
 Decides all first = (first ≡ all) ⊎ (first ≡ take decisive all)
 
--- What becomes of a message for an answer: it was read to its end where it was judged; it can't be read; and it is as it
--- was where a refusal came before it was read, as that of a level above the bottom.
+-- What becomes of a message for an answer: it was read to its end where it was judged; it can't be read; and it is as
+-- it was where a refusal came before it was read, as that of a level above the bottom.
 abbrev pub LeavesMessage : {M A : Type 0} → Step M → M → M → Result A Refusal → Type 0
 LeavesMessage step old new (Ok a) = (text : List ℕ) × GivesAll step text old new
 LeavesMessage step old new (Err (Key fault)) = new ≡ old

@@ -14,9 +14,9 @@ use typecodes::{Message, Refusal};
 ///
 /// The first refusal comes of: a fault of the signature's bytes (1 to 5); other levels than the key's
 /// (11); and then level by level from the top, other types than those of the level's key (10, with the
-/// level), and another root than the key's (12, with the level), with a message that can't be read (14) between the two
-/// at the bottom. The message is any reader. It is read to its end, in pieces that aren't kept, where none of these comes
-/// before the bottom level's root, and else left as it is.
+/// level), and another root than the key's (12, with the level), with a message that can't be read (14) between the
+/// two at the bottom. The message is any reader. It is read to its end, in pieces that aren't kept, where none of these
+/// comes before the bottom level's root, and else left as it is.
 pub fn verify<M: Message>(
     public: &HssPublic,
     message: &mut M,

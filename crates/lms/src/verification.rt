@@ -49,20 +49,22 @@ impl LmsSigView<'_> {
             × LeavesMessage M.step M.remaining text message.old message.new result }
     {
         self.check_types(public, level)?;
-        let digest = self.one_time_key(public).message_digest_from(self.randomizer, message);
+        let key = self.one_time_key(public);
+        let digest = key.message_digest_from(self.randomizer, message);
         match digest {
             Ok(digest) => self.verify_digest(public, &digest, level),
             Err(_) => Err(Refusal::MessageRead),
         }
     }
 
-    /// The same of a message that is held whole, as a lower level's key is, which can't fail to be read.
+    /// The same of a message in memory, as a lower level's key is, whose reading can't fail.
     pub fn verify_bytes(&self, public: &LmsPublic, message: &[u8], level: u8) -> Result<(), Refusal>
         ensures verdict { LevelVerdict public.now message.now (signature_of self.now) level result }
         ensures read { result ≢ Err Refusal.MessageRead }
     {
         self.check_types(public, level)?;
-        let digest = self.one_time_key(public).message_digest(self.randomizer, message);
+        let key = self.one_time_key(public);
+        let digest = key.message_digest(self.randomizer, message);
         self.verify_digest(public, &digest, level)
     }
 

@@ -19,8 +19,8 @@ pub fn spelling_laws()
 {}
 
 /// What holds of the answers of verification: bytes that spell a valid signature of the key's type are refused by none,
-/// unless the message can't be read (`accepted`); no bytes have two other refusals (`one_refusal`); and where this one may
-/// come, none comes that stands before it (`read_in_turn`).
+/// unless the message can't be read (`accepted`); no bytes have two other refusals (`one_refusal`); and where this one
+/// may come, none comes that stands before it (`read_in_turn`).
 pub fn verdict_laws()
     ensures accepted { (key : XmssPublic) (message bytes : List ℕ) (result : Result (Unit {0}) Refusal)
         → Verdict key message bytes result → result ≢ Err Refusal.MessageRead

@@ -16,8 +16,8 @@ use wots_plus::{Prf, Wots};
 /// Verifies that the bytes of a signature sign the message under the key (RFC 8391 4.1.10).
 ///
 /// The first refusal comes of: a fault of the signature's bytes, read as one of the key's type (1, 4
-/// or 5); a message that can't be read (14); another root than the key's (12, level 0). The message is any reader. It is
-/// read to its end, in pieces that aren't kept, where no fault comes first, and else left as it is.
+/// or 5); a message that can't be read (14); another root than the key's (12, level 0). The message is any reader. It
+/// is read to its end, in pieces that aren't kept, where no fault comes first, and else left as it is.
 pub fn verify<M: Message>(
     public: &XmssPublic,
     message: &mut M,

@@ -22,6 +22,6 @@ returns g c p s reads decides =
       m,
       fits,
       decides_all p m s c.args.signature.now c.map_err-2.result decides
-        (judged p m c.args.signature.now c.in_ok-key.key c.verify_any.result c.map_err-2.result spelled verdict c.map_err-2.ensures.cases),
+          (judged p m c.args.signature.now c.in_ok-key.key c.verify_any.result c.map_err-2.result spelled verdict c.map_err-2.ensures.cases),
       answer-leaves g.M.Message.step g.M.Message.remaining c.in_ok-key.key m c.args.message.now c.verify_any.new.message c.verify_any.result c.map_err-2.result leaves c.map_err-2.ensures.cases,
     )

@@ -38,7 +38,7 @@ returns-in_err-verdict-clause-order g c =
     let (m, m_fits, judged, leaves) = c.judge-verdict.ensures p s reads (inr first) in
     let folder = message-stays _ (λ reader. reader.folder.ghost_name) (λ old outcome new step. step.0) _ _ _ leaves in
     let message = noted-message _ (λ reader. g.D.File.Source.role reader.file.now) (λ reader. g.D.Folder.trace reader.folder.now)
-      (record { role = λ old outcome new step. step.2; trace = λ old outcome new step. step.3 }) _ _ _ leaves in
+    (record { role = λ old outcome new step. step.2; trace = λ old outcome new step. step.3 }) _ _ _ leaves in
     let handed = reads-err _ c.judge-verdict.result c.in_err-verdict.field-0.0 c.from_residual-in_err-verdict.result _ _ c.in_err-verdict.was c.from_residual-in_err-verdict.ensures.1 message in
     inr (inr (_, _, c.in_ok-key.ensures.trace, c.in_ok-signature.ensures.trace, search rules))
 
@@ -50,6 +50,6 @@ returns-clause-order g c =
     let (m, m_fits, judged, leaves) = c.judge-verdict.ensures p s reads (inr first) in
     let folder = message-stays _ (λ reader. reader.folder.ghost_name) (λ old outcome new step. step.0) _ _ _ leaves in
     let message = noted-message _ (λ reader. g.D.File.Source.role reader.file.now) (λ reader. g.D.Folder.trace reader.folder.now)
-      (record { role = λ old outcome new step. step.2; trace = λ old outcome new step. step.3 }) _ _ _ leaves in
+    (record { role = λ old outcome new step. step.2; trace = λ old outcome new step. step.3 }) _ _ _ leaves in
     let handed = reads-ok _ c.judge-verdict.result c.in_ok-verdict.field-0 Verified _ _ c.in_ok-verdict.was message in
     inr (inr (_, _, c.in_ok-key.ensures.trace, c.in_ok-signature.ensures.trace, search rules))

@@ -48,9 +48,9 @@ returns-in_err-key g c =
       text,
       fits,
       subst (Verdict key text c.args.signature.now) (sym is)
-        (above-verdict (Unit {0}) key text c.args.signature.now s c.in_err-key.field-0.0 (spelled g after) (count g after) c.in_err-key.ensures),
+          (above-verdict (Unit {0}) key text c.args.signature.now s c.in_err-key.field-0.0 (spelled g after) (count g after) c.in_err-key.ensures),
       subst (LeavesMessage g.M.Message.step g.M.Message.remaining key text c.args.message.now c.args.message.now) (sym is)
-        (above-leaves _ _ (Unit {0}) key s text c.args.message.now c.in_err-key.field-0.0 (count g after) c.in_err-key.ensures),
+          (above-leaves _ _ (Unit {0}) key s text c.args.message.now c.in_err-key.field-0.0 (count g after) c.in_err-key.ensures),
     )
 
 -- the bottom's answer is that of all
@@ -64,6 +64,6 @@ returns g c =
       text,
       fits,
       bottom-read key text c.args.signature.now s c.in_ok-key.key _ (c.levels-2.result - 1) c.verify.result (spelled g after) (count g after)
-        c.in_ok-key.ensures last (c.bottom.ensures ∙ signature_at-bottom s (c.levels-2.result - 1) last) verdict,
+          c.in_ok-key.ensures last (c.bottom.ensures ∙ signature_at-bottom s (c.levels-2.result - 1) last) verdict,
       bottom-leaves _ _ _ _ _ key _ _ (c.levels-2.result - 1) c.verify.result (omega (arith, c.levels-2.ensures.value, count g after)) verdict leaves,
     )

@@ -11,8 +11,7 @@ pub returns-in_err-check_types : goal.returns-in_err-check_types
 returns-in_err-check_types g c =
     let (text, fits) = some-content (g.M.Message.remaining c.args.message.now) in
     let error : c.from_residual.result ≡ Err c.in_err-check_types.field-0.0 = search rules in
-    let is : c.from_residual.result ≡ Err (TypeMismatch c.args.level) = error ∙ ap Err c.in_err-check_types.ensures.0 in
-    (
+    let is : c.from_residual.result ≡ Err (TypeMismatch c.args.level) = error ∙ ap Err c.in_err-check_types.ensures.0 in (
       text,
       fits,
       subst (LevelVerdict c.args.public.now text (signature_of c.args.self.now) c.args.level) (sym is) (refl, c.in_err-check_types.ensures.1),
