@@ -9,15 +9,11 @@ use Rattle.sign_core.specs.declared.key.KeyFault.{KeyFault}
 use Rattle.sign_core.specs.Key.{KeyHasFault, SpellsKey}
 use Rattle.command.specs.Verify.{Answers, AnswersOf}
 use Rattle.typecodes.specs.Message.{IsContent}
+use Rattle.typecodes.proofs.Messages.{some_content}
 use Rattle.command.specs.Files.{ReadsKey, Shows}
 use Rattle.command.specs.Refusal.{refusal_of}
 use Rattle.command.specs.declared.refusal.Refusal.{Refusal}
 use Rattle.command.specs.declared.refusal.Refusal.TheVariants.{OutOfMemory, FileFailed}
-
--- some bytes fit whatever is known
-pub some_content : (known : Option (List ℕ)) → (bytes : List ℕ) × IsContent known bytes
-some_content None = ([], tt)
-some_content (Some bytes) = (bytes, refl)
 
 -- memory that was refused, or a file that failed
 abbrev pub IsFailure : Refusal → Type 0
@@ -56,12 +52,6 @@ pub answers_of_files : {A : Type 0} (p m s p_left m_left s_left : Option (List �
     → Shows p p_left → Shows m m_left → Shows s s_left → AnswersOf p_left m_left s_left answer → AnswersOf p m s answer
 answers_of_files p m s p_left m_left s_left answer p_shows m_shows s_shows (a, b, d, a_fits, b_fits, d_fits, right) =
     (a, b, d, same_content p p_left a p_shows a_fits, same_content m m_left b m_shows b_fits, same_content s s_left d s_shows d_fits, right)
-
--- what was read to the end is the content
-pub content_at_end : (old new : Option (List ℕ)) (bytes : List ℕ) → Consumes old new bytes → IsAtEnd new → IsContent old bytes
-content_at_end None new bytes read end = tt
-content_at_end (Some xs) None bytes read end = absurd read
-content_at_end (Some xs) (Some ys) bytes read end = sym (read ∙ ap (λ l. bytes ++ l) end ∙ append-nil bytes)
 
 -- what reading a key known
 pub reads_key : (bytes : List ℕ) (key : Result AnyPublic KeyFault) → IfOk key (λ k. SpellsKey k bytes) → IfErr key (KeyHasFault bytes) → ReadsKey bytes key

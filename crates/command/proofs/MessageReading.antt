@@ -1,8 +1,8 @@
 -- What becomes of a message that verification reads, and of the file behind it.
 use Rattle.std.proofs.Common.{◌≡◌, ◌∙◌, ℕ, ◌+◌, List, [], ◌∷◌, ◌++◌, length, map, Option, Result, Ok, Err, MatchResult, IsErrAnd, inl, inr, refl, sym, ap, subst, append_assoc, append-nil, length-append, arith}
-use Rattle.std.proofs.lemmas.List.{length-map, map-append}
+use Rattle.std.proofs.lemmas.List.{map-append}
 use Rattle.std.specs.declared.io.ErrorKind.{ErrorKind}
-use Rattle.typecodes.specs.Message.{CantBeRead, Gave, GivesAll, Outcome, Reads, ReadWhole, Step}
+use Rattle.typecodes.specs.Message.{CantBeRead, Gave, GivesAll, Outcome, Reads, ReadWhole, Step, interruptions}
 use Rattle.typecodes.specs.declared.refusal.Refusal.{Refusal as SignatureRefusal}
 use Rattle.typecodes.specs.declared.refusal.Refusal.TheVariants.{Unreadable, TypeMismatch, LevelMismatch, RootMismatch, MessageRead}
 use Rattle.lms.specs.Verification.{LeavesMessage as LmsLeavesMessage}
@@ -14,7 +14,7 @@ use Rattle.sign_core.specs.declared.key.AnyPublic.TheVariants.{Lms, Hss, Xmss}
 use Rattle.sign_core.specs.declared.key.KeyFault.{KeyFault}
 use Rattle.sign_core.specs.Key.{KeyLeavesMessage}
 use Rattle.command.specs.Files.{happened}
-use Rattle.command.specs.Trace.{Happening, Read, ReadsForever, ReadsSome, ReadsToEnd, ReadsToFailure, failed, given}
+use Rattle.command.specs.Trace.{Happening, Read, ReadsSome, ReadsToEnd, ReadsToFailure, failed, given, interrupted_reads}
 use Rattle.command.specs.Verify.{FailsBeforeItsEnd, LeavesMessage, ReadsMessage}
 use Rattle.command.specs.declared.refusal.Refusal.{Refusal}
 use Rattle.command.specs.declared.refusal.Refusal.TheVariants.{Key, Signature, OutOfMemory, FileFailed}
@@ -112,6 +112,11 @@ gave-read role (Ok bytes ∷ later) text (rest, is, gave) =
     (refl, (length rest, ap length is ∙ length-append bytes rest, gave-read role later rest gave))
 gave-read role (Err kind ∷ later) text (interrupted, gave) = (refl, (interrupted, gave-read role later text gave))
 
+interrupted-noted : (role : Role) (outcomes : List Outcome) → interrupted_reads (map (happened role) outcomes) ≡ interruptions outcomes
+interrupted-noted role [] = refl
+interrupted-noted role (Ok bytes ∷ later) = interrupted-noted role later
+interrupted-noted role (Err kind ∷ later) = ap (λ n. 1 + n) (interrupted-noted role later)
+
 -- reads and one more, as what is noted of them
 noted-last : {M : Type 0} (step : Step M) (role_of : M → Role) (trace_of : M → List Happening) → Notes step role_of trace_of
     → (outcomes : List Outcome) (last : Outcome) (old new : M) → Reads step (outcomes ++ last ∷ []) old new
@@ -143,15 +148,15 @@ noted-failure step role_of trace_of notes old new (inl (outcomes, text, kind, re
         other,
       ),
     )
-noted-failure step role_of trace_of notes old new (inr (outcomes, text, reads, gave, long)) =
+noted-failure step role_of trace_of notes old new (inr (outcomes, text, reads, gave, endless)) =
     let role = role_of old in
-    inr (
-      map (happened role) outcomes,
-      length text,
-      noted step role_of trace_of notes outcomes old new reads,
-      gave-read role outcomes text gave,
-      omega (arith, long, length-map outcomes (happened role)),
-    )
+    let noted_reads = noted step role_of trace_of notes outcomes old new reads in
+    let read = gave-read role outcomes text gave in
+    elim endless [
+      | inl long ↦ inr (map (happened role) outcomes, length text, noted_reads, read, inl long)
+      | inr many ↦
+          inr (map (happened role) outcomes, length text, noted_reads, read, inr (omega (arith, many, interrupted-noted role outcomes)))
+    ]
 
 -- what an answer leaves of the message is what it does to the file
 pub noted-message : {M A : Type 0} (step : Step M) (role_of : M → Role) (trace_of : M → List Happening) → Notes step role_of trace_of

@@ -26,6 +26,12 @@ Read role (given of n ∷ later) count = (of ≡ role) × ((rest : ℕ) × (coun
 Read role (failed of kind ∷ later) count = (of ≡ role) × ((kind ≡ Interrupted) × Read role later count)
 Read role (other ∷ later) count = ⊥
 
+-- how many of them were interrupted
+abbrev pub interrupted_reads : List Happening → ℕ
+interrupted_reads [] = 0
+interrupted_reads (failed of kind ∷ later) = 1 + interrupted_reads later
+interrupted_reads (other ∷ later) = interrupted_reads later
+
 -- Since then this file was read, and nothing else was done: it gave so many bytes.
 abbrev pub Reads : Role → ℕ → List Happening → List Happening → Type 0
 Reads role count old new = (reads : List Happening) × (new ≡ old ++ reads) × Read role reads count

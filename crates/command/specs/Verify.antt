@@ -1,5 +1,6 @@
 -- What `verify` answers to three files: the judgement of their bytes, and what it does to the files for it.
-use Rattle.std.specs.Prelude.{ℕ, true, List, codes, take, [], ◌∷◌, ◌≡◌, ◌⊎◌, ◌++◌, Result, Ok, Err, ⊤, Option, IsErrAnd}
+use Rattle.std.specs.Prelude.{[], ◌∷◌, ◌≡◌, ◌⊎◌, ◌++◌, ◌≤◌, ◌^◌}
+use Rattle.std.specs.Prelude.{ℕ, true, List, codes, take, Result, Ok, Err, ⊤, Option, IsErrAnd}
 use Rattle.clap.specs.Words.{Rule, new_rule, App, new_app, with_rule}
 use Rattle.command.specs.declared.trace.Role.TheVariants as role
 use Rattle.sign_core.specs.declared.key.AnyPublic.{AnyPublic}
@@ -13,7 +14,8 @@ use Rattle.command.specs.Files.{FailsToRead, FailsToCollect}
 use Rattle.typecodes.specs.Message.{CantBeRead, GivesAll, IsContent, Step}
 use Rattle.typecodes.specs.declared.refusal.Refusal.TheVariants.{Unreadable, TypeMismatch, LevelMismatch}
 use Rattle.typecodes.specs.declared.refusal.Refusal.TheVariants.{RootMismatch, MessageRead}
-use Rattle.command.specs.Trace.{Happening, opened, not_opened, ReadsForever, ReadsSome, ReadsToEnd, ReadsToFailure}
+use Rattle.command.specs.Trace.{Happening, opened, not_opened, Read, ReadsSome, ReadsToEnd, ReadsToFailure}
+use Rattle.command.specs.Trace.{interrupted_reads}
 
 -- a file that has to be named
 abbrev pub file_rule : List ℕ → Rule
@@ -97,9 +99,12 @@ LeavesMessage step old new (Err FileFailed) = ⊥
 abbrev pub IsRefusalOf : {A : Type 0} → ErrorKind → Result A Refusal → Type 0
 IsRefusalOf kind answer = IsErrAnd answer (λ refusal. refusal ≡ refusal_of kind)
 
--- A file was read until a read failed, or without end.
+-- A file was read until a read failed, or without end: it gave 2^60 bytes, or was interrupted 2^19 times.
 abbrev pub FailsBeforeItsEnd : Role → List Happening → List Happening → Type 0
-FailsBeforeItsEnd role old new = ((kind : ErrorKind) × ReadsToFailure role kind old new) ⊎ ReadsForever role old new
+FailsBeforeItsEnd role old new =
+    ((kind : ErrorKind) × ReadsToFailure role kind old new)
+    ⊎ ((reads : List Happening) × (count : ℕ) × (new ≡ old ++ reads) × Read role reads count
+    × ((2 ^ 60 ≤ count) ⊎ (2 ^ 19 ≤ interrupted_reads reads)))
 
 -- What is done to the message's file for an answer: it is read to its end where the message is judged, a read of it
 -- fails, or nothing is done.

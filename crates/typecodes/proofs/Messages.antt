@@ -1,10 +1,10 @@
 -- Reads of a message, one after the other.
-use Rattle.std.proofs.Common.{◌≡◌, ◌∙◌, ℕ, ◌+◌, ◌*◌, ◌≤◌, ◌^◌, List, [], ◌∷◌, ◌++◌, length, take, Ok, Err, Option, inl, inr, refl, sym, ap, subst, arith, append_assoc, append-nil, length-append, length-take-le, Some, None, OnErr, Result}
+use Rattle.std.proofs.Common.{◌≡◌, ◌∙◌, ℕ, ◌+◌, ◌*◌, ◌≤◌, List, [], ◌∷◌, ◌++◌, length, take, Ok, Err, Option, inl, inr, refl, sym, ap, subst, arith, append_assoc, append-nil, length-append, length-take-le, Some, None, OnErr, Result}
 use Rattle.std.specs.Io.KnownBytes.{Consumes, IsAtEnd}
 use Rattle.std.proofs.KnownBytes.{Consumes-trans}
 use Rattle.std.specs.declared.io.ErrorKind.{ErrorKind}
 use Rattle.std.specs.declared.io.ErrorKind.TheVariants.{Interrupted}
-use Rattle.typecodes.specs.Message.{CantBeRead, Feeds, Gave, Gives, GivesAll, IsContent, Outcome, ReadWhole, Reads, Step}
+use Rattle.typecodes.specs.Message.{CantBeRead, Feeds, Gave, Gives, GivesAll, IsContent, Outcome, interruptions, ReadWhole, Reads, Step}
 
 reads-append : {M : Type 0} (step : Step M) (xs ys : List Outcome) (old middle new : M) → Reads step xs old middle
     → Reads step ys middle new → Reads step (xs ++ ys) old new
@@ -18,41 +18,49 @@ gave-append (Ok bytes ∷ later) ys a b (rest, is, gave) more =
     (rest ++ b, ap (λ l. l ++ b) is ∙ append_assoc bytes rest b, gave-append later ys rest b gave more)
 gave-append (Err kind ∷ later) ys a b (interrupted, gave) more = (interrupted, gave-append later ys a b gave more)
 
--- This text was given, by so many reads or more.
+interruptions-append : (xs ys : List Outcome) → interruptions (xs ++ ys) ≡ interruptions xs + interruptions ys
+interruptions-append [] ys = omega arith
+interruptions-append (Ok bytes ∷ later) ys = interruptions-append later ys
+interruptions-append (Err kind ∷ later) ys = let more = interruptions-append later ys in omega (arith, more)
+
+-- This text was given, by so many reads or fewer, of which each gave a byte at least or was interrupted.
 abbrev pub Progress : {M : Type 0} → Step M → ℕ → List ℕ → M → M → Type 0
 Progress step turns text old new =
-    (outcomes : List Outcome) × Reads step outcomes old new × Gave outcomes text × (turns ≤ length outcomes)
-
-pub begins : {M : Type 0} (step : Step M) (old : M) → Progress step 0 [] old old
-begins step old = ([], refl, refl, omega arith)
+    (outcomes : List Outcome) × Reads step outcomes old new × Gave outcomes text × (turns ≤ interruptions outcomes + length text)
 
 pub read-more : {M : Type 0} (step : Step M) (turns : ℕ) (text bytes all : List ℕ) (old before new : M)
-    → Progress step turns text old before → step before (Ok bytes) new → text ++ bytes ≡ all
+    → Progress step turns text old before → step before (Ok bytes) new → text ++ bytes ≡ all → 1 ≤ length bytes
     → Progress step (turns + 1) all old new
-read-more step turns text bytes all old before new (outcomes, reads, gave, least) more is =
-    let size : length (outcomes ++ Ok bytes ∷ []) ≡ length outcomes + 1 = length-append outcomes (Ok bytes ∷ []) in (
+read-more step turns text bytes all old before new (outcomes, reads, gave, least) more is some =
+    let same : interruptions (outcomes ++ Ok bytes ∷ []) ≡ interruptions outcomes + 0 = interruptions-append outcomes (Ok bytes ∷ []) in (
       outcomes ++ Ok bytes ∷ [],
       reads-append step outcomes (Ok bytes ∷ []) old before new reads (new, more, refl),
       subst (Gave (outcomes ++ Ok bytes ∷ [])) is
           (gave-append outcomes (Ok bytes ∷ []) text bytes gave ([], sym (append-nil bytes), refl)),
-      omega (arith, least, size),
+      omega (arith, least, same, some, ap length is, length-append text bytes),
     )
 
 pub interrupted-once : {M : Type 0} (step : Step M) (turns : ℕ) (text all : List ℕ) (kind : ErrorKind) (old before new : M)
     → Progress step turns text old before → step before (Err kind) new → kind ≡ Interrupted → text ≡ all
     → Progress step (turns + 1) all old new
 interrupted-once step turns text all kind old before new (outcomes, reads, gave, least) more interrupted is =
-    let size : length (outcomes ++ Err kind ∷ []) ≡ length outcomes + 1 = length-append outcomes (Err kind ∷ []) in (
+    let same : interruptions (outcomes ++ Err kind ∷ []) ≡ interruptions outcomes + 1 = interruptions-append outcomes (Err kind ∷ []) in (
       outcomes ++ Err kind ∷ [],
       reads-append step outcomes (Err kind ∷ []) old before new reads (new, more, refl),
       subst (Gave (outcomes ++ Err kind ∷ [])) (append-nil text ∙ is)
           (gave-append outcomes (Err kind ∷ []) text [] gave (interrupted, refl)),
-      omega (arith, least, size),
+      omega (arith, least, same, ap length is),
     )
 
-pub gives : {M : Type 0} (step : Step M) (turns : ℕ) (text : List ℕ) (old new : M) → Progress step turns text old new
-    → Gives step text old new
-gives step turns text old new (outcomes, reads, gave, least) = (outcomes, reads, gave)
+-- one read more, whatever it gave
+pub gives-more : {M : Type 0} (step : Step M) (turns : ℕ) (text bytes all : List ℕ) (old before new : M)
+    → Progress step turns text old before → step before (Ok bytes) new → text ++ bytes ≡ all → Gives step all old new
+gives-more step turns text bytes all old before new (outcomes, reads, gave, least) more is = (
+  outcomes ++ Ok bytes ∷ [],
+  reads-append step outcomes (Ok bytes ∷ []) old before new reads (new, more, refl),
+  subst (Gave (outcomes ++ Ok bytes ∷ [])) is
+      (gave-append outcomes (Ok bytes ∷ []) text bytes gave ([], sym (append-nil bytes), refl)),
+)
 
 -- the last read gave nothing
 pub gives-all : {M : Type 0} (step : Step M) (turns : ℕ) (text : List ℕ) (old before new : M)
@@ -67,17 +75,7 @@ pub fails : {M : Type 0} (step : Step M) (turns : ℕ) (text : List ℕ) (kind :
 fails step turns text kind old before new (outcomes, reads, gave, least) last other =
     inl (outcomes, text, kind, reads-append step outcomes (Err kind ∷ []) old before new reads (new, last, refl), gave, other)
 
--- there was no end of reads
-pub goes-on : {M : Type 0} (step : Step M) (turns : ℕ) (text : List ℕ) (old new : M) → Progress step turns text old new
-    → 2 ^ 60 ≤ turns → CantBeRead step old new
-goes-on step turns text old new (outcomes, reads, gave, least) long =
-    inr (outcomes, text, reads, gave, omega (arith, least, long))
-
 -- ---- whole pieces
-
-consumes-nothing : (known : Option (List ℕ)) → Consumes known known []
-consumes-nothing None = tt
-consumes-nothing (Some xs) = refl
 
 gives-append : {M : Type 0} (step : Step M) (a b : List ℕ) (old middle new : M) → Gives step a old middle
     → Gives step b middle new → Gives step (a ++ b) old new
@@ -90,9 +88,6 @@ pub record HasRead {M : Type 0} (step : Step M) (remaining : M → Option (List 
   pub gave : Gives step text old new
   pub bytes : Consumes (remaining old) (remaining new) text
   pub size : length text ≡ 16384 * pieces
-
-read-none : {M : Type 0} (step : Step M) (remaining : M → Option (List ℕ)) (old : M) → HasRead step remaining 0 [] old old
-read-none step remaining old = record { gave = ([], refl, refl); bytes = consumes-nothing (remaining old); size = refl }
 
 -- a full piece more
 read-full : {M : Type 0} (step : Step M) (remaining : M → Option (List ℕ)) (pieces n : ℕ) (text buffer : List ℕ) (old before new : M)
@@ -140,32 +135,28 @@ fails-later step remaining pieces text old before new has cant =
             gave-append xs ys text more gave gave_more,
             other,
           )
-      | inr (ys, more, going, gave_more, long) ↦
+      | inr (ys, more, going, gave_more, inl long) ↦
           inr (
             xs ++ ys,
             text ++ more,
             reads-append step xs ys old before new reads going,
             gave-append xs ys text more gave gave_more,
-            omega (arith, long, length-append xs ys, length-append text more),
+            inl (omega (arith, long, length-append text more)),
+          )
+      | inr (ys, more, going, gave_more, inr many) ↦
+          inr (
+            xs ++ ys,
+            text ++ more,
+            reads-append step xs ys old before new reads going,
+            gave-append xs ys text more gave gave_more,
+            inr (omega (arith, many, interruptions-append xs ys)),
           )
     ]
-
--- there is no end of full pieces
-full-for-ever : {M : Type 0} (step : Step M) (remaining : M → Option (List ℕ)) (pieces : ℕ) (text : List ℕ) (old new : M)
-    → HasRead step remaining pieces text old new → 2 ^ 46 ≤ pieces → CantBeRead step old new
-full-for-ever step remaining pieces text old new has long =
-    let (xs, reads, gave) = has.gave in
-    inr (xs, text, reads, gave, omega (arith, long, has.size))
 
 -- So many full pieces were read and fed to what holds bytes.
 abbrev pub HasFed : {M H : Type 0} → Step M → (M → Option (List ℕ)) → (H → List ℕ → Type 0) → ℕ → H → H → M → M → Type 0
 HasFed step remaining holds pieces before after old new =
     (text : List ℕ) × HasRead step remaining pieces text old new × ((head : List ℕ) → holds before head → holds after (head ++ text))
-
-pub fed-none : {M H : Type 0} (step : Step M) (remaining : M → Option (List ℕ)) (holds : H → List ℕ → Type 0) (hasher : H) (old : M)
-    → HasFed step remaining holds 0 hasher hasher old old
-fed-none step remaining holds hasher old =
-    ([], read-none step remaining old, λ head begun. subst (holds hasher) (sym (append-nil head)) begun)
 
 -- a piece is taken after what was held
 takes-more : {H : Type 0} (holds : H → List ℕ → Type 0) (text piece : List ℕ) (before middle after : H)
@@ -204,25 +195,20 @@ feeding-fails step remaining holds pieces before middle old read new (Ok value) 
 feeding-fails step remaining holds pieces before middle old read new (Err error) (text, has, first) cant =
     fails-later step remaining pieces text old read new has cant
 
-pub feeding-goes-on : {M H : Type 0} (step : Step M) (remaining : M → Option (List ℕ)) (holds : H → List ℕ → Type 0) (pieces : ℕ)
-    (before after : H) (old new : M) → HasFed step remaining holds pieces before after old new → 2 ^ 46 ≤ pieces
-    → CantBeRead step old new
-feeding-goes-on step remaining holds pieces before after old new (text, has, first) long =
-    full-for-ever step remaining pieces text old new has long
-
 -- ---- what is known of the content
 
-content-consumed : (old new : Option (List ℕ)) (text : List ℕ) → Consumes old new text → IsAtEnd new → IsContent old text
-content-consumed None new text consumed end = tt
-content-consumed (Some xs) None text consumed end = absurd consumed
-content-consumed (Some xs) (Some ys) text consumed end = sym (consumed ∙ ap (λ l. text ++ l) end ∙ append-nil text)
+-- what was consumed to the end is the content
+pub content_at_end : (old new : Option (List ℕ)) (text : List ℕ) → Consumes old new text → IsAtEnd new → IsContent old text
+content_at_end None new text consumed end = tt
+content_at_end (Some xs) None text consumed end = absurd consumed
+content_at_end (Some xs) (Some ys) text consumed end = sym (consumed ∙ ap (λ l. text ++ l) end ∙ append-nil text)
 
 -- a text that was read whole is the content
-pub content-read : {M : Type 0} (step : Step M) (remaining : M → Option (List ℕ)) (text : List ℕ) (old new : M)
+pub content_read : {M : Type 0} (step : Step M) (remaining : M → Option (List ℕ)) (text : List ℕ) (old new : M)
     → ReadWhole step remaining text old new → IsContent (remaining old) text
-content-read step remaining text old new whole = content-consumed (remaining old) (remaining new) text whole.bytes whole.end
+content_read step remaining text old new whole = content_at_end (remaining old) (remaining new) text whole.bytes whole.end
 
 -- some text fits whatever is known
-pub some-content : (known : Option (List ℕ)) → (text : List ℕ) × IsContent known text
-some-content None = ([], tt)
-some-content (Some text) = (text, refl)
+pub some_content : (known : Option (List ℕ)) → (text : List ℕ) × IsContent known text
+some_content None = ([], tt)
+some_content (Some text) = (text, refl)

@@ -47,11 +47,17 @@ ReadFails step old new =
     (outcomes : List Outcome) × (text : List ℕ) × (kind : ErrorKind)
     × Reads step (outcomes ++ Err kind ∷ []) old new × Gave outcomes text × (kind ≢ Interrupted)
 
--- There was no end of it: there were 2^60 reads and bytes.
+-- how many of the reads were interrupted
+abbrev pub interruptions : List Outcome → ℕ
+interruptions [] = 0
+interruptions (Ok bytes ∷ later) = interruptions later
+interruptions (Err kind ∷ later) = 1 + interruptions later
+
+-- There was no end of it: it gave 2^60 bytes, or was interrupted 2^19 times.
 abbrev pub GoesOn : {M : Type 0} → Step M → M → M → Type 0
 GoesOn step old new =
     (outcomes : List Outcome) × (text : List ℕ) × Reads step outcomes old new × Gave outcomes text
-    × (2 ^ 60 ≤ length outcomes + length text)
+    × ((2 ^ 60 ≤ length text) ⊎ (2 ^ 19 ≤ interruptions outcomes))
 
 -- The message can't be read: a read failed, or there was no end of it.
 abbrev pub CantBeRead : {M : Type 0} → Step M → M → M → Type 0

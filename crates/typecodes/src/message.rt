@@ -1,6 +1,6 @@
 //! Messages, which are read in pieces and held nowhere whole.
 
-ghost use Rattle.std.specs.Prelude.{◌≤◌, ◌<◌, ℕ, List, ⊤, length, take, IfOk};
+ghost use Rattle.std.specs.Prelude.{◌≤◌, ◌<◌, ◌^◌, ℕ, List, ⊤, length, take, IfOk};
 ghost use Rattle.std.specs.Io.{ReadsAtMost};
 ghost use Rattle.std.specs.Io.KnownBytes.{ReadConsumes};
 ghost use Rattle.std.specs.declared.option.Option.{Option};
@@ -33,7 +33,7 @@ impl<R: Read> Message for R {
     }
 }
 
-/// Why a message can't be read: a read of it failed, or it gave 2^60 bytes.
+/// Why a message can't be read: a read of it failed, it gave 2^60 bytes, or reads were interrupted too often.
 #[derive(Clone, Copy, Debug, PartialEq, Eq, Error)]
 #[error("the message can't be read")]
 pub struct MessageFailed;
@@ -44,16 +44,20 @@ pub const PIECE: usize = 1 << 14;
 /// How many pieces a message has at most: with so many full ones it has 2^60 bytes, and counts as failed.
 pub const PIECES: u64 = 1 << 46;
 
-/// Reads until the buffer is full or the message ends, and gives how many bytes that were. An interrupted read is tried
-/// again.
+// How many reads are tried for one piece: each gives a byte at least or is interrupted.
+const TRIES: u32 = 1 << 20;
+
+/// Reads until the buffer is full or the message ends, and gives how many bytes that were. The buffer takes one piece
+/// at most. An interrupted read is tried again, up to 2^19 times or more.
 pub fn read_piece<M: Message>(message: &mut M, buffer: &mut [u8]) -> Result<usize, MessageFailed>
+    requires { length buffer.old ≤ 2 ^ 14 }
     ensures within { IfOk result (λ n. n ≤ length buffer.new) }
     ensures reads { ReadsPiece M.step M.remaining result buffer.new message.old message.new }
     ensures end { IfOk result (λ n. n < length buffer.new
         → ReadWhole M.step M.remaining (take n buffer.new) message.old message.new) }
 {
     let mut at = 0;
-    for turn in 0..u64::MAX {
+    for turn in 0..TRIES {
         if at >= buffer.len() {
             return Ok(at);
         }

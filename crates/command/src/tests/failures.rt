@@ -22,9 +22,17 @@ fn refuses_a_file_that_is_missing_or_a_folder(rt: HostRuntime) -> Result<(), Fai
         line[word] = missing.as_str();
         let outcome = run_words(&rt, line.as_slice());
         assert!(rt; outcome.is("refused 53 FileFailed", 3), "{word}");
+    }
+    // A folder is opened, and can't be read; the message isn't read where the key is none.
+    for (word, answer, status) in [
+        (1usize, "refused 53 FileFailed", 3),
+        (2, "refused 6 KeyLength of 0", 1),
+        (3, "refused 53 FileFailed", 3),
+    ] {
+        let mut line = folder.line();
         line[word] = folder.path.as_str();
         let outcome = run_words(&rt, line.as_slice());
-        assert!(rt; outcome.is("refused 53 FileFailed", 3), "{word}");
+        assert!(rt; outcome.is(answer, status), "{word}");
     }
     folder.remove(&rt)
 }
@@ -35,13 +43,14 @@ const PIPE: After = After::Failure(io::ErrorKind::BrokenPipe);
 
 #[test]
 fn reports_the_first_failure(rt: HostRuntime) -> Result<(), Fail> {
-    for (public, message, signature, line) in [
-        (After::End, MEMORY, PIPE, "refused 46 OutOfMemory"),
-        (After::End, PIPE, MEMORY, "refused 53 FileFailed"),
-        (MEMORY, PIPE, PIPE, "refused 46 OutOfMemory"),
-        (PIPE, MEMORY, MEMORY, "refused 53 FileFailed"),
-        (After::End, After::End, PIPE, "refused 53 FileFailed"),
-        (After::End, After::End, MEMORY, "refused 46 OutOfMemory"),
+    for (public, message, signature, line, status) in [
+        (After::End, MEMORY, PIPE, "refused 53 FileFailed", 3),
+        (After::End, PIPE, MEMORY, "refused 46 OutOfMemory", 3),
+        (MEMORY, PIPE, PIPE, "refused 46 OutOfMemory", 3),
+        (PIPE, MEMORY, MEMORY, "refused 53 FileFailed", 3),
+        (After::End, After::End, PIPE, "refused 53 FileFailed", 3),
+        (After::End, After::End, MEMORY, "refused 46 OutOfMemory", 3),
+        (After::End, PIPE, After::End, "refused 6 KeyLength of 10", 1),
     ] {
         let outcome = verify(
             &rt,
@@ -58,7 +67,27 @@ fn reports_the_first_failure(rt: HostRuntime) -> Result<(), Fail> {
                 after: signature,
             },
         );
-        assert!(rt; outcome.is(line, 3), "{line}");
+        assert!(rt; outcome.is(line, status), "{line}");
+    }
+    Ok(())
+}
+
+// The message is read after the key and the signature, so that nothing else of these can be reported.
+#[test]
+fn reports_a_message_that_fails_after_any_bytes(rt: HostRuntime) -> Result<(), Fail> {
+    let text = [7; 201];
+    let Sample { public, signature } = Sample::new(rt.alloc(), &text)?;
+    for count in 0..201usize {
+        let outcome = verify(
+            &rt,
+            Content::of(&public),
+            Content {
+                bytes: &text[..count],
+                after: if count % 2 == 0 { PIPE } else { MEMORY },
+            },
+            Content::of(&signature),
+        );
+        assert!(rt; outcome.is("refused 14 MessageRead", 3), "{count}");
     }
     Ok(())
 }

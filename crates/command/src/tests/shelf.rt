@@ -21,8 +21,43 @@ pub struct Content<'a> {
 #[derive(Clone, Copy)]
 pub enum After {
     End,
+    // The end, too, but a read gives so many bytes at most, and then one is interrupted. The step leads to the next
+    // size, of 130 in turn: 129 to the same.
+    Pieces {
+        size: usize,
+        step: usize,
+        is_interrupted: bool,
+    },
     Zeros,
     Failure(io::ErrorKind),
+}
+
+impl After {
+    // How many bytes the next read gives at most, or that it is interrupted.
+    fn next(&mut self) -> io::Result<usize> {
+        let After::Pieces {
+            size,
+            step,
+            is_interrupted,
+        } = *self
+        else {
+            return Ok(usize::MAX);
+        };
+        if is_interrupted {
+            *self = After::Pieces {
+                size: size.wrapping_add(step) % 130 + 1,
+                step,
+                is_interrupted: false,
+            };
+            return Err(io::Error::from(io::ErrorKind::Interrupted));
+        }
+        *self = After::Pieces {
+            size,
+            step,
+            is_interrupted: true,
+        };
+        Ok(size)
+    }
 }
 
 impl<'a> Content<'a> {
@@ -37,14 +72,14 @@ impl<'a> Content<'a> {
         ensures { ReadsAtMost result buffer.new }
     {
         let bytes = self.bytes;
-        let n = bytes.len().min(buffer.len());
+        let n = bytes.len().min(buffer.len()).min(self.after.next()?);
         if n > 0 {
             buffer[..n].copy_from_slice(&bytes[..n]);
             self.bytes = &bytes[n..];
             return Ok(n);
         }
         match self.after {
-            After::End => Ok(0),
+            After::End | After::Pieces { .. } => Ok(0),
             After::Zeros => {
                 buffer.fill(0);
                 Ok(buffer.len())

@@ -3,6 +3,7 @@
 use super::place::Place;
 use super::sample::Sample;
 use super::shelf::{After, Content, verify};
+use std::io;
 use std::test::Fail;
 
 // A key of zeros with these types.
@@ -176,5 +177,48 @@ fn counts_the_bytes_of_a_long_key(rt: HostRuntime) -> Result<(), Fail> {
         );
         assert!(rt; outcome.is(line, 1), "{line}");
     }
+    Ok(())
+}
+
+// A message is the bytes that its reads give, however these are cut: the same size each time, or another.
+#[test]
+fn pieces_of_any_size_lead_to_one_verdict(rt: HostRuntime) -> Result<(), Fail> {
+    let text = [9; 600];
+    let Sample { public, signature } = Sample::new(rt.alloc(), &text)?;
+    for size in 1..131usize {
+        for (bytes, answer, status) in [
+            (&text[..], "verified", 0),
+            (&text[..599], "refused 12 RootMismatch level 0", 1),
+        ] {
+            let message = Content {
+                bytes,
+                after: After::Pieces {
+                    size,
+                    step: [129, 37, 74][size % 3],
+                    is_interrupted: false,
+                },
+            };
+            let outcome = verify(&rt, Content::of(&public), message, Content::of(&signature));
+            assert!(rt; outcome.is(answer, status), "{size}");
+        }
+    }
+    Ok(())
+}
+
+// Reads that are interrupted without end count as a failure.
+#[test]
+fn a_message_that_is_always_interrupted_ends(rt: HostRuntime) -> Result<(), Fail> {
+    let Sample { public, signature } = Sample::new(rt.alloc(), b"a message")?;
+    let interrupted = Content {
+        bytes: b"a mess",
+        after: After::Failure(io::ErrorKind::Interrupted),
+    };
+    let outcome = verify(
+        &rt,
+        Content::of(&public),
+        interrupted,
+        Content::of(&signature),
+    );
+    assert!(rt; outcome.is("refused 14 MessageRead", 3));
     Ok(())
 }

@@ -1,6 +1,7 @@
 use Rattle.std.proofs.Common.{◌≡◌, ◌+◌, ◌++◌, length, take, arith, length-append, length-take-le}
 use Rattle.std.proofs.KnownBytes.{Consumes-trans}
-use Rattle.command.proofs.Contents.{content_at_end, reads_key}
+use Rattle.command.proofs.Contents.{reads_key}
+use Rattle.typecodes.proofs.Messages.{content_at_end}
 use Rattle.command.proofs.Reading.{fails_later, reads_err, reads_more}
 use Rattle.command.proofs.files.read_key.Goals as goal
 

@@ -1,13 +1,13 @@
 use Rattle.command.proofs.Deciding.{decides_all}
 use Rattle.command.proofs.Judging.{judged, no_key, read_key}
 use Rattle.command.proofs.MessageReading.{answer-leaves, no-key-leaves}
-use Rattle.typecodes.proofs.Messages.{some-content}
+use Rattle.typecodes.proofs.Messages.{some_content}
 use Rattle.command.proofs.verify.judge.Goals as goal
 
 -- the bytes spell no key
 pub returns-in_err-key : goal.returns-in_err-key
 returns-in_err-key g c p s reads decides =
-    let (m, fits) = some-content (g.M.Message.remaining c.args.message.now) in (
+    let (m, fits) = some_content (g.M.Message.remaining c.args.message.now) in (
       m,
       fits,
       no_key p m s c.args.key c.map_err.result c.in_err-key.field-0.0 c.from_residual.result reads c.map_err.ensures.cases c.in_err-key.was c.from_residual.ensures.1,

@@ -1,6 +1,6 @@
 use Rattle.std.proofs.Common.{◌≡◌, ◌-◌, sym, ◌∙◌, subst, length, Err, arith, refl, rules}
 use Rattle.typecodes.specs.Layout.{Spells}
-use Rattle.typecodes.proofs.Messages.{some-content}
+use Rattle.typecodes.proofs.Messages.{some_content}
 use Rattle.typecodes.proofs.WasRead.{read_spells}
 use Rattle.hss.specs.Signature.{level_count, signature}
 use Rattle.hss.specs.Verification.{LeavesMessage, Verdict}
@@ -20,13 +20,13 @@ count g c = sym c.levels.ensures.value ∙ (c.if-levels-get.false ∙ c.get.ensu
 -- the bytes have a fault
 pub returns-in_err-view : goal.returns-in_err-view
 returns-in_err-view g c =
-    let (text, fits) = some-content (g.M.Message.remaining c.args.message.now) in
+    let (text, fits) = some_content (g.M.Message.remaining c.args.message.now) in
     (text, fits, search rules, search rules)
 
 -- the signature has other levels than the key
 pub returns-then-levels-get : goal.returns-then-levels-get
 returns-then-levels-get g c =
-    let (text, fits) = some-content (g.M.Message.remaining c.args.message.now) in (
+    let (text, fits) = some_content (g.M.Message.remaining c.args.message.now) in (
       text,
       fits,
       (
@@ -43,7 +43,7 @@ returns-in_err-key g c =
     let after = (goal.at.returns-in_err-key g c).After-bottom_key in
     let key = c.args.public.now in
     let s = signature_of c.in_ok-view.view in
-    let (text, fits) = some-content (g.M.Message.remaining c.args.message.now) in
+    let (text, fits) = some_content (g.M.Message.remaining c.args.message.now) in
     let is : c.from_residual-in_err-key.result ≡ Err c.in_err-key.field-0.0 = search rules in (
       text,
       fits,

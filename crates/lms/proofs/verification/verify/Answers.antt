@@ -1,7 +1,7 @@
 use Rattle.std.proofs.Common.{rules}
 use Rattle.lms.specs.Signature.{signature}
 use Rattle.lms.specs.View.{signature_of}
-use Rattle.typecodes.proofs.Messages.{some-content}
+use Rattle.typecodes.proofs.Messages.{some_content}
 use Rattle.typecodes.proofs.WasRead.{read_spells}
 use Rattle.lms.proofs.Verdicts.{whole_verdict}
 use Rattle.lms.proofs.verification.verify.Goals as goal
@@ -9,7 +9,7 @@ use Rattle.lms.proofs.verification.verify.Goals as goal
 -- the bytes have a fault
 pub returns-in_err-view : goal.returns-in_err-view
 returns-in_err-view g c =
-    let (text, fits) = some-content (g.M.Message.remaining c.args.message.now) in
+    let (text, fits) = some_content (g.M.Message.remaining c.args.message.now) in
     (text, fits, search rules, search rules)
 
 -- the answer of the signature that was read is that of its bytes

@@ -5,7 +5,7 @@ use Rattle.std.specs.Io.KnownBytes.{Consumes}
 use Rattle.std.proofs.KnownBytes.{Consumes-trans, Consumes-kept}
 use borrow.Rule.Slice.PartMut.{put_mid, post_of}
 use Rattle.typecodes.specs.Message.{Gives, GivesAll, Step}
-use Rattle.typecodes.proofs.Messages.{fails, gives, gives-all, Progress, interrupted-once, read-more}
+use Rattle.typecodes.proofs.Messages.{fails, gives-all, gives-more, Progress, interrupted-once, read-more}
 use Rattle.typecodes.proofs.message.read_piece.Goals as goal
 use Rattle.typecodes.proofs.message.read_piece.Goals.{in-Ok, in-Err+else-ne}
 
@@ -34,7 +34,7 @@ loop-turn-preserved g c =
           let whole = ap (λ l. take from c.loop-turn.buffer ++ l) (sym part)
           ∙ take_split from (from + w.in-Ok.n) c.loop-turn.buffer (put_mid from room c.loop-turn.buffer c.read_into.new.buffer) (omega arith) front in
           let more = subst (Consumes _ _) whole (Consumes-trans _ _ _ _ _ c.loop-turn.invariant.2 w.in-Ok.ensures.bytes.0) in
-          let progress = read-more _ _ _ _ _ _ _ _ c.loop-turn.invariant.3 w.in-Ok.ensures.step whole in
+          let progress = read-more _ _ _ _ _ _ _ _ c.loop-turn.invariant.3 w.in-Ok.ensures.step whole (search rules) in
           rw w.at-is (search rules, search rules, more, progress)
       | in-Err+else-ne w ↦
           let same = subst (Consumes _ _) (sym front) (Consumes-kept _ _ _ _ c.loop-turn.invariant.2 w.in-Err.ensures.bytes) in
@@ -53,7 +53,7 @@ at_end step remaining turns a k n xs ys old before new within none progress cons
     let nothing : take n ys ≡ [] = ap (λ m. take m ys) none in
     let same : take a xs ++ take n ys ≡ take a (put_mid a k xs ys) =
     ap (λ l. take a xs ++ l) nothing ∙ append-nil (take a xs) ∙ sym front in (
-      gives step (turns + 1) (take a (put_mid a k xs ys)) old new (read-more step turns (take a xs) (take n ys) _ old before new progress last same),
+      gives-more step turns (take a xs) (take n ys) (take a (put_mid a k xs ys)) old before new progress last same,
       subst (λ l. GivesAll step l old new) (sym front)
           (gives-all step turns (take a xs) old before new progress (subst (λ l. step before (Ok l) new) nothing last)),
       subst (Consumes (remaining old) (remaining new)) same (Consumes-trans _ _ _ _ _ consumed last_bytes),

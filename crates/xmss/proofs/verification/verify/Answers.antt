@@ -1,5 +1,5 @@
 use Rattle.std.proofs.Common.{◌≡◌, rules}
-use Rattle.typecodes.proofs.Messages.{content-read, some-content}
+use Rattle.typecodes.proofs.Messages.{content_read, some_content}
 use Rattle.xmss.specs.Verification.{digest_of}
 use Rattle.xmss.specs.View.{signature_of}
 use Rattle.xmss.proofs.Verdicts.{leaves_of_digest, verdict_of_digest}
@@ -15,7 +15,7 @@ verify_digest-requires g c =
 -- the bytes have a fault
 pub returns-in_err-view : goal.returns-in_err-view
 returns-in_err-view g c =
-    let (text, fits) = some-content (g.M.Message.remaining c.args.message.now) in
+    let (text, fits) = some_content (g.M.Message.remaining c.args.message.now) in
     (text, fits, search rules, search rules)
 
 -- the message was read
@@ -25,7 +25,7 @@ returns-in-Ok g c =
     let (text, whole, digest) = c.in-Ok.ensures.ok in
     let same : c.in-Ok.digest ≡ digest_of c.args.public.now text (signature_of c.in_ok-view.view) = search rules in (
       text,
-      content-read _ _ _ _ _ whole,
+      content_read _ _ _ _ _ whole,
       verdict_of_digest _ _ _ _ _ c.verify_digest.result same read.spelled c.verify_digest.ensures,
       leaves_of_digest _ _ _ _ _ _ _ _ c.verify_digest.result c.verify_digest.ensures whole,
     )
@@ -34,5 +34,5 @@ returns-in-Ok g c =
 pub returns-in-Err : goal.returns-in-Err
 returns-in-Err g c =
     let read = is_read _ c.args.public.now _ c.read.result _ _ c.read.ensures.reads c.read.ensures.tree c.in_ok-view.ensures.cases (λ _ never. never) in
-    let (text, fits) = some-content (g.M.Message.remaining c.args.message.now) in
+    let (text, fits) = some_content (g.M.Message.remaining c.args.message.now) in
     (text, fits, (_, read.spelled), c.in-Err.ensures.err)
