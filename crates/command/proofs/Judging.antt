@@ -1,5 +1,5 @@
 -- From what reading a key and verifying say to the judgement.
-use Rattle.std.proofs.Common.{◌≡◌, ◌∙◌, ℕ, List, Result, Ok, Err, MatchResult, IsErrAnd, sym, subst}
+use Rattle.std.proofs.Common.{◌≡◌, ◌∙◌, ℕ, List, Result, Ok, Err, MatchResult, IfErr, IsErrAnd, sym, subst}
 use Rattle.std.specs.Prelude.{⊤}
 use Rattle.typecodes.specs.declared.refusal.Refusal.{Refusal as SignatureRefusal}
 use Rattle.sign_core.specs.declared.key.AnyPublic.{AnyPublic}
@@ -17,6 +17,12 @@ pub read_key : (bytes : List ℕ) (key : AnyPublic) (read : Result AnyPublic Key
     → SpellsKey key bytes
 read_key bytes key (Ok k) r spelled mapped was = let same : k ≡ key = cc (mapped, was) in subst (λ k. SpellsKey k bytes) same spelled
 read_key bytes key (Err fault) r _ mapped was = absurd (subst (λ r. IsErrAnd r (λ e. e ≡ Key fault)) was mapped)
+
+-- where a key was read, there is no fault
+pub has_key : (key : AnyPublic) (read : Result AnyPublic KeyFault) (r : Result AnyPublic Refusal) (Q : KeyFault → Type 0)
+    → MatchResult read (λ k. r ≡ Ok k) (λ fault. IsErrAnd r (λ e. e ≡ Key fault)) → r ≡ Ok key → IfErr read Q
+has_key key (Ok k) r Q mapped was = tt
+has_key key (Err fault) r Q mapped was = absurd (subst (λ r. IsErrAnd r (λ e. e ≡ Key fault)) was mapped)
 
 -- the fault of bytes that spell no key is the judgement
 pub no_key : {A : Type 0} (bytes message signature : List ℕ) (read : Result AnyPublic KeyFault) (r : Result AnyPublic Refusal) (e : Refusal) (answer : Result A Refusal)

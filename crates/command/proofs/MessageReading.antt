@@ -14,7 +14,7 @@ use Rattle.sign_core.specs.declared.key.AnyPublic.TheVariants.{Lms, Hss, Xmss}
 use Rattle.sign_core.specs.declared.key.KeyFault.{KeyFault}
 use Rattle.sign_core.specs.Key.{KeyLeavesMessage}
 use Rattle.command.specs.Files.{happened}
-use Rattle.command.specs.Trace.{Happening, Read, ReadsSome, ReadsToEnd, ReadsToFailure, failed, given, interrupted_reads}
+use Rattle.command.specs.Trace.{Happening, ReadOn, ReadsToEnd, failed, given, interrupted_reads}
 use Rattle.command.specs.Verify.{FailsBeforeItsEnd, LeavesMessage, ReadsMessage}
 use Rattle.command.specs.declared.refusal.Refusal.{Refusal}
 use Rattle.command.specs.declared.refusal.Refusal.TheVariants.{Key, Signature, OutOfMemory, FileFailed}
@@ -28,38 +28,38 @@ as_answer (Ok a) = Ok a
 as_answer (Err refusal) = Err (Signature refusal)
 
 lms-leaves : {M A : Type 0} (step : Step M) (remaining : M → Option (List ℕ)) (text : List ℕ) (old new : M) (verdict : Result A SignatureRefusal)
-    → LmsLeavesMessage step remaining text old new verdict → LeavesMessage step old new (as_answer verdict)
+    → LmsLeavesMessage step remaining text old new verdict → LeavesMessage step text old new (as_answer verdict)
 unfolding as_answer
-lms-leaves step remaining text old new (Ok a) whole = (text, whole.gave)
+lms-leaves step remaining text old new (Ok a) whole = whole.gave
 lms-leaves step remaining text old new (Err (Unreadable fault)) same = same
 lms-leaves step remaining text old new (Err (TypeMismatch level)) same = same
 lms-leaves step remaining text old new (Err LevelMismatch) never = absurd never
 lms-leaves step remaining text old new (Err MessageRead) cant = cant
-lms-leaves step remaining text old new (Err (RootMismatch level)) whole = inl (text, whole.gave)
+lms-leaves step remaining text old new (Err (RootMismatch level)) whole = inl whole.gave
 
 xmss-leaves : {M A : Type 0} (step : Step M) (remaining : M → Option (List ℕ)) (text : List ℕ) (old new : M) (verdict : Result A SignatureRefusal)
-    → XmssLeavesMessage step remaining text old new verdict → LeavesMessage step old new (as_answer verdict)
+    → XmssLeavesMessage step remaining text old new verdict → LeavesMessage step text old new (as_answer verdict)
 unfolding as_answer
-xmss-leaves step remaining text old new (Ok a) whole = (text, whole.gave)
+xmss-leaves step remaining text old new (Ok a) whole = whole.gave
 xmss-leaves step remaining text old new (Err (Unreadable fault)) same = same
 xmss-leaves step remaining text old new (Err (TypeMismatch level)) never = absurd never
 xmss-leaves step remaining text old new (Err LevelMismatch) never = absurd never
 xmss-leaves step remaining text old new (Err MessageRead) cant = cant
-xmss-leaves step remaining text old new (Err (RootMismatch level)) whole = inl (text, whole.gave)
+xmss-leaves step remaining text old new (Err (RootMismatch level)) whole = inl whole.gave
 
 hss-leaves : {M A : Type 0} (step : Step M) (remaining : M → Option (List ℕ)) (key : HssPublic) (text : List ℕ) (old new : M) (verdict : Result A SignatureRefusal)
-    → HssLeavesMessage step remaining key text old new verdict → LeavesMessage step old new (as_answer verdict)
+    → HssLeavesMessage step remaining key text old new verdict → LeavesMessage step text old new (as_answer verdict)
 unfolding as_answer
-hss-leaves step remaining key text old new (Ok a) whole = (text, whole.gave)
+hss-leaves step remaining key text old new (Ok a) whole = whole.gave
 hss-leaves step remaining key text old new (Err (Unreadable fault)) same = same
 hss-leaves step remaining key text old new (Err (TypeMismatch level)) same = same
 hss-leaves step remaining key text old new (Err LevelMismatch) same = same
 hss-leaves step remaining key text old new (Err MessageRead) cant = cant
-hss-leaves step remaining key text old new (Err (RootMismatch level)) (inl (bottom, whole)) = inl (text, whole.gave)
+hss-leaves step remaining key text old new (Err (RootMismatch level)) (inl (bottom, whole)) = inl whole.gave
 hss-leaves step remaining key text old new (Err (RootMismatch level)) (inr (above, same)) = inr same
 
 key-leaves : {M A : Type 0} (step : Step M) (remaining : M → Option (List ℕ)) (key : AnyPublic) (text : List ℕ) (old new : M) (verdict : Result A SignatureRefusal)
-    → KeyLeavesMessage step remaining key text old new verdict → LeavesMessage step old new (as_answer verdict)
+    → KeyLeavesMessage step remaining key text old new verdict → LeavesMessage step text old new (as_answer verdict)
 key-leaves step remaining (Lms key) text old new verdict leaves = lms-leaves step remaining text old new verdict leaves
 key-leaves step remaining (Hss key) text old new verdict leaves = hss-leaves step remaining key text old new verdict leaves
 key-leaves step remaining (Xmss key) text old new verdict leaves = xmss-leaves step remaining text old new verdict leaves
@@ -74,19 +74,19 @@ is_answer (Err refusal) (Err e) mapped = ap Err mapped
 -- what a verdict of the key leaves, the answer leaves
 pub answer-leaves : {M A : Type 0} (step : Step M) (remaining : M → Option (List ℕ)) (key : AnyPublic) (text : List ℕ) (old new : M)
     (verdict : Result A SignatureRefusal) (r : Result A Refusal) → KeyLeavesMessage step remaining key text old new verdict
-    → MatchResult verdict (λ a. r ≡ Ok a) (λ refusal. IsErrAnd r (λ e. e ≡ Signature refusal)) → LeavesMessage step old new r
+    → MatchResult verdict (λ a. r ≡ Ok a) (λ refusal. IsErrAnd r (λ e. e ≡ Signature refusal)) → LeavesMessage step text old new r
 answer-leaves step remaining key text old new verdict r leaves mapped =
-    subst (LeavesMessage step old new) (sym (is_answer verdict r mapped)) (key-leaves step remaining key text old new verdict leaves)
+    subst (LeavesMessage step text old new) (sym (is_answer verdict r mapped)) (key-leaves step remaining key text old new verdict leaves)
 
 -- a key that can't be read leaves the message
-pub no-key-leaves : {M A : Type 0} (step : Step M) (old : M) (read : Result AnyPublic KeyFault) (r : Result AnyPublic Refusal) (e : Refusal) (answer : Result A Refusal)
+pub no-key-leaves : {M A : Type 0} (step : Step M) (text : List ℕ) (old : M) (read : Result AnyPublic KeyFault) (r : Result AnyPublic Refusal) (e : Refusal) (answer : Result A Refusal)
     → MatchResult read (λ k. r ≡ Ok k) (λ fault. IsErrAnd r (λ e. e ≡ Key fault)) → r ≡ Err e → IsErrAnd answer (λ x. x ≡ e)
-    → LeavesMessage step old old answer
-no-key-leaves step old read r e (Ok a) mapped was is = absurd is
-no-key-leaves step old (Ok k) r e (Err x) mapped was is = let never : ◌≡◌ {A = Result AnyPublic Refusal} (Ok k) (Err e) = sym mapped ∙ was in cc
-no-key-leaves {A = A} step old (Err fault) r e (Err x) mapped was is =
+    → LeavesMessage step text old old answer
+no-key-leaves step text old read r e (Ok a) mapped was is = absurd is
+no-key-leaves step text old (Ok k) r e (Err x) mapped was is = let never : ◌≡◌ {A = Result AnyPublic Refusal} (Ok k) (Err e) = sym mapped ∙ was in cc
+no-key-leaves {A = A} step text old (Err fault) r e (Err x) mapped was is =
     let of_fault : e ≡ Key fault = subst (λ r. IsErrAnd r (λ e. e ≡ Key fault)) was mapped in
-    subst (λ y. LeavesMessage {A = A} step old old (Err y)) (sym (is ∙ of_fault)) refl
+    subst (λ y. LeavesMessage {A = A} step text old old (Err y)) (sym (is ∙ of_fault)) refl
 
 -- ---- from the message to its file
 
@@ -106,10 +106,10 @@ noted step role_of trace_of notes (outcome ∷ later) old new (next, first, read
     ∙ ap (λ l. l ++ map (happened (role_of old)) later) (notes.trace old outcome next first)
     ∙ append_assoc (trace_of old) (happened (role_of old) outcome ∷ []) (map (happened (role_of old)) later)
 
-gave-read : (role : Role) (outcomes : List Outcome) (text : List ℕ) → Gave outcomes text → Read role (map (happened role) outcomes) (length text)
+gave-read : (role : Role) (outcomes : List Outcome) (text : List ℕ) → Gave outcomes text → ReadOn role (map (happened role) outcomes) (length text)
 gave-read role [] text none = ap length none
-gave-read role (Ok bytes ∷ later) text (rest, is, gave) =
-    (refl, (length rest, ap length is ∙ length-append bytes rest, gave-read role later rest gave))
+gave-read role (Ok bytes ∷ later) text (some, (rest, is, gave)) =
+    (refl, (some, (length rest, ap length is ∙ length-append bytes rest, gave-read role later rest gave)))
 gave-read role (Err kind ∷ later) text (interrupted, gave) = (refl, (interrupted, gave-read role later text gave))
 
 interrupted-noted : (role : Role) (outcomes : List Outcome) → interrupted_reads (map (happened role) outcomes) ≡ interruptions outcomes
@@ -127,52 +127,50 @@ noted-last step role_of trace_of notes outcomes last old new reads =
     ∙ sym (append_assoc (trace_of old) (map (happened (role_of old)) outcomes) (happened (role_of old) last ∷ []))
 
 noted-end : {M : Type 0} (step : Step M) (role_of : M → Role) (trace_of : M → List Happening) → Notes step role_of trace_of
-    → (text : List ℕ) (old new : M) → GivesAll step text old new → ReadsToEnd (role_of old) (trace_of old) (trace_of new)
-noted-end step role_of trace_of notes text old new (outcomes, reads, gave) =
-    let role = role_of old in (
-      trace_of old ++ map (happened role) outcomes,
-      (length text, (map (happened role) outcomes, refl, gave-read role outcomes text gave)),
-      noted-last step role_of trace_of notes outcomes (Ok []) old new reads,
-    )
+    → (text : List ℕ) (old new : M) → GivesAll step text old new → ReadsToEnd (role_of old) (length text) (trace_of old) (trace_of new)
+noted-end step role_of trace_of notes text old new (outcomes, reads, gave) = (
+  map (happened (role_of old)) outcomes,
+  noted-last step role_of trace_of notes outcomes (Ok []) old new reads,
+  gave-read (role_of old) outcomes text gave,
+)
 
 noted-failure : {M : Type 0} (step : Step M) (role_of : M → Role) (trace_of : M → List Happening) → Notes step role_of trace_of
     → (old new : M) → CantBeRead step old new → FailsBeforeItsEnd (role_of old) (trace_of old) (trace_of new)
-noted-failure step role_of trace_of notes old new (inl (outcomes, text, kind, reads, gave, other)) =
-    let role = role_of old in
-    inl (
-      kind,
-      (
-        trace_of old ++ map (happened role) outcomes,
-        (length text, (map (happened role) outcomes, refl, gave-read role outcomes text gave)),
-        noted-last step role_of trace_of notes outcomes (Err kind) old new reads,
-        other,
+noted-failure step role_of trace_of notes old new (inl (outcomes, text, kind, reads, gave, other)) = (
+  map (happened (role_of old)) outcomes,
+  length text,
+  gave-read (role_of old) outcomes text gave,
+  inl (kind, noted-last step role_of trace_of notes outcomes (Err kind) old new reads, other),
+)
+noted-failure step role_of trace_of notes old new (inr (outcomes, text, reads, gave, endless)) =
+    let role = role_of old in (
+      map (happened role) outcomes,
+      length text,
+      gave-read role outcomes text gave,
+      inr (
+        noted step role_of trace_of notes outcomes old new reads,
+        elim endless [
+          | inl long ↦ inl long
+          | inr many ↦ inr (omega (arith, many, interrupted-noted role outcomes))
+        ],
       ),
     )
-noted-failure step role_of trace_of notes old new (inr (outcomes, text, reads, gave, endless)) =
-    let role = role_of old in
-    let noted_reads = noted step role_of trace_of notes outcomes old new reads in
-    let read = gave-read role outcomes text gave in
-    elim endless [
-      | inl long ↦ inr (map (happened role) outcomes, length text, noted_reads, read, inl long)
-      | inr many ↦
-          inr (map (happened role) outcomes, length text, noted_reads, read, inr (omega (arith, many, interrupted-noted role outcomes)))
-    ]
 
 -- what an answer leaves of the message is what it does to the file
 pub noted-message : {M A : Type 0} (step : Step M) (role_of : M → Role) (trace_of : M → List Happening) → Notes step role_of trace_of
-    → (old new : M) (answer : Result A Refusal) → LeavesMessage step old new answer
-    → ReadsMessage (role_of old) answer (trace_of old) (trace_of new)
-noted-message step role_of trace_of notes old new (Ok a) (text, gave) = noted-end step role_of trace_of notes text old new gave
-noted-message step role_of trace_of notes old new (Err (Key fault)) same = ap trace_of same
-noted-message step role_of trace_of notes old new (Err (Signature (Unreadable fault))) same = ap trace_of same
-noted-message step role_of trace_of notes old new (Err (Signature (TypeMismatch level))) same = ap trace_of same
-noted-message step role_of trace_of notes old new (Err (Signature LevelMismatch)) same = ap trace_of same
-noted-message step role_of trace_of notes old new (Err (Signature MessageRead)) cant = noted-failure step role_of trace_of notes old new cant
-noted-message step role_of trace_of notes old new (Err (Signature (RootMismatch level))) (inl (text, gave)) =
+    → (text : List ℕ) (old new : M) (answer : Result A Refusal) → LeavesMessage step text old new answer
+    → ReadsMessage (role_of old) (length text) answer (trace_of old) (trace_of new)
+noted-message step role_of trace_of notes text old new (Ok a) gave = noted-end step role_of trace_of notes text old new gave
+noted-message step role_of trace_of notes text old new (Err (Key fault)) same = ap trace_of same
+noted-message step role_of trace_of notes text old new (Err (Signature (Unreadable fault))) same = ap trace_of same
+noted-message step role_of trace_of notes text old new (Err (Signature (TypeMismatch level))) same = ap trace_of same
+noted-message step role_of trace_of notes text old new (Err (Signature LevelMismatch)) same = ap trace_of same
+noted-message step role_of trace_of notes text old new (Err (Signature MessageRead)) cant = noted-failure step role_of trace_of notes old new cant
+noted-message step role_of trace_of notes text old new (Err (Signature (RootMismatch level))) (inl gave) =
     inl (noted-end step role_of trace_of notes text old new gave)
-noted-message step role_of trace_of notes old new (Err (Signature (RootMismatch level))) (inr same) = inr (ap trace_of same)
-noted-message step role_of trace_of notes old new (Err OutOfMemory) never = absurd never
-noted-message step role_of trace_of notes old new (Err FileFailed) never = absurd never
+noted-message step role_of trace_of notes text old new (Err (Signature (RootMismatch level))) (inr same) = inr (ap trace_of same)
+noted-message step role_of trace_of notes text old new (Err OutOfMemory) never = absurd never
+noted-message step role_of trace_of notes text old new (Err FileFailed) never = absurd never
 
 -- what no read changes, none of them does
 stays : {M X : Type 0} (step : Step M) (part : M → X) → ((old : M) (outcome : Outcome) (new : M) → step old outcome new → part new ≡ part old)
@@ -183,42 +181,42 @@ stays step part kept (outcome ∷ later) old new (next, first, reads) =
 
 pub message-stays : {M X A : Type 0} (step : Step M) (part : M → X)
     → ((old : M) (outcome : Outcome) (new : M) → step old outcome new → part new ≡ part old)
-    → (old new : M) (answer : Result A Refusal) → LeavesMessage step old new answer → part new ≡ part old
-message-stays step part kept old new (Ok a) (text, (outcomes, reads, gave)) = stays step part kept (outcomes ++ Ok [] ∷ []) old new reads
-message-stays step part kept old new (Err (Key fault)) same = ap part same
-message-stays step part kept old new (Err (Signature (Unreadable fault))) same = ap part same
-message-stays step part kept old new (Err (Signature (TypeMismatch level))) same = ap part same
-message-stays step part kept old new (Err (Signature LevelMismatch)) same = ap part same
-message-stays step part kept old new (Err (Signature MessageRead)) (inl (outcomes, text, kind, reads, gave, other)) =
+    → (text : List ℕ) (old new : M) (answer : Result A Refusal) → LeavesMessage step text old new answer → part new ≡ part old
+message-stays step part kept text old new (Ok a) (outcomes, reads, gave) = stays step part kept (outcomes ++ Ok [] ∷ []) old new reads
+message-stays step part kept text old new (Err (Key fault)) same = ap part same
+message-stays step part kept text old new (Err (Signature (Unreadable fault))) same = ap part same
+message-stays step part kept text old new (Err (Signature (TypeMismatch level))) same = ap part same
+message-stays step part kept text old new (Err (Signature LevelMismatch)) same = ap part same
+message-stays step part kept text old new (Err (Signature MessageRead)) (inl (outcomes, gave_text, kind, reads, gave, other)) =
     stays step part kept (outcomes ++ Err kind ∷ []) old new reads
-message-stays step part kept old new (Err (Signature MessageRead)) (inr (outcomes, text, reads, gave, long)) =
+message-stays step part kept text old new (Err (Signature MessageRead)) (inr (outcomes, gave_text, reads, gave, long)) =
     stays step part kept outcomes old new reads
-message-stays step part kept old new (Err (Signature (RootMismatch level))) (inl (text, (outcomes, reads, gave))) =
+message-stays step part kept text old new (Err (Signature (RootMismatch level))) (inl (outcomes, reads, gave)) =
     stays step part kept (outcomes ++ Ok [] ∷ []) old new reads
-message-stays step part kept old new (Err (Signature (RootMismatch level))) (inr same) = ap part same
-message-stays step part kept old new (Err OutOfMemory) never = absurd never
-message-stays step part kept old new (Err FileFailed) never = absurd never
+message-stays step part kept text old new (Err (Signature (RootMismatch level))) (inr same) = ap part same
+message-stays step part kept text old new (Err OutOfMemory) never = absurd never
+message-stays step part kept text old new (Err FileFailed) never = absurd never
 
 -- ---- the answer that is handed on
 
-pub reads-ok : {A B : Type 0} (role : Role) (r : Result A Refusal) (a : A) (b : B) (old new : List Happening) → r ≡ Ok a
-    → ReadsMessage role r old new → ReadsMessage {A = B} role (Ok b) old new
-reads-ok role r a b old new is reads = subst (λ r. ReadsMessage role r old new) is reads
+pub reads-ok : {A B : Type 0} (role : Role) (count : ℕ) (r : Result A Refusal) (a : A) (b : B) (old new : List Happening) → r ≡ Ok a
+    → ReadsMessage role count r old new → ReadsMessage {A = B} role count (Ok b) old new
+reads-ok role count r a b old new is reads = subst (λ r. ReadsMessage role count r old new) is reads
 
-reads-refused : (A B : Type 0) (role : Role) (e : Refusal) (old new : List Happening) → ReadsMessage {A = A} role (Err e) old new
-    → ReadsMessage {A = B} role (Err e) old new
-reads-refused A B role (Key fault) old new reads = reads
-reads-refused A B role (Signature (Unreadable fault)) old new reads = reads
-reads-refused A B role (Signature (TypeMismatch level)) old new reads = reads
-reads-refused A B role (Signature LevelMismatch) old new reads = reads
-reads-refused A B role (Signature MessageRead) old new reads = reads
-reads-refused A B role (Signature (RootMismatch level)) old new reads = reads
-reads-refused A B role OutOfMemory old new reads = reads
-reads-refused A B role FileFailed old new reads = reads
+reads-refused : (A B : Type 0) (role : Role) (count : ℕ) (e : Refusal) (old new : List Happening) → ReadsMessage {A = A} role count (Err e) old new
+    → ReadsMessage {A = B} role count (Err e) old new
+reads-refused A B role count (Key fault) old new reads = reads
+reads-refused A B role count (Signature (Unreadable fault)) old new reads = reads
+reads-refused A B role count (Signature (TypeMismatch level)) old new reads = reads
+reads-refused A B role count (Signature LevelMismatch) old new reads = reads
+reads-refused A B role count (Signature MessageRead) old new reads = reads
+reads-refused A B role count (Signature (RootMismatch level)) old new reads = reads
+reads-refused A B role count OutOfMemory old new reads = reads
+reads-refused A B role count FileFailed old new reads = reads
 
-pub reads-err : {A B : Type 0} (role : Role) (r : Result A Refusal) (e : Refusal) (answer : Result B Refusal) (old new : List Happening) → r ≡ Err e
-    → IsErrAnd answer (λ x. x ≡ e) → ReadsMessage role r old new → ReadsMessage role answer old new
-reads-err role r e (Ok b) old new was is reads = absurd is
-reads-err {A = A} {B = B} role r e (Err x) old new was is reads =
-    subst (λ y. ReadsMessage {A = B} role (Err y) old new) (sym is)
-    (reads-refused A B role e old new (subst (λ r. ReadsMessage role r old new) was reads))
+pub reads-err : {A B : Type 0} (role : Role) (count : ℕ) (r : Result A Refusal) (e : Refusal) (answer : Result B Refusal) (old new : List Happening) → r ≡ Err e
+    → IsErrAnd answer (λ x. x ≡ e) → ReadsMessage role count r old new → ReadsMessage role count answer old new
+reads-err role count r e (Ok b) old new was is reads = absurd is
+reads-err {A = A} {B = B} role count r e (Err x) old new was is reads =
+    subst (λ y. ReadsMessage {A = B} role count (Err y) old new) (sym is)
+    (reads-refused A B role count e old new (subst (λ r. ReadsMessage role count r old new) was reads))

@@ -40,9 +40,19 @@ Reads role count old new = (reads : List Happening) × (new ≡ old ++ reads) ×
 abbrev pub ReadsSome : Role → List Happening → List Happening → Type 0
 ReadsSome role old new = (count : ℕ) × Reads role count old new
 
--- It was read to its end, where a read gives nothing.
-abbrev pub ReadsToEnd : Role → List Happening → List Happening → Type 0
-ReadsToEnd role old new = (before : List Happening) × ReadsSome role old before × (new ≡ before ++ given role 0 ∷ [])
+-- Each is a read of this file that gave a byte at least, or was interrupted and so is tried again; and they gave so
+-- many bytes.
+abbrev pub ReadOn : Role → List Happening → ℕ → Type 0
+ReadOn role [] count = count ≡ 0
+ReadOn role (given of n ∷ later) count =
+    (of ≡ role) × ((1 ≤ n) × ((rest : ℕ) × (count ≡ n + rest) × ReadOn role later rest))
+ReadOn role (failed of kind ∷ later) count = (of ≡ role) × ((kind ≡ Interrupted) × ReadOn role later count)
+ReadOn role (other ∷ later) count = ⊥
+
+-- It was read to its end, where a read gives nothing, and gave so many bytes.
+abbrev pub ReadsToEnd : Role → ℕ → List Happening → List Happening → Type 0
+ReadsToEnd role count old new =
+    (reads : List Happening) × (new ≡ (old ++ reads) ++ given role 0 ∷ []) × ReadOn role reads count
 
 -- It was read until a read failed, by this kind of error.
 abbrev pub ReadsToFailure : Role → ErrorKind → List Happening → List Happening → Type 0

@@ -1,5 +1,5 @@
 -- What `verify` answers to three files: the judgement of their bytes, and what it does to the files for it.
-use Rattle.std.specs.Prelude.{[], ◌∷◌, ◌≡◌, ◌⊎◌, ◌++◌, ◌≤◌, ◌^◌}
+use Rattle.std.specs.Prelude.{[], ◌∷◌, ◌≡◌, ◌⊎◌, ◌++◌, ◌≤◌, ◌^◌, ◌≢◌}
 use Rattle.std.specs.Prelude.{ℕ, true, List, codes, take, Result, Ok, Err, ⊤, Option, IsErrAnd}
 use Rattle.clap.specs.Words.{Rule, new_rule, App, new_app, with_rule}
 use Rattle.command.specs.declared.trace.Role.TheVariants as role
@@ -8,13 +8,14 @@ use Rattle.sign_core.specs.Key.{KeyHasFault, KeyVerdict, SpellsKey}
 use Rattle.command.specs.declared.refusal.Refusal.{Refusal}
 use Rattle.command.specs.declared.refusal.Refusal.TheVariants.{Key, Signature, OutOfMemory, FileFailed}
 use Rattle.std.specs.declared.io.ErrorKind.{ErrorKind}
+use Rattle.std.specs.declared.io.ErrorKind.TheVariants.{Interrupted}
 use Rattle.command.specs.declared.trace.Role.{Role}
 use Rattle.command.specs.Refusal.{refusal_of}
 use Rattle.command.specs.Files.{FailsToRead, FailsToCollect}
 use Rattle.typecodes.specs.Message.{CantBeRead, GivesAll, IsContent, Step}
 use Rattle.typecodes.specs.declared.refusal.Refusal.TheVariants.{Unreadable, TypeMismatch, LevelMismatch}
 use Rattle.typecodes.specs.declared.refusal.Refusal.TheVariants.{RootMismatch, MessageRead}
-use Rattle.command.specs.Trace.{Happening, opened, not_opened, Read, ReadsSome, ReadsToEnd, ReadsToFailure}
+use Rattle.command.specs.Trace.{Happening, opened, not_opened, failed, ReadOn, ReadsSome, ReadsToEnd}
 use Rattle.command.specs.Trace.{interrupted_reads}
 
 -- a file that has to be named
@@ -81,43 +82,42 @@ decisive = 74989
 abbrev pub Decides : List ℕ → List ℕ → Type 0
 Decides all first = (first ≡ all) ⊎ (first ≡ take decisive all)
 
--- What becomes of a message for an answer: it was read to its end where it was judged; it can't be read; and it is as
--- it was where a refusal came before it was read, as that of a level above the bottom.
-abbrev pub LeavesMessage : {M A : Type 0} → Step M → M → M → Result A Refusal → Type 0
-LeavesMessage step old new (Ok a) = (text : List ℕ) × GivesAll step text old new
-LeavesMessage step old new (Err (Key fault)) = new ≡ old
-LeavesMessage step old new (Err (Signature (Unreadable fault))) = new ≡ old
-LeavesMessage step old new (Err (Signature (TypeMismatch level))) = new ≡ old
-LeavesMessage step old new (Err (Signature LevelMismatch)) = new ≡ old
-LeavesMessage step old new (Err (Signature MessageRead)) = CantBeRead step old new
-LeavesMessage step old new (Err (Signature (RootMismatch level))) =
-    ((text : List ℕ) × GivesAll step text old new) ⊎ (new ≡ old)
-LeavesMessage step old new (Err OutOfMemory) = ⊥
-LeavesMessage step old new (Err FileFailed) = ⊥
+-- What becomes of a message for an answer: it was read to its end, and gave this text, where it was judged; it can't be
+-- read; and it is as it was where a refusal came before it was read, as that of a level above the bottom.
+abbrev pub LeavesMessage : {M A : Type 0} → Step M → List ℕ → M → M → Result A Refusal → Type 0
+LeavesMessage step text old new (Ok a) = GivesAll step text old new
+LeavesMessage step text old new (Err (Key fault)) = new ≡ old
+LeavesMessage step text old new (Err (Signature (Unreadable fault))) = new ≡ old
+LeavesMessage step text old new (Err (Signature (TypeMismatch level))) = new ≡ old
+LeavesMessage step text old new (Err (Signature LevelMismatch)) = new ≡ old
+LeavesMessage step text old new (Err (Signature MessageRead)) = CantBeRead step old new
+LeavesMessage step text old new (Err (Signature (RootMismatch level))) = GivesAll step text old new ⊎ (new ≡ old)
+LeavesMessage step text old new (Err OutOfMemory) = ⊥
+LeavesMessage step text old new (Err FileFailed) = ⊥
 
 -- The answer is this failure, reported by its number.
 abbrev pub IsRefusalOf : {A : Type 0} → ErrorKind → Result A Refusal → Type 0
 IsRefusalOf kind answer = IsErrAnd answer (λ refusal. refusal ≡ refusal_of kind)
 
--- A file was read until a read failed, or without end: it gave 2^60 bytes, or was interrupted 2^19 times.
+-- A message's file was read until a read failed, or without end: it gave 2^60 bytes, or was interrupted 2^19 times.
 abbrev pub FailsBeforeItsEnd : Role → List Happening → List Happening → Type 0
 FailsBeforeItsEnd role old new =
-    ((kind : ErrorKind) × ReadsToFailure role kind old new)
-    ⊎ ((reads : List Happening) × (count : ℕ) × (new ≡ old ++ reads) × Read role reads count
-    × ((2 ^ 60 ≤ count) ⊎ (2 ^ 19 ≤ interrupted_reads reads)))
+    (reads : List Happening) × (count : ℕ) × ReadOn role reads count
+    × (((kind : ErrorKind) × (new ≡ (old ++ reads) ++ failed role kind ∷ []) × (kind ≢ Interrupted))
+    ⊎ ((new ≡ old ++ reads) × ((2 ^ 60 ≤ count) ⊎ (2 ^ 19 ≤ interrupted_reads reads))))
 
 -- What is done to the message's file for an answer: it is read to its end where the message is judged, a read of it
--- fails, or nothing is done.
-abbrev pub ReadsMessage : {A : Type 0} → Role → Result A Refusal → List Happening → List Happening → Type 0
-ReadsMessage role (Ok a) old new = ReadsToEnd role old new
-ReadsMessage role (Err (Key fault)) old new = new ≡ old
-ReadsMessage role (Err (Signature (Unreadable fault))) old new = new ≡ old
-ReadsMessage role (Err (Signature (TypeMismatch level))) old new = new ≡ old
-ReadsMessage role (Err (Signature LevelMismatch)) old new = new ≡ old
-ReadsMessage role (Err (Signature MessageRead)) old new = FailsBeforeItsEnd role old new
-ReadsMessage role (Err (Signature (RootMismatch level))) old new = ReadsToEnd role old new ⊎ (new ≡ old)
-ReadsMessage role (Err OutOfMemory) old new = ⊥
-ReadsMessage role (Err FileFailed) old new = ⊥
+-- fails, or nothing is done, as where a level above the bottom is refused.
+abbrev pub ReadsMessage : {A : Type 0} → Role → ℕ → Result A Refusal → List Happening → List Happening → Type 0
+ReadsMessage role count (Ok a) old new = ReadsToEnd role count old new
+ReadsMessage role count (Err (Key fault)) old new = new ≡ old
+ReadsMessage role count (Err (Signature (Unreadable fault))) old new = new ≡ old
+ReadsMessage role count (Err (Signature (TypeMismatch level))) old new = new ≡ old
+ReadsMessage role count (Err (Signature LevelMismatch)) old new = new ≡ old
+ReadsMessage role count (Err (Signature MessageRead)) old new = FailsBeforeItsEnd role old new
+ReadsMessage role count (Err (Signature (RootMismatch level))) old new = ReadsToEnd role count old new ⊎ (new ≡ old)
+ReadsMessage role count (Err OutOfMemory) old new = ⊥
+ReadsMessage role count (Err FileFailed) old new = ⊥
 
 -- The files of these roles were read one after the other: the key's and the signature's, of which the first that failed
 -- was reported, and nothing was read after it; and then, for the verdict, the message's.
@@ -128,7 +128,8 @@ ReadsInTurn public signature message answer old new =
     ⊎ ((first : List Happening) × ReadsSome public old first
     × ((kind : ErrorKind) × IsRefusalOf kind answer × FailsToCollect signature kind first new))
     ⊎ ((first : List Happening) × (second : List Happening)
-    × ReadsSome public old first × ReadsSome signature first second × ReadsMessage message answer second new)
+    × ReadsSome public old first × ReadsSome signature first second
+    × ((count : ℕ) × ReadsMessage message count answer second new))
 
 -- The files of these paths were opened one after the other, up to one that couldn't be, which was reported; then they
 -- were read in turn.

@@ -20,7 +20,7 @@ pub enum Refusal {
     Signature(SignatureRefusal),
     /// 46: there is no memory.
     OutOfMemory,
-    /// 53: a file can't be opened or read.
+    /// 53: a file can't be opened, or the key's or the signature's can't be read.
     FileFailed,
 }
 
@@ -106,7 +106,7 @@ fn fault_name(cause: Cause) -> &'static str
     }
 }
 
-/// 46 exactly where memory was refused, and 53 for every other failure of a file.
+/// 46 exactly where the error's kind says that memory was refused, and 53 for every other failure of a file.
 impl From<io::Error> for Refusal {
     ghost from_gives = { λ error refusal. refusal ≡ refusal_of (error_kind error) };
 

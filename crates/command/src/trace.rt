@@ -37,7 +37,7 @@ pub struct Trace {
     pub ghost events: { List Happening },
 }
 
-// The list is tied to no memory, so the two functions are proved by hand.
+// The list takes no bytes, so the tactics find no proof of the two functions: they are proved by hand.
 impl Model for Trace {
     ghost also_owns = { λ _. ftrue };
 }

@@ -1,6 +1,6 @@
 //! `verify PUBLIC MESSAGE SIGNATURE`.
 
-ghost use Rattle.std.specs.Prelude.{◌≡◌, ◌↔◌, ℕ, List, Some, take, codes, IfErr, IfOk, IfSome, IsSome};
+ghost use Rattle.std.specs.Prelude.{◌≡◌, ◌↔◌, ℕ, List, Some, take, codes, IfErr, IfOk, IfSome, IsSome, IsErrAnd};
 ghost use Rattle.clap.specs.declared.builder.command.Command.{Command as ClapCommand};
 ghost use Rattle.clap.specs.Words.{AddsSubcommand, app_of, first_value, found_of, with_subcommand};
 ghost use Rattle.command.specs.Verify.{AnswersOf, Decides, Judgement, LeavesMessage, OpensInTurn};
@@ -143,7 +143,7 @@ fn judge_files<D: Folder>(
     };
     let verdict = judge(key, &mut message, &signature);
     let FileReader { folder, .. } = message;
-    // What the folder noted is seen through this use of it.
+    // Only the proof needs this use: it tells what the reader noted.
     let _ = &*folder;
     verdict?;
     Ok(Done::Verified)
@@ -156,9 +156,11 @@ pub fn judge<M: Message>(
     message: &mut M,
     signature: &[u8],
 ) -> Result<(), Refusal>
-    ensures { (p s : List ℕ) → ReadsKey p key → Decides s signature.now
+    ensures judges { (p s : List ℕ) → ReadsKey p key → Decides s signature.now
         → (m : List ℕ) × IsContent (M.remaining message.old) m × Judgement p m s result
-        × LeavesMessage M.step message.old message.new result }
+        × LeavesMessage M.step m message.old message.new result }
+    ensures no_key { IfErr key (λ fault. IsErrAnd result (λ refusal. refusal ≡ Refusal.Key fault)
+        × (message.new ≡ message.old)) }
 {
     let key = key.map_err(Refusal::Key)?;
     verify_any(&key, message, signature).map_err(Refusal::Signature)

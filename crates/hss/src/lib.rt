@@ -4,9 +4,10 @@
 //! Its model is `specs/Key.antt` and `specs/Signature.antt`, how keys and signatures are spelled,
 //! `specs/Verification.antt`, which signatures are valid, and `specs/Writing.antt`, the signature that the
 //! levels' secrets make. Its contract for the crates above: `verify` is Ok exactly on the spellings of
-//! valid signatures, and else reports the first refusal; `write_signature` writes the textbook signature
-//! where roots and paths are those of the secrets, and it is valid where each digest is that of what its
-//! level signs. The laws stand on `spelling_laws`, `verdict_laws`, `textbook_laws` and `joining_laws`.
+//! valid signatures, and else reports the first refusal, a message that can't be read aside;
+//! `write_signature` writes the textbook signature where roots and paths are those of the secrets, and it is
+//! valid where each digest is that of what its level signs. The laws stand on `spelling_laws`,
+//! `verdict_laws`, `textbook_laws` and `joining_laws`.
 //!
 //! ```rust
 //! use hss::{HssPublic, verify};

@@ -11,6 +11,8 @@ use lmots::LmOts;
 use lms::{LmsPublic, LmsSecret, LmsTree};
 use merkle::{TreeHash, root_from_path};
 use sha2::{Digest, Sha256};
+use std::io;
+use std::io::Read;
 use std::process::Abort;
 use std::test::Fail;
 use typecodes::{Cause, LevelCount, LmsPair, LmsType, OtsType, ReadFault, Refusal};
@@ -198,6 +200,63 @@ fn changes_are_refused(rt: HostRuntime) {
             (expected, left),
             "{byte} at {place}"
         );
+    }
+}
+
+// Gives so many zeros, and then fails.
+#[derive(Drop)]
+struct Failing {
+    left: usize,
+}
+
+impl Read for Failing {
+    fn read(&mut self, buffer: &mut [u8]) -> io::Result<usize> {
+        let n = self.left.min(buffer.len());
+        if n == 0 {
+            return Err(io::Error::from(io::ErrorKind::BrokenPipe));
+        }
+        buffer[..n].fill(0);
+        self.left -= n;
+        Ok(n)
+    }
+}
+
+// What comes of a signature whose message fails after so many bytes, and how many are left then.
+fn of_failing(public: &HssPublic, signature: &[u8], count: usize) -> (Result<(), Refusal>, usize) {
+    let mut message = Failing { left: count };
+    let verdict = verify(public, &mut message, signature);
+    (verdict, message.left)
+}
+
+// A message that fails is reported in its turn, and is as it was where another refusal comes before it.
+#[test]
+fn failing_messages_are_reported(rt: HostRuntime) {
+    let (public, signature) = signed();
+    let other_bottom = with_other_bottom(&signature);
+    let mut other_key = signature;
+    other_key[1351] = signature[1351] ^ 1;
+    let mut other_top = public;
+    other_top.top.pair.ots = OtsType::W4;
+    for count in 0..201usize {
+        assert_eq!(rt;
+            of_failing(&public, &signature, count),
+            (Err(Refusal::MessageRead), 0),
+            "{count}"
+        );
+    }
+    for count in [0, 1, 200usize] {
+        for (public, signature, refusal) in [
+            (&public, &signature[..2643], fault(2612, Cause::Truncated)),
+            (&other_top, &signature[..], Refusal::TypeMismatch(0)),
+            (&public, &other_key, Refusal::RootMismatch(0)),
+            (&public, &other_bottom, Refusal::TypeMismatch(1)),
+        ] {
+            assert_eq!(rt;
+                of_failing(public, signature, count),
+                (Err(refusal), count),
+                "{count}"
+            );
+        }
     }
 }
 

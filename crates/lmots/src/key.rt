@@ -58,7 +58,7 @@ impl LmOts {
     }
 
     /// Q of the message that a reader gives, however it is cut: it is read to its end, in pieces that aren't kept.
-    /// Refused where a read fails, or where the reader gives 2^60 bytes.
+    /// Refused where it can't be read: see `typecodes::MessageFailed`.
     pub fn message_digest_from<M: Message>(
         &self,
         randomizer: &[u8; 32],

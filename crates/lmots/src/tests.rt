@@ -62,6 +62,18 @@ fn digest_takes_the_randomizer(rt: HostRuntime) {
     assert_eq!(rt; KEY.message_digest(&RISING, b"abc"), expected);
 }
 
+// A reader's text has the digest of its bytes, around the length of one piece and of two.
+#[test]
+fn digest_of_a_reader(rt: HostRuntime) {
+    let text = [7; 32769];
+    for length in [0, 1, 16383, 16384, 16385, 32768, 32769usize] {
+        let mut message = &text[..length];
+        let expected = KEY.message_digest(&RISING, message);
+        let digest = KEY.message_digest_from(&RISING, &mut message);
+        assert_eq!(rt; (digest, message.len()), (Ok(expected), 0), "{length}");
+    }
+}
+
 // The public hash of a made up signature: byte k of its values is k modulo 251.
 fn assert_leads_to(rt: &impl Abort, ots: OtsType, digest: &[u8; 32], expected: [u8; 32]) {
     let mut bytes = [0u8; 32 * 265];

@@ -43,14 +43,6 @@ impl AnyPublic {
         ensures err { IfErr result (KeyHasFault bytes.now) }
         ensures spelled { (key : Key) → SpellsKey key bytes.now → result ≡ Ok key }
     {
-        Self::read_by_length(bytes)
-    }
-
-    // The same. That it is the key that the bytes spell follows from the two clauses.
-    fn read_by_length(bytes: &[u8]) -> Result<Self, KeyFault>
-        ensures ok { IfOk result (λ key. SpellsKey key bytes.now) }
-        ensures err { IfErr result (KeyHasFault bytes.now) }
-    {
         match bytes.len() {
             56 => LmsPublic::read(bytes)
                 .map(AnyPublic::Lms)

@@ -1,10 +1,10 @@
 -- Reads of a message, one after the other.
-use Rattle.std.proofs.Common.{◌≡◌, ◌∙◌, ℕ, ◌+◌, ◌*◌, ◌≤◌, List, [], ◌∷◌, ◌++◌, length, take, Ok, Err, Option, inl, inr, refl, sym, ap, subst, arith, append_assoc, append-nil, length-append, length-take-le, Some, None, OnErr, Result}
+use Rattle.std.proofs.Common.{◌^◌, ◌≡◌, ◌∙◌, ℕ, ◌+◌, ◌*◌, ◌≤◌, List, [], ◌∷◌, ◌++◌, length, take, Ok, Err, Option, inl, inr, refl, sym, ap, subst, arith, append_assoc, append-nil, length-append, length-take-le, Some, None, OnErr, Result, take_all, ◌<◌}
 use Rattle.std.specs.Io.KnownBytes.{Consumes, IsAtEnd}
 use Rattle.std.proofs.KnownBytes.{Consumes-trans}
 use Rattle.std.specs.declared.io.ErrorKind.{ErrorKind}
 use Rattle.std.specs.declared.io.ErrorKind.TheVariants.{Interrupted}
-use Rattle.typecodes.specs.Message.{CantBeRead, Feeds, Gave, Gives, GivesAll, IsContent, Outcome, interruptions, ReadWhole, Reads, Step}
+use Rattle.typecodes.specs.Message.{CantBeRead, Feeds, Gave, Gives, GivesAll, IsContent, Outcome, interruptions, ReadWhole, Reads, Step, PieceRead}
 
 reads-append : {M : Type 0} (step : Step M) (xs ys : List Outcome) (old middle new : M) → Reads step xs old middle
     → Reads step ys middle new → Reads step (xs ++ ys) old new
@@ -14,8 +14,8 @@ reads-append step (x ∷ xs) ys old middle new (next, first, later) more =
 
 gave-append : (xs ys : List Outcome) (a b : List ℕ) → Gave xs a → Gave ys b → Gave (xs ++ ys) (a ++ b)
 gave-append [] ys a b none more = subst (Gave ys) (ap (λ l. l ++ b) (sym none)) more
-gave-append (Ok bytes ∷ later) ys a b (rest, is, gave) more =
-    (rest ++ b, ap (λ l. l ++ b) is ∙ append_assoc bytes rest b, gave-append later ys rest b gave more)
+gave-append (Ok bytes ∷ later) ys a b (some, (rest, is, gave)) more =
+    (some, (rest ++ b, ap (λ l. l ++ b) is ∙ append_assoc bytes rest b, gave-append later ys rest b gave more))
 gave-append (Err kind ∷ later) ys a b (interrupted, gave) more = (interrupted, gave-append later ys a b gave more)
 
 interruptions-append : (xs ys : List Outcome) → interruptions (xs ++ ys) ≡ interruptions xs + interruptions ys
@@ -36,7 +36,7 @@ read-more step turns text bytes all old before new (outcomes, reads, gave, least
       outcomes ++ Ok bytes ∷ [],
       reads-append step outcomes (Ok bytes ∷ []) old before new reads (new, more, refl),
       subst (Gave (outcomes ++ Ok bytes ∷ [])) is
-          (gave-append outcomes (Ok bytes ∷ []) text bytes gave ([], sym (append-nil bytes), refl)),
+          (gave-append outcomes (Ok bytes ∷ []) text bytes gave (some, ([], sym (append-nil bytes), refl))),
       omega (arith, least, same, some, ap length is, length-append text bytes),
     )
 
@@ -52,15 +52,9 @@ interrupted-once step turns text all kind old before new (outcomes, reads, gave,
       omega (arith, least, same, ap length is),
     )
 
--- one read more, whatever it gave
-pub gives-more : {M : Type 0} (step : Step M) (turns : ℕ) (text bytes all : List ℕ) (old before new : M)
-    → Progress step turns text old before → step before (Ok bytes) new → text ++ bytes ≡ all → Gives step all old new
-gives-more step turns text bytes all old before new (outcomes, reads, gave, least) more is = (
-  outcomes ++ Ok bytes ∷ [],
-  reads-append step outcomes (Ok bytes ∷ []) old before new reads (new, more, refl),
-  subst (Gave (outcomes ++ Ok bytes ∷ [])) is
-      (gave-append outcomes (Ok bytes ∷ []) text bytes gave ([], sym (append-nil bytes), refl)),
-)
+pub gives : {M : Type 0} (step : Step M) (turns : ℕ) (text all : List ℕ) (old new : M) → Progress step turns text old new
+    → text ≡ all → Gives step all old new
+gives step turns text all old new (outcomes, reads, gave, least) is = (outcomes, reads, subst (Gave outcomes) is gave)
 
 -- the last read gave nothing
 pub gives-all : {M : Type 0} (step : Step M) (turns : ℕ) (text : List ℕ) (old before new : M)
@@ -90,22 +84,21 @@ pub record HasRead {M : Type 0} (step : Step M) (remaining : M → Option (List 
   pub size : length text ≡ 16384 * pieces
 
 -- a full piece more
-read-full : {M : Type 0} (step : Step M) (remaining : M → Option (List ℕ)) (pieces n : ℕ) (text buffer : List ℕ) (old before new : M)
-    → HasRead step remaining pieces text old before → n ≡ 16384 → n ≤ length buffer → Gives step (take n buffer) before new
-    → Consumes (remaining before) (remaining new) (take n buffer)
-    → HasRead step remaining (pieces + 1) (text ++ take n buffer) old new
-read-full step remaining pieces n text buffer old before new has full within gives bytes =
+read-full : {M : Type 0} (step : Step M) (remaining : M → Option (List ℕ)) (pieces : ℕ) (text piece : List ℕ) (old before new : M)
+    → HasRead step remaining pieces text old before → length piece ≡ 16384 → Gives step piece before new
+    → Consumes (remaining before) (remaining new) piece → HasRead step remaining (pieces + 1) (text ++ piece) old new
+read-full step remaining pieces text piece old before new has full gives bytes =
     record {
-      gave = gives-append step text (take n buffer) old before new has.gave gives;
+      gave = gives-append step text piece old before new has.gave gives;
       bytes = Consumes-trans _ _ _ _ _ has.bytes bytes;
-      size = omega (arith, length-append text (take n buffer), length-take-le n buffer within, has.size, full);
+      size = omega (arith, length-append text piece, has.size, full);
     }
 
 -- the last piece, which may be empty
 read-last : {M : Type 0} (step : Step M) (remaining : M → Option (List ℕ)) (pieces : ℕ) (text last : List ℕ) (old before new : M)
-    → HasRead step remaining pieces text old before → ReadWhole step remaining last before new
+    → HasRead step remaining pieces text old before → ReadWhole step remaining last before new → pieces < 2 ^ 46 → length last < 16384
     → ReadWhole step remaining (text ++ last) old new
-read-last step remaining pieces text last old before new has whole =
+read-last step remaining pieces text last old before new has whole few less =
     let (xs, reads, gave) = has.gave in
     let (ys, more, gave_more) = whole.gave in
     record {
@@ -117,6 +110,7 @@ read-last step remaining pieces text last old before new has whole =
       );
       bytes = Consumes-trans _ _ _ _ _ has.bytes whole.bytes;
       end = whole.end;
+      short = omega (arith, length-append text last, has.size, few, less);
     }
 
 -- a piece can't be read
@@ -168,24 +162,30 @@ takes-more holds text piece before middle after first more head begun =
 
 pub fed-full : {M H : Type 0} (step : Step M) (remaining : M → Option (List ℕ)) (holds : H → List ℕ → Type 0) (pieces n : ℕ)
     (buffer : List ℕ) (before middle after : H) (old read new : M)
-    → HasFed step remaining holds pieces before middle old read → n ≡ 16384 → n ≤ length buffer
-    → Gives step (take n buffer) read new → Consumes (remaining read) (remaining new) (take n buffer)
+    → HasFed step remaining holds pieces before middle old read → length buffer ≡ 16384 → 16384 ≤ n
+    → PieceRead step remaining n buffer read new
     → ((head : List ℕ) → holds middle head → holds after (head ++ take n buffer))
     → HasFed step remaining holds (pieces + 1) before after old new
-fed-full step remaining holds pieces n buffer before middle after old read new (text, has, first) full within gives bytes more = (
-  text ++ take n buffer,
-  read-full step remaining pieces n text buffer old read new has full within gives bytes,
-  takes-more holds text (take n buffer) before middle after first more,
-)
+fed-full step remaining holds pieces n buffer before middle after old read new (text, has, first) size all (inl (full, gave, bytes)) more =
+    let whole : take n buffer ≡ buffer = take_all n buffer (omega (arith, full)) in (
+      text ++ buffer,
+      read-full step remaining pieces text buffer old read new has size gave bytes,
+      takes-more holds text buffer before middle after first
+          (λ head begun. subst (λ l. holds after (head ++ l)) whole (more head begun)),
+    )
+fed-full step remaining holds pieces n buffer before middle after old read new fed size all (inr (less, whole)) more =
+    absurd (omega (arith, size, all, less))
 
-pub fed-last : {M H : Type 0} (step : Step M) (remaining : M → Option (List ℕ)) (holds : H → List ℕ → Type 0) (pieces : ℕ)
-    (last : List ℕ) (before middle after : H) (old read new : M) → HasFed step remaining holds pieces before middle old read
-    → ReadWhole step remaining last read new → ((head : List ℕ) → holds middle head → holds after (head ++ last))
-    → Feeds step remaining holds before after old new
-fed-last step remaining holds pieces last before middle after old read new (text, has, first) whole more = (
-  text ++ last,
-  read-last step remaining pieces text last old read new has whole,
-  takes-more holds text last before middle after first more,
+pub fed-last : {M H : Type 0} (step : Step M) (remaining : M → Option (List ℕ)) (holds : H → List ℕ → Type 0) (pieces n : ℕ)
+    (buffer : List ℕ) (before middle after : H) (old read new : M) → HasFed step remaining holds pieces before middle old read
+    → pieces < 2 ^ 46 → length buffer ≡ 16384 → n < 16384 → PieceRead step remaining n buffer read new
+    → ((head : List ℕ) → holds middle head → holds after (head ++ take n buffer)) → Feeds step remaining holds before after old new
+fed-last step remaining holds pieces n buffer before middle after old read new fed few size less (inl (full, gave, bytes)) more =
+    absurd (omega (arith, size, less, full))
+fed-last step remaining holds pieces n buffer before middle after old read new (text, has, first) few size less (inr (within, whole)) more = (
+  text ++ take n buffer,
+  read-last step remaining pieces text (take n buffer) old read new has whole few (omega (arith, length-take-le n buffer (omega (arith, within)), less)),
+  takes-more holds text (take n buffer) before middle after first more,
 )
 
 pub feeding-fails : {M H A E : Type 0} (step : Step M) (remaining : M → Option (List ℕ)) (holds : H → List ℕ → Type 0) (pieces : ℕ)

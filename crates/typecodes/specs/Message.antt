@@ -1,5 +1,5 @@
 -- What reads of a message give, one after the other.
-use Rattle.std.specs.Prelude.{◌≡◌, ◌≢◌, ◌⊎◌, ◌≤◌, ◌+◌, ◌^◌, ℕ, List, [], ◌∷◌, ◌++◌, length, take}
+use Rattle.std.specs.Prelude.{◌≡◌, ◌≢◌, ◌⊎◌, ◌≤◌, ◌<◌, ◌+◌, ◌^◌, ℕ, List, [], ◌∷◌, ◌++◌, length, take}
 use Rattle.std.specs.Prelude.{Option, Some, None, Result, Ok, Err, ⊤}
 use Rattle.std.specs.Io.KnownBytes.{Consumes, IsAtEnd}
 use Rattle.std.specs.IoError.{error_kind}
@@ -25,11 +25,10 @@ abbrev pub Reads : {M : Type 0} → Step M → List Outcome → M → M → Type
 Reads step [] old new = new ≡ old
 Reads {M} step (first ∷ later) old new = (next : M) × step old first next × Reads step later next new
 
--- None of the reads failed, but for those that were interrupted, which are tried again; and together they gave this
--- text.
+-- Each of the reads gave a byte at least, or was interrupted, and so is tried again; and together they gave this text.
 abbrev pub Gave : List Outcome → List ℕ → Type 0
 Gave [] text = text ≡ []
-Gave (Ok bytes ∷ later) text = (rest : List ℕ) × (text ≡ bytes ++ rest) × Gave later rest
+Gave (Ok bytes ∷ later) text = (1 ≤ length bytes) × ((rest : List ℕ) × (text ≡ bytes ++ rest) × Gave later rest)
 Gave (Err kind ∷ later) text = (kind ≡ Interrupted) × Gave later text
 
 -- The message was read, and gave this text.
@@ -63,23 +62,30 @@ GoesOn step old new =
 abbrev pub CantBeRead : {M : Type 0} → Step M → M → M → Type 0
 CantBeRead step old new = ReadFails step old new ⊎ GoesOn step old new
 
--- The message was read whole: it gave this text, which is all that was known to be left of it.
+-- The message was read whole: it gave this text, of fewer than 2^60 bytes, which is all that was known to be left of
+-- it.
 pub record ReadWhole {M : Type 0} (step : Step M) (remaining : M → Option (List ℕ)) (text : List ℕ) (old new : M)
     : Type 0 where
   pub gave : GivesAll step text old new
   pub bytes : Consumes (remaining old) (remaining new) text
   pub end : IsAtEnd (remaining new)
+  pub short : length text < 2 ^ 60
 
 -- The bytes are all that a message will give, where that is known.
 abbrev pub IsContent : Option (List ℕ) → List ℕ → Type 0
 IsContent None text = ⊤
 IsContent (Some content) text = text ≡ content
 
--- A piece of a message was read: so many bytes, the first of the buffer, and fewer than it takes only at the end of the
--- message; or it can't be read.
+-- A piece of a message was read: the buffer is full, or the message is at its end and gave so many bytes, fewer than
+-- the buffer takes.
+abbrev pub PieceRead : {M : Type 0} → Step M → (M → Option (List ℕ)) → ℕ → List ℕ → M → M → Type 0
+PieceRead step remaining count buffer old new =
+    ((count ≡ length buffer) × Gives step buffer old new × Consumes (remaining old) (remaining new) buffer)
+    ⊎ ((count < length buffer) × ReadWhole step remaining (take count buffer) old new)
+
+-- A piece of a message was read, or it can't be read.
 abbrev pub ReadsPiece : {M E : Type 0} → Step M → (M → Option (List ℕ)) → Result ℕ E → List ℕ → M → M → Type 0
-ReadsPiece step remaining (Ok count) buffer old new =
-    Gives step (take count buffer) old new × Consumes (remaining old) (remaining new) (take count buffer)
+ReadsPiece step remaining (Ok count) buffer old new = PieceRead step remaining count buffer old new
 ReadsPiece step remaining (Err error) buffer old new = CantBeRead step old new
 
 -- The message was read whole and fed to what takes bytes, as a hasher does: it has the text after what it had before.

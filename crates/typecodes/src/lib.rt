@@ -6,7 +6,7 @@
 //! What holds of every layout is proved once, on `layout_laws`, `following_laws` and `field_laws`.
 //! Its contract for the crates above: a code names exactly one type, a cursor hands out exactly the
 //! field that the layout names, or its fault, levels are 1 to 8, and a text is that of one spec or of
-//! none.
+//! none. A message is any reader, and is read piece by piece.
 //!
 //! ```rust
 //! use typecodes::{Cursor, LmsType};

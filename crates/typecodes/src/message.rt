@@ -1,10 +1,10 @@
 //! Messages, which are read in pieces and held nowhere whole.
 
-ghost use Rattle.std.specs.Prelude.{◌≤◌, ◌<◌, ◌^◌, ℕ, List, ⊤, length, take, IfOk};
+ghost use Rattle.std.specs.Prelude.{◌≤◌, ◌^◌, ℕ, List, ⊤, length, IfOk};
 ghost use Rattle.std.specs.Io.{ReadsAtMost};
 ghost use Rattle.std.specs.Io.KnownBytes.{ReadConsumes};
 ghost use Rattle.std.specs.declared.option.Option.{Option};
-ghost use Rattle.typecodes.specs.Message.{Outcome, ReadsPiece, ReadWhole, outcome_of};
+ghost use Rattle.typecodes.specs.Message.{Outcome, ReadsPiece, outcome_of};
 
 use std::io;
 use std::io::{ErrorKind, Read};
@@ -33,7 +33,7 @@ impl<R: Read> Message for R {
     }
 }
 
-/// Why a message can't be read: a read of it failed, it gave 2^60 bytes, or reads were interrupted too often.
+/// Why a message can't be read: a read of it failed, it gave 2^60 bytes, or 2^19 reads or more were interrupted.
 #[derive(Clone, Copy, Debug, PartialEq, Eq, Error)]
 #[error("the message can't be read")]
 pub struct MessageFailed;
@@ -48,13 +48,11 @@ pub const PIECES: u64 = 1 << 46;
 const TRIES: u32 = 1 << 20;
 
 /// Reads until the buffer is full or the message ends, and gives how many bytes that were. The buffer takes one piece
-/// at most. An interrupted read is tried again, up to 2^19 times or more.
+/// at most. An interrupted read is tried again, at least 2^19 times before the message counts as failed.
 pub fn read_piece<M: Message>(message: &mut M, buffer: &mut [u8]) -> Result<usize, MessageFailed>
     requires { length buffer.old ≤ 2 ^ 14 }
     ensures within { IfOk result (λ n. n ≤ length buffer.new) }
     ensures reads { ReadsPiece M.step M.remaining result buffer.new message.old message.new }
-    ensures end { IfOk result (λ n. n < length buffer.new
-        → ReadWhole M.step M.remaining (take n buffer.new) message.old message.new) }
 {
     let mut at = 0;
     for turn in 0..TRIES {

@@ -41,7 +41,7 @@ pub fn hash_message(key: &[u8; 96], message: &[u8]) -> [u8; 32]
 }
 
 /// H_msg(KEY, M) of the message that a reader gives, however it is cut: read to its end, in pieces that aren't kept.
-/// Refused where a read fails, or where the reader gives 2^60 bytes.
+/// Refused where it can't be read: see `typecodes::MessageFailed`.
 pub fn hash_message_from<M: Message>(
     key: &[u8; 96],
     message: &mut M,

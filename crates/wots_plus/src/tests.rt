@@ -3,7 +3,7 @@
 
 ghost use Rattle.std.specs.Prelude.{◌<◌, ◌≤◌};
 
-use crate::{Address, Prf, Wots, hash_f, hash_h, hash_message, rand_hash};
+use crate::{Address, Prf, Wots, hash_f, hash_h, hash_message, hash_message_from, rand_hash};
 use sha2::{Digest, Sha256};
 use std::process::Abort;
 use winternitz::{Step, digits};
@@ -94,6 +94,18 @@ fn keyed_hashes_begin_with_their_number(rt: HostRuntime) {
         0xf8, 0x7c,
     ];
     assert_eq!(rt; Prf::new(SEED).hash(&VALUE), prf);
+}
+
+// A reader's text has the digest of its bytes, around the length of one piece and of two.
+#[test]
+fn digest_of_a_reader(rt: HostRuntime) {
+    let text = [7; 32769];
+    for length in [0, 1, 16383, 16384, 16385, 32768, 32769usize] {
+        let mut message = &text[..length];
+        let expected = hash_message(&[0x77; 96], message);
+        let digest = hash_message_from(&[0x77; 96], &mut message);
+        assert_eq!(rt; (digest, message.len()), (Ok(expected), 0), "{length}");
+    }
 }
 
 // F(PRF(SEED, ADRS, 0), value XOR PRF(SEED, ADRS, 1)), ADRS the one-time address 5, 2, 3

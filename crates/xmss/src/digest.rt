@@ -17,7 +17,7 @@ pub fn message_digest(randomizer: &[u8; 32], root: &[u8; 32], leaf: u32, message
 }
 
 /// M' of the message that a reader gives, however it is cut: it is read to its end, in pieces that aren't kept. Refused
-/// where a read fails, or where the reader gives 2^60 bytes.
+/// where it can't be read: see `typecodes::MessageFailed`.
 pub fn message_digest_from<M: Message>(
     randomizer: &[u8; 32],
     root: &[u8; 32],

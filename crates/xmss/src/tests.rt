@@ -1,6 +1,8 @@
 //! Refusals in the order of the checks, and signatures that other programs made.
 
 use crate::{XmssPublic, XmssSigView, message_digest, verify};
+use std::io;
+use std::io::Read;
 use std::process::Abort;
 use std::test::Fail;
 use typecodes::{Cause, ReadFault, Refusal, XmssType};
@@ -231,6 +233,45 @@ fn other_keys_refuse(rt: HostRuntime) -> Result<(), Fail> {
             Err(refused),
             "byte {byte}"
         );
+    }
+    Ok(())
+}
+
+// Gives so many zeros, and then fails.
+#[derive(Drop)]
+struct Failing {
+    left: usize,
+}
+
+impl Read for Failing {
+    fn read(&mut self, buffer: &mut [u8]) -> io::Result<usize> {
+        let n = self.left.min(buffer.len());
+        if n == 0 {
+            return Err(io::Error::from(io::ErrorKind::BrokenPipe));
+        }
+        buffer[..n].fill(0);
+        self.left -= n;
+        Ok(n)
+    }
+}
+
+// A message that fails is reported before the root, and is as it was where the signature can't be read.
+#[test]
+fn failing_messages_are_reported(rt: HostRuntime) -> Result<(), Fail> {
+    let public = XmssPublic::read(&CASTLE_PUBLIC)?;
+    for count in 0..201usize {
+        for (signature, refusal, left) in [
+            (&CASTLE_SIGNATURE[..], Refusal::MessageRead, 0),
+            (
+                &CASTLE_SIGNATURE[..2499],
+                Refusal::Unreadable(fault(2468, Cause::Truncated)),
+                count,
+            ),
+        ] {
+            let mut message = Failing { left: count };
+            let verdict = verify(&public, &mut message, signature);
+            assert_eq!(rt; (verdict, message.left), (Err(refusal), left), "{count}");
+        }
     }
     Ok(())
 }

@@ -1,4 +1,4 @@
-use Rattle.std.proofs.Common.{rules, arith}
+use Rattle.std.proofs.Common.{rules}
 use Rattle.sha2.specs.Hashers.{Holds256}
 use Rattle.typecodes.proofs.Messages.{fed-full, fed-last, feeding-fails}
 use Rattle.lmots.proofs.message.feed.Goals as goal
@@ -9,14 +9,12 @@ returns-in_err-n-clause-err g c =
 
 pub returns-then-n-lt-PIECE-clause-ok : goal.returns-then-n-lt-PIECE-clause-ok
 returns-then-n-lt-PIECE-clause-ok g c =
-    fed-last _ g.M.Message.remaining Holds256 _ _ _ _ c.update.new.self _ _ _ c.loop-turn.invariant.1
-    (c.in_ok-n.ensures.end (search rules)) (λ head begun. c.update.ensures _ begun)
+    fed-last _ g.M.Message.remaining Holds256 _ _ c.read_piece.new.buffer _ _ c.update.new.self _ _ _ c.loop-turn.invariant.1
+    (search rules) (search rules) (search rules) c.in_ok-n.ensures.reads (λ head begun. c.update.ensures _ begun)
 
 pub loop-turn-preserved : goal.loop-turn-preserved
-loop-turn-preserved g c =
-    let within = c.in_ok-n.ensures.within in (
-      search rules,
-      fed-full _ g.M.Message.remaining Holds256 _ _ _ _ _ c.update.new.self _ _ _ c.loop-turn.invariant.1
-          (omega (arith, within, c.loop-turn.invariant.0)) within c.in_ok-n.ensures.reads.0 c.in_ok-n.ensures.reads.1
-          (λ head begun. c.update.ensures _ begun),
-    )
+loop-turn-preserved g c = (
+  search rules,
+  fed-full _ g.M.Message.remaining Holds256 _ _ c.read_piece.new.buffer _ _ c.update.new.self _ _ _ c.loop-turn.invariant.1
+      (search rules) (search rules) c.in_ok-n.ensures.reads (λ head begun. c.update.ensures _ begun),
+)

@@ -1,5 +1,16 @@
+use Rattle.std.proofs.Common.{rules}
 use Rattle.sign_core.proofs.KeyReading.{spelled_read}
 use Rattle.sign_core.proofs.key.AnyPublic.read.Goals as goal
 
-pub returns-clause-spelled : goal.returns-clause-spelled
-returns-clause-spelled c = spelled_read c.args.bytes.now c.read_by_length.result c.read_by_length.ensures.ok c.read_by_length.ensures.err
+-- of each length: an answer that is right is the key that the bytes spell
+pub returns-in-56-clause-spelled : goal.returns-in-56-clause-spelled
+returns-in-56-clause-spelled c = spelled_read c.args.bytes.now _ (search rules) (search rules)
+
+pub returns-in-60-clause-spelled : goal.returns-in-60-clause-spelled
+returns-in-60-clause-spelled c = spelled_read c.args.bytes.now _ (search rules) (search rules)
+
+pub returns-in-68-clause-spelled : goal.returns-in-68-clause-spelled
+returns-in-68-clause-spelled c = spelled_read c.args.bytes.now _ (search rules) (search rules)
+
+pub returns-in_default-clause-spelled : goal.returns-in_default-clause-spelled
+returns-in_default-clause-spelled c = spelled_read c.args.bytes.now _ (search rules) (search rules)
