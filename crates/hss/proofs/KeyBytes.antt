@@ -1,10 +1,8 @@
 -- A public key that was read from bytes is spelled by these alone.
 use Rattle.std.proofs.Common.{◌≡◌, ◌∙◌, refl, sym, ap, ap₂, ℕ, zero, suc, ◌-◌, ◌<◌, ◌≤◌, ◌^◌, List, [], ◌++◌, length, take, drop, Option, Some, None, Ok, subst, arith, append-nil, append_assoc, take_at}
 use Rattle.std.proofs.lemmas.List.{take-append-drop}
-use Rattle.typecodes.specs.declared.types.LmsType.{LmsType}
-use Rattle.typecodes.specs.declared.types.OtsType.{OtsType}
 use Rattle.typecodes.specs.Types.{lms_code, lms_types, named, ots_code, ots_types}
-use Rattle.typecodes.specs.Layout.{Layout, Spells, done, ◌>>=◌, AreBytes}
+use Rattle.typecodes.specs.Layout.{Spells, AreBytes}
 use Rattle.typecodes.specs.Fields.{block, known, lms_type, number, ots_type, typed}
 use Rattle.typecodes.specs.Cursor.{read}
 use Rattle.typecodes.proofs.Bytes.{AreBytes-front, AreBytes-rest}
@@ -16,6 +14,7 @@ use Rattle.lmots.specs.Hashes.{u32str}
 use Rattle.lms.specs.declared.key.LmsPublic.{LmsPublic}
 use Rattle.lms.specs.Key.{public_key as lms_public_key}
 use Rattle.lms.specs.Writing.{public_bytes as lms_public_bytes}
+use Rattle.lms.proofs.After.{after_identifier, after_key_tree, after_root, after_types}
 use Rattle.typecodes.proofs.FieldBytes.{lms_named, number_spelled, ots_named}
 
 -- a number's digits are bytes
@@ -44,29 +43,16 @@ typed-bytes code types t bytes small are spelled =
 block-bytes : (n : ℕ) (v bytes : List ℕ) → Spells (block n) v bytes → bytes ≡ v
 block-bytes n v bytes (front, rest, bytes_are, len, ended) = bytes_are ∙ ap (λ rest. front ++ rest) ended.1 ∙ append-nil front ∙ ended.0
 
--- what follows each field of a public key
-of_root : LmsType → OtsType → List ℕ → List ℕ → Layout LmsPublic
-of_root tree ots identifier root = done (record { pair = record { tree = tree; ots = ots }; identifier = identifier; root = root })
-
-of_identifier : LmsType → OtsType → List ℕ → Layout LmsPublic
-of_identifier tree ots identifier = block 32 >>= of_root tree ots identifier
-
-of_ots : LmsType → OtsType → Layout LmsPublic
-of_ots tree ots = block 16 >>= of_identifier tree ots
-
-of_tree : LmsType → Layout LmsPublic
-of_tree tree = ots_type >>= of_ots tree
-
 -- the bytes that spell a key are its bytes
 public-spelled : (key : LmsPublic) (bytes : List ℕ) → AreBytes bytes → Spells lms_public_key key bytes → bytes ≡ lms_public_bytes key
-unfolding lms_public_key of_tree of_ots of_identifier of_root lms_type ots_type
+unfolding lms_public_key lms_type ots_type
 public-spelled key bytes are spelled =
-    let (tree, a, b, bytes_are, a_spelled, b_spelled) = in_turn lms_type of_tree key bytes spelled in
+    let (tree, a, b, bytes_are, a_spelled, b_spelled) = in_turn lms_type after_key_tree key bytes spelled in
     let parts = subst AreBytes bytes_are are in
-    let (ots, c, d, b_is, c_spelled, d_spelled) = in_turn ots_type (of_ots tree) key b b_spelled in
+    let (ots, c, d, b_is, c_spelled, d_spelled) = in_turn ots_type (after_types tree) key b b_spelled in
     let rest = subst AreBytes b_is (AreBytes-rest a b parts) in
-    let (identifier, e, f, d_is, e_spelled, f_spelled) = in_turn (block 16) (of_identifier tree ots) key d d_spelled in
-    let (root, g, h, f_is, g_spelled, ended) = in_turn (block 32) (of_root tree ots identifier) key f f_spelled in
+    let (identifier, e, f, d_is, e_spelled, f_spelled) = in_turn (block 16) (after_identifier tree ots) key d d_spelled in
+    let (root, g, h, f_is, g_spelled, ended) = in_turn (block 32) (after_root tree ots identifier) key f f_spelled in
     let a_is = typed-bytes lms_code lms_types tree a (lms_named tree).0 (AreBytes-front a b parts) a_spelled in
     let c_is = typed-bytes ots_code ots_types ots c (ots_named ots).0 (AreBytes-front c d rest) c_spelled in
     let f_ends : f ≡ root = f_is ∙ ap₂ (λ g h. g ++ h) (block-bytes 32 root g g_spelled) ended.1 ∙ append-nil root in

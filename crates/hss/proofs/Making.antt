@@ -14,7 +14,7 @@ use Rattle.hss.specs.SignedKey.{SignedKey}
 use Rattle.hss.specs.Signature.{Signature, key_at, keys_of, message_at, signature_at, signatures_of}
 use Rattle.hss.specs.Verification.{IsValid}
 use Rattle.hss.specs.Secret.{Signing, key_of, signature_by, signing_of}
-use Rattle.hss.specs.Writing.{AreDigests, FromSecrets, Signs, level_in, levels_in, public_by, public_of, signed_by, signed_with, textbook}
+use Rattle.hss.specs.Writing.{AreDigests, FromSecrets, AreSigning, level_in, levels_in, public_by, public_of, signed_by, signed_with, textbook}
 use Rattle.hss.specs.declared.secret.Level.{Level}
 
 module _ {L : Type 0} (signature : L → LmsSignature) (key : L → LmsPublic) (above : List L) (bottom : L) where
@@ -67,7 +67,7 @@ module _ {L : Type 0} (signature : L → LmsSignature) (key : L → LmsPublic) (
       }
 
 -- The textbook signature of levels that sign the message is valid under their key.
-pub textbook_valid : (above : List Signing) (bottom : Signing) (message : List ℕ) → Signs above bottom message → IsValid (public_of above bottom) message (textbook above bottom)
+pub textbook_valid : (above : List Signing) (bottom : Signing) (message : List ℕ) → AreSigning above bottom message → IsValid (public_of above bottom) message (textbook above bottom)
 textbook_valid above bottom message signs =
     signed_with-valid (λ level. lms_textbook level.secret level.leaf level.randomizer level.digest) (λ level. lms_public_of level.secret) above bottom message
     (λ i inside.

@@ -10,7 +10,7 @@ use Rattle.lms.specs.declared.signature.LmsSigView.{LmsSigView}
 use Rattle.lms.specs.Key.{public_key as lms_public_key}
 use Rattle.lms.specs.View.{pair_of as lms_pair_of, signature_of as lms_signature_of}
 use Rattle.hss.specs.declared.signed_key.SignedKeyView.{SignedKeyView}
-use Rattle.hss.specs.SignedKey.{AreFirst, StandInTurn, StandsAt, signed_in, signed_key_of, slot, taken_by}
+use Rattle.hss.specs.SignedKey.{AreFirst, StandInTurn, BeginsAt, signed_in, signed_key_of, slot, taken_by}
 use Rattle.hss.specs.Signature.{key_at, level_count, shown_by, signature, signature_at, start_of}
 use Rattle.hss.proofs.Slots.{in-use, none-after, shown-count, signed-at, signed-cut}
 use Rattle.hss.proofs.Walking.{key_at-below, key_spelled, signature_at-above, start-more, starts}
@@ -56,9 +56,9 @@ module _ (n : ℕ) (slots : List (Option SignedKeyView)) (bottom : LmsSigView) (
   start : (i : ℕ) → i ≤ n → 4 + taken_by (signed_in (take i slots)) ≡ start_of (shown_by slots bottom) i
   start i below = ap (λ keys. 4 + taken_by keys) (sym (front i below)) ∙ starts (shown_by slots bottom) i (omega (arith, shown-count n slots first))
 
-  pub slot-range : (bytes : List ℕ) (i : ℕ) (r : Option SignedKeyView) → StandInTurn 4 bytes slots → r ≡ slot slots i → IfSome r (StandsAt (start_of (shown_by slots bottom) i) bytes)
+  pub slot-range : (bytes : List ℕ) (i : ℕ) (r : Option SignedKeyView) → StandInTurn 4 bytes slots → r ≡ slot slots i → IfSome r (BeginsAt (start_of (shown_by slots bottom) i) bytes)
   slot-range bytes i (Some view) stand is =
-      subst (λ at. StandsAt at bytes view) (start i (let below = inside i view (sym is) in omega arith)) (stand i view (sym is))
+      subst (λ at. BeginsAt at bytes view) (start i (let below = inside i view (sym is) in omega arith)) (stand i view (sym is))
   slot-range bytes i None stand is = tt
 
   -- and how its key is spelled

@@ -5,7 +5,7 @@ use Rattle.std.proofs.lemmas.Bool.{cases_lt, cases_order}
 use Rattle.std.proofs.lemmas.List.{get_or-drop, get_or-set_other, get_or-set_same, take-append-drop, take-set-le, take_more_set}
 use Rattle.std.proofs.lemmas.List.Concat.{flat_map-append}
 use Rattle.hss.specs.declared.signed_key.SignedKeyView.{SignedKeyView}
-use Rattle.hss.specs.SignedKey.{AreFirst, StandInTurn, StandsAt, shown, signed_in, signed_key_of, slot, taken_by}
+use Rattle.hss.specs.SignedKey.{AreFirst, StandInTurn, BeginsAt, shown, signed_in, signed_key_of, slot, taken_by}
 
 -- slots that show nothing are empty
 none-in : (slots : List (Option SignedKeyView)) (i : ℕ) (view : SignedKeyView) → signed_in slots ≡ [] → slot slots i ≡ Some view → ⊥
@@ -78,7 +78,7 @@ module _ (slots : List (Option SignedKeyView)) (i : ℕ) (view : SignedKeyView) 
   )
 
   -- it stands after those before it
-  pub set-stand : (place : ℕ) (bytes : List ℕ) → StandInTurn place bytes slots → StandsAt (place + taken_by (signed_in (take i slots))) bytes view
+  pub set-stand : (place : ℕ) (bytes : List ℕ) → StandInTurn place bytes slots → BeginsAt (place + taken_by (signed_in (take i slots))) bytes view
       → StandInTurn place bytes (set slots i (Some view))
   set-stand place bytes stand here j other is =
       elim (cases_order j i) [
@@ -88,11 +88,11 @@ module _ (slots : List (Option SignedKeyView)) (i : ℕ) (view : SignedKeyView) 
             let view_is : view ≡ other = cc in
             let front : take i slots ≡ take j (set slots i (Some view)) =
             ap (λ k. take k slots) (sym same) ∙ sym (take-set-le j slots i (Some view) (omega arith)) in
-            subst (λ front. StandsAt (place + taken_by (signed_in front)) bytes other) front
-            (subst (StandsAt (place + taken_by (signed_in (take i slots))) bytes) view_is here)
+            subst (λ front. BeginsAt (place + taken_by (signed_in front)) bytes other) front
+            (subst (BeginsAt (place + taken_by (signed_in (take i slots))) bytes) view_is here)
         | inr (inl before) ↦
             let at : slot slots j ≡ Some other = sym (get_or-set_other slots i j (Some view) None (λ same. omega arith)) ∙ is in
-            subst (λ front. StandsAt (place + taken_by (signed_in front)) bytes other) (sym (take-set-le j slots i (Some view) (omega arith)))
+            subst (λ front. BeginsAt (place + taken_by (signed_in front)) bytes other) (sym (take-set-le j slots i (Some view) (omega arith)))
             (stand j other at)
         | inr (inr past) ↦
             let at : slot slots j ≡ Some other = sym (get_or-set_other slots i j (Some view) None (λ same. omega arith)) ∙ is in

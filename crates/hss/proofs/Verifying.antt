@@ -4,7 +4,7 @@ use Rattle.std.proofs.lemmas.Bool.{cases_lt, eq-eqb}
 use Rattle.std.proofs.lemmas.List.{get_or-map, get_or_append_left, get_or_at, length-map}
 use Rattle.typecodes.specs.declared.refusal.Refusal.{Refusal}
 use Rattle.typecodes.specs.declared.refusal.Refusal.TheVariants.{Unreadable, TypeMismatch, LevelMismatch, RootMismatch, MessageRead}
-use Rattle.typecodes.specs.Message.{CantBeRead, ReadWhole, Step}
+use Rattle.typecodes.specs.Message.{CantBeRead, ReadWhole, Transition}
 use Rattle.std.specs.Prelude.{◌≢◌, Option}
 use Rattle.lms.specs.declared.key.LmsPublic.{LmsPublic}
 use Rattle.lms.specs.Signature.{Signature as LmsSignature}
@@ -126,15 +126,15 @@ bottom-read key message bytes s k read i result spelled count (key_is, above) at
     bottom-verdict key message bytes s result spelled count above (subst (λ k. LevelVerdict k (message_at message s n) (signature_at s n) n result) key_is same)
 
 -- the bottom leaves of the message what verification leaves
-pub bottom-leaves : {M A : Type 0} (step : Step M) (remaining : M → Option (List ℕ)) (text : List ℕ) (old new : M) (key : HssPublic) (k : LmsPublic) (read : LmsSignature) (i : ℕ)
-    (result : Result A Refusal) → i + 1 ≡ key.levels → LevelVerdict k text read i result → LmsLeavesMessage step remaining text old new result
-    → LeavesMessage step remaining key text old new result
-bottom-leaves step remaining text old new key k read i (Ok x) last verdict leaves = leaves
-bottom-leaves step remaining text old new key k read i (Err (Unreadable fault)) last verdict leaves = leaves
-bottom-leaves step remaining text old new key k read i (Err (TypeMismatch level)) last verdict leaves = leaves
-bottom-leaves step remaining text old new key k read i (Err LevelMismatch) last never leaves = elim never [ ]
-bottom-leaves step remaining text old new key k read i (Err MessageRead) last verdict leaves = leaves
-bottom-leaves step remaining text old new key k read i (Err (RootMismatch level)) last (is, _, _) leaves =
+pub bottom-leaves : {M A : Type 0} (transition : Transition M) (remaining : M → Option (List ℕ)) (text : List ℕ) (old new : M) (key : HssPublic) (k : LmsPublic) (read : LmsSignature) (i : ℕ)
+    (result : Result A Refusal) → i + 1 ≡ key.levels → LevelVerdict k text read i result → LmsLeavesMessage transition remaining text old new result
+    → LeavesMessage transition remaining key text old new result
+bottom-leaves transition remaining text old new key k read i (Ok x) last verdict leaves = leaves
+bottom-leaves transition remaining text old new key k read i (Err (Unreadable fault)) last verdict leaves = leaves
+bottom-leaves transition remaining text old new key k read i (Err (TypeMismatch level)) last verdict leaves = leaves
+bottom-leaves transition remaining text old new key k read i (Err LevelMismatch) last never leaves = elim never [ ]
+bottom-leaves transition remaining text old new key k read i (Err MessageRead) last verdict leaves = leaves
+bottom-leaves transition remaining text old new key k read i (Err (RootMismatch level)) last (is, _, _) leaves =
     inl (ap (λ i. i + 1) is ∙ last, leaves)
 
 -- the bottom level's signature is the last one
@@ -144,11 +144,11 @@ signature_at-bottom s i last =
     sym (get_or_at (map of s.signed) s.bottom [] s.bottom i (length-map s.signed of ∙ sym last))
 
 -- a refusal above the bottom leaves the message
-pub above-leaves : {M : Type 0} (step : Step M) (remaining : M → Option (List ℕ)) (A : Type 0) (key : HssPublic) (s : Signature) (text : List ℕ) (message : M) (refusal : Refusal)
-    → level_count s ≡ key.levels → AboveVerdict key.top s (Err refusal) → LeavesMessage {A = A} step remaining key text message message (Err refusal)
-above-leaves step remaining A key s text message (Unreadable fault) count refused = absurd refused
-above-leaves step remaining A key s text message LevelMismatch count refused = absurd refused
-above-leaves step remaining A key s text message MessageRead count refused = absurd refused
-above-leaves step remaining A key s text message (TypeMismatch i) count refused = refl
-above-leaves step remaining A key s text message (RootMismatch i) count (within, _, _, _) =
+pub above-leaves : {M : Type 0} (transition : Transition M) (remaining : M → Option (List ℕ)) (A : Type 0) (key : HssPublic) (s : Signature) (text : List ℕ) (message : M) (refusal : Refusal)
+    → level_count s ≡ key.levels → AboveVerdict key.top s (Err refusal) → LeavesMessage {A = A} transition remaining key text message message (Err refusal)
+above-leaves transition remaining A key s text message (Unreadable fault) count refused = absurd refused
+above-leaves transition remaining A key s text message LevelMismatch count refused = absurd refused
+above-leaves transition remaining A key s text message MessageRead count refused = absurd refused
+above-leaves transition remaining A key s text message (TypeMismatch i) count refused = refl
+above-leaves transition remaining A key s text message (RootMismatch i) count (within, _, _, _) =
     inr (λ same. omega (arith, count), refl)

@@ -8,18 +8,18 @@ use Rattle.std.proofs.Math.Bool.{and-false}
 use Rattle.std.proofs.Math.Nat.{sub-zero}
 use Rattle.byteorder.specs.Endian.{big_number}
 use Rattle.typecodes.specs.declared.fault.Cause.TheVariants.{LevelCount}
-use Rattle.typecodes.specs.Types.{lms_code, lms_signature_len_of, lms_types, ots_code, ots_types}
+use Rattle.typecodes.specs.Types.{lms_signature_len_of}
 use Rattle.typecodes.specs.Layout.{Layout, done, refuse, ◌>>=◌, Spells}
-use Rattle.typecodes.specs.Fields.{block, lms_type, number, ots_type}
+use Rattle.typecodes.specs.Fields.{number}
 use Rattle.typecodes.specs.Cursor.{read}
 use Rattle.typecodes.proofs.Read.{read-cut, read-fits, read-stands}
-use Rattle.typecodes.proofs.Sizes.{HasSize, size-bind, size-block, size-done, size-typed}
 use Rattle.typecodes.proofs.Steps.{ends-spelled}
 use Rattle.lms.specs.declared.key.LmsPublic.{LmsPublic}
 use Rattle.lms.specs.Signature.{Signature as LmsSignature, signature as lms_signature}
 use Rattle.lms.specs.Key.{public_key as lms_public_key}
 use Rattle.typecodes.proofs.Parts.{in_turn, part_read}
 use Rattle.lms.proofs.Parts.{laid_out}
+use Rattle.lms.proofs.Sizes.{size-public_key}
 use Rattle.hss.specs.Key.{level_number}
 use Rattle.hss.specs.SignedKey.{SignedKey, signed_key, signed_keys, taken}
 use Rattle.hss.specs.Signature.{Signature, key_at, keys_of, level_count, signature, signature_at, signature_size, signatures_of, start_of}
@@ -27,21 +27,11 @@ use Rattle.hss.proofs.Passing.{keys-more, keys-split, read-after}
 
 -- ---- how long the parts are
 
--- a public key takes 56 bytes
-public-size : HasSize lms_public_key 56
-unfolding lms_public_key lms_type ots_type
-public-size =
-    size-bind lms_type _ 4 52 (size-typed lms_code lms_types) (λ tree.
-    size-bind ots_type _ 4 48 (size-typed ots_code ots_types) (λ ots.
-    let key : List ℕ → List ℕ → LmsPublic = λ identifier root. record { pair = record { tree = tree; ots = ots }; identifier = identifier; root = root } in
-    size-bind (block 16) (λ identifier. block 32 >>= λ root. done (key identifier root)) 16 32 (size-block 16) (λ identifier.
-    size-bind (block 32) (λ root. done (key identifier root)) 32 0 (size-block 32) (λ root. size-done (key identifier root)))))
-
--- so does one that is read, wherever it stands
+-- a public key that is read takes 56 bytes, wherever it stands
 public-end : (key : LmsPublic) (bytes : List ℕ) (place end : ℕ) → place ≤ length bytes → read lms_public_key bytes place ≡ Ok (key, end) → end ≡ place + 56
 public-end key bytes place end within found =
     let (a, after, rest_is, end_is, spelled) = read-stands lms_public_key key bytes place end within found in
-    omega (arith, end_is, public-size key a spelled)
+    omega (arith, end_is, size-public_key key a spelled)
 
 -- what is read ends within the bytes
 pub ends-within : {V : Type 0} (layout : Layout V) (v : V) (bytes : List ℕ) (place end : ℕ) → place ≤ length bytes → read layout bytes place ≡ Ok (v, end) → (place ≤ end) × (end ≤ length bytes)

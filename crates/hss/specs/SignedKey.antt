@@ -42,8 +42,8 @@ abbrev pub signed_key_of : SignedKeyView → SignedKey
 signed_key_of view = record { signature = lms_signature_of view.signature; key = view.key }
 
 -- The view's bytes are those from a place on: its signature's, and after them its key's.
-abbrev pub StandsAt : ℕ → List ℕ → SignedKeyView → Type 0
-StandsAt place bytes view =
+abbrev pub BeginsAt : ℕ → List ℕ → SignedKeyView → Type 0
+BeginsAt place bytes view =
     let size = lms_signature_len_of (lms_pair_of view.signature) in
     (lms_bytes_of view.signature ≡ take size (drop place bytes))
     × (view.key_bytes.now ≡ take 56 (drop (place + size) bytes))
@@ -69,4 +69,4 @@ AreFirst n slots =
 abbrev pub StandInTurn : ℕ → List ℕ → List (Option SignedKeyView) → Type 0
 StandInTurn place bytes slots =
     (i : ℕ) (view : SignedKeyView) → slot slots i ≡ Some view
-    → StandsAt (place + taken_by (signed_in (take i slots))) bytes view
+    → BeginsAt (place + taken_by (signed_in (take i slots))) bytes view

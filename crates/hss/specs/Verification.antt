@@ -4,7 +4,7 @@ use Rattle.typecodes.specs.declared.refusal.Refusal.{Refusal}
 use Rattle.typecodes.specs.declared.refusal.Refusal.TheVariants.{Unreadable, TypeMismatch, LevelMismatch}
 use Rattle.typecodes.specs.declared.refusal.Refusal.TheVariants.{RootMismatch, MessageRead}
 use Rattle.typecodes.specs.Layout.{Spells, HasFault}
-use Rattle.typecodes.specs.Message.{CantBeRead, ReadWhole, Step}
+use Rattle.typecodes.specs.Message.{CantBeRead, ReadWhole, Transition}
 use Rattle.lms.specs.declared.key.LmsPublic.{LmsPublic}
 use Rattle.lms.specs.Verification.{IsValid as IsLmsValid}
 use Rattle.hss.specs.declared.key.HssPublic.{HssPublic}
@@ -48,15 +48,15 @@ Verdict key message bytes (Err (RootMismatch i)) =
 
 -- What becomes of the message: it was read whole, and gave this text, where the bottom level's root was compared; it
 -- can't be read; and it is as it was where a refusal came before it was read.
-abbrev pub LeavesMessage : {M A : Type 0} → Step M → (M → Option (List ℕ)) → HssPublic → List ℕ → M → M
+abbrev pub LeavesMessage : {M A : Type 0} → Transition M → (M → Option (List ℕ)) → HssPublic → List ℕ → M → M
     → Result A Refusal → Type 0
-LeavesMessage step remaining key text old new (Ok _) = ReadWhole step remaining text old new
-LeavesMessage step remaining key text old new (Err (Unreadable fault)) = new ≡ old
-LeavesMessage step remaining key text old new (Err LevelMismatch) = new ≡ old
-LeavesMessage step remaining key text old new (Err (TypeMismatch i)) = new ≡ old
-LeavesMessage step remaining key text old new (Err MessageRead) = CantBeRead step old new
-LeavesMessage step remaining key text old new (Err (RootMismatch i)) =
-    ((i + 1 ≡ key.levels) × ReadWhole step remaining text old new) ⊎ ((i + 1 ≢ key.levels) × (new ≡ old))
+LeavesMessage transition remaining key text old new (Ok _) = ReadWhole transition remaining text old new
+LeavesMessage transition remaining key text old new (Err (Unreadable fault)) = new ≡ old
+LeavesMessage transition remaining key text old new (Err LevelMismatch) = new ≡ old
+LeavesMessage transition remaining key text old new (Err (TypeMismatch i)) = new ≡ old
+LeavesMessage transition remaining key text old new (Err MessageRead) = CantBeRead transition old new
+LeavesMessage transition remaining key text old new (Err (RootMismatch i)) =
+    ((i + 1 ≡ key.levels) × ReadWhole transition remaining text old new) ⊎ ((i + 1 ≢ key.levels) × (new ≡ old))
 
 -- ---- the steps of verification
 

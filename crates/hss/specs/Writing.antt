@@ -74,7 +74,7 @@ abbrev pub AreSized : List Signing → Signing → Type 0
 AreSized above bottom = (i : ℕ) → i < length above + 1 → IsSized (level_in above bottom i)
 
 -- each level's leaf is one of its tree, and its digest that of what it signs
-pub record Signs (above : List Signing) (bottom : Signing) (message : List ℕ) : Type 0 where
+pub record AreSigning (above : List Signing) (bottom : Signing) (message : List ℕ) : Type 0 where
   pub leaves : (i : ℕ) → i < length above + 1 → let level = level_in above bottom i in
       level.leaf < 2 ^ height_of level.secret.pair.tree
   pub digests : (i : ℕ) → i < length above + 1 → let level = level_in above bottom i in

@@ -13,7 +13,7 @@ ghost use Rattle.hss.specs.SignedKey.{SignedKey, signed_key, signed_keys};
 ghost use Rattle.hss.specs.Signature.{Signature, signature};
 ghost use Rattle.hss.specs.Verification.{IsValid, Verdict};
 ghost use Rattle.hss.specs.Secret.{Signing};
-ghost use Rattle.hss.specs.Writing.{AreSized, IsSized, Signs, level_in};
+ghost use Rattle.hss.specs.Writing.{AreSigning, AreSized, IsSized, level_in};
 ghost use Rattle.hss.specs.Writing.{public_bytes, public_of, signature_bytes, textbook};
 
 /// What holds of the spellings of public keys and of signatures: no value has two, no bytes spell two
@@ -47,7 +47,7 @@ pub fn verdict_laws()
 /// - The bytes of the key and of a signature of at most 8 levels spell them, where the levels' values
 ///   have their sizes (`key`, `signature`).
 pub fn textbook_laws()
-    ensures valid { (above : List Signing) (bottom : Signing) (message : List ℕ) → Signs above bottom message
+    ensures valid { (above : List Signing) (bottom : Signing) (message : List ℕ) → AreSigning above bottom message
         → IsValid (public_of above bottom) message (textbook above bottom) }
     ensures key { (above : List Signing) (bottom : Signing) → length above ≤ 7 → IsSized (level_in above bottom 0)
         → Spells public_key (public_of above bottom) (public_bytes (public_of above bottom)) }

@@ -10,7 +10,7 @@ ghost use Rattle.lms.specs.declared.key.LmsPublic.{LmsPublic};
 ghost use Rattle.lms.specs.Key.{public_key as lms_public_key};
 ghost use Rattle.lms.specs.View.{bytes_of as lms_bytes_of, pair_of as lms_pair_of, signature_of as lms_signature_of};
 ghost use Rattle.hss.specs.Key.{level_number};
-ghost use Rattle.hss.specs.SignedKey.{StandInTurn, StandsAt, signed_in, taken_by};
+ghost use Rattle.hss.specs.SignedKey.{BeginsAt, StandInTurn, signed_in, taken_by};
 ghost use Rattle.hss.specs.Signature.{key_at, level_count, pairs_in, shown_by, signature, signature_at};
 ghost use Rattle.hss.specs.Signature.{signature_size, start_of};
 
@@ -84,7 +84,7 @@ impl<'a> HssSigView<'a> {
             lms_signature_of view.signature ≡ signature_at (signature_of self.now) i) }
         ensures key { (top : LmsPublic) → IfSome result (λ view.
             view.key ≡ key_at top (signature_of self.now) (i + 1)) }
-        ensures range { IfSome result (StandsAt (start_of (signature_of self.now) i) (bytes_of self.now)) }
+        ensures range { IfSome result (BeginsAt (start_of (signature_of self.now) i) (bytes_of self.now)) }
         ensures spells { IfSome result (λ view. Spells lms_public_key view.key view.key_bytes.now) }
     {
         self.signed.get(i)

@@ -24,7 +24,7 @@ pub struct SignedKeyView<'a> {
 }
 
 impl<'a> SignedKeyView<'a> {
-    ghost use Rattle.hss.specs.SignedKey.{StandsAt, signed_key, signed_key_of};
+    ghost use Rattle.hss.specs.SignedKey.{BeginsAt, signed_key, signed_key_of};
 
     /// The signature and the key at a cursor, at most 9324 bytes and 56. The caller keeps their end below
     /// `2^32`. A fault leaves the cursor where it is.
@@ -35,7 +35,7 @@ impl<'a> SignedKeyView<'a> {
             (read signed_key cursor.old.bytes.now cursor.old.place) }
         ensures most { OnOk result (cursor.new.place ≤ cursor.old.place + 9380) }
         ensures bytes { cursor.new.bytes ≡ cursor.old.bytes }
-        ensures part { IfOk result (λ view. StandsAt cursor.old.place cursor.old.bytes.now view) }
+        ensures part { IfOk result (λ view. BeginsAt cursor.old.place cursor.old.bytes.now view) }
         ensures err { OnErr result (cursor.new.place ≡ cursor.old.place) }
     {
         let mut rest = *cursor;

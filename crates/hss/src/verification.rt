@@ -24,7 +24,7 @@ pub fn verify<M: Message>(
 ) -> Result<(), Refusal>
     ensures { (text : List ℕ) × IsContent (M.remaining message.old) text
         × Verdict public.now text signature.now result
-        × LeavesMessage M.step M.remaining public.now text message.old message.new result }
+        × LeavesMessage M.transition M.remaining public.now text message.old message.new result }
 {
     let view = HssSigView::read(signature).map_err(Refusal::Unreadable)?;
     if view.levels() != public.levels.get() {

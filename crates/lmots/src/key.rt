@@ -65,9 +65,9 @@ impl LmOts {
         message: &mut M,
     ) -> Result<[u8; 32], MessageFailed>
         ensures ok { IfOk result (λ digest. (text : List ℕ)
-            × ReadWhole M.step M.remaining text message.old message.new
+            × ReadWhole M.transition M.remaining text message.old message.new
             × (digest ≡ message_digest_of self.now.identifier self.now.leaf randomizer.now text)) }
-        ensures err { OnErr result (CantBeRead M.step message.old message.new) }
+        ensures err { OnErr result (CantBeRead M.transition message.old message.new) }
     {
         let mut hasher = self.message_hasher(randomizer);
         feed(&mut hasher, message)?;

@@ -9,8 +9,8 @@ use typecodes::{Message, MessageFailed, PIECE, PIECES, read_piece};
 
 // Feeds a message to a hasher, to its end.
 pub(crate) fn feed<M: Message>(hasher: &mut Sha256, message: &mut M) -> Result<(), MessageFailed>
-    ensures ok { OnOk result (Feeds M.step M.remaining Holds256 hasher.old hasher.new message.old message.new) }
-    ensures err { OnErr result (CantBeRead M.step message.old message.new) }
+    ensures ok { OnOk result (Feeds M.transition M.remaining Holds256 hasher.old hasher.new message.old message.new) }
+    ensures err { OnErr result (CantBeRead M.transition message.old message.new) }
 {
     let mut piece = [0; PIECE];
     for turn in 0..PIECES {

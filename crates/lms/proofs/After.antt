@@ -11,9 +11,12 @@ use Rattle.lms.specs.declared.key.LmsPublic.{LmsPublic}
 use Rattle.lms.specs.Signature.{Signature, type_end}
 
 -- of a public key
+abbrev pub after_root : LmsType → OtsType → List ℕ → List ℕ → Layout LmsPublic
+after_root tree ots identifier root =
+    done (record { pair = record { tree = tree; ots = ots }; identifier = identifier; root = root })
+
 abbrev pub after_identifier : LmsType → OtsType → List ℕ → Layout LmsPublic
-after_identifier tree ots identifier =
-    block 32 >>= λ root. done (record { pair = record { tree = tree; ots = ots }; identifier = identifier; root = root })
+after_identifier tree ots identifier = block 32 >>= after_root tree ots identifier
 
 abbrev pub after_types : LmsType → OtsType → Layout LmsPublic
 after_types tree ots = block 16 >>= after_identifier tree ots

@@ -6,5 +6,6 @@ pub mod OneWay
 pub mod Verdicts
 pub mod Signing
 pub mod After
+pub mod Sizes
 pub mod SigningBytes
 pub mod Parts

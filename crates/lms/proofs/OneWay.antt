@@ -10,7 +10,7 @@ use Rattle.typecodes.proofs.OneWay.{one_way-block, one_way-number, one_way-ots_t
 use Rattle.typecodes.proofs.Ways.{Way, way-bind, way-done, one_way-if}
 use Rattle.lms.specs.Key.{public_key}
 use Rattle.lms.specs.Signature.{signature, type_end}
-use Rattle.lms.proofs.After.{after_chains, after_identifier, after_q, after_key_tree, after_ots, after_randomizer, after_tree, after_types, path_of}
+use Rattle.lms.proofs.After.{after_chains, after_identifier, after_q, after_key_tree, after_ots, after_randomizer, after_root, after_tree, after_types, path_of}
 
 pub one_way-public_key : OneSpelling public_key
 unfolding public_key
@@ -19,7 +19,7 @@ one_way-public_key =
     way-bind lms_type after_key_tree (λ key. key.pair.tree) _ one_way-lms_type (λ tree.
     way-bind ots_type (after_types tree) (λ key. key.pair.ots) _ one_way-ots_type (λ ots.
     way-bind (block 16) (after_identifier tree ots) (λ key. key.identifier) _ (one_way-block 16) (λ identifier.
-    way-bind (block 32) (λ root. done (record { pair = record { tree = tree; ots = ots }; identifier = identifier; root = root })) (λ key. key.root) _ (one_way-block 32) (λ root.
+    way-bind (block 32) (after_root tree ots identifier) (λ key. key.root) _ (one_way-block 32) (λ root.
     way-done _ _ (refl, (refl, (refl, (refl, tt)))))))) in
     way.one
 

@@ -4,7 +4,7 @@ use Rattle.std.specs.List.{concat}
 use Rattle.std.proofs.lemmas.Bool.{lt-ltb}
 use Rattle.std.proofs.lemmas.List.FromFn.{length-map-range_with_len}
 use Rattle.typecodes.specs.Types.{chains_of, height_of, lms_code, ots_code}
-use Rattle.typecodes.specs.Layout.{Spells, done}
+use Rattle.typecodes.specs.Layout.{Spells}
 use Rattle.typecodes.specs.Fields.{block, lms_type, number, ots_type, values}
 use Rattle.typecodes.proofs.FieldBytes.{block_spelled, last_field, lms_spelled, number_spelled, ots_spelled, values_spelled}
 use Rattle.typecodes.proofs.Leaves.{lms_leaf_small}
@@ -16,7 +16,7 @@ use Rattle.lms.specs.declared.secret.LmsSecret.{LmsSecret}
 use Rattle.lms.specs.Key.{public_key}
 use Rattle.lms.specs.Signature.{Signature, signature}
 use Rattle.lms.specs.Writing.{public_bytes, signature_bytes, signed}
-use Rattle.lms.proofs.After.{after_chains, after_identifier, after_q, after_key_tree, after_ots, after_randomizer, after_tree, after_types}
+use Rattle.lms.proofs.After.{after_chains, after_identifier, after_q, after_key_tree, after_ots, after_randomizer, after_root, after_tree, after_types}
 
 -- The signature's parts have the sizes that its types say, and its q is one of a leaf.
 pub record IsSized (s : Signature) : Type 0 where
@@ -99,4 +99,4 @@ public_spelled key identifier root =
     (ots_spelled key.pair.ots)
     (from_turn (block 16) (after_identifier key.pair.tree key.pair.ots) key.identifier key key.identifier key.root
     (block_spelled 16 key.identifier identifier)
-    (last_field (block 32) (λ root. done (record { pair = key.pair; identifier = key.identifier; root = root })) key.root key key.root (block_spelled 32 key.root root) (refl, refl)))))
+    (last_field (block 32) (after_root key.pair.tree key.pair.ots key.identifier) key.root key key.root (block_spelled 32 key.root root) (refl, refl)))))

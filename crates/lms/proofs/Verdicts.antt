@@ -1,7 +1,7 @@
 -- The key, the message and the bytes alone decide the answers of verification.
 use Rattle.std.proofs.Common.{◌≡◌, ℕ, List, Option, Result, Ok, Err, inl, inr, refl, sym, ap, subst, ◌∙◌}
 use Rattle.std.specs.Prelude.{◌≢◌, ◌⊎◌, IsOk}
-use Rattle.typecodes.specs.Message.{ReadWhole, Step}
+use Rattle.typecodes.specs.Message.{ReadWhole, Transition}
 use Rattle.typecodes.specs.Layout.{Spells}
 use Rattle.typecodes.proofs.Spelling.{no_value, one_fault, one_value}
 use Rattle.lms.specs.declared.key.LmsPublic.{LmsPublic}
@@ -26,15 +26,15 @@ pub digest_was_read : {A : Type 0} (key : LmsPublic) (digest : List ℕ) (s : Si
     → DigestVerdict key digest s i result → result ≡ Err MessageRead → ⊥
 digest_was_read key digest s i result verdict same = elim (subst (DigestVerdict key digest s i) same verdict) [ ]
 
-pub leaves_of_digest : {M A : Type 0} (step : Step M) (remaining : M → Option (List ℕ)) (text : List ℕ) (old new : M) (key : LmsPublic)
+pub leaves_of_digest : {M A : Type 0} (transition : Transition M) (remaining : M → Option (List ℕ)) (text : List ℕ) (old new : M) (key : LmsPublic)
     (digest : List ℕ) (s : Signature) (i : ℕ) (result : Result A Refusal) → DigestVerdict key digest s i result
-    → ReadWhole step remaining text old new → LeavesMessage step remaining text old new result
-leaves_of_digest step remaining text old new key digest s i (Ok x) verdict read = read
-leaves_of_digest step remaining text old new key digest s i (Err (Unreadable fault)) never read = elim never [ ]
-leaves_of_digest step remaining text old new key digest s i (Err (TypeMismatch level)) never read = elim never [ ]
-leaves_of_digest step remaining text old new key digest s i (Err LevelMismatch) never read = elim never [ ]
-leaves_of_digest step remaining text old new key digest s i (Err MessageRead) never read = elim never [ ]
-leaves_of_digest step remaining text old new key digest s i (Err (RootMismatch level)) verdict read = read
+    → ReadWhole transition remaining text old new → LeavesMessage transition remaining text old new result
+leaves_of_digest transition remaining text old new key digest s i (Ok x) verdict read = read
+leaves_of_digest transition remaining text old new key digest s i (Err (Unreadable fault)) never read = elim never [ ]
+leaves_of_digest transition remaining text old new key digest s i (Err (TypeMismatch level)) never read = elim never [ ]
+leaves_of_digest transition remaining text old new key digest s i (Err LevelMismatch) never read = elim never [ ]
+leaves_of_digest transition remaining text old new key digest s i (Err MessageRead) never read = elim never [ ]
+leaves_of_digest transition remaining text old new key digest s i (Err (RootMismatch level)) verdict read = read
 
 -- the answer of the signature that bytes spell is that of the bytes
 pub whole_verdict : {A : Type 0} (key : LmsPublic) (message bytes : List ℕ) (s : Signature) (result : Result A Refusal) → Spells signature s bytes → LevelVerdict key message s 0 result

@@ -5,7 +5,7 @@ use Rattle.typecodes.specs.declared.refusal.Refusal.{Refusal}
 use Rattle.typecodes.specs.declared.refusal.Refusal.TheVariants.{Unreadable, TypeMismatch, LevelMismatch}
 use Rattle.typecodes.specs.declared.refusal.Refusal.TheVariants.{RootMismatch, MessageRead}
 use Rattle.typecodes.specs.Layout.{Spells, HasFault}
-use Rattle.typecodes.specs.Message.{CantBeRead, ReadWhole, Step}
+use Rattle.typecodes.specs.Message.{CantBeRead, ReadWhole, Transition}
 use Rattle.typecodes.specs.Types.{chains_of, height_of}
 use Rattle.merkle.specs.Ascent.{IsAscent, at}
 use Rattle.lmots.specs.Key.{ClimbTo, message_digest_of, public_hash}
@@ -74,11 +74,11 @@ DigestVerdict key digest s i (Err other) = ⊥
 
 -- What becomes of the message: it was read whole, and gave this text, where the root was compared; it can't be read;
 -- and it is as it was where a refusal came before it was read.
-abbrev pub LeavesMessage : {M A : Type 0} → Step M → (M → Option (List ℕ)) → List ℕ → M → M → Result A Refusal
+abbrev pub LeavesMessage : {M A : Type 0} → Transition M → (M → Option (List ℕ)) → List ℕ → M → M → Result A Refusal
     → Type 0
-LeavesMessage step remaining text old new (Ok _) = ReadWhole step remaining text old new
-LeavesMessage step remaining text old new (Err (Unreadable fault)) = new ≡ old
-LeavesMessage step remaining text old new (Err (TypeMismatch level)) = new ≡ old
-LeavesMessage step remaining text old new (Err LevelMismatch) = ⊥
-LeavesMessage step remaining text old new (Err MessageRead) = CantBeRead step old new
-LeavesMessage step remaining text old new (Err (RootMismatch level)) = ReadWhole step remaining text old new
+LeavesMessage transition remaining text old new (Ok _) = ReadWhole transition remaining text old new
+LeavesMessage transition remaining text old new (Err (Unreadable fault)) = new ≡ old
+LeavesMessage transition remaining text old new (Err (TypeMismatch level)) = new ≡ old
+LeavesMessage transition remaining text old new (Err LevelMismatch) = ⊥
+LeavesMessage transition remaining text old new (Err MessageRead) = CantBeRead transition old new
+LeavesMessage transition remaining text old new (Err (RootMismatch level)) = ReadWhole transition remaining text old new

@@ -3,6 +3,8 @@
 
 use crate::{LmsPublic, LmsSigView, verify};
 use sha2::{Digest, Sha256};
+use std::io;
+use std::io::Read;
 use std::process::Abort;
 use std::test::Fail;
 use typecodes::{Cause, LmsPair, LmsType, OtsType, ReadFault, Refusal};
@@ -367,5 +369,74 @@ fn signatures_are_verified(rt: HostRuntime) {
             Err(Refusal::RootMismatch(0))
         );
         assert_changes_refused(&rt, &key, &signature);
+    }
+}
+
+// Gives its bytes in pieces of 1 to 64, whose sizes are those of a linear congruential generator.
+#[derive(Drop)]
+struct Pieces<'a> {
+    left: &'a [u8],
+    state: u32,
+}
+
+impl Read for Pieces<'_> {
+    fn read(&mut self, buffer: &mut [u8]) -> io::Result<usize> {
+        self.state = self
+            .state
+            .wrapping_mul(1_664_525)
+            .wrapping_add(1_013_904_223);
+        let size = (self.state >> 26) as usize + 1;
+        let left = self.left;
+        let n = left.len().min(buffer.len()).min(size);
+        buffer[..n].copy_from_slice(&left[..n]);
+        self.left = &left[n..];
+        Ok(n)
+    }
+}
+
+// The verdict on a message in pieces, whose sizes the seed begins, and that on the whole message.
+fn verdicts(
+    key: &LmsPublic,
+    signature: &[u8; 1292],
+    mut message: &[u8],
+    seed: u32,
+) -> (Result<(), Refusal>, Result<(), Refusal>) {
+    let mut pieces = Pieces {
+        left: message,
+        state: seed,
+    };
+    (
+        verify(key, &mut pieces, signature),
+        verify(key, &mut message, signature),
+    )
+}
+
+// Messages of 0 to 300 bytes, in pieces of sizes that no seed shares with another.
+#[test]
+fn random_pieces_lead_to_the_verdict_on_the_whole(rt: HostRuntime) {
+    let nodes = tree();
+    let key = LmsPublic {
+        pair: PAIR,
+        identifier: IDENTIFIER,
+        root: nodes[1],
+    };
+    let mut text = [0; 300];
+    for i in 0..300usize {
+        text[i] = (i % 251) as u8;
+    }
+    for seed in 0..200u32 {
+        let message = &text[..(100 * seed % 301) as usize];
+        let signature = sign(&nodes, (seed % 32) as u8, message);
+        let mut other = signature;
+        other[40] ^= 1;
+        let refused = Err(Refusal::RootMismatch(0));
+        assert_eq!(rt;
+            (
+                verdicts(&key, &signature, message, seed),
+                verdicts(&key, &other, message, seed)
+            ),
+            ((Ok(()), Ok(())), (refused, refused)),
+            "{seed}"
+        );
     }
 }

@@ -25,7 +25,7 @@ pub fn verify<M: Message>(
 ) -> Result<(), Refusal>
     ensures { (text : List ℕ) × IsContent (M.remaining message.old) text
         × Verdict public.now text signature.now result
-        × LeavesMessage M.step M.remaining text message.old message.new result }
+        × LeavesMessage M.transition M.remaining text message.old message.new result }
 {
     let view = LmsSigView::read(signature).map_err(Refusal::Unreadable)?;
     view.verify(public, message, 0)
@@ -46,7 +46,7 @@ impl LmsSigView<'_> {
     ) -> Result<(), Refusal>
         ensures { (text : List ℕ) × IsContent (M.remaining message.old) text
             × LevelVerdict public.now text (signature_of self.now) level result
-            × LeavesMessage M.step M.remaining text message.old message.new result }
+            × LeavesMessage M.transition M.remaining text message.old message.new result }
     {
         self.check_types(public, level)?;
         let key = self.one_time_key(public);

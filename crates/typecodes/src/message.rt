@@ -4,7 +4,7 @@ ghost use Rattle.std.specs.Prelude.{◌≤◌, ◌^◌, ℕ, List, ⊤, length, 
 ghost use Rattle.std.specs.Io.{ReadsAtMost};
 ghost use Rattle.std.specs.Io.KnownBytes.{ReadConsumes};
 ghost use Rattle.std.specs.declared.option.Option.{Option};
-ghost use Rattle.typecodes.specs.Message.{Outcome, ReadsPiece, outcome_of};
+ghost use Rattle.typecodes.specs.Message.{ReadOutcome, ReadsPiece, read_outcome};
 
 use std::io;
 use std::io::{ErrorKind, Read};
@@ -16,13 +16,13 @@ pub trait Message {
     ghost remaining: { Self → Option (List ℕ) };
 
     // what a read does to the message, where that is known: from this state, with this outcome, to that one
-    ghost step: { Self → Outcome → Self → Type 0 } = { λ _ _ _. ⊤ };
+    ghost transition: { Self → ReadOutcome → Self → Type 0 } = { λ _ _ _. ⊤ };
 
     /// Reads into the buffer, as `Read::read` does.
     fn read_into(&mut self, buffer: &mut [u8]) -> io::Result<usize>
         ensures bound { ReadsAtMost result buffer.new }
         ensures bytes { ReadConsumes (remaining self.old) (remaining self.new) result buffer.new }
-        ensures step { step self.old (outcome_of result buffer.new) self.new };
+        ensures transition { transition self.old (read_outcome result buffer.new) self.new };
 }
 
 impl<R: Read> Message for R {
@@ -52,7 +52,7 @@ const TRIES: u32 = 1 << 20;
 pub fn read_piece<M: Message>(message: &mut M, buffer: &mut [u8]) -> Result<usize, MessageFailed>
     requires { length buffer.old ≤ 2 ^ 14 }
     ensures within { IfOk result (λ n. n ≤ length buffer.new) }
-    ensures reads { ReadsPiece M.step M.remaining result buffer.new message.old message.new }
+    ensures reads { ReadsPiece M.transition M.remaining result buffer.new message.old message.new }
 {
     let mut at = 0;
     for turn in 0..TRIES {

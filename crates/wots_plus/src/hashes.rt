@@ -47,8 +47,8 @@ pub fn hash_message_from<M: Message>(
     message: &mut M,
 ) -> Result<[u8; 32], MessageFailed>
     ensures ok { IfOk result (λ digest. (text : List ℕ)
-        × ReadWhole M.step M.remaining text message.old message.new × (digest ≡ spec.hash_message key.now text)) }
-    ensures err { OnErr result (CantBeRead M.step message.old message.new) }
+        × ReadWhole M.transition M.remaining text message.old message.new × (digest ≡ spec.hash_message key.now text)) }
+    ensures err { OnErr result (CantBeRead M.transition message.old message.new) }
 {
     let mut hasher = message_hasher(key);
     feed(&mut hasher, message)?;

@@ -8,8 +8,11 @@ use Rattle.typecodes.specs.Fields.{block, values}
 use Rattle.xmss.specs.declared.key.XmssPublic.{XmssPublic}
 use Rattle.xmss.specs.Signature.{Signature}
 
+abbrev pub after_seed : XmssType → List ℕ → List ℕ → Layout XmssPublic
+after_seed tree root seed = done (record { tree = tree; root = root; seed = seed })
+
 abbrev pub after_root : XmssType → List ℕ → Layout XmssPublic
-after_root tree root = block 32 >>= λ seed. done (record { tree = tree; root = root; seed = seed })
+after_root tree root = block 32 >>= after_seed tree root
 
 abbrev pub after_tree : XmssType → Layout XmssPublic
 after_tree tree = block 32 >>= after_root tree

@@ -7,3 +7,4 @@ pub mod Verifying
 pub mod Signing
 pub mod Parts
 pub mod SigningBytes
+pub mod TextbookBytes

@@ -9,7 +9,7 @@ use Rattle.typecodes.proofs.OneWay.{one_way-bind, one_way-block, one_way-done, o
 use Rattle.typecodes.proofs.Ways.{Way, way-bind, way-done, one_way-if}
 use Rattle.xmss.specs.Signature.{leaf_index, signature}
 use Rattle.xmss.specs.Key.{public_key}
-use Rattle.xmss.proofs.After.{after_chains, after_index, after_randomizer, after_root, after_tree, checked}
+use Rattle.xmss.proofs.After.{after_chains, after_index, after_randomizer, after_root, after_seed, after_tree, checked}
 
 pub one_way-public_key : OneSpelling public_key
 unfolding public_key
@@ -17,7 +17,7 @@ one_way-public_key =
     let way : Way public_key (λ _. Unit {0}) =
     way-bind xmss_type after_tree (λ key. key.tree) _ one_way-xmss_type (λ tree.
     way-bind (block 32) (after_root tree) (λ key. key.root) _ (one_way-block 32) (λ root.
-    way-bind (block 32) (λ seed. done (record { tree = tree; root = root; seed = seed })) (λ key. key.seed) _ (one_way-block 32) (λ seed.
+    way-bind (block 32) (after_seed tree root) (λ key. key.seed) _ (one_way-block 32) (λ seed.
     way-done _ _ (refl, (refl, (refl, tt)))))) in
     way.one
 

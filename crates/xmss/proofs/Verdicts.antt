@@ -1,7 +1,7 @@
 -- The key, the message and the bytes alone decide the answers of verification.
 use Rattle.std.proofs.Common.{◌≡◌, ℕ, List, Option, Result, Ok, Err, inl, inr, refl, sym, ap, subst, ◌∙◌}
 use Rattle.std.specs.Prelude.{◌≢◌, ◌⊎◌, IsOk}
-use Rattle.typecodes.specs.Message.{ReadWhole, Step}
+use Rattle.typecodes.specs.Message.{ReadWhole, Transition}
 use Rattle.typecodes.specs.Layout.{Spells}
 use Rattle.typecodes.specs.declared.refusal.Refusal.{Refusal}
 use Rattle.typecodes.specs.declared.refusal.Refusal.TheVariants.{Unreadable, TypeMismatch, LevelMismatch, RootMismatch, MessageRead}
@@ -23,15 +23,15 @@ verdict_of_digest key message digest bytes s (Err (RootMismatch level)) same spe
     (at, (s, spelled, λ valid. invalid (subst (λ d. IsValidFor key d s) (sym same) valid)))
 
 -- with a digest the message was read
-pub leaves_of_digest : {M A : Type 0} (step : Step M) (remaining : M → Option (List ℕ)) (text : List ℕ) (old new : M) (key : XmssPublic)
+pub leaves_of_digest : {M A : Type 0} (transition : Transition M) (remaining : M → Option (List ℕ)) (text : List ℕ) (old new : M) (key : XmssPublic)
     (digest : List ℕ) (s : Signature) (result : Result A Refusal) → DigestVerdict key digest s result
-    → ReadWhole step remaining text old new → LeavesMessage step remaining text old new result
-leaves_of_digest step remaining text old new key digest s (Ok x) verdict read = read
-leaves_of_digest step remaining text old new key digest s (Err (Unreadable fault)) never read = elim never [ ]
-leaves_of_digest step remaining text old new key digest s (Err (TypeMismatch level)) never read = elim never [ ]
-leaves_of_digest step remaining text old new key digest s (Err LevelMismatch) never read = elim never [ ]
-leaves_of_digest step remaining text old new key digest s (Err MessageRead) never read = elim never [ ]
-leaves_of_digest step remaining text old new key digest s (Err (RootMismatch level)) verdict read = read
+    → ReadWhole transition remaining text old new → LeavesMessage transition remaining text old new result
+leaves_of_digest transition remaining text old new key digest s (Ok x) verdict read = read
+leaves_of_digest transition remaining text old new key digest s (Err (Unreadable fault)) never read = elim never [ ]
+leaves_of_digest transition remaining text old new key digest s (Err (TypeMismatch level)) never read = elim never [ ]
+leaves_of_digest transition remaining text old new key digest s (Err LevelMismatch) never read = elim never [ ]
+leaves_of_digest transition remaining text old new key digest s (Err MessageRead) never read = elim never [ ]
+leaves_of_digest transition remaining text old new key digest s (Err (RootMismatch level)) verdict read = read
 
 -- a valid signature is refused by no answer, unless the message can't be read
 pub accepted : {A : Type 0} (key : XmssPublic) (message bytes : List ℕ) (result : Result A Refusal) → Verdict key message bytes result

@@ -24,9 +24,10 @@ pub fn message_digest_from<M: Message>(
     leaf: u32,
     message: &mut M,
 ) -> Result<[u8; 32], MessageFailed>
-    ensures ok { IfOk result (λ digest. (text : List ℕ) × ReadWhole M.step M.remaining text message.old message.new
+    ensures ok { IfOk result (λ digest. (text : List ℕ)
+        × ReadWhole M.transition M.remaining text message.old message.new
         × (digest ≡ message_digest_of randomizer.now root.now leaf text)) }
-    ensures err { OnErr result (CantBeRead M.step message.old message.new) }
+    ensures err { OnErr result (CantBeRead M.transition message.old message.new) }
 {
     hash_message_from(&digest_key(randomizer, root, leaf), message)
 }

@@ -1,7 +1,6 @@
 //! Public keys.
 
-ghost use Rattle.std.specs.Prelude.{◌≡◌, ◌+◌, ◌<◌, ◌^◌, OnErr, OnOk};
-ghost use Rattle.typecodes.specs.Cursor.{Gives, Reads, read};
+ghost use Rattle.typecodes.specs.Cursor.{Reads};
 
 use typecodes::{Cursor, ReadFault, XmssType};
 
@@ -19,32 +18,17 @@ pub struct XmssPublic {
 impl XmssPublic {
     ghost use Rattle.xmss.specs.Key.{public_key};
 
-    // The key at a cursor, 68 bytes: its type, the root and SEED. A fault leaves the cursor where it is.
-    #[tactic(auto, using(typecodes::proofs::Steps::reading), unfolding(crate::specs::Key::public_key))]
-    fn from_cursor(cursor: &mut Cursor<'_>) -> Result<Self, ReadFault>
-        requires { cursor.old.place + 68 < 2 ^ 32 }
-        ensures read { Gives (λ key. (key, cursor.new.place)) result
-            (read public_key cursor.old.bytes.now cursor.old.place) }
-        ensures len { OnOk result (cursor.new.place ≡ cursor.old.place + 68) }
-        ensures bytes { cursor.new.bytes ≡ cursor.old.bytes }
-        ensures err { OnErr result (cursor.new.place ≡ cursor.old.place) }
-    {
-        let mut rest = *cursor;
-        let tree = rest.xmss_type()?;
-        let root = *rest.array()?;
-        let seed = *rest.array()?;
-        *cursor = rest;
-        Ok(XmssPublic { tree, root, seed })
-    }
-
-    /// The key that the bytes spell, 68 bytes and no more. Otherwise their first fault (1, 2 or 5).
-    #[tactic(auto, using(typecodes::proofs::Steps::steps))]
+    /// The key that the bytes spell, 68 bytes and no more: its type, the root and SEED. Otherwise their first fault
+    /// (1, 2 or 5).
+    #[tactic(auto, using(crate::proofs::Fields::fields), unfolding(crate::specs::Key::public_key))]
     pub fn read(bytes: &[u8]) -> Result<Self, ReadFault>
         ensures { Reads public_key (λ key. key) bytes.now result }
     {
         let mut cursor = Cursor::new(bytes);
-        let key = Self::from_cursor(&mut cursor)?;
+        let tree = cursor.xmss_type()?;
+        let root = *cursor.array()?;
+        let seed = *cursor.array()?;
         cursor.end()?;
-        Ok(key)
+        Ok(XmssPublic { tree, root, seed })
     }
 }

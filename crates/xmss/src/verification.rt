@@ -25,7 +25,7 @@ pub fn verify<M: Message>(
 ) -> Result<(), Refusal>
     ensures { (text : List ℕ) × IsContent (M.remaining message.old) text
         × Verdict public.now text signature.now result
-        × LeavesMessage M.step M.remaining text message.old message.new result }
+        × LeavesMessage M.transition M.remaining text message.old message.new result }
 {
     let view = XmssSigView::read(public.tree, signature).map_err(Refusal::Unreadable)?;
     match message_digest_from(view.randomizer, &public.root, view.index, message) {

@@ -49,7 +49,7 @@ returns-in_err-key g c =
       fits,
       subst (Verdict key text c.args.signature.now) (sym is)
           (above-verdict (Unit {0}) key text c.args.signature.now s c.in_err-key.field-0.0 (spelled g after) (count g after) c.in_err-key.ensures),
-      subst (LeavesMessage g.M.Message.step g.M.Message.remaining key text c.args.message.now c.args.message.now) (sym is)
+      subst (LeavesMessage g.M.Message.transition g.M.Message.remaining key text c.args.message.now c.args.message.now) (sym is)
           (above-leaves _ _ (Unit {0}) key s text c.args.message.now c.in_err-key.field-0.0 (count g after) c.in_err-key.ensures),
     )
 

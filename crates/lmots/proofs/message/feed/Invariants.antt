@@ -6,4 +6,4 @@ use Rattle.lmots.proofs.message.feed.Given as goal
 abbrev pub invariant-loop-turn : goal.invariant-loop-turn
 invariant-loop-turn g l =
     (length l.piece ≡ 16384)
-    × HasFed g.M.Message.step g.M.Message.remaining Holds256 l.turn l.initial.hasher l.hasher l.initial.message l.message
+    × HasFed g.M.Message.transition g.M.Message.remaining Holds256 l.turn l.initial.hasher l.hasher l.initial.message l.message

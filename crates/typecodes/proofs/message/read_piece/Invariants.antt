@@ -7,4 +7,4 @@ abbrev pub invariant-loop-turn : goal.invariant-loop-turn
 invariant-loop-turn g l =
     (length l.buffer ≡ length l.initial.buffer) × (l.at ≤ length l.buffer)
     × Consumes (g.M.Message.remaining l.initial.message) (g.M.Message.remaining l.message) (take l.at l.buffer)
-    × Progress g.M.Message.step l.turn (take l.at l.buffer) l.initial.message l.message
+    × Progress g.M.Message.transition l.turn (take l.at l.buffer) l.initial.message l.message

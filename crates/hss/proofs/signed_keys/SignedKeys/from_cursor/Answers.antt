@@ -1,7 +1,7 @@
 use Rattle.std.proofs.Common.{◌≡◌, ◌+◌, ◌<◌, ◌∙◌, refl, sym, ap, [], Some, Ok, Err, arith, rules, length, subst, length-set, ◌++◌, ◌∷◌}
 use Rattle.std.specs.Prelude.{set, take}
 use Rattle.typecodes.specs.Cursor.{read}
-use Rattle.hss.specs.SignedKey.{AreFirst, StandInTurn, StandsAt, signed_in, signed_key, signed_key_of, taken_by}
+use Rattle.hss.specs.SignedKey.{AreFirst, StandInTurn, BeginsAt, signed_in, signed_key, signed_key_of, taken_by}
 use Rattle.hss.proofs.Passing.{keys-faulty, keys-next, keys-none}
 use Rattle.hss.proofs.Slots.{set-first, set-shows, set-stand, shown-front, unused-first, unused-stand}
 use Rattle.hss.proofs.Walking.{keys-end}
@@ -34,8 +34,8 @@ loop-i-preserved c =
     let at : c.loop-i.cursor.place ≡ place + taken_by (signed_in (take i slots)) =
     (keys-end i bytes place c.loop-i.cursor.place (signed_in slots) c.args.cursor.now.within c.loop-i.invariant.read).1
     ∙ ap (λ keys. place + taken_by keys) (shown-front i slots c.loop-i.invariant.first) in
-    let here : StandsAt (place + taken_by (signed_in (take i slots))) bytes view =
-    subst (λ at. StandsAt at bytes view) at (subst (λ b. StandsAt c.loop-i.cursor.place b view) same c.in_ok-from_cursor.ensures.part) in
+    let here : BeginsAt (place + taken_by (signed_in (take i slots))) bytes view =
+    subst (λ at. BeginsAt at bytes view) at (subst (λ b. BeginsAt c.loop-i.cursor.place b view) same c.in_ok-from_cursor.ensures.part) in
     let shows : signed_in slots ++ signed_key_of view ∷ [] ≡ signed_in (set slots c.from.result (Some view)) =
     sym (set-shows slots i view within empty) ∙ ap (λ k. signed_in (set slots k (Some view))) (sym c.from.ensures) in
     record {

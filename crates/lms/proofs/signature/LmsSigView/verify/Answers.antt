@@ -15,7 +15,7 @@ returns-in_err-check_types g c =
       text,
       fits,
       subst (LevelVerdict c.args.public.now text (signature_of c.args.self.now) c.args.level) (sym is) (refl, c.in_err-check_types.ensures.1),
-      subst (LeavesMessage g.M.Message.step g.M.Message.remaining text c.args.message.now c.args.message.now) (sym is) refl,
+      subst (LeavesMessage g.M.Message.transition g.M.Message.remaining text c.args.message.now c.args.message.now) (sym is) refl,
     )
 
 -- the message was read
