@@ -3,6 +3,7 @@ pub mod Blocks
 pub mod Contents
 pub mod Finding
 pub mod Kept
+pub mod Levels
 pub mod Legal
 pub mod Lists
 pub mod Log

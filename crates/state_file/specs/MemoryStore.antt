@@ -30,6 +30,10 @@ has_stopped store = store.stopped
 abbrev pub failures_of : MemoryStore → ℕ
 failures_of store = store.failures
 
+-- how often memory was refused to it
+abbrev pub refusals_of : MemoryStore → ℕ
+refusals_of store = store.refusals
+
 -- there is room for one record more in the memory that it has
 abbrev pub HasRoom : MemoryStore → Type 0
 HasRoom store = vec_len store.records < vec_capacity store.records

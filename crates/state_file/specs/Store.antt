@@ -40,6 +40,14 @@ Appends most old old_stopped entry new new_stopped before after (Err OutOfMemory
 Appends most old old_stopped entry new new_stopped before after (Err Full) =
     (old_stopped ≡ false) × (most ≤ length old) × (new ≡ old) × (new_stopped ≡ false) × (after ≡ before)
 
+-- An answer 46 counts as a refusal of memory, and no other does.
+abbrev pub is_out_of_memory : StoreFault → Bool
+is_out_of_memory Stopped = false
+is_out_of_memory (Damaged k) = false
+is_out_of_memory DeviceFailed = false
+is_out_of_memory OutOfMemory = true
+is_out_of_memory Full = false
+
 -- the record that load may give: record k, where the store is honest
 abbrev pub IsRecordAt : Bool → List Record → ℕ → Record → Type 0
 IsRecordAt true list k entry = slice_get list k ≡ Some entry

@@ -31,6 +31,6 @@ mod store;
 pub use crate::disk::{Disk, DiskFault, MemoryDisk, Pick};
 pub use crate::file::{FormatFault, OpenFault};
 pub use crate::laws::{content_laws, legal_laws, slot_laws};
-pub use crate::record::{Bound, Extend, Key, Record, Secret, Version};
+pub use crate::record::{Bound, Extend, Key, Record, RecordList, Secret, Version};
 pub use crate::refused::Refused;
 pub use crate::store::{Cut, FileStore, MemoryStore, Store, StoreFault};

@@ -1,13 +1,13 @@
 //! The records of a key. None that holds a secret can be printed.
 
-ghost use Rattle.std.specs.Prelude.{◌≡◌};
+ghost use Rattle.std.specs.Prelude.{◌≡◌, ◌<◌, ◌≤◌, ◌^◌};
 ghost use Rattle.typecodes.specs.Types.{named};
 ghost use Rattle.state_file.specs.Slot.{version_code, versions};
 ghost use Rattle.state_file.specs.declared.record.Version.{Version as V};
 
 mod list;
 
-pub(crate) use list::RecordList;
+pub use list::RecordList;
 use typecodes::{Levels, LmsPair, Name, XmssType};
 
 /// One record. A list of them stands for a key and all that it has signed.
@@ -161,6 +161,43 @@ impl Secret {
             },
         }
     }
+}
+
+impl Secret {
+    ghost use Rattle.state_file.specs.Laws.{leaves_at, levels_of};
+
+    /// How many levels of trees a key has: 1 but for HSS.
+    pub fn levels(&self) -> u8
+        ensures { result ≡ levels_of self.now }
+    {
+        match self {
+            Secret::Hss { levels, .. } => levels.count().get(),
+            Secret::Lms { .. } | Secret::Xmss { .. } => 1,
+        }
+    }
+
+    /// How many leaves a tree of a level has, 0 below the bottom one.
+    pub fn leaves(&self, level: u8) -> u32
+        requires { level < levels_of self.now }
+        ensures { result ≡ leaves_at self.now level }
+    {
+        match self {
+            Secret::Lms { pair, .. } => leaves_of(pair.tree.height()),
+            Secret::Hss { levels, .. } => match levels.as_slice().get(usize::from(level)) {
+                Some(pair) => leaves_of(pair.tree.height()),
+                None => 0,
+            },
+            Secret::Xmss { tree, .. } => leaves_of(tree.height()),
+        }
+    }
+}
+
+// How many leaves a tree of a height has.
+fn leaves_of(height: u8) -> u32
+    requires { height ≤ 25 }
+    ensures { result ≡ 2 ^ height }
+{
+    1 << height
 }
 
 /// A new tree of a lower level of HSS, and the leaf of the tree above that signs its public key.

@@ -1,7 +1,7 @@
 //! What a store of records is.
 
 ghost use Rattle.std.specs.Prelude.{◌≡◌, ◌⊎◌, ◌≤◌, ◌∷◌, [], ◌++◌, ℕ, List, Bool, true, false, IsTrue, length};
-ghost use Rattle.state_file.specs.Disk.{LeavesOnly};
+ghost use Rattle.state_file.specs.Disk.{Counts, LeavesOnly};
 
 mod file_store;
 mod memory_store;
@@ -36,7 +36,7 @@ pub enum StoreFault {
 /// A list of records that grows at its end.
 pub trait Store {
     ghost use Rattle.state_file.specs.declared.record.Record.{Record as R};
-    ghost use Rattle.state_file.specs.Store.{Appends, CanFollow, Loads};
+    ghost use Rattle.state_file.specs.Store.{Appends, CanFollow, Loads, is_out_of_memory};
 
     // its records
     ghost list: { Self → List R };
@@ -46,6 +46,9 @@ pub trait Store {
 
     // how often its device has failed
     ghost failures: { Self → ℕ };
+
+    // how often memory was refused to it
+    ghost refusals: { Self → ℕ };
 
     // whether its device keeps what was synced
     ghost honest: { Self → Bool };
@@ -65,6 +68,7 @@ pub trait Store {
         ensures answer { Loads (honest self.old) (list self.old) (stopped self.old) k (stopped self.new)
             (failures self.old)
             (failures self.new) result }
+        ensures refusals { Counts is_out_of_memory (refusals self.old) (refusals self.new) result }
         ensures same { list self.new ≡ list self.old }
         ensures any_moment { IsTrue (honest self.old) → stopped self.old ≡ false →
             LeavesOnly moment left_since self.old self.new (λ left. left ≡ list self.old) }
@@ -83,6 +87,7 @@ pub trait Store {
         ensures answer { Appends (most self.old) (list self.old) (stopped self.old) new.now (list self.new)
             (stopped self.new)
             (failures self.old) (failures self.new) result }
+        ensures refusals { Counts is_out_of_memory (refusals self.old) (refusals self.new) result }
         ensures honest { honest self.new ≡ honest self.old }
         ensures most { most self.new ≡ most self.old };
 

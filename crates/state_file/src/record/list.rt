@@ -8,7 +8,7 @@ use std::marker::Model;
 
 /// A list of records that contracts alone see. It takes no bytes; `push` adds a record.
 #[derive(Drop)]
-pub(crate) struct RecordList {
+pub struct RecordList {
     ghost records: { List R },
 }
 
@@ -23,14 +23,14 @@ impl Model for RecordList {
 
 impl RecordList {
     /// A list of no records.
-    pub(crate) fn new() -> Self
+    pub fn new() -> Self
         ensures { result ≡ [] }
     {
         RecordList {}
     }
 
     /// Adds a record at the end.
-    pub(crate) fn push(&mut self, _record: &Record)
+    pub fn push(&mut self, _record: &Record)
         ensures { self.new ≡ self.old ++ _record.now ∷ [] }
     {}
 }

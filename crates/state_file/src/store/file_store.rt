@@ -12,7 +12,7 @@ ghost use Rattle.state_file.specs.Format.{is_failed_format, Formats, LeftByForma
 ghost use Rattle.state_file.specs.Opening.{is_failed_opening, OnlyReads, Settles, Reports};
 ghost use Rattle.std.proofs.Common.{inl};
 ghost use Rattle.state_file.specs.Slot.{slot_record};
-ghost use Rattle.state_file.specs.Store.{Appends, CanFollow, Loads, ReadsTag};
+ghost use Rattle.state_file.specs.Store.{Appends, CanFollow, Loads, ReadsTag, is_out_of_memory};
 
 #[cfg(test)]
 mod tests;
@@ -164,6 +164,9 @@ impl<D: Disk + Drop> Store for FileStore<D> {
 
     ghost failures = { λ store. D.failures (disk_of store) };
 
+    // It takes no memory.
+    ghost refusals = { λ _. 0 };
+
     ghost honest = { λ store. D.honest (disk_of store) };
 
     ghost most = { λ _. 2 ^ 31 };
@@ -190,6 +193,7 @@ impl<D: Disk + Drop> Store for FileStore<D> {
         ensures answer { Loads (D.honest (disk_of self.old)) (records_of self.old) (has_stopped self.old) k
             (has_stopped self.new)
             (D.failures (disk_of self.old)) (D.failures (disk_of self.new)) result }
+        ensures refusals { Counts is_out_of_memory 0 0 result }
         ensures memory { result ≢ Err StoreFault.OutOfMemory }
         ensures same { records_of self.new ≡ records_of self.old }
         ensures reads { IsTrue (D.honest (disk_of self.old)) → has_stopped self.old ≡ false →
@@ -239,6 +243,7 @@ impl<D: Disk + Drop> Store for FileStore<D> {
             (ChangesOnly (slot_and_gate (length (records_of self.old)) ∷ []) (D.state (disk_of self.old)).content) }
         ensures answer { Appends (2 ^ 31) (records_of self.old) (has_stopped self.old) new.now (records_of self.new)
             (has_stopped self.new) (D.failures (disk_of self.old)) (D.failures (disk_of self.new)) result }
+        ensures refusals { Counts is_out_of_memory 0 0 result }
         ensures memory { result ≢ Err StoreFault.OutOfMemory }
         ensures full { result ≡ Err StoreFault.Full → self.new ≡ self.old }
         ensures adds { IsTrue (D.honest (disk_of self.old)) →

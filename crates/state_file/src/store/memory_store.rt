@@ -2,8 +2,8 @@
 
 ghost use Rattle.std.specs.Prelude.{◌⊎◌, IsTrue, length, ◌≡◌, ◌≢◌, ◌≤◌, ◌<◌, ◌+◌, true, false, [], ◌∷◌, ◌++◌, IfErr};
 ghost use Rattle.std.specs.Prelude.{OnOk, OnErr, if◌then◌else◌, slice_get, vec_len, vec_capacity};
-ghost use Rattle.state_file.specs.Disk.{LeavesOnly};
-ghost use Rattle.state_file.specs.Store.{Appends, Loads};
+ghost use Rattle.state_file.specs.Disk.{Counts, LeavesOnly};
+ghost use Rattle.state_file.specs.Store.{Appends, Loads, is_out_of_memory};
 
 use crate::record::Record;
 use crate::store::{Store, StoreFault};
@@ -26,12 +26,13 @@ pub struct MemoryStore {
     cut: Option<(u32, Cut)>,
     stopped: bool,
     failures: Count,
+    refusals: Count,
     ghost few: { length records.items ≤ limit },
 }
 
 impl MemoryStore {
     ghost use Rattle.state_file.specs.MemoryStore.{cut_of, cut_of_append, failures_of, has_stopped, limit_of};
-    ghost use Rattle.state_file.specs.MemoryStore.{records_of};
+    ghost use Rattle.state_file.specs.MemoryStore.{records_of, refusals_of};
 
     /// An empty store that takes `limit` records.
     pub fn with_limit(alloc: Global, limit: u32) -> Self
@@ -40,6 +41,7 @@ impl MemoryStore {
         ensures cut { cut_of result ≡ None }
         ensures stopped { has_stopped result ≡ false }
         ensures failures { failures_of result ≡ 0 }
+        ensures refusals { refusals_of result ≡ 0 }
     {
         MemoryStore {
             records: Vec::new(alloc),
@@ -47,6 +49,7 @@ impl MemoryStore {
             cut: None,
             stopped: false,
             failures: Count::new(),
+            refusals: Count::new(),
         }
     }
 
@@ -60,6 +63,7 @@ impl MemoryStore {
         ensures limit { limit_of self.new ≡ limit_of self.old }
         ensures stopped { has_stopped self.new ≡ has_stopped self.old }
         ensures failures { failures_of self.new ≡ failures_of self.old }
+        ensures refusals { refusals_of self.new ≡ refusals_of self.old }
     {
         self.cut = n.checked_sub(1).map(|before| (before, cut));
     }
@@ -71,6 +75,7 @@ impl MemoryStore {
         ensures limit { limit_of self.new ≡ limit_of self.old }
         ensures cut { cut_of self.new ≡ cut_of self.old }
         ensures failures { failures_of self.new ≡ failures_of self.old }
+        ensures refusals { refusals_of self.new ≡ refusals_of self.old }
     {
         self.stopped = false;
     }
@@ -80,6 +85,7 @@ impl MemoryStore {
         ensures fault { result ≡ StoreFault.DeviceFailed }
         ensures stopped { has_stopped self.new ≡ true }
         ensures failures { failures_of self.new ≡ failures_of self.old + 1 }
+        ensures refusals { refusals_of self.new ≡ refusals_of self.old }
         ensures cut { cut_of self.new ≡ None }
         ensures records { records_of self.new ≡ records_of self.old }
         ensures limit { limit_of self.new ≡ limit_of self.old }
@@ -94,13 +100,15 @@ impl MemoryStore {
 impl Store for MemoryStore {
     ghost use Rattle.state_file.specs.MemoryStore.{Cuts, HadBeen, HasRoom, had_been_all, had_been_only};
     ghost use Rattle.state_file.specs.MemoryStore.{cut_of, failures_of, has_stopped, limit_of};
-    ghost use Rattle.state_file.specs.MemoryStore.{records_of};
+    ghost use Rattle.state_file.specs.MemoryStore.{records_of, refusals_of};
 
     ghost list = { records_of };
 
     ghost stopped = { has_stopped };
 
     ghost failures = { failures_of };
+
+    ghost refusals = { refusals_of };
 
     ghost honest = { λ _. true };
 
@@ -121,6 +129,7 @@ impl Store for MemoryStore {
         ensures answer { Loads true (records_of self.old) (has_stopped self.old) k (has_stopped self.new)
             (failures_of self.old)
             (failures_of self.new) result }
+        ensures refusals { Counts is_out_of_memory (refusals_of self.old) (refusals_of self.new) result }
         ensures same { records_of self.new ≡ records_of self.old }
         ensures any_moment { IsTrue true → has_stopped self.old ≡ false →
             LeavesOnly (λ store. length (records_of store)) (λ store. HadBeen (records_of store)) self.old self.new
@@ -143,6 +152,7 @@ impl Store for MemoryStore {
         ensures answer { Appends (limit_of self.old) (records_of self.old) (has_stopped self.old) new.now
             (records_of self.new)
             (has_stopped self.new) (failures_of self.old) (failures_of self.new) result }
+        ensures refusals { Counts is_out_of_memory (refusals_of self.old) (refusals_of self.new) result }
         ensures any_moment { IsTrue true → has_stopped self.old ≡ false →
             LeavesOnly (λ store. length (records_of store)) (λ store. HadBeen (records_of store)) self.old self.new
             (λ left. (left ≡ records_of self.old) ⊎ (left ≡ records_of self.old ++ new.now ∷ [])) }
@@ -159,14 +169,14 @@ impl Store for MemoryStore {
             return Err(StoreFault::Full);
         }
         match self.cut {
-            None => push_copy(&mut self.records, new),
+            None => push_copy(&mut self.records, &mut self.refusals, new),
             Some((0, Cut::Old)) => Err(self.fail()),
             Some((0, Cut::New)) => {
-                push_copy(&mut self.records, new)?;
+                push_copy(&mut self.records, &mut self.refusals, new)?;
                 Err(self.fail())
             }
             Some((before, cut)) => {
-                push_copy(&mut self.records, new)?;
+                push_copy(&mut self.records, &mut self.refusals, new)?;
                 self.cut = Some((before - 1, cut));
                 Ok(())
             }
@@ -178,14 +188,23 @@ impl Store for MemoryStore {
     }
 }
 
-// Adds a record at the end, or leaves the list as it is where memory is refused.
-fn push_copy(records: &mut Vec<Record>, new: &Record) -> Result<(), StoreFault>
+// Adds a record at the end. Where memory is refused it counts that, and leaves the list as it is.
+fn push_copy(
+    records: &mut Vec<Record>,
+    refusals: &mut Count,
+    new: &Record,
+) -> Result<(), StoreFault>
     ensures ok { OnOk result (records.new.items ≡ records.old.items ++ new.now ∷ []) }
     ensures err { OnErr result (records.new.items ≡ records.old.items) }
     ensures full { OnErr result (vec_capacity records.old ≤ vec_len records.old) }
     ensures fault { IfErr result (λ e. e ≡ StoreFault.OutOfMemory) }
+    ensures refusals { Counts is_out_of_memory refusals.old refusals.new result }
 {
-    records
-        .push(new.copied())
-        .map_err(|_| StoreFault::OutOfMemory)
+    match records.push(new.copied()) {
+        Ok(()) => Ok(()),
+        Err(_) => {
+            refusals.add_one();
+            Err(StoreFault::OutOfMemory)
+        }
+    }
 }
