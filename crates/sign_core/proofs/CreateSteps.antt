@@ -6,6 +6,7 @@ use Rattle.typecodes.specs.declared.types.LmsPair.{LmsPair}
 use Rattle.state_file.specs.declared.record.Record.{Record}
 use Rattle.lms.specs.declared.key.LmsPublic.{LmsPublic}
 use Rattle.sign_core.specs.declared.fault.SignFault.{SignFault}
+use Rattle.sign_core.specs.declared.fault.SignFault.TheVariants.{RandomRepeated, MessageRead, Moved, RetireRange, NoKey, Illegal, DeviceFailed, NoMemoryToOpen}
 use Rattle.sign_core.specs.declared.fault.SignFault.TheVariants.{Changed, Exhausted, RandomFailed, StoreFailed, Stopped, Damaged, OutOfMemory, LedgerFull, Unreadable, KeyThere}
 use Rattle.sign_core.specs.Ledger.{key_record, public_key_of}
 use Rattle.sign_core.specs.World.{Creation, Fate, State, acked, appended, created, created_after, made, new_key, refused}
@@ -47,6 +48,14 @@ found_creates pair stopped honest running list before after upcoming Exhausted h
 found_creates pair stopped honest running list before after upcoming RandomFailed h = absurd h
 found_creates pair stopped honest running list before after upcoming (Damaged k) h = absurd h
 found_creates pair stopped honest running list before after upcoming LedgerFull h = absurd h
+found_creates pair stopped honest running list before after upcoming RandomRepeated h = absurd h
+found_creates pair stopped honest running list before after upcoming MessageRead h = absurd h
+found_creates pair stopped honest running list before after upcoming Moved h = absurd h
+found_creates pair stopped honest running list before after upcoming RetireRange h = absurd h
+found_creates pair stopped honest running list before after upcoming NoKey h = absurd h
+found_creates pair stopped honest running list before after upcoming (Illegal k) h = absurd h
+found_creates pair stopped honest running list before after upcoming DeviceFailed h = absurd h
+found_creates pair stopped honest running list before after upcoming NoMemoryToOpen h = absurd h
 
 -- a create where no record stands
 empty_step : (pair : LmsPair) (list : List Record) (chance : Creation) → chance.failed_load ≡ None → length list ≡ 0 → created (state_of list false) pair chance ≡ made (state_of list false) pair chance chance.drawn

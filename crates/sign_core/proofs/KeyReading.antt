@@ -9,7 +9,8 @@ use Rattle.sign_core.specs.declared.key.AnyPublic.TheVariants.{Lms, Hss, Xmss}
 use Rattle.sign_core.specs.declared.key.KeyFault.{KeyFault}
 use Rattle.sign_core.specs.declared.key.KeyFault.TheVariants.{Length, Unreadable}
 use Rattle.sign_core.specs.Key.{KeyHasFault, SpellsKey}
-use Rattle.sign_core.proofs.KeySizes.{size-lms_key, size-hss_key, size-xmss_key}
+use Rattle.lms.proofs.Sizes.{size-public_key as size-lms_key}
+use Rattle.sign_core.proofs.KeySizes.{size-hss_key, size-xmss_key}
 
 -- lengths of two schemes are two
 apart : {A : Type 0} (m n k : ℕ) → k ≡ m → k ≡ n → (m ≡ n → ⊥) → A

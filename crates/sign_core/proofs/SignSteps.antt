@@ -9,11 +9,12 @@ use Rattle.state_file.specs.declared.record.Record.{Record}
 use Rattle.state_file.specs.declared.record.Record.TheVariants.{Key as KeyRecord, Extend as ExtendRecord, Bound as BoundRecord, Retire, Moved}
 use Rattle.state_file.specs.Store.{is_key}
 use Rattle.sign_core.specs.declared.fault.SignFault.{SignFault}
+use Rattle.sign_core.specs.declared.fault.SignFault.TheVariants.{RandomRepeated, MessageRead, Moved as MovedFault, RetireRange, NoKey, Illegal, DeviceFailed, NoMemoryToOpen}
 use Rattle.sign_core.specs.declared.fault.SignFault.TheVariants.{Changed, Exhausted, RandomFailed, StoreFailed, Stopped, Damaged, OutOfMemory, LedgerFull, Unreadable, KeyThere}
 use Rattle.sign_core.specs.Ledger.{above_of, binding_of, bound_in, bounds_of, is_sound, key_of, key_record, next_leaf, same_bytes, signature_of}
 use Rattle.sign_core.specs.World.{Chance, Fate, Outcome, State, acked, cut_old, cut_new, no_memory, appended, bound_anew, bound_to, new_bound, refused, repeated, requested, requested_of, requested_under}
 use Rattle.sign_core.specs.Ledger.{LacksMemory}
-use Rattle.sign_core.specs.Signer.{Leaves, Signs, View, is_read, state_of}
+use Rattle.sign_core.specs.Signer.{Leaves, RefusalCount, Signs, View, is_read, state_of}
 use Rattle.sign_core.specs.Once.{IsDrawn}
 use Rattle.sign_core.specs.Source.{Provides}
 use Rattle.sign_core.specs.Signing.{DrawsBytes, AppendsEntry}
@@ -152,15 +153,53 @@ read_anew : (list : List Record) (name message : List ℕ) (drawn : Option (List
 read_anew list name message drawn none =
     ap (λ (bound : Option Bound). if (true && is_some bound) || is_some drawn then [] else message) none
 
+-- ---- how often the store has refused memory
+
+-- a repeat doesn't call it
+repeat_counts : (key : LmsKey) (bound : Bound) (message : List ℕ) (has_room : Bool) (answer : Result (List ℕ) SignFault) (n : ℕ)
+    → answer ≡ repeated key bound message (record { drawn = None; has_room = has_room; fate = acked })
+    → RefusalCount answer has_room n n
+repeat_counts key bound message has_room answer n made =
+    subst (λ (a : Result (List ℕ) SignFault). RefusalCount a has_room n n) (sym made)
+    (by_tests (not (same_bytes (message_digest_of key.identifier bound.leaf bound.randomizer message) bound.digest)) has_room (is_sound key))
+  where
+    by_tests : (changed room sound : Bool) → RefusalCount (if changed then Err Changed
+        else (if not room then Err OutOfMemory else (if not sound then Err (Damaged 0) else Ok (signature_of key bound)))) room n n
+    by_tests true room sound = refl
+    by_tests false false sound = refl
+    by_tests false true false = refl
+    by_tests false true true = refl
+
+-- nor does what hinders a new name
+hindrance_counts : (limit height next count : ℕ) (has_room sound : Bool) (fault : SignFault) (n : ℕ)
+    → Some fault ≡ hindrance limit height next count has_room sound → RefusalCount {A = List ℕ} (Err fault) has_room n n
+hindrance_counts limit height next count has_room sound fault n is =
+    by_tests (nat_le (2 ^ height) next) (nat_lt limit (count + 1)) has_room sound is
+  where
+    counted : (room : Bool) (why : SignFault) → RefusalCount {A = List ℕ} (Err why) room n n → Some fault ≡ Some why
+        → RefusalCount {A = List ℕ} (Err fault) room n n
+    counted room why counts same =
+        let fault_is : fault ≡ why = cc in
+        subst (λ (f : SignFault). RefusalCount {A = List ℕ} (Err f) room n n) (sym fault_is) counts
+
+    by_tests : (used full room good : Bool) → Some fault ≡ (if used then Some Exhausted
+        else (if full then Some LedgerFull else (if not room then Some OutOfMemory else (if not good then Some (Damaged 0) else None))))
+        → RefusalCount {A = List ℕ} (Err fault) room n n
+    by_tests true full room good e = counted room Exhausted refl e
+    by_tests false true room good e = counted room LedgerFull refl e
+    by_tests false false false good e = counted false OutOfMemory refl e
+    by_tests false false true false e = counted true (Damaged 0) refl e
+    by_tests false false true true e = absurd (cc)
+
 -- to a signer that is closed
-pub closed_signs : (limit : ℕ) (lacking : Type 0) (list : List Record) (upcoming : Option (List ℕ)) (name message : List ℕ) → Signs limit lacking (state_of list false) (state_of list false) upcoming upcoming name message message (Err Stopped)
-closed_signs limit lacking list upcoming name message =
+pub closed_signs : (limit : ℕ) (lacking : Type 0) (list : List Record) (upcoming : Option (List ℕ)) (refusals : ℕ) (name message : List ℕ) → Signs limit lacking (state_of list false) (state_of list false) upcoming upcoming refusals refusals name message message (Err Stopped)
+closed_signs limit lacking list upcoming refusals name message =
     let chance : Chance = record { drawn = None; has_room = true; fate = acked } in
-    record { chance = chance; step = closed_step limit list name message chance; drawn = refl; possible = tt; memory = λ e. absurd (cc); early = λ e. refl; read = refl }
+    record { chance = chance; step = closed_step limit list name message chance; drawn = refl; possible = tt; memory = λ e. absurd (cc); early = λ e. refl; refusals = refl; read = refl }
 
 -- under a name that is bound
-pub repeat_signs : (limit : ℕ) (lacking : Type 0) (list : List Record) (key : LmsKey) (bound : Bound) (upcoming : Option (List ℕ)) (name message : List ℕ) (has_room : Bool) (answer : Result (List ℕ) SignFault) → key_of list ≡ Some key → binding_of list name ≡ Some bound → answer ≡ repeated key bound message (record { drawn = None; has_room = has_room; fate = acked }) → (has_room ≡ false → lacking) → Signs limit lacking (state_of list true) (state_of list true) upcoming upcoming name message [] answer
-repeat_signs limit lacking list key bound upcoming name message has_room answer is found made lacks =
+pub repeat_signs : (limit : ℕ) (lacking : Type 0) (list : List Record) (key : LmsKey) (bound : Bound) (upcoming : Option (List ℕ)) (refusals : ℕ) (name message : List ℕ) (has_room : Bool) (answer : Result (List ℕ) SignFault) → key_of list ≡ Some key → binding_of list name ≡ Some bound → answer ≡ repeated key bound message (record { drawn = None; has_room = has_room; fate = acked }) → (has_room ≡ false → lacking) → Signs limit lacking (state_of list true) (state_of list true) upcoming upcoming refusals refusals name message [] answer
+repeat_signs limit lacking list key bound upcoming refusals name message has_room answer is found made lacks =
     let chance : Chance = record { drawn = None; has_room = has_room; fate = acked } in
     let nothing : Option (List ℕ) = None in
     let step = repeated_step limit list key bound name message chance is found in record {
@@ -170,6 +209,7 @@ repeat_signs limit lacking list key bound upcoming name message has_room answer 
       possible = tt;
       memory = lacks;
       early = λ e. refl;
+      refusals = repeat_counts key bound message has_room answer refusals made;
       read = ap (λ (o : Option Bound). if (true && is_some o) || is_some nothing then [] else message) (sym found);
     }
 
@@ -180,8 +220,8 @@ pub record FreeName (limit : ℕ) (lacking : Type 0) (list : List Record) (stopp
   pub hinders : Hinders limit (height_of key.pair.tree) leaf (length bounds + 1) lacking (is_sound key) fault
 
 -- under a new name, where something hinders
-pub hindered_signs : (limit : ℕ) (lacking : Type 0) (list : List Record) (stopped : Bool) (key : LmsKey) (bounds : List Bound) (leaf : ℕ) (upcoming : Option (List ℕ)) (name message : List ℕ) (fault : SignFault) → FreeName limit lacking list stopped key bounds leaf name (Some fault) → Signs limit lacking (state_of list true) (state_of list true) upcoming upcoming name message message (Err fault)
-hindered_signs limit lacking list stopped key bounds leaf upcoming name message fault free =
+pub hindered_signs : (limit : ℕ) (lacking : Type 0) (list : List Record) (stopped : Bool) (key : LmsKey) (bounds : List Bound) (leaf : ℕ) (upcoming : Option (List ℕ)) (refusals : ℕ) (name message : List ℕ) (fault : SignFault) → FreeName limit lacking list stopped key bounds leaf name (Some fault) → Signs limit lacking (state_of list true) (state_of list true) upcoming upcoming refusals refusals name message message (Err fault)
+hindered_signs limit lacking list stopped key bounds leaf upcoming refusals name message fault free =
     let chance : Chance = record { drawn = None; has_room = free.hinders.0; fate = acked } in record {
       chance = chance;
       step = anew_kept limit list stopped key bounds leaf name message chance (Some fault) free.kept free.unbound free.hinders.1;
@@ -189,12 +229,13 @@ hindered_signs limit lacking list stopped key bounds leaf upcoming name message 
       possible = tt;
       memory = free.hinders.2;
       early = λ e. refl;
+      refusals = hindrance_counts limit (height_of key.pair.tree) leaf (length bounds + 1) free.hinders.0 (is_sound key) fault refusals free.hinders.1;
       read = sym (read_anew list name message None free.unbound);
     }
 
 -- under a new name, where the source fails
-pub undrawn_signs : (limit : ℕ) (lacking : Type 0) (list : List Record) (stopped : Bool) (key : LmsKey) (bounds : List Bound) (leaf : ℕ) (upcoming left : Option (List ℕ)) (name message : List ℕ) → FreeName limit lacking list stopped key bounds leaf name None → left ≡ upcoming → Signs limit lacking (state_of list true) (state_of list true) upcoming left name message message (Err RandomFailed)
-undrawn_signs limit lacking list stopped key bounds leaf upcoming left name message free same =
+pub undrawn_signs : (limit : ℕ) (lacking : Type 0) (list : List Record) (stopped : Bool) (key : LmsKey) (bounds : List Bound) (leaf : ℕ) (upcoming left : Option (List ℕ)) (refusals : ℕ) (name message : List ℕ) → FreeName limit lacking list stopped key bounds leaf name None → left ≡ upcoming → Signs limit lacking (state_of list true) (state_of list true) upcoming left refusals refusals name message message (Err RandomFailed)
+undrawn_signs limit lacking list stopped key bounds leaf upcoming left refusals name message free same =
     let chance : Chance = record { drawn = None; has_room = free.hinders.0; fate = acked } in record {
       chance = chance;
       step = anew_kept limit list stopped key bounds leaf name message chance None free.kept free.unbound free.hinders.1;
@@ -202,14 +243,16 @@ undrawn_signs limit lacking list stopped key bounds leaf upcoming left name mess
       possible = tt;
       memory = free.hinders.2;
       early = λ e. refl;
+      refusals = refl;
       read = sym (read_anew list name message None free.unbound);
     }
 
 -- under a new name whose record is appended
-pub appended_signs : (limit : ℕ) (lacking : Type 0) (list new : List Record) (is_open stopped : Bool) (key : LmsKey) (bounds : List Bound) (leaf : ℕ) (upcoming left : Option (List ℕ)) (name message randomizer : List ℕ) (fate : Fate) (answer : Result (List ℕ) SignFault) → FreeName limit lacking list stopped key bounds leaf name None → IsDrawn (Some randomizer) → Provides upcoming randomizer left → (let bound = new_bound key leaf name message randomizer in appended (state_of list true) (BoundRecord bound) (signature_of key bound) fate ≡ record { state = state_of new is_open; answer = answer }) → Signs limit lacking (state_of list true) (state_of new is_open) upcoming left name message [] answer
-appended_signs limit lacking list new is_open stopped key bounds leaf upcoming left name message randomizer fate answer free drawn gave made =
+pub appended_signs : (limit : ℕ) (lacking : Type 0) (list new : List Record) (is_open stopped : Bool) (key : LmsKey) (bounds : List Bound) (leaf : ℕ) (upcoming left : Option (List ℕ)) (before after : ℕ) (name message randomizer : List ℕ) (fate : Fate) (answer : Result (List ℕ) SignFault) → FreeName limit lacking list stopped key bounds leaf name None → IsDrawn (Some randomizer) → Provides upcoming randomizer left → RefusalCount answer true before after → (let bound = new_bound key leaf name message randomizer in appended (state_of list true) (BoundRecord bound) (signature_of key bound) fate ≡ record { state = state_of new is_open; answer = answer }) → Signs limit lacking (state_of list true) (state_of new is_open) upcoming left before after name message [] answer
+appended_signs limit lacking list new is_open stopped key bounds leaf upcoming left before after name message randomizer fate answer free drawn gave counts made =
     let chance : Chance = record { drawn = Some randomizer; has_room = free.hinders.0; fate = fate } in
-    let state = state_of list true in record {
+    let state = state_of list true in
+    let room = granted limit (height_of key.pair.tree) leaf (length bounds + 1) free.hinders.0 (is_sound key) free.hinders.1 in record {
       chance = chance;
       step = anew_kept limit list stopped key bounds leaf name message chance None free.kept free.unbound free.hinders.1
           ∙ ap (λ n. let bound = new_bound key n name message randomizer in appended state (BoundRecord bound) (signature_of key bound) fate) (sym free.kept.next)
@@ -217,15 +260,16 @@ appended_signs limit lacking list new is_open stopped key bounds leaf upcoming l
       drawn = gave;
       possible = drawn;
       memory = free.hinders.2;
-      early = λ e. let room = granted limit (height_of key.pair.tree) leaf (length bounds + 1) free.hinders.0 (is_sound key) free.hinders.1 in absurd (cc);
+      early = λ e. absurd (cc);
+      refusals = subst (λ (has_room : Bool). RefusalCount answer has_room before after) (sym room) counts;
       read = sym (read_anew list name message (Some randomizer) free.unbound);
     }
 
 -- the same call, of equal arguments
-pub signs_along : {limit limit' : ℕ} {lacking : Type 0} {old old' new new' : State} {upcoming upcoming' left left' : Option (List ℕ)} {name message rest rest' : List ℕ} {answer answer' : Result (List ℕ) SignFault} → Signs limit lacking old new upcoming left name message rest answer → limit ≡ limit' → old ≡ old' → new ≡ new' → upcoming ≡ upcoming' → left ≡ left' → rest ≡ rest' → answer ≡ answer' → Signs limit' lacking old' new' upcoming' left' name message rest' answer'
-signs_along {lacking = lacking} {name = name} {message = message} signs a b c d e f g =
-    subst (λ (t : ℕ × State × State × Option (List ℕ) × Option (List ℕ) × List ℕ × Result (List ℕ) SignFault). Signs t.0 lacking t.1 t.2 t.3 t.4 name message t.5 t.6)
-    (λ i. (a i, b i, c i, d i, e i, f i, g i)) signs
+pub signs_along : {limit limit' : ℕ} {lacking : Type 0} {old old' new new' : State} {upcoming upcoming' left left' : Option (List ℕ)} {before before' after : ℕ} {name message rest rest' : List ℕ} {answer answer' : Result (List ℕ) SignFault} → Signs limit lacking old new upcoming left before after name message rest answer → limit ≡ limit' → old ≡ old' → new ≡ new' → upcoming ≡ upcoming' → left ≡ left' → before ≡ before' → rest ≡ rest' → answer ≡ answer' → Signs limit' lacking old' new' upcoming' left' before' after name message rest' answer'
+signs_along {lacking = lacking} {after = after} {name = name} {message = message} signs a b c d e f g h =
+    subst (λ (t : ℕ × State × State × Option (List ℕ) × Option (List ℕ) × ℕ × List ℕ × Result (List ℕ) SignFault). Signs t.0 lacking t.1 t.2 t.3 t.4 t.5 after name message t.6 t.7)
+    (λ i. (a i, b i, c i, d i, e i, f i, g i, h i)) signs
 
 -- the same lack, of equal arguments
 pub lacks_along : {bound bound' : Option Bound} {key key' : LmsKey} {spare spare' : ℕ} (capacity : ℕ) → LacksMemory bound (lms_signature_len_of key.pair) capacity spare → bound ≡ bound' → key ≡ key' → spare ≡ spare' → LacksMemory bound' (lms_signature_len_of key'.pair) capacity spare'
@@ -253,16 +297,16 @@ pub free_in_view : {S R : Type 0} (list : S → List Record) {fields view : View
 free_in_view list capacity is view_open kept hinders none =
     free_name capacity (kept (ap (λ w. w.is_open) is ∙ view_open)) hinders (ap (λ w. list w.store) is) (ap (λ w. w.key) is) (ap (λ w. w.spare) is) none
 
-pub signs_in_view : {S R : Type 0} (list : S → List Record) (most : S → ℕ) (upcoming : R → Option (List ℕ))
-    {fields view : View S R} {limit : ℕ} {lacking : Type 0} {new new' : State} {left : Option (List ℕ)}
+pub signs_in_view : {S R : Type 0} (list : S → List Record) (most refusals : S → ℕ) (upcoming : R → Option (List ℕ))
+    {fields view : View S R} {limit : ℕ} {lacking : Type 0} {new new' : State} {left : Option (List ℕ)} {after : ℕ}
     {name message rest rest' : List ℕ} {answer answer' : Result (List ℕ) SignFault}
     → fields ≡ view → view.is_open ≡ true
-    → Signs limit lacking (state_of (list fields.store) true) new (upcoming fields.random) left name message rest answer
+    → Signs limit lacking (state_of (list fields.store) true) new (upcoming fields.random) left (refusals fields.store) after name message rest answer
     → limit ≡ most fields.store → new ≡ new' → rest ≡ rest' → answer ≡ answer'
     → Signs (most view.store) lacking (state_of (list view.store) view.is_open) new' (upcoming view.random) left
-    name message rest' answer'
-signs_in_view list most upcoming is view_open signs limit_is new_is rest_is answer_is =
-    signs_along signs (limit_is ∙ ap (λ w. most w.store) is) (λ j. state_of (list (is j).store) (sym view_open j)) new_is (ap (λ w. upcoming w.random) is) refl rest_is answer_is
+    (refusals view.store) after name message rest' answer'
+signs_in_view list most refusals upcoming is view_open signs limit_is new_is rest_is answer_is =
+    signs_along signs (limit_is ∙ ap (λ w. most w.store) is) (λ j. state_of (list (is j).store) (sym view_open j)) new_is (ap (λ w. upcoming w.random) is) refl (ap (λ w. refusals w.store) is) rest_is answer_is
 
 -- a repeat where the record's root isn't the secret's
 pub repeated_unsound : (key : LmsKey) (bound : Bound) (message : List ℕ) → not (same_bytes (message_digest_of key.identifier bound.leaf bound.randomizer message) bound.digest) ≡ false → is_sound key ≡ false → Err (Damaged 0) ≡ repeated key bound message (record { drawn = None; has_room = true; fate = acked })
@@ -306,6 +350,14 @@ append_fails was list entry new stopped before after (Damaged k) value h = absur
 append_fails was list entry new stopped before after LedgerFull value h = absurd h
 append_fails was list entry new stopped before after (Unreadable k) value h = absurd h
 append_fails was list entry new stopped before after KeyThere value h = absurd h
+append_fails was list entry new stopped before after RandomRepeated value h = absurd h
+append_fails was list entry new stopped before after MessageRead value h = absurd h
+append_fails was list entry new stopped before after MovedFault value h = absurd h
+append_fails was list entry new stopped before after RetireRange value h = absurd h
+append_fails was list entry new stopped before after NoKey value h = absurd h
+append_fails was list entry new stopped before after (Illegal k) value h = absurd h
+append_fails was list entry new stopped before after DeviceFailed value h = absurd h
+append_fails was list entry new stopped before after NoMemoryToOpen value h = absurd h
 
 -- the first record stays the first
 pub key_snoc : (list : List Record) (entry : Record) (key : LmsKey) → key_of list ≡ Some key → key_of (list ++ entry ∷ []) ≡ Some key
@@ -360,6 +412,14 @@ leaves_same (Err OutOfMemory) v = tt
 leaves_same (Err LedgerFull) v = refl
 leaves_same (Err (Unreadable k)) v = refl
 leaves_same (Err KeyThere) v = refl
+leaves_same (Err RandomRepeated) v = refl
+leaves_same (Err MessageRead) v = refl
+leaves_same (Err MovedFault) v = refl
+leaves_same (Err RetireRange) v = refl
+leaves_same (Err NoKey) v = refl
+leaves_same (Err (Illegal k)) v = refl
+leaves_same (Err DeviceFailed) v = refl
+leaves_same (Err NoMemoryToOpen) v = refl
 
 -- and all but the ledger's memory
 all_but_memory : {S R : Type 0} (A : Type 0) (fault : SignFault) (old new : View S R) → new ≡ record old { spare = new.spare } → Leaves {A = A} (Err fault) old new
@@ -375,6 +435,14 @@ all_but_memory A OutOfMemory old new same = tt
 all_but_memory A LedgerFull old new same = same
 all_but_memory A (Unreadable k) old new same = same
 all_but_memory A KeyThere old new same = same
+all_but_memory A RandomRepeated old new same = same
+all_but_memory A MessageRead old new same = same
+all_but_memory A MovedFault old new same = same
+all_but_memory A RetireRange old new same = same
+all_but_memory A NoKey old new same = same
+all_but_memory A (Illegal k) old new same = same
+all_but_memory A DeviceFailed old new same = same
+all_but_memory A NoMemoryToOpen old new same = same
 
 pub leaves_grown : {A S R : Type 0} (result : Result A SignFault) (fault : SignFault) (old view : View S R) (key : LmsKey) (spare : ℕ) → result ≡ Err fault → view ≡ old → key ≡ view.key → Leaves result old (record view { key = key; spare = spare })
 leaves_grown {A = A} result fault old view key spare failed seen same =
@@ -394,3 +462,11 @@ draw_fails before after upcoming left OutOfMemory h = absurd h
 draw_fails before after upcoming left LedgerFull h = absurd h
 draw_fails before after upcoming left (Unreadable k) h = absurd h
 draw_fails before after upcoming left KeyThere h = absurd h
+draw_fails before after upcoming left RandomRepeated h = absurd h
+draw_fails before after upcoming left MessageRead h = absurd h
+draw_fails before after upcoming left MovedFault h = absurd h
+draw_fails before after upcoming left RetireRange h = absurd h
+draw_fails before after upcoming left NoKey h = absurd h
+draw_fails before after upcoming left (Illegal k) h = absurd h
+draw_fails before after upcoming left DeviceFailed h = absurd h
+draw_fails before after upcoming left NoMemoryToOpen h = absurd h

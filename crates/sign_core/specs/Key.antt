@@ -2,7 +2,7 @@
 use Rattle.std.specs.Prelude.{◌≡◌, ◌≢◌, ◌⊎◌, ℕ, List, Option, length, Result}
 use Rattle.typecodes.specs.declared.refusal.Refusal.{Refusal}
 use Rattle.typecodes.specs.Layout.{Spells, HasFault}
-use Rattle.typecodes.specs.Message.{Step}
+use Rattle.typecodes.specs.Message.{Transition}
 use Rattle.lms.specs.Key.{public_key as lms_public_key}
 use Rattle.lms.specs.Verification.{Verdict as LmsVerdict, LeavesMessage as LmsLeavesMessage}
 use Rattle.hss.specs.Key.{public_key as hss_public_key}
@@ -36,8 +36,11 @@ KeyVerdict (Hss key) message bytes result = HssVerdict key message bytes result
 KeyVerdict (Xmss key) message bytes result = XmssVerdict key message bytes result
 
 -- and becomes of the message what the key's scheme says
-abbrev pub KeyLeavesMessage : {M A : Type 0} → Step M → (M → Option (List ℕ)) → AnyPublic → List ℕ → M → M
+abbrev pub KeyLeavesMessage : {M A : Type 0} → Transition M → (M → Option (List ℕ)) → AnyPublic → List ℕ → M → M
     → Result A Refusal → Type 0
-KeyLeavesMessage step remaining (Lms key) text old new result = LmsLeavesMessage step remaining text old new result
-KeyLeavesMessage step remaining (Hss key) text old new result = HssLeavesMessage step remaining key text old new result
-KeyLeavesMessage step remaining (Xmss key) text old new result = XmssLeavesMessage step remaining text old new result
+KeyLeavesMessage transition remaining (Lms key) text old new result =
+    LmsLeavesMessage transition remaining text old new result
+KeyLeavesMessage transition remaining (Hss key) text old new result =
+    HssLeavesMessage transition remaining key text old new result
+KeyLeavesMessage transition remaining (Xmss key) text old new result =
+    XmssLeavesMessage transition remaining text old new result

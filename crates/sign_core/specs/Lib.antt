@@ -1,4 +1,10 @@
 pub mod Ledger
+pub mod StoreLedger
+pub mod StoreTrees
+pub mod Textbook
+pub mod StoreWorld
+pub mod StoreUses
+pub mod StoreOnce
 pub mod Uses
 pub mod World
 pub mod Once
@@ -8,3 +14,5 @@ pub mod Signing
 pub mod Signer
 pub mod Create
 pub mod Key
+pub mod RngSource
+pub mod StoreSigner

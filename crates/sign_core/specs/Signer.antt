@@ -40,27 +40,34 @@ Draws (Some bytes) upcoming left = Provides upcoming bytes left
 abbrev pub is_read : State → List ℕ → Option (List ℕ) → Bool
 is_read state name drawn = (state.is_open && is_some (binding_of state.records name)) || is_some drawn
 
+-- How often a store has refused memory: once more where a signer answers so though it had room itself, and else not.
+abbrev pub RefusalCount : {A : Type 0} → Result A SignFault → (has_room : Bool) (before after : ℕ) → Type 0
+RefusalCount (Err OutOfMemory) has_room before after = after ≡ (if has_room then before + 1 else before)
+RefusalCount _ has_room before after = after ≡ before
+
 -- A call of sign is a step of the world, by some chance: the drawn C is what the source gave, memory is refused
--- only where it is lacking and before C is drawn, and the message is read to its end or left.
+-- only where it is lacking and before C is drawn, or by the store, and the message is read to its end or left.
 pub record Signs (limit : ℕ) (lacking : Type 0) (old new : State) (upcoming left : Option (List ℕ))
-    (name message rest : List ℕ) (answer : Result (List ℕ) SignFault) : Type 0 where
+    (refusals_before refusals_after : ℕ) (name message rest : List ℕ) (answer : Result (List ℕ) SignFault)
+    : Type 0 where
   pub chance : Chance
   pub step : requested limit old name message chance ≡ record { state = new; answer = answer }
   pub drawn : Draws chance.drawn upcoming left
   pub possible : IsDrawn chance.drawn
   pub memory : chance.has_room ≡ false → lacking
   pub early : chance.has_room ≡ false → chance.drawn ≡ None
+  pub refusals : RefusalCount answer chance.has_room refusals_before refusals_after
   pub read : rest ≡ (if is_read old name chance.drawn then [] else message)
 
--- The same of a signer: its store has these records and takes so many, its source has so much still to give,
--- and the output has this capacity.
-abbrev pub SignsOver : {S R : Type 0} → (S → List Record) → (S → ℕ) → (R → Option (List ℕ)) → (old new : View S R)
-    → (name message rest : List ℕ) (capacity : ℕ) → Result (List ℕ) SignFault → Type 0
-SignsOver list most upcoming old new name message rest capacity answer =
+-- The same of a signer: its store has these records, takes so many and has refused memory so often, its source has so
+-- much still to give, and the output has this capacity.
+abbrev pub SignsOver : {S R : Type 0} → (S → List Record) → (most refusals : S → ℕ) → (R → Option (List ℕ))
+    → (old new : View S R) → (name message rest : List ℕ) (capacity : ℕ) → Result (List ℕ) SignFault → Type 0
+SignsOver list most refusals upcoming old new name message rest capacity answer =
     let size = lms_signature_len_of old.key.pair in
     Signs (most old.store) (LacksMemory (binding_of (list old.store) name) size capacity old.spare)
     (state_of (list old.store) old.is_open) (state_of (list new.store) new.is_open)
-    (upcoming old.random) (upcoming new.random) name message rest answer
+    (upcoming old.random) (upcoming new.random) (refusals old.store) (refusals new.store) name message rest answer
 
 -- What a request under a bound name is answered; memory is refused only where it is lacking.
 abbrev pub Repeats : LmsKey → Bound → (message : List ℕ) (lacking : Type 0) → Result (List ℕ) SignFault → Type 0

@@ -1,9 +1,9 @@
 //! The first record of a store.
 
-ghost use Rattle.std.specs.Prelude.{◌≡◌, ◌≤◌, [], false, IfOk, IfErr, OnOk, is_ok};
+ghost use Rattle.std.specs.Prelude.{◌≡◌, ◌≤◌, [], true, false, IfOk, IfErr, OnOk, is_ok};
 ghost use Rattle.sign_core.specs.Create.{Creates, FindsNone, LeavesSource, published};
 ghost use Rattle.sign_core.specs.Ledger.{records_of};
-ghost use Rattle.sign_core.specs.Signer.{RandomCount, StoreCount, state_of};
+ghost use Rattle.sign_core.specs.Signer.{RandomCount, RefusalCount, StoreCount, state_of};
 
 use crate::fault::SignFault;
 use crate::ledger::LmsKey;
@@ -16,6 +16,7 @@ use typecodes::LmsPair;
 fn find_none<S: Store>(store: &mut S) -> Result<(), SignFault>
     ensures finds { FindsNone (S.list store.old) (S.honest store.old) (S.stopped store.old) (S.stopped store.new)
         (S.failures store.old) (S.failures store.new) result }
+    ensures refusals { RefusalCount result true (S.refusals store.old) (S.refusals store.new) }
     ensures same { S.list store.new ≡ S.list store.old }
     ensures honest { S.honest store.new ≡ S.honest store.old }
     ensures most { S.most store.new ≡ S.most store.old }
@@ -44,6 +45,7 @@ pub(crate) fn create_key<S: Store, R: Source>(
     ensures leaves { IfErr result (λ fault. LeavesSource fault random.old random.new) }
     ensures random { RandomCount result (R.failures random.old) (R.failures random.new) }
     ensures store { StoreCount result (S.failures store.old) (S.failures store.new) }
+    ensures refusals { RefusalCount result true (S.refusals store.old) (S.refusals store.new) }
     ensures running { OnOk result (S.stopped store.new ≡ false) }
     ensures list { IfOk result (λ key. S.list store.new ≡ records_of key []) }
     ensures honest { S.honest store.new ≡ S.honest store.old }

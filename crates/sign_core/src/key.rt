@@ -102,7 +102,7 @@ pub fn verify_any<M: Message>(
 ) -> Result<(), Refusal>
     ensures { (text : List ℕ) × IsContent (M.remaining message.old) text
         × KeyVerdict public.now text signature.now result
-        × KeyLeavesMessage M.step M.remaining public.now text message.old message.new result }
+        × KeyLeavesMessage M.transition M.remaining public.now text message.old message.new result }
 {
     match public {
         AnyPublic::Lms(key) => lms::verify(key, message, signature),

@@ -23,6 +23,10 @@
 //! chance that the store and the source decide (`specs/Create.antt`, `specs/Signer.antt`); and over every
 //! list of such steps no leaf signs two digests (`once_law`). `AnyPublic` and `verify_any` are the keys of
 //! the three schemes by their lengths (`specs/Key.antt`).
+//!
+//! Beside it stand the definitions and laws of the signer over a store, which is to take its place: for LMS, HSS and
+//! XMSS, with openings, stops and retired leaves (`specs/StoreWorld.antt`, `specs/StoreOnce.antt`, `store_once_law`).
+//! No call is tied to them yet.
 #![tactic(auto)]
 
 mod create;
@@ -31,14 +35,23 @@ mod key;
 mod ledger;
 mod once;
 mod repeat;
+mod rng_source;
 mod signer;
 mod signing;
 mod source;
+mod store_chain;
+mod store_laws;
+mod store_roots;
+mod store_trees;
 #[cfg(test)]
 mod tests;
 
 pub use crate::fault::SignFault;
 pub use crate::key::{AnyPublic, KeyFault, verify_any};
 pub use crate::once::{lasting_law, once_law};
+pub use crate::rng_source::RngSource;
 pub use crate::signer::Signer;
 pub use crate::source::{Source, SourceFault, TapeSource};
+pub use crate::store_laws::{
+    cut_law, ledger_laws, stop_law, store_lasting_law, store_once_law, textbook_laws,
+};

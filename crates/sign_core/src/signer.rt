@@ -50,7 +50,8 @@ impl<S: Store, R: Source> Signer<S, R> {
     ghost use Rattle.typecodes.specs.Types.{lms_signature_len_of};
     ghost use Rattle.sign_core.specs.Create.{CreatesOver, LeavesSource, answer_of, random_after, store_after};
     ghost use Rattle.sign_core.specs.Ledger.{binding_of, key_of, public_key_of};
-    ghost use Rattle.sign_core.specs.Signer.{Counts, Leaves, RandomCount, SignsOver, StoreCount, answered};
+    ghost use Rattle.sign_core.specs.Signer.{Counts, Leaves, RandomCount, RefusalCount, SignsOver, StoreCount};
+    ghost use Rattle.sign_core.specs.Signer.{answered};
 
     /// Makes a key in a store that has none, and the signer of it: draws I and then SEED, makes the
     /// root, and appends the key's record. A refusal gives back the store and the source.
@@ -67,6 +68,7 @@ impl<S: Store, R: Source> Signer<S, R> {
         ensures leaves { IfErr result (λ refused. LeavesSource refused.fault random refused.given.1) }
         ensures random { RandomCount (answer_of result) (R.failures random) (R.failures (random_after result)) }
         ensures store { StoreCount (answer_of result) (S.failures store) (S.failures (store_after result)) }
+        ensures refusals { RefusalCount (answer_of result) true (S.refusals store) (S.refusals (store_after result)) }
         ensures honest { S.honest (store_after result) ≡ S.honest store }
         ensures most { S.most (store_after result) ≡ S.most store }
     {
@@ -114,8 +116,8 @@ impl<S: Store, R: Source> Signer<S, R> {
         message: &mut &[u8],
         out: &mut Vec<u8>,
     ) -> Result<(), SignFault>
-        ensures step { SignsOver S.list S.most R.upcoming self.old self.new name.now message.old.now message.new.now
-            (vec_capacity out.old) (answered result out.new.items) }
+        ensures step { SignsOver S.list S.most S.refusals R.upcoming self.old self.new name.now message.old.now
+            message.new.now (vec_capacity out.old) (answered result out.new.items) }
         ensures empty { OnErr result (out.new.items ≡ []) }
         ensures leaves { Leaves result self.old self.new }
         ensures repeat { IsSome (binding_of (S.list self.old.store) name.now) → self.new ≡ self.old }
@@ -138,8 +140,8 @@ impl<S: Store, R: Source> Signer<S, R> {
         message: &mut &[u8],
         out: &mut Vec<u8>,
     ) -> Result<(), SignFault>
-        ensures step { SignsOver S.list S.most R.upcoming self.old self.new name.now message.old.now message.new.now
-            (vec_capacity out.old) (answered result out.new.items) }
+        ensures step { SignsOver S.list S.most S.refusals R.upcoming self.old self.new name.now message.old.now
+            message.new.now (vec_capacity out.old) (answered result out.new.items) }
         ensures leaves { Leaves result self.old self.new }
         ensures repeat { IsSome (binding_of (S.list self.old.store) name.now) → self.new ≡ self.old }
         // A repeat wants memory only where there is no room for the signature yet.
@@ -160,8 +162,8 @@ impl<S: Store, R: Source> Signer<S, R> {
     fn bind(&mut self, name: &Name, message: &mut &[u8], out: &mut Vec<u8>) -> Result<(), SignFault>
         requires open { self.old.is_open ≡ true }
         requires unbound { binding_of (S.list self.old.store) name.now ≡ None }
-        ensures step { SignsOver S.list S.most R.upcoming self.old self.new name.now message.old.now message.new.now
-            (vec_capacity out.old) (answered result out.new.items) }
+        ensures step { SignsOver S.list S.most S.refusals R.upcoming self.old self.new name.now message.old.now
+            message.new.now (vec_capacity out.old) (answered result out.new.items) }
         ensures leaves { Leaves result self.old self.new }
         ensures counts { Counts R.failures S.failures S.most S.honest result self.old self.new }
     {

@@ -6,6 +6,7 @@ ghost use Rattle.typecodes.specs.Types.{height_of, lms_signature_len_of};
 ghost use Rattle.lmots.specs.Key.{message_digest_of};
 ghost use Rattle.lms.specs.Secret.{path_in};
 ghost use Rattle.state_file.specs.Store.{CanFollow};
+ghost use Rattle.sign_core.specs.Signer.{RefusalCount};
 ghost use Rattle.sign_core.specs.Signing.{DrawsBytes, AppendsEntry};
 ghost use Rattle.sign_core.specs.Ledger.{is_sound, secret_of, signature_of};
 ghost use Rattle.sign_core.specs.Once.{AreDrawn};
@@ -121,6 +122,7 @@ pub(crate) fn append<S: Store>(store: &mut S, entry: &Record) -> Result<(), Sign
     requires key_first { CanFollow (S.list store.old) entry.now }
     ensures stored { AppendsEntry (S.list store.old) entry.now (S.list store.new) (S.stopped store.new)
         (S.failures store.old) (S.failures store.new) result }
+    ensures refusals { RefusalCount result true (S.refusals store.old) (S.refusals store.new) }
     ensures honest { S.honest store.new ≡ S.honest store.old }
     ensures most { S.most store.new ≡ S.most store.old }
 {

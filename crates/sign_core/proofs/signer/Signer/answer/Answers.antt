@@ -8,7 +8,7 @@ pub returns-then-not-self-clause-step : goal.returns-then-not-self-clause-step
 returns-then-not-self-clause-step g c =
     let v = c.args.self.now in
     let shut : v.is_open ≡ false = cc in
-    signs_along (closed_signs _ _ (g.S.Store.list v.store) _ _ _) refl (ap (state_of _) (sym shut)) (ap (state_of _) (sym shut)) refl refl refl refl
+    signs_along (closed_signs _ _ (g.S.Store.list v.store) _ (g.S.Store.refusals v.store) _ _) refl (ap (state_of _) (sym shut)) (ap (state_of _) (sym shut)) refl refl refl refl refl
 
 pub repeat-requires : goal.repeat-requires
 repeat-requires g c =
@@ -30,8 +30,8 @@ returns-in-Some-clause-step g c =
     let kept = kept_along (c.self.invariant.1 c.if-not-self.false) list refl refl refl refl in
     let found = found_binding c.args.name.now kept refl c.deref.ensures.value c.in-Some.ensures in
     let answer = c.repeat.ensures.answer in
-    signs_along (repeat_signs (g.S.Store.most v.store) _ (g.S.Store.list v.store) i.ledger.key c.in-Some.bound.now (g.R.Source.upcoming v.random) c.args.name.now c.args.message.now.now answer.0 _ (kept_key _ _ _ _ _ kept) found answer.1 (λ e. lacks_along {bound = Some c.in-Some.bound.now} _ (answer.2 e) (sym found) (ap (λ w. w.key) c.self.view_is) refl))
-    refl (ap (state_of _) (sym is_open)) (ap (state_of _) (sym is_open)) refl refl (sym c.repeat.ensures.read) refl
+    signs_along (repeat_signs (g.S.Store.most v.store) _ (g.S.Store.list v.store) i.ledger.key c.in-Some.bound.now (g.R.Source.upcoming v.random) (g.S.Store.refusals v.store) c.args.name.now c.args.message.now.now answer.0 _ (kept_key _ _ _ _ _ kept) found answer.1 (λ e. lacks_along {bound = Some c.in-Some.bound.now} _ (answer.2 e) (sym found) (ap (λ w. w.key) c.self.view_is) refl))
+    refl (ap (state_of _) (sym is_open)) (ap (state_of _) (sym is_open)) refl refl refl (sym c.repeat.ensures.read) refl
 
 pub returns-in-Some-clause-leaves : goal.returns-in-Some-clause-leaves
 returns-in-Some-clause-leaves g c = leaves_same c.repeat.result c.args.self.now

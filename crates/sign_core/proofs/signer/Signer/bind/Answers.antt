@@ -19,8 +19,8 @@ returns-in_err-prepare-clause-step g c =
     let free = free_in_view g.S.Store.list _ c.self.view_is c.requires.open c.self.invariant.1 c.in_err-prepare.ensures.hindrance c.requires.unbound in
     let is_open = ap (λ w. w.is_open) c.self.view_is ∙ c.requires.open in
     let answer : answered c.from_residual.result c.prepare.new.out.items ≡ Err c.in_err-prepare.field-0.0 = search rules in
-    signs_in_view g.S.Store.list g.S.Store.most g.R.Source.upcoming c.self.view_is c.requires.open
-    (hindered_signs _ _ _ _ _ _ _ (g.R.Source.upcoming i.random) c.args.name.now c.args.message.now.now c.in_err-prepare.field-0.0 free)
+    signs_in_view g.S.Store.list g.S.Store.most g.S.Store.refusals g.R.Source.upcoming c.self.view_is c.requires.open
+    (hindered_signs _ _ _ _ _ _ _ (g.R.Source.upcoming i.random) (g.S.Store.refusals i.store) c.args.name.now c.args.message.now.now c.in_err-prepare.field-0.0 free)
     c.limit.ensures (ap (state_of (g.S.Store.list i.store)) (sym is_open)) refl (sym answer)
 
 pub returns-in_err-prepare-clause-leaves : goal.returns-in_err-prepare-clause-leaves
@@ -35,8 +35,8 @@ returns-in_err-randomizer-clause-step g c =
     let is_open = ap (λ w. w.is_open) c.self.view_is ∙ c.requires.open in
     let answer : answered c.from_residual-in_err-randomizer.result c.prepare.new.out.items ≡ Err c.in_err-randomizer.field-0.0 = search rules in
     let failed = draw_fails _ _ _ _ _ c.in_err-randomizer.ensures.drawn in
-    signs_in_view g.S.Store.list g.S.Store.most g.R.Source.upcoming c.self.view_is c.requires.open
-    (undrawn_signs _ _ _ _ _ _ _ (g.R.Source.upcoming i.random) (g.R.Source.upcoming c.draw.new.random) c.args.name.now c.args.message.now.now free failed.1)
+    signs_in_view g.S.Store.list g.S.Store.most g.S.Store.refusals g.R.Source.upcoming c.self.view_is c.requires.open
+    (undrawn_signs _ _ _ _ _ _ _ (g.R.Source.upcoming i.random) (g.R.Source.upcoming c.draw.new.random) (g.S.Store.refusals i.store) c.args.name.now c.args.message.now.now free failed.1)
     c.limit.ensures (ap (state_of (g.S.Store.list i.store)) (sym is_open)) refl (ap Err (sym failed.0) ∙ sym answer)
 
 pub returns-in-Err-clause-step : goal.returns-in-Err-clause-step
@@ -49,8 +49,8 @@ returns-in-Err-clause-step g c =
     ∙ (λ j. new_bound (c.prepare.ensures.key j) (c.prepare.ensures.next j) c.args.name.now (c.take_all.ensures.text j) c.in_ok-randomizer.randomizer) in
     let stored = subst (λ entry. AppendsEntry {A = Unit {0}} (g.S.Store.list i.store) (BoundRecord entry) list (g.S.Store.stopped c.append.new.store) (g.S.Store.failures i.store) (g.S.Store.failures c.append.new.store) (Err c.in-Err.fault)) same c.in-Err.ensures.stored in
     let made = append_fails true _ _ _ _ _ _ _ (signature_of i.ledger.key bound) stored in
-    signs_in_view g.S.Store.list g.S.Store.most g.R.Source.upcoming c.self.view_is c.requires.open
-    (appended_signs _ _ _ list (not (closes c.in-Err.fault)) _ _ _ _ (g.R.Source.upcoming i.random) (g.R.Source.upcoming c.draw.new.random) c.args.name.now c.args.message.now.now c.in_ok-randomizer.randomizer made.0 (Err c.in-Err.fault) free c.next_bound-bound.ensures.drawn c.in_ok-randomizer.ensures.drawn.1 made.1)
+    signs_in_view g.S.Store.list g.S.Store.most g.S.Store.refusals g.R.Source.upcoming c.self.view_is c.requires.open
+    (appended_signs _ _ _ list (not (closes c.in-Err.fault)) _ _ _ _ (g.R.Source.upcoming i.random) (g.R.Source.upcoming c.draw.new.random) (g.S.Store.refusals i.store) (g.S.Store.refusals c.append.new.store) c.args.name.now c.args.message.now.now c.in_ok-randomizer.randomizer made.0 (Err c.in-Err.fault) free c.next_bound-bound.ensures.drawn c.in_ok-randomizer.ensures.drawn.1 c.in-Err.ensures.refusals made.1)
     c.limit.ensures (ap (λ b. state_of list (not b)) (sym c.closes.ensures)) (sym c.take_all.ensures.rest) refl
 
 pub invariant_of-self-in-Ok : goal.invariant_of-self-in-Ok
@@ -91,6 +91,6 @@ returns-in-Ok-clause-step g c =
     c.in-Ok.ensures.stored.0 ∙ ap (λ b. g.S.Store.list i.store ++ BoundRecord b ∷ []) (c.copied.ensures ∙ same) in
     let out : c.write_bound.new.out.items ≡ signature_of i.ledger.key bound =
     c.write_bound.ensures ∙ (λ j. signature_of (c.prepare.ensures.key j) (same j)) in
-    signs_in_view g.S.Store.list g.S.Store.most g.R.Source.upcoming c.self.view_is c.requires.open
-    (appended_signs _ _ _ (g.S.Store.list i.store ++ BoundRecord bound ∷ []) true _ _ _ _ (g.R.Source.upcoming i.random) (g.R.Source.upcoming c.draw.new.random) c.args.name.now c.args.message.now.now c.in_ok-randomizer.randomizer acked (Ok (signature_of i.ledger.key bound)) free c.next_bound-bound.ensures.drawn c.in_ok-randomizer.ensures.drawn.1 refl)
+    signs_in_view g.S.Store.list g.S.Store.most g.S.Store.refusals g.R.Source.upcoming c.self.view_is c.requires.open
+    (appended_signs _ _ _ (g.S.Store.list i.store ++ BoundRecord bound ∷ []) true _ _ _ _ (g.R.Source.upcoming i.random) (g.R.Source.upcoming c.draw.new.random) (g.S.Store.refusals i.store) (g.S.Store.refusals c.append.new.store) c.args.name.now c.args.message.now.now c.in_ok-randomizer.randomizer acked (Ok (signature_of i.ledger.key bound)) free c.next_bound-bound.ensures.drawn c.in_ok-randomizer.ensures.drawn.1 c.in-Ok.ensures.refusals refl)
     c.limit.ensures (λ j. state_of (sym new j) (sym is_open j)) (sym c.take_all.ensures.rest) (ap Ok (sym out))

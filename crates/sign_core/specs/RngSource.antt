@@ -1,0 +1,11 @@
+-- What callers see of a source that draws from a generator.
+use Rattle.std.specs.Prelude.{ℕ}
+use Rattle.sign_core.specs.declared.rng_source.RngSource.{RngSource}
+
+-- the generator
+abbrev pub rng_of : {T E : Type 0} → RngSource T E → T
+rng_of source = source.rng
+
+-- how often it has failed
+abbrev pub failures_of : {T E : Type 0} → RngSource T E → ℕ
+failures_of source = source.failures

@@ -1,0 +1,215 @@
+-- What the records of a key say, for every scheme: which trees are current, which of their leaves are free, what a
+-- request for a new name wants, and what is bound. A tree goes by the place of the record that makes it.
+use Rattle.std.specs.Prelude.{◌≡◌, ◌⊎◌, ◌↔◌, ℕ, zero, suc, ◌+◌, ◌-◌, ◌≤◌, ◌<◌, Bool, true, false, not, List, [], ◌∷◌}
+use Rattle.std.specs.Prelude.{◌++◌}
+use Rattle.std.specs.Prelude.{length, take, map, reverse, fold, max, nat_eq, nat_lt, nat_le, find, slice_get, is_some}
+use Rattle.std.specs.Prelude.{unwrap_or}
+use Rattle.std.specs.Prelude.{Option, Some, None, if◌then◌else◌, ◌&&◌, replicate}
+use Rattle.std.specs.Cmp.Lexicographic.{pointwise}
+use Rattle.std.specs.List.{range_with_len}
+use Rattle.state_file.specs.Laws.{bottom_of, identifier_of, leaves_at, levels_of}
+use Rattle.state_file.specs.declared.record.Bound.{Bound}
+use Rattle.state_file.specs.declared.record.Extend.{Extend}
+use Rattle.state_file.specs.declared.record.Key.{Key}
+use Rattle.state_file.specs.declared.record.Record.{Record}
+use Rattle.state_file.specs.declared.record.Record.TheVariants.{Key as KeyRecord, Extend as ExtendRecord}
+use Rattle.state_file.specs.declared.record.Record.TheVariants.{Bound as BoundRecord, Retire, Moved}
+use Rattle.state_file.specs.declared.record.Secret.{Secret}
+use Rattle.state_file.specs.declared.record.Secret.TheVariants.{Lms, Hss, Xmss}
+
+-- ---- the key
+
+-- the key: record 0
+abbrev pub key_in : List Record → Option Key
+key_in [] = None
+key_in (KeyRecord key ∷ rest) = Some key
+key_in (ExtendRecord extend ∷ rest) = None
+key_in (BoundRecord bound ∷ rest) = None
+key_in (Retire upto ∷ rest) = None
+key_in (Moved ∷ rest) = None
+
+-- whether the record is a Moved, after which none follows
+abbrev pub is_moved : Option Record → Bool
+is_moved (Some Moved) = true
+is_moved _ = false
+
+-- whether the last record is one
+abbrev pub has_moved : List Record → Bool
+has_moved records = is_moved (slice_get records (length records - 1))
+
+-- ---- trees
+
+-- whether a record makes a tree of a level below the top
+abbrev pub makes : ℕ → Record → Bool
+makes level (ExtendRecord extend) = nat_eq extend.level level
+makes level (KeyRecord key) = false
+makes level (BoundRecord bound) = false
+makes level (Retire upto) = false
+makes level Moved = false
+
+-- the place of the last Extend of a level, in records from place k on; else what was found before
+abbrev pub last_from : (level k : ℕ) → Option ℕ → List Record → Option ℕ
+last_from level k found [] = found
+last_from level k found (entry ∷ rest) = last_from level (k + 1) (if makes level entry then Some k else found) rest
+
+abbrev pub same_tree : Option ℕ → Option ℕ → Bool
+same_tree (Some a) (Some b) = nat_eq a b
+same_tree (Some a) None = false
+same_tree None other = false
+
+-- the tree that an Extend at place j makes, if the tree above is the one that was current there before it
+abbrev pub under : (above : List Record → Option ℕ) → List Record → Option ℕ → Option ℕ
+under above records None = None
+under above records (Some j) = if same_tree (above (take j records)) (above records) then Some j else None
+
+-- The current tree of a level. That of level 0 is the Key's; that of a lower level is the tree of the last Extend of
+-- that level, if its parent is the current tree of the level above.
+abbrev pub current : ℕ → List Record → Option ℕ
+current zero = λ records. Some 0
+current (suc level) = λ records. under (current level) records (last_from (suc level) 0 None records)
+
+-- ---- leaves
+
+-- the tree in which a record names or retires leaves, among the records before it, and the number above these leaves
+abbrev pub in_tree : Option ℕ → ℕ → Option (ℕ × ℕ)
+in_tree None n = None
+in_tree (Some tree) n = Some (tree, n)
+
+abbrev pub reaches : Secret → (before : List Record) → Record → Option (ℕ × ℕ)
+reaches secret before (KeyRecord key) = None
+reaches secret before (ExtendRecord extend) = in_tree (current (extend.level - 1) before) (extend.parent_leaf + 1)
+reaches secret before (BoundRecord bound) = in_tree (current (bottom_of secret) before) (bound.leaf + 1)
+reaches secret before (Retire upto) = in_tree (current (bottom_of secret) before) upto
+reaches secret before Moved = None
+
+-- that number, for one tree alone
+abbrev pub number_in : (tree : ℕ) → Option (ℕ × ℕ) → ℕ
+number_in tree None = 0
+number_in tree (Some (other, n)) = if nat_eq other tree then n else 0
+
+-- the numbers that records reach in a tree, those from place k on
+abbrev pub numbers_from : Secret → (all : List Record) → (tree k : ℕ) → List Record → List ℕ
+numbers_from secret all tree k [] = []
+numbers_from secret all tree k (entry ∷ rest) =
+    number_in tree (reaches secret (take k all) entry) ∷ numbers_from secret all tree (k + 1) rest
+
+-- the least number above every leaf that records name or retire in a tree
+abbrev pub next_in : Secret → List Record → (tree : ℕ) → ℕ
+next_in secret records tree = fold max 0 (numbers_from secret records tree 0 records)
+
+-- The same without a fold: no record names or retires a leaf from it on, and where it isn't 0, one reaches it.
+pub record IsNext (secret : Secret) (records : List Record) (tree next : ℕ) : Type 0 where
+  pub above : (k n : ℕ) (entry : Record) → slice_get records k ≡ Some entry
+      → reaches secret (take k records) entry ≡ Some (tree, n) → n ≤ next
+  pub least : (next ≡ 0) ⊎ ((k : ℕ) × (entry : Record) × (slice_get records k ≡ Some entry)
+      × (reaches secret (take k records) entry ≡ Some (tree, next)))
+
+abbrev pub next_of : Secret → List Record → Option ℕ → ℕ
+next_of secret records None = 0
+next_of secret records (Some tree) = next_in secret records tree
+
+-- the next leaf of a level's current tree, 0 where there is none
+abbrev pub next_at : Secret → List Record → (level : ℕ) → ℕ
+next_at secret records level = next_of secret records (current level records)
+
+-- how many leaves are free in a level's current tree, 0 where there is none
+abbrev pub free_at : Secret → List Record → (level : ℕ) → ℕ
+free_at secret records level =
+    if is_some (current level records) then leaves_at secret level - next_at secret records level else 0
+
+-- and at each level, from the top down
+abbrev pub free_counts : Secret → List Record → List ℕ
+free_counts secret records = map (free_at secret records) (range_with_len 0 (levels_of secret))
+
+-- ---- what a request for a new name wants
+
+-- the deepest level whose current tree has a free leaf
+abbrev pub deepest : Secret → List Record → Option ℕ
+deepest secret records =
+    find (λ level. nat_lt 0 (free_at secret records level)) (reverse (range_with_len 0 (levels_of secret)))
+
+-- An Extend for each level below it, and a Bound: this many records. Each takes the next leaf of its parent tree, or of
+-- the bottom tree.
+abbrev pub wanted_count : Secret → (deepest_level : ℕ) → ℕ
+wanted_count secret level = levels_of secret - level
+
+-- ---- what is bound
+
+-- whether two lists of bytes are one
+abbrev pub are_same : List ℕ → List ℕ → Bool
+are_same a b = pointwise nat_eq a b
+
+-- whether a record binds a name
+abbrev pub binds : (name : List ℕ) → Record → Option Bound
+binds name (BoundRecord bound) = if are_same bound.name name then Some bound else None
+binds name (KeyRecord key) = None
+binds name (ExtendRecord extend) = None
+binds name (Retire upto) = None
+binds name Moved = None
+
+-- a name's binding with its place, where the record at place k is looked at before later ones
+abbrev pub or_later : (k : ℕ) → Option Bound → Option (ℕ × Bound) → Option (ℕ × Bound)
+or_later k (Some bound) later = Some (k, bound)
+or_later k None later = later
+
+abbrev pub bound_from : (name : List ℕ) (k : ℕ) → List Record → Option (ℕ × Bound)
+bound_from name k [] = None
+bound_from name k (entry ∷ rest) = or_later k (binds name entry) (bound_from name (k + 1) rest)
+
+-- a name's binding, with the place of its record
+abbrev pub binding_in : List Record → (name : List ℕ) → Option (ℕ × Bound)
+binding_in records name = bound_from name 0 records
+
+-- whether a record makes a tree of this I
+abbrev pub is_of : (identifier : List ℕ) → Option (List ℕ) → Bool
+is_of identifier None = false
+is_of identifier (Some other) = are_same other identifier
+
+-- whether one of the records does
+abbrev pub has_identifier : List Record → (identifier : List ℕ) → Bool
+has_identifier records identifier = is_some (find (λ entry. is_of identifier (identifier_of entry)) records)
+
+-- ---- which records can be added
+
+-- whether a leaf of a level's current tree, if there is one, can be named
+abbrev pub is_free : Secret → List Record → (level leaf : ℕ) → Bool
+is_free secret records level leaf =
+    is_some (current level records) && nat_lt leaf (leaves_at secret level)
+    && nat_le (next_at secret records level) leaf
+
+-- C stands in the records of bindings, but for XMSS, where it is zero
+abbrev pub has_randomizer : Secret → (randomizer : List ℕ) → Bool
+has_randomizer (Lms pair identifier seed) randomizer = true
+has_randomizer (Hss levels identifier seed) randomizer = true
+has_randomizer (Xmss tree secret_seed prf_key public_seed) randomizer = are_same randomizer (replicate 32 0)
+
+-- how many leaves a level's current tree has, 0 where there is none
+abbrev pub leaves_of_current : Secret → List Record → (level : ℕ) → ℕ
+leaves_of_current secret records level = if is_some (current level records) then leaves_at secret level else 0
+
+-- whether a record can stand after these, which are some and legal
+abbrev pub can_follow_legal : Secret → (before : List Record) → Record → Bool
+can_follow_legal secret before (KeyRecord key) = false
+can_follow_legal secret before (ExtendRecord extend) =
+    nat_le 1 extend.level && nat_lt extend.level (levels_of secret)
+    && is_free secret before (extend.level - 1) extend.parent_leaf && not (has_identifier before extend.identifier)
+can_follow_legal secret before (BoundRecord bound) =
+    is_free secret before (bottom_of secret) bound.leaf && not (is_some (binding_in before bound.name))
+    && has_randomizer secret bound.randomizer
+can_follow_legal secret before (Retire upto) =
+    is_some (current (bottom_of secret) before) && nat_le upto (leaves_at secret (bottom_of secret))
+can_follow_legal secret before Moved = true
+
+abbrev pub can_follow : Option Key → (before : List Record) → Record → Bool
+can_follow (Some key) before entry = not (has_moved before) && can_follow_legal key.secret before entry
+can_follow None [] (KeyRecord key) = true
+can_follow None before entry = false
+
+-- the first record, from place k on, that can't stand after those before it
+abbrev pub illegal_from : (all : List Record) → (k : ℕ) → List Record → Option ℕ
+illegal_from all k [] = None
+illegal_from all k (entry ∷ rest) =
+    if can_follow (key_in (take k all)) (take k all) entry then illegal_from all (k + 1) rest else Some k
+
+abbrev pub first_illegal : List Record → Option ℕ
+first_illegal records = illegal_from records 0 records

@@ -1,0 +1,261 @@
+-- What a signer over a store is to its callers, and what its calls are: steps of the world.
+use Rattle.std.specs.Prelude.{◌≡◌, ◌≢◌, ◌⊎◌, ℕ, ◌+◌, ◌-◌, ◌<◌, ◌≤◌, Bool, true, false, IsTrue, List, [], ◌∷◌, ◌++◌}
+use Rattle.std.specs.Prelude.{length, take}
+use Rattle.std.specs.Prelude.{Option, Some, None, Result, Ok, Err}
+use Rattle.typecodes.specs.declared.message.Message as message
+use Rattle.typecodes.specs.declared.spec.Spec.{Spec}
+use Rattle.typecodes.specs.Message.{CantBeRead, ReadWhole}
+use Rattle.typecodes.specs.Types.{lms_signature_len_of, xmss_signature_len_of}
+use Rattle.hss.specs.Signature.{signature_size as hss_signature_size}
+use Rattle.state_file.specs.declared.refused.Refused.{Refused}
+use Rattle.state_file.specs.declared.record.Bound.{Bound}
+use Rattle.state_file.specs.declared.record.Key.{Key}
+use Rattle.state_file.specs.declared.record.Record.{Record}
+use Rattle.state_file.specs.declared.record.Secret.{Secret}
+use Rattle.state_file.specs.declared.record.Secret.TheVariants.{Lms, Hss, Xmss}
+use Rattle.state_file.specs.declared.store.Store as store
+use Rattle.state_file.specs.Disk.{Counts, LeavesOnly}
+use Rattle.state_file.specs.Laws.{IsLegal}
+use Rattle.sign_core.specs.declared.key.AnyPublic.{AnyPublic}
+use Rattle.sign_core.specs.declared.fault.SignFault.{SignFault}
+use Rattle.sign_core.specs.declared.fault.SignFault.TheVariants.{DeviceFailed, NoMemoryToOpen, OutOfMemory}
+use Rattle.sign_core.specs.declared.fault.SignFault.TheVariants.{RandomFailed, StoreFailed}
+use Rattle.sign_core.specs.declared.fault.SignFault.TheVariants.{Moved, Stopped, Unreadable}
+use Rattle.sign_core.specs.declared.source.Source as source
+use Rattle.sign_core.specs.Source.{Provides}
+use Rattle.sign_core.specs.StoreLedger.{binding_in, deepest, key_in, wanted_count}
+use Rattle.sign_core.specs.StoreOnce.{AreDraws, AreFields, CanFailLoad, CanStopOpening, IsBeginning, key_sizes}
+use Rattle.sign_core.specs.StoreOnce.{public_of_key, reached}
+use Rattle.sign_core.specs.StoreWorld.{Chance, Creation, Fate, Opening, Outcome, State, closed_on, created, opened}
+use Rattle.sign_core.specs.StoreWorld.{requested, retired}
+use Rattle.sign_core.specs.Textbook.{AllHaveSizes}
+
+-- ---- a signer
+
+-- What a signer is, to its callers: its store, its source, its records, whether it is open, and for how many more
+-- records it has memory.
+pub record View (S R : Type 0) : Type 0 where
+  pub store : S
+  pub random : R
+  pub records : List Record
+  pub is_open : Bool
+  pub spare : ℕ
+
+-- its state in the world
+abbrev pub state_of : {S R : Type 0} → View S R → State
+state_of view = record { records = view.records; is_open = view.is_open }
+
+-- The store runs, it has as many records, and where it is honest it has these.
+pub record IsTied {S : Type 0} (g : store.Ghosts S) (kept_in : S) (records : List Record) : Type 0 where
+  pub running : g.stopped kept_in ≡ false
+  pub long : length (g.list kept_in) ≡ length records
+  pub same : IsTrue (g.honest kept_in) → g.list kept_in ≡ records
+
+-- Its records are legal. While it is open they are those of its store; where it is closed, its store has stopped.
+pub record IsSigner {S R : Type 0} (g : store.Ghosts S) (view : View S R) : Type 0 where
+  pub legal : IsLegal view.records
+  pub sizes : AllHaveSizes view.records
+  pub tied : view.is_open ≡ true → IsTied g view.store view.records
+  pub shut : view.is_open ≡ false → g.stopped view.store ≡ true
+
+-- ---- what a call does to the store
+
+-- The records that a call adds are added to the store's list, too.
+pub record GrowsAlike (old_list new_list old_records new_records : List Record) : Type 0 where
+  pub more : List Record
+  pub list : new_list ≡ old_list ++ more
+  pub records : new_records ≡ old_records ++ more
+
+-- the device failed, the source did, or memory was refused
+abbrev pub is_store_failed : SignFault → Bool
+is_store_failed StoreFailed = true
+is_store_failed _ = false
+
+abbrev pub is_random_failed : SignFault → Bool
+is_random_failed RandomFailed = true
+is_random_failed _ = false
+
+abbrev pub is_out_of_memory : SignFault → Bool
+is_out_of_memory OutOfMemory = true
+is_out_of_memory _ = false
+
+-- the device failed while the records were read
+abbrev pub is_device_failed : SignFault → Bool
+is_device_failed DeviceFailed = true
+is_device_failed _ = false
+
+-- What a call does to its store: the list grows as the records do; a stop at any moment of it leaves the old records
+-- and
+-- a beginning of what was reached; and each failure of the device is answered.
+pub record KeepsStore {S A : Type 0} (g : store.Ghosts S) (old new : S) (records : List Record) (outcome : Outcome A)
+    : Type 0 where
+  pub list : GrowsAlike (g.list old) (g.list new) records outcome.state.records
+  pub moments : IsTrue (g.honest old) → g.stopped old ≡ false
+      → LeavesOnly g.moment g.left_since old new (IsBeginning (length records) (reached outcome))
+  pub failures : Counts is_store_failed (g.failures old) (g.failures new) outcome.answer
+  pub honest : g.honest new ≡ g.honest old
+  pub most : g.most new ≡ g.most old
+
+-- The outcome is that of a call of a signer.
+pub record Ends {S R A : Type 0} (g : store.Ghosts S) (old new : View S R) (outcome : Outcome A)
+    (answer : Result A SignFault) : Type 0 where
+  pub answer_is : outcome.answer ≡ answer
+  pub records : new.records ≡ outcome.acknowledged
+  pub is_open : new.is_open ≡ outcome.state.is_open
+  pub store : KeepsStore g old.store new.store old.records outcome
+
+-- What an append does to a store that runs and has room, by its answer: to the list, to whether the store has stopped,
+-- and to the count of its device's failures.
+abbrev pub AppendsTo : {A : Type 0} (old : List Record) (entry : Record) (new : List Record) (stopped : Bool)
+    (failures_before failures_after : ℕ) → Result A SignFault → Type 0
+AppendsTo old entry new stopped before after (Ok _) =
+    (new ≡ old ++ entry ∷ []) × (stopped ≡ false) × (after ≡ before)
+AppendsTo old entry new stopped before after (Err StoreFailed) =
+    ((new ≡ old) ⊎ (new ≡ old ++ entry ∷ [])) × (stopped ≡ true) × (after ≡ before + 1)
+AppendsTo old entry new stopped before after (Err OutOfMemory) =
+    (new ≡ old) × (stopped ≡ false) × (after ≡ before)
+AppendsTo old entry new stopped before after (Err _) = ⊥
+
+-- a stop at any moment of it leaves the old list, or the new record as well
+abbrev pub LeavesEither : {S : Type 0} → store.Ghosts S → (old new : S) → Record → Type 0
+LeavesEither g old new entry = IsTrue (g.honest old) → g.stopped old ≡ false
+    → LeavesOnly g.moment g.left_since old new (λ left. (left ≡ g.list old) ⊎ (left ≡ g.list old ++ entry ∷ []))
+
+-- why a signer is hindered at once: it is closed, or its records go on elsewhere
+abbrev pub Hinders : (is_open has_moved : Bool) → SignFault → Type 0
+Hinders is_open has_moved Stopped = is_open ≡ false
+Hinders is_open has_moved Moved = (is_open ≡ true) × (has_moved ≡ true)
+Hinders is_open has_moved _ = ⊥
+
+-- ---- sign
+
+-- how many bytes a key's signatures have
+abbrev pub signature_size : Secret → ℕ
+signature_size (Lms pair identifier seed) = lms_signature_len_of pair
+signature_size (Hss levels identifier seed) = hss_signature_size levels
+signature_size (Xmss tree secret_seed prf_key public_seed) = xmss_signature_len_of tree
+
+-- how many records a new name wants
+abbrev pub wanted_by : Secret → Option ℕ → ℕ
+wanted_by secret None = 0
+wanted_by secret (Some level) = wanted_count secret level
+
+-- The memory that a request lacks: the output, of this capacity, can't take the signature; or, under a name that isn't
+-- bound, there is none for as many more records as it wants.
+abbrev pub LacksMemory : Secret → (wanted : ℕ) → Option (ℕ × Bound) → (capacity spare : ℕ) → Type 0
+LacksMemory secret wanted (Some found) capacity spare = capacity < signature_size secret
+LacksMemory secret wanted None capacity spare = (capacity < signature_size secret) ⊎ (spare < wanted)
+
+-- What becomes of the message: it was read whole and gave this text, or can't be read; or it is as it was.
+abbrev pub IsRead : {M : Type 0} → message.Ghosts M → (is_read : Bool) → (given : Option (List ℕ)) → M → M → Type 0
+IsRead m true (Some text) old new = ReadWhole m.transition m.remaining text old new
+IsRead m true None old new = CantBeRead m.transition old new
+IsRead m false given old new = new ≡ old
+
+-- A refusal for want of memory is the signer's own, before anything is drawn, or one of its store.
+abbrev pub RefusesMemory : {A : Type 0} → (has_room : Bool) → Result A SignFault → (before after : ℕ) → Type 0
+RefusesMemory true answer before after = Counts is_out_of_memory before after answer
+RefusesMemory false answer before after = after ≡ before
+
+-- A call of sign is a step of the world, by some chance: the bytes that are drawn are those that the source gave; the
+-- message is read or as it was; and memory is refused only where it is lacking.
+pub record Signs {S R M : Type 0} (g : store.Ghosts S) (r : source.Ghosts R) (m : message.Ghosts M) (key : Key)
+    (old new : View S R) (name : List ℕ) (before after : M) (capacity : ℕ) (answer : Result (List ℕ) SignFault)
+    : Type 0 where
+  pub chance : Chance
+  pub outcome : Outcome (List ℕ)
+  pub step : requested (g.most old.store) (state_of old) name chance ≡ outcome
+  pub ends : Ends g old new outcome answer
+  pub possible : AreDraws chance
+  pub source : Provides (r.upcoming old.random) outcome.drawn (r.upcoming new.random)
+  pub failures : Counts is_random_failed (r.failures old.random) (r.failures new.random) answer
+  pub message : IsRead m outcome.is_read chance.given before after
+  pub room : chance.has_room ≡ false → LacksMemory key.secret (wanted_by key.secret (deepest key.secret old.records))
+      (binding_in old.records name) capacity old.spare
+  pub refusals : RefusesMemory chance.has_room answer (g.refusals old.store) (g.refusals new.store)
+
+-- ---- retire
+
+-- A call of retire is a step of the world; it draws nothing and takes no memory of its own.
+pub record Retires {S R : Type 0} (g : store.Ghosts S) (old new : View S R) (upto : ℕ)
+    (answer : Result (Unit {0}) SignFault) : Type 0 where
+  pub fate : Fate
+  pub outcome : Outcome (Unit {0})
+  pub step : retired (g.most old.store) (state_of old) upto fate ≡ outcome
+  pub ends : Ends g old new outcome answer
+  pub random : new.random ≡ old.random
+  pub refusals : Counts is_out_of_memory (g.refusals old.store) (g.refusals new.store) answer
+
+-- ---- create and open
+
+-- the store afterwards, in the signer or handed back
+abbrev pub store_after : {S R : Type 0} → Result (View S R) (Refused (S × R) SignFault) → S
+store_after (Ok signer) = signer.store
+store_after (Err refused) = refused.given.0
+
+-- the source afterwards
+abbrev pub random_after : {S R : Type 0} → Result (View S R) (Refused (S × R) SignFault) → R
+random_after (Ok signer) = signer.random
+random_after (Err refused) = refused.given.1
+
+-- A signer answers its public key, and is open on the records acknowledged; or the fault is answered.
+abbrev pub IsAnswered : {S R : Type 0} → Outcome AnyPublic → Result (View S R) (Refused (S × R) SignFault) → Type 0
+IsAnswered outcome (Ok signer) = (public : AnyPublic) × (outcome.answer ≡ Ok public)
+    × (public_of_key (key_in signer.records) ≡ Some public) × (signer.records ≡ outcome.acknowledged)
+    × (signer.is_open ≡ true)
+IsAnswered outcome (Err refused) = outcome.answer ≡ Err refused.fault
+
+-- what the load of record 0 failed with, by the store that it failed on
+abbrev pub LoadFails : Option SignFault → List Record → (stopped honest : Bool) → Type 0
+LoadFails None list stopped honest = stopped ≡ false
+LoadFails (Some Stopped) list stopped honest = stopped ≡ true
+LoadFails (Some (Unreadable slot)) list stopped honest =
+    (stopped ≡ false) × (honest ≡ false) × (slot ≡ 0) × (0 < length list)
+LoadFails (Some StoreFailed) list stopped honest = stopped ≡ false
+LoadFails (Some OutOfMemory) list stopped honest = stopped ≡ false
+LoadFails (Some _) list stopped honest = ⊥
+
+-- A call of create is a step of the world, by some chance: it takes no memory of its own.
+pub record Creates {S R : Type 0} (g : store.Ghosts S) (r : source.Ghosts R) (spec : Spec) (kept_in : S) (random : R)
+    (result : Result (View S R) (Refused (S × R) SignFault)) : Type 0 where
+  pub chance : Creation
+  pub outcome : Outcome AnyPublic
+  pub step : created (closed_on (g.list kept_in)) spec chance ≡ outcome
+  pub answer : IsAnswered outcome result
+  pub store : KeepsStore g kept_in (store_after result) (g.list kept_in) outcome
+  pub load : LoadFails chance.failed_load (g.list kept_in) (g.stopped kept_in) (g.honest kept_in)
+  pub possible : AreFields (key_sizes spec) chance.fields
+  pub source : Provides (r.upcoming random) outcome.drawn (r.upcoming (random_after result))
+  pub failures : Counts is_random_failed (r.failures random) (r.failures (random_after result)) outcome.answer
+  pub room : chance.has_room ≡ true
+  pub refusals : Counts is_out_of_memory (g.refusals kept_in) (g.refusals (store_after result)) outcome.answer
+
+-- the record that couldn't be loaded, and why
+abbrev pub StopsOpening : Opening → List Record → (stopped honest : Bool) → Type 0
+StopsOpening None list stopped honest = stopped ≡ false
+StopsOpening (Some (slot, Stopped)) list stopped honest = (stopped ≡ true) × (slot ≡ 0)
+StopsOpening (Some (slot, Unreadable k)) list stopped honest =
+    (stopped ≡ false) × (honest ≡ false) × (k ≡ slot) × (slot < length list)
+StopsOpening (Some (slot, DeviceFailed)) list stopped honest = (stopped ≡ false) × (slot ≤ length list)
+StopsOpening (Some (slot, NoMemoryToOpen)) list stopped honest = (stopped ≡ false) × (slot ≤ length list)
+StopsOpening (Some (slot, _)) list stopped honest = ⊥
+
+-- A call of open is a step of the world, on the records that were loaded: as many as the store has, and where it is
+-- honest its own.
+pub record Opens {S R : Type 0} (g : store.Ghosts S) (kept_in : S) (random : R)
+    (result : Result (View S R) (Refused (S × R) SignFault)) : Type 0 where
+  pub records : List Record
+  pub long : length records ≡ length (g.list kept_in)
+  pub same : IsTrue (g.honest kept_in) → records ≡ g.list kept_in
+  pub chance : Opening
+  pub outcome : Outcome AnyPublic
+  pub step : opened (closed_on records) chance ≡ outcome
+  pub answer : IsAnswered outcome result
+  pub load : StopsOpening chance (g.list kept_in) (g.stopped kept_in) (g.honest kept_in)
+  pub list : g.list (store_after result) ≡ g.list kept_in
+  pub moments : IsTrue (g.honest kept_in) → g.stopped kept_in ≡ false
+      → LeavesOnly g.moment g.left_since kept_in (store_after result) (λ left. left ≡ g.list kept_in)
+  pub failures : Counts is_device_failed (g.failures kept_in) (g.failures (store_after result)) outcome.answer
+  pub same_random : random_after result ≡ random
+  pub honest : g.honest (store_after result) ≡ g.honest kept_in
+  pub most : g.most (store_after result) ≡ g.most kept_in

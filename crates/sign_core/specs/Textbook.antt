@@ -1,0 +1,233 @@
+-- The textbook signature of a binding, and what is sound: functions of the records alone.
+use Rattle.std.specs.Prelude.{◌≡◌, ℕ, zero, suc, ◌+◌, ◌-◌, ◌<◌, Bool, true, false, not, List, [], ◌∷◌, ◌++◌, ◌&&◌}
+use Rattle.std.specs.Prelude.{length, take, map, find, slice_get, slice_index_or, unwrap_or, replicate}
+use Rattle.std.specs.Prelude.{Option, Some, None, if◌then◌else◌}
+use Rattle.typecodes.specs.declared.types.LmsPair.{LmsPair}
+use Rattle.typecodes.specs.declared.types.XmssType.{XmssType}
+use Rattle.typecodes.specs.Levels.{AreLevels}
+use Rattle.lmots.specs.Key.{message_digest_of}
+use Rattle.lms.specs.declared.key.LmsPublic.{LmsPublic}
+use Rattle.lms.specs.declared.secret.LmsSecret.{LmsSecret}
+use Rattle.lms.specs.Secret.{public_of as lms_public_of, root_in as lms_root_in}
+use Rattle.lms.specs.Writing.{public_bytes as lms_public_bytes, signature_bytes as lms_signature_bytes}
+use Rattle.lms.specs.Writing.{textbook as lms_textbook}
+use Rattle.xmss.specs.declared.secret.XmssSecret.{XmssSecret}
+use Rattle.xmss.specs.Secret.{digest_in as xmss_digest_in, root_in as xmss_root_in}
+use Rattle.xmss.specs.Writing.{signature_bytes as xmss_signature_bytes, textbook as xmss_textbook}
+use Rattle.hss.specs.Secret.{Signing}
+use Rattle.hss.specs.Writing.{signature_bytes as hss_signature_bytes, textbook as hss_textbook}
+use Rattle.state_file.specs.Laws.{IsLegal, bottom_of}
+use Rattle.state_file.specs.declared.record.Bound.{Bound}
+use Rattle.state_file.specs.declared.record.Extend.{Extend}
+use Rattle.state_file.specs.declared.record.Key.{Key}
+use Rattle.state_file.specs.declared.record.Record.{Record}
+use Rattle.state_file.specs.declared.record.Record.TheVariants.{Key as KeyRecord, Extend as ExtendRecord}
+use Rattle.state_file.specs.declared.record.Record.TheVariants.{Bound as BoundRecord, Retire, Moved}
+use Rattle.state_file.specs.declared.record.Secret.{Secret}
+use Rattle.state_file.specs.declared.record.Secret.TheVariants.{Lms, Hss, Xmss}
+use Rattle.sign_core.specs.declared.key.AnyPublic.{AnyPublic}
+use Rattle.sign_core.specs.declared.key.AnyPublic.TheVariants.{Lms as AnyLms, Hss as AnyHss, Xmss as AnyXmss}
+use Rattle.sign_core.specs.StoreLedger.{are_same, binding_in, current, key_in}
+
+-- ---- secrets
+
+-- the secret of an LMS tree
+abbrev pub lms_secret : LmsPair → (identifier seed : List ℕ) → LmsSecret
+lms_secret pair identifier seed = record { pair = pair; identifier = identifier; seed = seed }
+
+-- that of an XMSS tree
+abbrev pub xmss_secret : XmssType → (secret_seed prf_key public_seed : List ℕ) → XmssSecret
+xmss_secret tree secret_seed prf_key public_seed =
+    record { tree = tree; secret_seed = secret_seed; prf_key = prf_key; public_seed = public_seed }
+
+-- The LMS trees of a key, one or more levels of them: the top tree's secret, and the types of each level's trees.
+pub record Trees : Type 0 where
+  pub top : LmsSecret
+  pub pairs : List LmsPair
+
+-- the secret of the tree that a record makes; a Key, and what makes none, stands for the top tree
+abbrev pub secret_by : Trees → Option Record → LmsSecret
+secret_by trees (Some (ExtendRecord extend)) =
+    lms_secret (slice_index_or trees.pairs extend.level trees.top.pair) extend.identifier extend.seed
+secret_by trees (Some (KeyRecord key)) = trees.top
+secret_by trees (Some (BoundRecord bound)) = trees.top
+secret_by trees (Some (Retire upto)) = trees.top
+secret_by trees (Some Moved) = trees.top
+secret_by trees None = trees.top
+
+abbrev pub secret_at : Trees → List Record → (tree : ℕ) → LmsSecret
+secret_at trees records tree = secret_by trees (slice_get records tree)
+
+-- ---- chains of trees
+
+-- the tree of a level that is current before place k; where there is none, the Key's
+abbrev pub tree_before : (level : ℕ) → List Record → (k : ℕ) → ℕ
+tree_before level records k = unwrap_or (current level (take k records)) 0
+
+-- the trees from the Key's down to a tree of a level: each stands under the one that was current above it when it was
+-- made
+abbrev pub chain : (level : ℕ) → List Record → (tree : ℕ) → List ℕ
+chain zero records tree = tree ∷ []
+chain (suc level) records tree = chain level records (tree_before level records tree) ++ tree ∷ []
+
+-- what signs the tree that a record makes, by a leaf of its parent tree
+abbrev pub signing_by : Trees → List Record → (parent : ℕ) → Option Record → List Signing
+signing_by trees records parent (Some (ExtendRecord extend)) = record {
+  secret = secret_at trees records parent;
+  leaf = extend.parent_leaf;
+  randomizer = extend.randomizer;
+  digest = extend.digest;
+} ∷ []
+signing_by trees records parent (Some (KeyRecord key)) = []
+signing_by trees records parent (Some (BoundRecord bound)) = []
+signing_by trees records parent (Some (Retire upto)) = []
+signing_by trees records parent (Some Moved) = []
+signing_by trees records parent None = []
+
+-- what signs the trees of a chain below the Key's, from the top down
+abbrev pub signings_above : Trees → (level : ℕ) → List Record → (tree : ℕ) → List Signing
+signings_above trees zero records tree = []
+signings_above trees (suc level) records tree =
+    let parent = tree_before level records tree in
+    signings_above trees level records parent ++ signing_by trees records parent (slice_get records tree)
+
+-- what a binding signs with in a bottom tree
+abbrev pub signing_of_bound : Trees → List Record → (tree : ℕ) → Bound → Signing
+signing_of_bound trees records tree bound = record {
+  secret = secret_at trees records tree;
+  leaf = bound.leaf;
+  randomizer = bound.randomizer;
+  digest = bound.digest;
+}
+
+-- ---- by scheme
+
+-- The LMS trees of a key; XMSS has none.
+abbrev pub trees_of : Secret → Option Trees
+trees_of (Lms pair identifier seed) =
+    Some (record { top = lms_secret pair identifier seed; pairs = pair ∷ [] })
+trees_of (Hss [] identifier seed) = None
+trees_of (Hss (pair ∷ rest) identifier seed) =
+    Some (record { top = lms_secret pair identifier seed; pairs = pair ∷ rest })
+trees_of (Xmss tree secret_seed prf_key public_seed) = None
+
+-- the public key that a Key record says
+abbrev pub lms_public_in : LmsPair → (identifier root : List ℕ) → LmsPublic
+lms_public_in pair identifier root = record { pair = pair; identifier = identifier; root = root }
+
+abbrev pub public_by : Secret → (root : List ℕ) → Option AnyPublic
+public_by (Lms pair identifier seed) root = Some (AnyLms (lms_public_in pair identifier root))
+public_by (Hss [] identifier seed) root = None
+public_by (Hss (pair ∷ rest) identifier seed) root =
+    Some (AnyHss (record { levels = length (pair ∷ rest); top = lms_public_in pair identifier root }))
+public_by (Xmss tree secret_seed prf_key public_seed) root =
+    Some (AnyXmss (record { tree = tree; root = root; seed = public_seed }))
+
+abbrev pub public_in : Key → Option AnyPublic
+public_in key = public_by key.secret key.root
+
+-- The digest that a leaf of the bottom tree before place k signs for a message: Q by C, or M' by SK_PRF and the
+-- recorded
+-- root.
+abbrev pub digest_under : Option Trees → List Record → (tree leaf : ℕ) → (randomizer message : List ℕ) → List ℕ
+digest_under None records tree leaf randomizer message = []
+digest_under (Some trees) records tree leaf randomizer message =
+    message_digest_of (secret_at trees records tree).identifier leaf randomizer message
+
+abbrev pub digest_by : Secret → (root : List ℕ) → List Record → (k leaf : ℕ) → (randomizer message : List ℕ) → List ℕ
+digest_by (Lms pair identifier seed) root records k leaf randomizer message =
+    message_digest_of identifier leaf randomizer message
+digest_by (Hss levels identifier seed) root records k leaf randomizer message =
+    digest_under (trees_of (Hss levels identifier seed)) records (tree_before (length levels - 1) records k) leaf
+    randomizer message
+digest_by (Xmss tree secret_seed prf_key public_seed) root records k leaf randomizer message =
+    xmss_digest_in (xmss_secret tree secret_seed prf_key public_seed) root leaf message
+
+abbrev pub digest_at : Key → List Record → (k leaf : ℕ) → (randomizer message : List ℕ) → List ℕ
+digest_at key records k leaf randomizer message = digest_by key.secret key.root records k leaf randomizer message
+
+-- ---- signatures
+
+-- The textbook signature of a binding whose record stands at place k.
+abbrev pub hss_signature_under : Option Trees → List Record → (level tree : ℕ) → Bound → List ℕ
+hss_signature_under None records level tree bound = []
+hss_signature_under (Some trees) records level tree bound =
+    let above = signings_above trees level records tree in
+    hss_signature_bytes (hss_textbook above (signing_of_bound trees records tree bound))
+
+abbrev pub signature_by : Secret → List Record → (k : ℕ) → Bound → List ℕ
+signature_by (Lms pair identifier seed) records k bound =
+    lms_signature_bytes (lms_textbook (lms_secret pair identifier seed) bound.leaf bound.randomizer bound.digest)
+signature_by (Hss levels identifier seed) records k bound =
+    let bottom = length levels - 1 in
+    hss_signature_under (trees_of (Hss levels identifier seed)) records bottom (tree_before bottom records k) bound
+signature_by (Xmss tree secret_seed prf_key public_seed) records k bound =
+    xmss_signature_bytes (xmss_textbook (xmss_secret tree secret_seed prf_key public_seed) bound.leaf bound.digest)
+
+abbrev pub signature_at : Key → List Record → (k : ℕ) → Bound → List ℕ
+signature_at key records k bound = signature_by key.secret records k bound
+
+-- ---- what is sound
+
+-- the root of a key's top tree
+abbrev pub root_by : Secret → List ℕ
+root_by (Lms pair identifier seed) = lms_root_in (lms_secret pair identifier seed)
+root_by (Hss [] identifier seed) = []
+root_by (Hss (pair ∷ rest) identifier seed) = lms_root_in (lms_secret pair identifier seed)
+root_by (Xmss tree secret_seed prf_key public_seed) =
+    xmss_root_in (xmss_secret tree secret_seed prf_key public_seed)
+
+-- An Extend at place k: its root is that of the tree's secret, and its digest that of the tree's public key under the
+-- parent's I and leaf.
+abbrev pub is_sound_extend : Option Trees → List Record → (k : ℕ) → Extend → Bool
+is_sound_extend None records k extend = false
+is_sound_extend (Some trees) records k extend =
+    let made = lms_public_of (secret_by trees (Some (ExtendRecord extend))) in
+    let parent = secret_at trees records (tree_before (extend.level - 1) records k) in
+    are_same extend.root made.root
+    && are_same extend.digest
+    (message_digest_of parent.identifier extend.parent_leaf extend.randomizer (lms_public_bytes made))
+
+-- whether the record at place k says the root of its tree, and the digest of the tree's public key, as they are
+abbrev pub is_sound_record : Key → List Record → (k : ℕ) → Option Record → Bool
+is_sound_record key records k (Some (KeyRecord own)) = are_same own.root (root_by own.secret)
+is_sound_record key records k (Some (ExtendRecord extend)) = is_sound_extend (trees_of key.secret) records k extend
+is_sound_record key records k (Some (BoundRecord bound)) = true
+is_sound_record key records k (Some (Retire upto)) = true
+is_sound_record key records k (Some Moved) = true
+is_sound_record key records k None = true
+
+abbrev pub is_sound_at : Key → List Record → (k : ℕ) → Bool
+is_sound_at key records k = is_sound_record key records k (slice_get records k)
+
+-- the first record of a chain of trees, from the top down, that isn't sound
+abbrev pub damaged_in : Key → (level : ℕ) → List Record → (tree : ℕ) → Option ℕ
+damaged_in key level records tree = find (λ k. not (is_sound_at key records k)) (chain level records tree)
+
+-- All records are sound, and legal.
+pub record AreSound (records : List Record) : Type 0 where
+  pub legal : IsLegal records
+  pub key : Key
+  pub keyed : key_in records ≡ Some key
+  pub sound : (k : ℕ) → is_sound_at key records k ≡ true
+
+-- ---- sizes
+
+-- the parts of a secret have their sizes in bytes, and it has 1 to 8 levels
+abbrev pub SecretHasSizes : Secret → Type 0
+SecretHasSizes (Lms pair identifier seed) = (length identifier ≡ 16) × (length seed ≡ 32)
+SecretHasSizes (Hss levels identifier seed) = (length identifier ≡ 16) × (length seed ≡ 32) × AreLevels levels
+SecretHasSizes (Xmss tree secret_seed prf_key public_seed) =
+    (length secret_seed ≡ 32) × (length prf_key ≡ 32) × (length public_seed ≡ 32)
+
+-- the parts of a record have theirs
+abbrev pub HasSizes : Record → Type 0
+HasSizes (KeyRecord key) = SecretHasSizes key.secret × (length key.root ≡ 32)
+HasSizes (ExtendRecord extend) = (length extend.identifier ≡ 16) × (length extend.seed ≡ 32)
+    × (length extend.randomizer ≡ 32) × (length extend.digest ≡ 32) × (length extend.root ≡ 32)
+HasSizes (BoundRecord bound) = (length bound.randomizer ≡ 32) × (length bound.digest ≡ 32)
+HasSizes (Retire upto) = Unit {0}
+HasSizes Moved = Unit {0}
+
+abbrev pub AllHaveSizes : List Record → Type 0
+AllHaveSizes records = (k : ℕ) (entry : Record) → slice_get records k ≡ Some entry → HasSizes entry
