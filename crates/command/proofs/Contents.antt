@@ -1,5 +1,5 @@
 -- What is known of contents, and which answers are right for it.
-use Rattle.std.proofs.Common.{◌≡◌, ◌∙◌, ℕ, ◌≤◌, ◌<◌, ◌⊎◌, List, [], ◌++◌, length, take, Option, Some, None, Result, Ok, Err, IfOk, IfErr, IsErrAnd, inl, inr, refl, sym, subst, ap, append-nil, arith, length-take-le, take_all, take_at}
+use Rattle.std.proofs.Common.{◌≡◌, ◌∙◌, ℕ, ◌≤◌, ◌<◌, ◌⊎◌, List, ◌++◌, length, take, Option, Some, None, Result, Ok, Err, IfOk, IfErr, IsErrAnd, inl, inr, refl, sym, subst, ap, append-nil, arith, length-take-le, take_all, take_at}
 use Rattle.std.proofs.lemmas.Bool.{cases_lt}
 use Rattle.std.specs.Io.KnownBytes.{Consumes, IsAtEnd}
 use Rattle.std.specs.declared.io.ErrorKind.{ErrorKind}

@@ -1,6 +1,7 @@
 -- The first bytes of a signature decide, one more than the greatest has.
 use Rattle.std.proofs.Common.{◌≡◌, ℕ, ◌+◌, ◌*◌, ◌^◌, ◌<◌, ◌≤◌, zero, suc, Bool, true, false, cond, nat_lt, nat_le, List, [], ◌∷◌, take, Result, Ok, Err, refl, subst, arith, leb-true, inl, inr}
 use Rattle.std.specs.Prelude.{◌&&◌}
+use Rattle.std.specs.Prelude.{⊤}
 use Rattle.typecodes.specs.declared.fault.Cause.TheVariants.{LeafOutOfRange, LevelCount}
 use Rattle.typecodes.specs.declared.types.OtsType.{OtsType}
 use Rattle.typecodes.specs.declared.types.OtsType.TheVariants.{W1, W2, W4, W8}
@@ -212,10 +213,10 @@ verdict_decided count (Xmss key) message bytes r less = xmss_decided count key m
 
 decided_by : {A : Type 0} (count : ℕ) (public message signature : List ℕ) (r : Result A Refusal) → 74988 < count
     → Judgement public message (take count signature) r → Judgement public message signature r
-decided_by count public message signature (Ok a) less (key, spelled, verdict) = (key, spelled, verdict_decided count key message signature (Ok a) less verdict)
+decided_by count public message signature (Ok a) less (key, spelled, verdict) = (key, spelled, verdict_decided {A = ⊤} count key message signature (Ok tt) less verdict)
 decided_by count public message signature (Err (Key fault)) less has = has
-decided_by {A = A} count public message signature (Err (Signature refusal)) less (key, spelled, verdict) =
-    (key, spelled, verdict_decided {A = A} count key message signature (Err refusal) less verdict)
+decided_by count public message signature (Err (Signature refusal)) less (key, spelled, verdict) =
+    (key, spelled, verdict_decided {A = ⊤} count key message signature (Err refusal) less verdict)
 decided_by count public message signature (Err OutOfMemory) less never = absurd never
 decided_by count public message signature (Err FileFailed) less never = absurd never
 

@@ -1,111 +1,114 @@
--- Reads of a file, one after the other.
-use Rattle.std.proofs.Common.{◌≡◌, ◌∙◌, ℕ, ◌+◌, ◌≤◌, ◌^◌, List, [], ◌∷◌, ◌++◌, length, Result, Ok, Err, IsErrAnd, inl, inr, refl, sym, ap, subst, arith, append_assoc, append-nil, length-append, length-take-le, take, Option}
+-- Transitions of a file, one after the other.
+use Rattle.std.proofs.Common.{◌≡◌, ◌∙◌, ◌<◌, ℕ, ◌+◌, ◌≤◌, ◌^◌, List, [], ◌∷◌, ◌++◌, length, Result, Ok, Err, IsErrAnd, inl, inr, refl, sym, ap, subst, arith, append_assoc, length-append, Option, Some, None}
 use Rattle.std.specs.declared.io.ErrorKind.{ErrorKind}
 use Rattle.std.specs.Io.KnownBytes.{Consumes}
-use Rattle.std.proofs.KnownBytes.{Consumes-trans}
 use Rattle.std.specs.IoError.{error_kind}
 use Rattle.std.specs.declared.io.Error.{Error}
 use Rattle.std.specs.declared.io.ErrorKind.TheVariants.{FileTooLarge, Interrupted, OutOfMemory, TimedOut}
-use Rattle.command.specs.Files.{CollectsOrFails, FailsToRead, FillsOrFails, ReadsOrFails}
-use Rattle.command.specs.Trace.{Happening, Read, Reads, failed, given, not_opened, opened}
+use Rattle.typecodes.specs.Message.{Gave, IsContent, ReadOutcome, Transitions, Transition, interruptions}
+use Rattle.typecodes.proofs.Messages.{Progress}
+use Rattle.command.specs.Files.{FailsToRead, Fills, ReadsAllOrFails}
+use Rattle.command.specs.Trace.{Happening, ReadsOn, ReadsOnce, ReadsToEnd}
 use Rattle.command.specs.declared.trace.Role.{Role}
 
-read-append : (role : Role) (xs ys : List Happening) (a b : ℕ) → Read role xs a → Read role ys b → Read role (xs ++ ys) (a + b)
-read-append role [] ys a b none more = let same : b ≡ a + b = omega (arith, none) in subst (Read role ys) same more
-read-append role (given of n ∷ later) ys a b (same, (rest, count, read)) more =
-    (same, (rest + b, omega (arith, count), read-append role later ys rest b read more))
-read-append role (failed of kind ∷ later) ys a b (same, (interrupted, read)) more =
-    (same, (interrupted, read-append role later ys a b read more))
-read-append role (opened of path ∷ later) ys a b never more = absurd never
-read-append role (not_opened of path ∷ later) ys a b never more = absurd never
+reads-append : {M : Type 0} (step : Transition M) (xs ys : List ReadOutcome) (old middle new : M) → Transitions step xs old middle
+    → Transitions step ys middle new → Transitions step (xs ++ ys) old new
+reads-append step [] ys old middle new same more = subst (λ m. Transitions step ys m new) same more
+reads-append step (x ∷ xs) ys old middle new (next, first, later) more = (next, first, reads-append step xs ys next middle new later more)
 
--- So many bytes were given, by so many reads or more.
-abbrev pub Progress : Role → ℕ → ℕ → List Happening → List Happening → Type 0
-Progress role turns count old new =
-    (reads : List Happening) × (new ≡ old ++ reads) × Read role reads count × (turns ≤ length reads)
+gave-append : (xs ys : List ReadOutcome) (a b : List ℕ) → Gave xs a → Gave ys b → Gave (xs ++ ys) (a ++ b)
+gave-append [] ys a b none more = subst (Gave ys) (ap (λ l. l ++ b) (sym none)) more
+gave-append (Ok bytes ∷ later) ys a b (some, (rest, is, gave)) more =
+    (some, (rest ++ b, ap (λ l. l ++ b) is ∙ append_assoc bytes rest b, gave-append later ys rest b gave more))
+gave-append (Err kind ∷ later) ys a b (interrupted, gave) more = (interrupted, gave-append later ys a b gave more)
 
-pub begins : (role : Role) (old : List Happening) → Progress role 0 0 old old
-begins role old = ([], sym (append-nil old), refl, omega arith)
+interruptions-append : (xs ys : List ReadOutcome) → interruptions (xs ++ ys) ≡ interruptions xs + interruptions ys
+interruptions-append [] ys = omega arith
+interruptions-append (Ok bytes ∷ later) ys = interruptions-append later ys
+interruptions-append (Err kind ∷ later) ys = let more = interruptions-append later ys in omega (arith, more)
 
-pub gives_more : (role of : Role) (turns count n : ℕ) (old before new : List Happening) → Progress role turns count old before
-    → of ≡ role → new ≡ before ++ given of n ∷ [] → Progress role (turns + 1) (count + n) old new
-gives_more role of turns count n old before new (reads, before_is, read, least) same new_is =
-    let size : length (reads ++ given of n ∷ []) ≡ length reads + 1 = length-append reads (given of n ∷ []) in (
-      reads ++ given of n ∷ [],
-      new_is ∙ ap (λ l. l ++ given of n ∷ []) before_is ∙ append_assoc old reads (given of n ∷ []),
-      read-append role reads (given of n ∷ []) count n read (same, (0, omega arith, refl)),
-      omega (arith, least, size),
-    )
+-- some reads, and one more after them
+reads-then : {M : Type 0} (step : Transition M) (xs ys : List ReadOutcome) (last : ReadOutcome) (old middle new : M) → Transitions step xs old middle
+    → Transitions step (ys ++ last ∷ []) middle new → Transitions step ((xs ++ ys) ++ last ∷ []) old new
+reads-then step xs ys last old middle new reads more =
+    subst (λ l. Transitions step l old new) (sym (append_assoc xs ys (last ∷ []))) (reads-append step xs (ys ++ last ∷ []) old middle new reads more)
 
-pub interrupted_once : (role of : Role) (turns count : ℕ) (kind : ErrorKind) (old before new : List Happening)
-    → Progress role turns count old before → of ≡ role → kind ≡ Interrupted → new ≡ before ++ failed of kind ∷ []
-    → Progress role (turns + 1) count old new
-interrupted_once role of turns count kind old before new (reads, before_is, read, least) same interrupted new_is =
-    let size : length (reads ++ failed of kind ∷ []) ≡ length reads + 1 = length-append reads (failed of kind ∷ []) in
-    let same_count : count + 0 ≡ count = omega arith in (
-      reads ++ failed of kind ∷ [],
-      new_is ∙ ap (λ l. l ++ failed of kind ∷ []) before_is ∙ append_assoc old reads (failed of kind ∷ []),
-      subst (Read role (reads ++ failed of kind ∷ [])) same_count (read-append role reads (failed of kind ∷ []) count 0 read (same, (interrupted, refl))),
-      omega (arith, least, size),
-    )
-
-pub reads_of : (role : Role) (turns count : ℕ) (old new : List Happening) → Progress role turns count old new → Reads role count old new
-reads_of role turns count old new (reads, new_is, read, least) = (reads, new_is, read)
-
--- the last read gave nothing
-pub reads_to_end : (role of : Role) (turns count n : ℕ) (old before new : List Happening) → Progress role turns count old before
-    → of ≡ role → n ≡ 0 → new ≡ before ++ given of n ∷ [] → Reads role count old new
-reads_to_end role of turns count n old before new progress same none new_is =
-    let same_count : count + n ≡ count = omega (arith, none) in
-    subst (λ k. Reads role k old new) same_count
-    (reads_of role (turns + 1) (count + n) old new (gives_more role of turns count n old before new progress same new_is))
+-- ---- what one buffer takes
 
 -- the last read failed
-pub read_fails : (role of : Role) (turns count : ℕ) (kind : ErrorKind) (old before new : List Happening)
-    → Progress role turns count old before → of ≡ role → (kind ≡ Interrupted → ⊥) → new ≡ before ++ failed of kind ∷ []
+pub read_fails : (role : Role) (turns : ℕ) (bytes : List ℕ) (kind : ErrorKind) (old before new : List Happening)
+    → Progress (ReadsOnce role) turns bytes old before → ReadsOnce role before (Err kind) new → (kind ≡ Interrupted → ⊥)
     → FailsToRead role kind old new
-read_fails role of turns count kind old before new progress same other new_is =
-    inl (before, (count, reads_of role turns count old before progress), subst (λ r. new ≡ before ++ failed r kind ∷ []) same new_is, other)
+read_fails role turns bytes kind old before new (outcomes, reads, gave, least) last other =
+    inl (outcomes, bytes, reads-append (ReadsOnce role) outcomes (Err kind ∷ []) old before new reads (new, last, refl), gave, other)
 
 -- there was no end of reads
-pub takes_forever : (role : Role) (turns count : ℕ) (kind : ErrorKind) (old new : List Happening) → Progress role turns count old new
+pub takes_forever : (role : Role) (turns : ℕ) (bytes : List ℕ) (kind : ErrorKind) (old new : List Happening) → Progress (ReadsOnce role) turns bytes old new
     → 2 ^ 60 ≤ turns → (kind ≡ OutOfMemory → ⊥) → FailsToRead role kind old new
-takes_forever role turns count kind old new (reads, new_is, read, least) long other =
-    inr (other, (reads, count, new_is, read, omega (arith, least, long)))
+takes_forever role turns bytes kind old new (outcomes, reads, gave, least) long other =
+    inr (other, (outcomes, bytes, reads, gave, omega (arith, least, long)))
 
--- nor of bytes
-pub gives_forever : (role : Role) (count : ℕ) (kind : ErrorKind) (old new : List Happening) → Reads role count old new
-    → 2 ^ 60 ≤ count → (kind ≡ OutOfMemory → ⊥) → FailsToRead role kind old new
-gives_forever role count kind old new (reads, new_is, read) long other =
-    inr (other, (reads, count, new_is, read, omega (arith, long)))
+-- a read of the file by its new role is one by its old
+pub same_role : (of role : Role) (old new : List Happening) (outcome : ReadOutcome) → of ≡ role → ReadsOnce of old outcome new → ReadsOnce role old outcome new
+same_role of role old new outcome same once = subst (λ r. ReadsOnce r old outcome new) same once
 
-pub reads_nothing : (role : Role) (old : List Happening) → Reads role 0 old old
-reads_nothing role old = ([], sym (append-nil old), refl)
+-- room that has no bytes yet
+pub fills_to_end : (role : Role) (room : ℕ) (bytes : List ℕ) (old new : List Happening) → Fills role room bytes old new → length bytes < room
+    → ReadsToEnd role bytes old new
+fills_to_end role room bytes old new (inl (full, reads)) less = absurd (omega (arith, full, less))
+fills_to_end role room bytes old new (inr (short, reads)) less = reads
 
-pub reads_more : (role of : Role) (a b : ℕ) (old before new : List Happening) → Reads role a old before → of ≡ role
-    → Reads of b before new → Reads role (a + b) old new
-reads_more role of a b old before new (xs, before_is, x_read) same (ys, new_is, y_read) = (
-  xs ++ ys,
-  new_is ∙ ap (λ l. l ++ ys) before_is ∙ append_assoc old xs ys,
-  read-append role xs ys a b x_read (subst (λ r. Read r ys b) same y_read),
-)
+-- room that was
+pub fills_whole : (role : Role) (room : ℕ) (bytes : List ℕ) (old new : List Happening) → Fills role room bytes old new → room ≤ length bytes
+    → ReadsOn role bytes old new
+fills_whole role room bytes old new (inl (full, reads)) enough = reads
+fills_whole role room bytes old new (inr (short, reads)) enough = absurd (omega (arith, short, enough))
 
-pub fails_later : (role of : Role) (a : ℕ) (kind : ErrorKind) (old before new : List Happening) → Reads role a old before → of ≡ role
+-- the same room by another name
+pub fills_same : (role : Role) (n room : ℕ) (bytes : List ℕ) (old new : List Happening) → n ≡ room → Fills role n bytes old new → Fills role room bytes old new
+fills_same role n room bytes old new same fills = subst (λ m. Fills role m bytes old new) same fills
+
+-- ---- pieces, one after the other
+
+pub reads_nothing : (role : Role) (old : List Happening) → ReadsOn role [] old old
+reads_nothing role old = ([], refl, refl)
+
+pub reads_more : (role of : Role) (a b : List ℕ) (old before new : List Happening) → ReadsOn role a old before → of ≡ role
+    → ReadsOn of b before new → ReadsOn role (a ++ b) old new
+reads_more role of a b old before new (xs, reads, gave) same more =
+    let (ys, later, gave_more) = subst (λ r. ReadsOn r b before new) same more in
+    (xs ++ ys, reads-append (ReadsOnce role) xs ys old before new reads later, gave-append xs ys a b gave gave_more)
+
+pub reads_rest : (role of : Role) (a b : List ℕ) (old before new : List Happening) → ReadsOn role a old before → of ≡ role
+    → ReadsToEnd of b before new → ReadsToEnd role (a ++ b) old new
+reads_rest role of a b old before new (xs, reads, gave) same more =
+    let (ys, later, gave_more) = subst (λ r. ReadsToEnd r b before new) same more in
+    (xs ++ ys, reads-then (ReadsOnce role) xs ys (Ok []) old before new reads later, gave-append xs ys a b gave gave_more)
+
+-- there was no end of bytes
+pub gives_forever : (role : Role) (bytes : List ℕ) (kind : ErrorKind) (old new : List Happening) → ReadsOn role bytes old new
+    → 2 ^ 60 ≤ length bytes → (kind ≡ OutOfMemory → ⊥) → FailsToRead role kind old new
+gives_forever role bytes kind old new (outcomes, reads, gave) long other =
+    inr (other, (outcomes, bytes, reads, gave, omega (arith, long)))
+
+pub fails_later : (role of : Role) (a : List ℕ) (kind : ErrorKind) (old before new : List Happening) → ReadsOn role a old before → of ≡ role
     → FailsToRead of kind before new → FailsToRead role kind old new
-fails_later role of a kind old before new reads same (inl (last, (b, more), new_is, other)) =
-    inl (last, (a + b, reads_more role of a b old before last reads same more), subst (λ r. new ≡ last ++ failed r kind ∷ []) same new_is, other)
-fails_later role of a kind old before new (xs, before_is, x_read) same (inr (other, (ys, b, new_is, y_read, long))) =
-    let size : length (xs ++ ys) ≡ length xs + length ys = length-append xs ys in
-    inr (
-      other,
-      (
-        xs ++ ys,
-        a + b,
-        new_is ∙ ap (λ l. l ++ ys) before_is ∙ append_assoc old xs ys,
-        read-append role xs ys a b x_read (subst (λ r. Read r ys b) same y_read),
-        omega (arith, long, size),
-      ),
-    )
+fails_later role of a kind old before new (xs, reads, gave) same fails =
+    elim (subst (λ r. FailsToRead r kind before new) same fails) [
+      | inl (ys, b, later, gave_more, other) ↦
+          inl (xs ++ ys, a ++ b, reads-then (ReadsOnce role) xs ys (Err kind) old before new reads later, gave-append xs ys a b gave gave_more, other)
+      | inr (other, (ys, b, later, gave_more, long)) ↦
+          inr (
+            other,
+            (
+              xs ++ ys,
+              a ++ b,
+              reads-append (ReadsOnce role) xs ys old before new reads later,
+              gave-append xs ys a b gave gave_more,
+              omega (arith, long, interruptions-append xs ys, length-append a b),
+            ),
+          )
+    ]
 
 -- these kinds name no memory
 pub timed_out : (kind : ErrorKind) → kind ≡ TimedOut → kind ≡ OutOfMemory → ⊥
@@ -115,33 +118,16 @@ pub too_large : (kind : ErrorKind) → kind ≡ FileTooLarge → kind ≡ OutOfM
 too_large kind is memory = let same : FileTooLarge ≡ OutOfMemory = sym is ∙ memory in cc
 
 -- an error that is passed on
-pub fills_err : (role : Role) (result : Result ℕ Error) (error : Error) (old new : List Happening) → IsErrAnd result (λ e. e ≡ error)
-    → FailsToRead role (error_kind error) old new → FillsOrFails role result old new
-fills_err role (Ok n) error old new same fails = absurd same
-fills_err role (Err e) error old new same fails = subst (λ x. FailsToRead role (error_kind x) old new) (sym same) fails
+pub reads_err : {A : Type 0} (role : Role) (left : Option (List ℕ)) (Fits : List ℕ → A → Type 0) (result : Result A Error) (error : Error)
+    (old new : List Happening) → IsErrAnd result (λ e. e ≡ error) → FailsToRead role (error_kind error) old new
+    → ReadsAllOrFails role left Fits result old new
+reads_err role left Fits (Ok n) error old new same fails = absurd same
+reads_err role left Fits (Err e) error old new same fails = subst (λ x. FailsToRead role (error_kind x) old new) (sym same) fails
 
-pub reads_err : {A : Type 0} (role : Role) (result : Result A Error) (error : Error) (old new : List Happening) → IsErrAnd result (λ e. e ≡ error)
-    → FailsToRead role (error_kind error) old new → ReadsOrFails role result old new
-reads_err role (Ok n) error old new same fails = absurd same
-reads_err role (Err e) error old new same fails = subst (λ x. FailsToRead role (error_kind x) old new) (sym same) fails
+-- ---- what is known of the content
 
-pub collects_err : {A : Type 0} (role : Role) (result : Result A Error) (error : Error) (old new : List Happening) → IsErrAnd result (λ e. e ≡ error)
-    → FailsToRead role (error_kind error) old new → CollectsOrFails role result old new
-collects_err role (Ok n) error old new same fails = absurd same
-collects_err role (Err e) error old new same fails = inl (subst (λ x. FailsToRead role (error_kind x) old new) (sym same) fails)
-
--- memory that was refused
-pub collects_no_memory : {A : Type 0} (role : Role) (count : ℕ) (result : Result A Error) (old new : List Happening)
-    → IsErrAnd result (λ e. error_kind e ≡ OutOfMemory) → Reads role count old new → CollectsOrFails role result old new
-collects_no_memory role count (Ok n) old new memory reads = absurd memory
-collects_no_memory role count (Err e) old new memory reads = inr (memory, (count, reads))
-
--- bytes to which a piece was added
-pub grown : (bytes piece items : List ℕ) (n : ℕ) → n ≤ length piece → items ≡ bytes ++ take n piece → length items ≡ length bytes + n
-grown bytes piece items n within is =
-    omega (arith, ap length is, length-append bytes (take n piece), length-take-le n piece within)
-
-pub consumes_more : (old middle new : Option (List ℕ)) (bytes piece items : List ℕ) (n : ℕ) → items ≡ bytes ++ take n piece
-    → Consumes old middle bytes → Consumes middle new (take n piece) → Consumes old new items
-consumes_more old middle new bytes piece items n is before more =
-    subst (Consumes old new) (sym is) (Consumes-trans old middle new bytes (take n piece) before more)
+-- after bytes that were consumed stands the content that is left
+pub content_after : (old new : Option (List ℕ)) (bytes rest : List ℕ) → Consumes old new bytes → IsContent new rest → IsContent old (bytes ++ rest)
+content_after None new bytes rest read fits = tt
+content_after (Some xs) None bytes rest read fits = absurd read
+content_after (Some xs) (Some ys) bytes rest read fits = sym (read ∙ ap (λ l. bytes ++ l) (sym fits))

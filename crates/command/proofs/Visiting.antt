@@ -1,5 +1,5 @@
 -- Files that are opened and read in turn.
-use Rattle.std.proofs.Common.{◌≡◌, ◌∙◌, ℕ, List, [], ◌∷◌, ◌++◌, Option, Result, Ok, Err, IsErrAnd, codes, inl, inr, sym, ap, subst, append_assoc}
+use Rattle.std.proofs.Common.{◌≡◌, ◌∙◌, ℕ, List, [], ◌∷◌, ◌++◌, Option, Result, Ok, Err, IsErrAnd, codes, inl, inr, ap, subst, append_assoc}
 use Rattle.command.specs.Verify.{AnswersOf, FailsToOpen, OpensInTurn, ReadsInTurn, Verifies, all_opened}
 use Rattle.command.specs.Files.{Shows}
 use Rattle.command.specs.Line.{Serves, line_of, paths_of}
@@ -7,7 +7,7 @@ use Rattle.command.specs.Trace.{Happening}
 use Rattle.command.specs.declared.line.Request.{Request}
 use Rattle.command.specs.declared.line.Request.TheVariants.{Verify}
 use Rattle.command.specs.declared.refusal.Refusal.{Refusal}
-use Rattle.command.specs.declared.refusal.Refusal.TheVariants.{Key, Signature, OutOfMemory, FileFailed}
+use Rattle.command.specs.declared.refusal.Refusal.TheVariants.{FileFailed}
 use Rattle.command.specs.declared.verify.Verify.{Verify as VerifyFiles}
 use Rattle.command.specs.declared.trace.Role.{Role}
 use Rattle.command.specs.declared.trace.Role.TheVariants as role

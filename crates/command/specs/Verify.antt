@@ -1,22 +1,17 @@
 -- What `verify` answers to three files: the judgement of their bytes, and what it does to the files for it.
-use Rattle.std.specs.Prelude.{[], ◌∷◌, ◌≡◌, ◌⊎◌, ◌++◌, ◌≤◌, ◌^◌, ◌≢◌}
-use Rattle.std.specs.Prelude.{ℕ, true, List, codes, take, Result, Ok, Err, ⊤, Option, IsErrAnd}
+use Rattle.std.specs.Prelude.{[], ◌∷◌, ◌≡◌, ◌⊎◌, ◌++◌, ℕ, true, List, codes, take, Result, Ok, Err, ⊤, Option, IsErrAnd}
 use Rattle.clap.specs.Words.{Rule, new_rule, App, new_app, with_rule}
 use Rattle.command.specs.declared.trace.Role.TheVariants as role
 use Rattle.sign_core.specs.declared.key.AnyPublic.{AnyPublic}
-use Rattle.sign_core.specs.Key.{KeyHasFault, KeyVerdict, SpellsKey}
+use Rattle.sign_core.specs.Key.{KeyHasFault, KeyLeavesMessage, KeyVerdict, SpellsKey}
 use Rattle.command.specs.declared.refusal.Refusal.{Refusal}
 use Rattle.command.specs.declared.refusal.Refusal.TheVariants.{Key, Signature, OutOfMemory, FileFailed}
 use Rattle.std.specs.declared.io.ErrorKind.{ErrorKind}
-use Rattle.std.specs.declared.io.ErrorKind.TheVariants.{Interrupted}
 use Rattle.command.specs.declared.trace.Role.{Role}
 use Rattle.command.specs.Refusal.{refusal_of}
-use Rattle.command.specs.Files.{FailsToRead, FailsToCollect}
-use Rattle.typecodes.specs.Message.{CantBeRead, GivesAll, IsContent, Step}
-use Rattle.typecodes.specs.declared.refusal.Refusal.TheVariants.{Unreadable, TypeMismatch, LevelMismatch}
-use Rattle.typecodes.specs.declared.refusal.Refusal.TheVariants.{RootMismatch, MessageRead}
-use Rattle.command.specs.Trace.{Happening, opened, not_opened, failed, ReadOn, ReadsSome, ReadsToEnd}
-use Rattle.command.specs.Trace.{interrupted_reads}
+use Rattle.command.specs.Files.{FailsToRead, Fills}
+use Rattle.typecodes.specs.Message.{IsContent, Transition}
+use Rattle.command.specs.Trace.{Happening, opened, not_opened, nothing_known, ReadsOnce, ReadsToEnd}
 
 -- a file that has to be named
 abbrev pub file_rule : List ℕ → Rule
@@ -51,14 +46,14 @@ OpensInTurn public message signature (Err error) old new = FailsToOpen public me
 -- refused so. Contents alone are judged.
 abbrev pub Judgement : {A : Type 0} → List ℕ → List ℕ → List ℕ → Result A Refusal → Type 0
 Judgement public message signature (Ok a) =
-    (key : AnyPublic) × SpellsKey key public × KeyVerdict key message signature (Ok a)
+    (key : AnyPublic) × SpellsKey key public × KeyVerdict {A = ⊤} key message signature (Ok tt)
 Judgement public message signature (Err (Key fault)) = KeyHasFault public fault
-Judgement {A = A} public message signature (Err (Signature refusal)) =
-    (key : AnyPublic) × SpellsKey key public × KeyVerdict {A = A} key message signature (Err refusal)
+Judgement public message signature (Err (Signature refusal)) =
+    (key : AnyPublic) × SpellsKey key public × KeyVerdict {A = ⊤} key message signature (Err refusal)
 Judgement public message signature (Err OutOfMemory) = ⊥
 Judgement public message signature (Err FileFailed) = ⊥
 
--- The same of files: one may also fail, or there may be no memory for its bytes.
+-- The same of files: opening or reading one may also fail.
 abbrev pub Answers : {A : Type 0} → List ℕ → List ℕ → List ℕ → Result A Refusal → Type 0
 Answers public message signature (Ok a) = Judgement public message signature (Ok a)
 Answers public message signature (Err (Key fault)) = Judgement {A = ⊤} public message signature (Err (Key fault))
@@ -82,54 +77,42 @@ decisive = 74989
 abbrev pub Decides : List ℕ → List ℕ → Type 0
 Decides all first = (first ≡ all) ⊎ (first ≡ take decisive all)
 
--- What becomes of a message for an answer: it was read to its end, and gave this text, where it was judged; it can't be
--- read; and it is as it was where a refusal came before it was read, as that of a level above the bottom.
-abbrev pub LeavesMessage : {M A : Type 0} → Step M → List ℕ → M → M → Result A Refusal → Type 0
-LeavesMessage step text old new (Ok a) = GivesAll step text old new
-LeavesMessage step text old new (Err (Key fault)) = new ≡ old
-LeavesMessage step text old new (Err (Signature (Unreadable fault))) = new ≡ old
-LeavesMessage step text old new (Err (Signature (TypeMismatch level))) = new ≡ old
-LeavesMessage step text old new (Err (Signature LevelMismatch)) = new ≡ old
-LeavesMessage step text old new (Err (Signature MessageRead)) = CantBeRead step old new
-LeavesMessage step text old new (Err (Signature (RootMismatch level))) = GivesAll step text old new ⊎ (new ≡ old)
-LeavesMessage step text old new (Err OutOfMemory) = ⊥
-LeavesMessage step text old new (Err FileFailed) = ⊥
+-- What becomes of a message for an answer: what verification by the key that the public bytes spell does with it, and
+-- nothing where they spell none.
+abbrev pub AnswerLeaves : {M A : Type 0} → Transition M → (M → Option (List ℕ)) → List ℕ → List ℕ → M → M
+    → Result A Refusal
+    → Type 0
+AnswerLeaves step remaining public text old new (Ok a) =
+    (key : AnyPublic) × SpellsKey key public × KeyLeavesMessage {A = ⊤} step remaining key text old new (Ok tt)
+AnswerLeaves step remaining public text old new (Err (Key fault)) = new ≡ old
+AnswerLeaves step remaining public text old new (Err (Signature refusal)) =
+    (key : AnyPublic) × SpellsKey key public × KeyLeavesMessage {A = ⊤} step remaining key text old new (Err refusal)
+AnswerLeaves step remaining public text old new (Err OutOfMemory) = ⊥
+AnswerLeaves step remaining public text old new (Err FileFailed) = ⊥
 
 -- The answer is this failure, reported by its number.
 abbrev pub IsRefusalOf : {A : Type 0} → ErrorKind → Result A Refusal → Type 0
 IsRefusalOf kind answer = IsErrAnd answer (λ refusal. refusal ≡ refusal_of kind)
 
--- A message's file was read until a read failed, or without end: it gave 2^60 bytes, or was interrupted 2^19 times.
-abbrev pub FailsBeforeItsEnd : Role → List Happening → List Happening → Type 0
-FailsBeforeItsEnd role old new =
-    (reads : List Happening) × (count : ℕ) × ReadOn role reads count
-    × (((kind : ErrorKind) × (new ≡ (old ++ reads) ++ failed role kind ∷ []) × (kind ≢ Interrupted))
-    ⊎ ((new ≡ old ++ reads) × ((2 ^ 60 ≤ count) ⊎ (2 ^ 19 ≤ interrupted_reads reads))))
+-- The answer is the judgement of the bytes that the reads gave: of the key's file, of the signature's, and now of the
+-- message's, which is read as far as verification by this key reads a message.
+abbrev pub JudgesReads : {A : Type 0} → Role → List ℕ → List ℕ → Result A Refusal → List Happening → List Happening
+    → Type 0
+JudgesReads message p s answer old new =
+    (m : List ℕ) × Judgement p m s answer × AnswerLeaves (ReadsOnce message) nothing_known p m old new answer
 
--- What is done to the message's file for an answer: it is read to its end where the message is judged, a read of it
--- fails, or nothing is done, as where a level above the bottom is refused.
-abbrev pub ReadsMessage : {A : Type 0} → Role → ℕ → Result A Refusal → List Happening → List Happening → Type 0
-ReadsMessage role count (Ok a) old new = ReadsToEnd role count old new
-ReadsMessage role count (Err (Key fault)) old new = new ≡ old
-ReadsMessage role count (Err (Signature (Unreadable fault))) old new = new ≡ old
-ReadsMessage role count (Err (Signature (TypeMismatch level))) old new = new ≡ old
-ReadsMessage role count (Err (Signature LevelMismatch)) old new = new ≡ old
-ReadsMessage role count (Err (Signature MessageRead)) old new = FailsBeforeItsEnd role old new
-ReadsMessage role count (Err (Signature (RootMismatch level))) old new = ReadsToEnd role count old new ⊎ (new ≡ old)
-ReadsMessage role count (Err OutOfMemory) old new = ⊥
-ReadsMessage role count (Err FileFailed) old new = ⊥
-
--- The files of these roles were read one after the other: the key's and the signature's, of which the first that failed
--- was reported, and nothing was read after it; and then, for the verdict, the message's.
+-- The files of these roles were read one after the other: the key's to its end, the signature's to its end or as many
+-- bytes as decide, and then the message's. The first of key and signature that failed is the answer, and nothing was
+-- read after it; else the answer is the judgement of the bytes that the reads gave.
 abbrev pub ReadsInTurn : {A : Type 0} → Role → Role → Role → Result A Refusal → List Happening → List Happening
     → Type 0
 ReadsInTurn public signature message answer old new =
     ((kind : ErrorKind) × IsRefusalOf kind answer × FailsToRead public kind old new)
-    ⊎ ((first : List Happening) × ReadsSome public old first
-    × ((kind : ErrorKind) × IsRefusalOf kind answer × FailsToCollect signature kind first new))
-    ⊎ ((first : List Happening) × (second : List Happening)
-    × ReadsSome public old first × ReadsSome signature first second
-    × ((count : ℕ) × ReadsMessage message count answer second new))
+    ⊎ ((p : List ℕ) × (first : List Happening) × ReadsToEnd public p old first
+    × ((kind : ErrorKind) × IsRefusalOf kind answer × FailsToRead signature kind first new))
+    ⊎ ((p : List ℕ) × (s : List ℕ) × (first : List Happening) × (second : List Happening)
+    × ReadsToEnd public p old first × Fills signature decisive s first second
+    × JudgesReads message p s answer second new)
 
 -- The files of these paths were opened one after the other, up to one that couldn't be, which was reported; then they
 -- were read in turn.

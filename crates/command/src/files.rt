@@ -1,19 +1,17 @@
 //! The files that a line names: how they are opened, and what is read of them.
 
-ghost use Rattle.std.specs.Prelude.{◌≡◌, ◌++◌, ◌∷◌, ◌<◌, ◌≤◌, ◌^◌, [], ℕ, List, None, length, take, IfErr, IfOk, OnOk};
+ghost use Rattle.std.specs.Prelude.{◌≡◌, ◌++◌, ◌∷◌, ◌<◌, ◌≤◌, ◌^◌, [], ℕ, List, None, length, take, IfErr, IfOk};
 ghost use Rattle.std.specs.Io.{ReadsAtMost};
 ghost use Rattle.std.specs.Io.KnownBytes.{Consumes, IsAtEnd, ReadConsumes};
 ghost use Rattle.std.specs.declared.option.Option.{Option};
-ghost use Rattle.typecodes.specs.Message.{IsContent};
-ghost use Rattle.command.specs.Files.{CollectsOrFails, FillsOrFails, ReadsKey};
-ghost use Rattle.command.specs.Files.{ReadsOrFails, Shows, happened, opening, reading};
-ghost use Rattle.command.specs.Trace.{Happening};
+ghost use Rattle.typecodes.specs.Message.{read_outcome};
+ghost use Rattle.command.specs.Files.{FillsOrFails, ReadsAllOrFails, ReadsKey, Shows};
+ghost use Rattle.command.specs.Trace.{Happening, ReadsOnce, opening};
 ghost use Rattle.command.specs.declared.trace.Role.{Role as FileRole};
 
 use crate::refusal::Refusal;
-use crate::trace::{Event, Role, Trace};
+use crate::trace::{Role, Trace};
 use sign_core::{AnyPublic, KeyFault};
-use std::alloc::Global;
 use std::fs::Files;
 use std::io::{ErrorKind, Read};
 use std::marker::Model;
@@ -21,7 +19,7 @@ use std::{fs, io};
 use typecodes::Message;
 
 /// A file that was opened.
-pub trait Source {
+pub trait OpenFile {
     // which of the command's files it is
     ghost role: { Self → FileRole };
 
@@ -32,7 +30,7 @@ pub trait Source {
 /// Where files are opened and read, and never written.
 pub trait Folder {
     /// A file that was opened.
-    type File: Source + Drop;
+    type File: OpenFile + Drop;
 
     // what happened to files, in order
     ghost trace: { Self → List Happening };
@@ -50,7 +48,8 @@ pub trait Folder {
 
     /// Reads into the buffer, as `Read::read` does.
     fn read(&mut self, file: &mut Self::File, buffer: &mut [u8]) -> io::Result<usize>
-        ensures trace { trace self.new ≡ trace self.old ++ reading (Self.File.role file.old) result ∷ [] }
+        ensures trace { ReadsOnce (Self.File.role file.old) (trace self.old) (read_outcome result buffer.new)
+            (trace self.new) }
         ensures role { Self.File.role file.new ≡ Self.File.role file.old }
         ensures bound { ReadsAtMost result buffer.new }
         ensures bytes { ReadConsumes (Self.File.remaining file.old) (Self.File.remaining file.new) result buffer.new };
@@ -77,7 +76,7 @@ pub struct MachineFile<F> {
     file: F,
 }
 
-impl<F: Read> Source for MachineFile<F> {
+impl<F: Read> OpenFile for MachineFile<F> {
     ghost role = { λ file. file.role };
 
     ghost remaining = { λ file. F.remaining file.file };
@@ -103,25 +102,16 @@ impl<R: Files> Folder for Machine<R> {
     ghost content = { λ _ _. None };
 
     fn open(&mut self, role: Role, path: &str) -> Result<MachineFile<R::File>, Refusal> {
-        match fs::open(&self.rt, path) {
-            Ok(file) => {
-                self.trace = self.trace.and(&Event::Opened(role, path));
-                Ok(MachineFile { role, file })
-            }
-            Err(_) => {
-                self.trace = self.trace.and(&Event::NotOpened(role, path));
-                Err(Refusal::FileFailed)
-            }
+        let opened = fs::open(&self.rt, path);
+        match self.trace.note_opening(role, path, opened) {
+            Ok(file) => Ok(MachineFile { role, file }),
+            Err(_) => Err(Refusal::FileFailed),
         }
     }
 
     fn read(&mut self, file: &mut MachineFile<R::File>, buffer: &mut [u8]) -> io::Result<usize> {
-        let outcome = file.file.read(buffer);
-        self.trace = self.trace.and(&match &outcome {
-            Ok(n) => Event::Given(file.role, *n),
-            Err(error) => Event::Failed(file.role, error.kind()),
-        });
-        outcome
+        let answer = file.file.read(buffer);
+        self.trace.note_read(file.role, answer, buffer)
     }
 }
 
@@ -136,10 +126,10 @@ impl<D: Folder> Message for FileReader<'_, D, D::File> {
     ghost remaining = { λ reader. D.File.remaining reader.file.now };
 
     // A read is the file's, and the folder notes it.
-    ghost step = { λ old outcome new. (new.folder.ghost_name ≡ old.folder.ghost_name)
+    ghost transition = { λ old outcome new. (new.folder.ghost_name ≡ old.folder.ghost_name)
         × (new.file.ghost_name ≡ old.file.ghost_name)
         × (D.File.role new.file.now ≡ D.File.role old.file.now)
-        × (D.trace new.folder.now ≡ D.trace old.folder.now ++ happened (D.File.role old.file.now) outcome ∷ []) };
+        × ReadsOnce (D.File.role old.file.now) (D.trace old.folder.now) outcome (D.trace new.folder.now) };
 
     fn read_into(&mut self, buffer: &mut [u8]) -> io::Result<usize> {
         self.folder.read(self.file, buffer)
@@ -153,32 +143,14 @@ pub const DECISIVE: usize = 74_989;
 // More bytes than any file has. A file that goes on after them counts as failed.
 const MOST: usize = 1 << 60;
 
-/// Reads the first bytes, so many or all.
-pub fn read_first<D: Folder>(
-    alloc: Global,
-    folder: &mut D,
-    file: &mut D::File,
-    count: usize,
-) -> io::Result<Vec<u8>>
-    ensures first { IfOk result (λ bytes. (whole : List ℕ) × IsContent (D.File.remaining file.old) whole
-        × (bytes.items ≡ take count whole)) }
-    ensures trace { CollectsOrFails (D.File.role file.old) result (D.trace folder.old) (D.trace folder.new) }
-{
-    let mut bytes = vec![in alloc; 0; count]?;
-    let n = fill(folder, file, &mut bytes)?;
-    bytes.truncate(n);
-    Ok(bytes)
-}
-
 /// Reads a public key's file to its end, and gives the key that its bytes spell, or why they spell none. It keeps
 /// 69 bytes, one more than any key has, and counts the others.
 pub fn read_key<D: Folder>(
     folder: &mut D,
     file: &mut D::File,
 ) -> io::Result<Result<AnyPublic, KeyFault>>
-    ensures key { IfOk result (λ key.
-        (bytes : List ℕ) × IsContent (D.File.remaining file.old) bytes × ReadsKey bytes key) }
-    ensures trace { ReadsOrFails (D.File.role file.old) result (D.trace folder.old) (D.trace folder.new) }
+    ensures { ReadsAllOrFails (D.File.role file.old) (D.File.remaining file.old) ReadsKey result
+        (D.trace folder.old) (D.trace folder.new) }
 {
     let mut bytes = [0; 69];
     let n = fill(folder, file, &mut bytes)?;
@@ -191,11 +163,9 @@ pub fn read_key<D: Folder>(
 
 // Counts the bytes that are left, in pieces that it doesn't keep.
 fn count_rest<D: Folder>(folder: &mut D, file: &mut D::File) -> io::Result<usize>
-    ensures counts { IfOk result (λ n. (rest : List ℕ)
-        × Consumes (D.File.remaining file.old) (D.File.remaining file.new) rest × (n ≡ length rest)) }
-    ensures end { OnOk result (IsAtEnd (D.File.remaining file.new)) }
+    ensures counts { ReadsAllOrFails (D.File.role file.old) (D.File.remaining file.old) (λ rest n. n ≡ length rest)
+        result (D.trace folder.old) (D.trace folder.new) }
     ensures bound { IfOk result (λ n. n < 2 ^ 61) }
-    ensures trace { FillsOrFails (D.File.role file.old) result (D.trace folder.old) (D.trace folder.new) }
 {
     let mut piece = [0; 4096];
     let mut count = 0;
@@ -212,14 +182,14 @@ fn count_rest<D: Folder>(folder: &mut D, file: &mut D::File) -> io::Result<usize
     Err(io::Error::from(ErrorKind::FileTooLarge))
 }
 
-// Reads until the buffer is full or the file ends, and gives how many bytes that were.
-fn fill<D: Folder>(folder: &mut D, file: &mut D::File, buffer: &mut [u8]) -> io::Result<usize>
+/// Reads until the buffer is full or the file ends, and gives how many bytes that were.
+pub fn fill<D: Folder>(folder: &mut D, file: &mut D::File, buffer: &mut [u8]) -> io::Result<usize>
     ensures within { IfOk result (λ n. n ≤ length buffer.new) }
     ensures bytes { IfOk result (λ n.
         Consumes (D.File.remaining file.old) (D.File.remaining file.new) (take n buffer.new)) }
     ensures end { IfOk result (λ n. n < length buffer.new → IsAtEnd (D.File.remaining file.new)) }
     ensures role { D.File.role file.new ≡ D.File.role file.old }
-    ensures trace { FillsOrFails (D.File.role file.old) result (D.trace folder.old) (D.trace folder.new) }
+    ensures trace { FillsOrFails (D.File.role file.old) result buffer.new (D.trace folder.old) (D.trace folder.new) }
 {
     let mut at = 0;
     for turn in 0..u64::MAX {

@@ -27,10 +27,10 @@ impl<'a> Request<'a> {
     ghost use Rattle.command.specs.Line.{Serves};
 
     /// Does what is requested, and gives the answer.
-    pub fn answer<D: Folder>(&self, alloc: Global, folder: &mut D) -> Answer
+    pub fn answer<D: Folder>(&self, folder: &mut D) -> Answer
         ensures { Serves self.now (D.content folder.old) result (D.trace folder.old) (D.trace folder.new) }
     {
-        self.files().answer(alloc, folder)
+        self.files().answer(folder)
     }
 
     // The files of a request to verify.

@@ -37,7 +37,6 @@ fn main(rt: HostRuntime) -> ExitCode {
     let mut errors = Printer::new(io::writer(&stderr));
     ExitCode::from(match words(&rt) {
         Ok(words) => program::run(
-            rt.alloc(),
             &mut ClapReader::new(rt.alloc()),
             &mut Machine::new(&rt),
             words.as_slice(),

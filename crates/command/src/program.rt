@@ -13,7 +13,6 @@ use crate::line::LineReader;
 use crate::line_fault::LineFault;
 use crate::output::{Output, Part};
 use crate::refusal::Refusal;
-use std::alloc::Global;
 use std::convert::AsStr;
 use std::io::Read;
 
@@ -28,7 +27,6 @@ const VERSION_LINE: &str = "hbsign 0.1.0\n";
 /// A line on the output reports what came of it. A line that is refused is explained on `errors`
 /// alone.
 pub fn run<L, D, S, I, O, E>(
-    alloc: Global,
     lines: &mut L,
     folder: &mut D,
     words: &[S],
@@ -55,7 +53,7 @@ where
     ensures silent { result ≢ 2 → E.taken errors.new ≡ E.taken errors.old }
 {
     match lines.read(words) {
-        Ok(request) => report(&request.answer(alloc, folder), output),
+        Ok(request) => report(&request.answer(folder), output),
         Err(fault) => explain(&fault, output, errors),
     }
 }

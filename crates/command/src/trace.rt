@@ -2,8 +2,10 @@
 
 ghost use Rattle.std.specs.Prelude.{◌≡◌, List, [], ◌∷◌, ◌++◌};
 ghost use Rattle.std.specs.Borrow.{ftrue};
+ghost use Rattle.std.specs.Io.{ReadsAtMost};
 ghost use Rattle.command.specs.Trace.{Happening, happening_of};
 
+use std::io;
 use std::io::ErrorKind;
 use std::marker::Model;
 
@@ -25,8 +27,8 @@ pub enum Event<'a> {
     Opened(Role, &'a str),
     /// It can't be opened.
     NotOpened(Role, &'a str),
-    /// A read gives so many bytes.
-    Given(Role, usize),
+    /// A read gives these bytes.
+    Given(Role, &'a [u8]),
     /// A read fails.
     Failed(Role, ErrorKind),
 }
@@ -43,7 +45,8 @@ impl Model for Trace {
 }
 
 impl Trace {
-    ghost use Rattle.command.specs.Trace.{happening_of};
+    ghost use Rattle.typecodes.specs.Message.{read_outcome};
+    ghost use Rattle.command.specs.Trace.{ReadsOnce, happening_of, opening};
 
     /// Nothing happened.
     pub fn new() -> Trace
@@ -57,5 +60,40 @@ impl Trace {
         ensures { result.events ≡ self.now.events ++ happening_of _event.now ∷ [] }
     {
         Trace {}
+    }
+
+    /// Notes how a file was opened, and gives this answer.
+    pub fn note_opening<F, E>(
+        &mut self,
+        role: Role,
+        path: &str,
+        answer: Result<F, E>,
+    ) -> Result<F, E>
+        ensures answer { result ≡ answer }
+        ensures notes { self.new.events ≡ self.old.events ++ opening role path.now answer ∷ [] }
+    {
+        *self = match &answer {
+            Ok(_) => self.and(&Event::Opened(role, path)),
+            Err(_) => self.and(&Event::NotOpened(role, path)),
+        };
+        answer
+    }
+
+    /// Notes a read into this buffer, and gives its answer.
+    pub fn note_read(
+        &mut self,
+        role: Role,
+        answer: io::Result<usize>,
+        buffer: &[u8],
+    ) -> io::Result<usize>
+        requires { ReadsAtMost answer buffer.now }
+        ensures answer { result ≡ answer }
+        ensures notes { ReadsOnce role self.old.events (read_outcome answer buffer.now) self.new.events }
+    {
+        *self = match &answer {
+            Ok(n) => self.and(&Event::Given(role, &buffer[..*n])),
+            Err(error) => self.and(&Event::Failed(role, error.kind())),
+        };
+        answer
     }
 }

@@ -3,7 +3,7 @@
 ghost use Rattle.std.specs.Prelude.{◌≡◌, ◌↔◌, ℕ, List, Some, take, codes, IfErr, IfOk, IfSome, IsSome, IsErrAnd};
 ghost use Rattle.clap.specs.declared.builder.command.Command.{Command as ClapCommand};
 ghost use Rattle.clap.specs.Words.{AddsSubcommand, app_of, first_value, found_of, with_subcommand};
-ghost use Rattle.command.specs.Verify.{AnswersOf, Decides, Judgement, LeavesMessage, OpensInTurn};
+ghost use Rattle.command.specs.Verify.{AnswerLeaves, AnswersOf, Decides, Judgement, OpensInTurn};
 ghost use Rattle.command.specs.Verify.{ReadsInTurn, Verifies, verify_app};
 ghost use Rattle.command.specs.Files.{ReadsKey, Shows};
 ghost use Rattle.typecodes.specs.Message.{IsContent};
@@ -107,13 +107,12 @@ impl<'a> Verify<'a> {
     }
 
     /// Opens the files, reads them, and judges what they hold.
-    pub fn answer<D: Folder>(&self, alloc: Global, folder: &mut D) -> Answer
+    pub fn answer<D: Folder>(&self, folder: &mut D) -> Answer
         ensures { Verifies (D.content folder.old) self.now.public.now self.now.message.now self.now.signature.now result
             (D.trace folder.old) (D.trace folder.new) }
     {
         let mut files = self.open(folder)?;
         judge_files(
-            alloc,
             folder,
             &mut files.public,
             &mut files.message,
@@ -124,7 +123,6 @@ impl<'a> Verify<'a> {
 
 // Reads the key and the signature, and judges the message by them, which is read only where no refusal comes before it.
 fn judge_files<D: Folder>(
-    alloc: Global,
     folder: &mut D,
     public: &mut D::File,
     message: &mut D::File,
@@ -136,17 +134,17 @@ fn judge_files<D: Folder>(
         (D.trace folder.old) (D.trace folder.new) }
 {
     let key = files::read_key(folder, public)?;
-    let signature = files::read_first(alloc, folder, signature, DECISIVE)?;
+    let mut bytes = [0; DECISIVE];
+    let n = files::fill(folder, signature, &mut bytes)?;
     let mut message = FileReader {
         folder,
         file: message,
     };
-    let verdict = judge(key, &mut message, &signature);
+    let answer = judge(key, &mut message, &bytes[..n]);
     let FileReader { folder, .. } = message;
     // Only the proof needs this use: it tells what the reader noted.
     let _ = &*folder;
-    verdict?;
-    Ok(Done::Verified)
+    answer
 }
 
 /// Whether the bytes of a signature sign the message under the public key that was read, or why there is
@@ -155,13 +153,16 @@ pub fn judge<M: Message>(
     key: Result<AnyPublic, KeyFault>,
     message: &mut M,
     signature: &[u8],
-) -> Result<(), Refusal>
+) -> Answer
     ensures judges { (p s : List ℕ) → ReadsKey p key → Decides s signature.now
         → (m : List ℕ) × IsContent (M.remaining message.old) m × Judgement p m s result
-        × LeavesMessage M.step m message.old message.new result }
+        × AnswerLeaves M.transition M.remaining p m message.old message.new result }
     ensures no_key { IfErr key (λ fault. IsErrAnd result (λ refusal. refusal ≡ Refusal.Key fault)
         × (message.new ≡ message.old)) }
 {
     let key = key.map_err(Refusal::Key)?;
-    verify_any(&key, message, signature).map_err(Refusal::Signature)
+    match verify_any(&key, message, signature) {
+        Ok(()) => Ok(Done::Verified),
+        Err(refusal) => Err(Refusal::Signature(refusal)),
+    }
 }

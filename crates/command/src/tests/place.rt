@@ -88,7 +88,6 @@ pub fn run_in<D: Folder>(rt: &HostRuntime, folder: &mut D, words: &[&str]) -> Ou
     let mut errors = Printer::new(Vec::new(rt.alloc()));
     let mut input: &[u8] = &[];
     let status = run(
-        rt.alloc(),
         &mut ClapReader::new(rt.alloc()),
         folder,
         words,

@@ -3,12 +3,12 @@ ghost use Rattle.std.specs.Prelude.{◌≡◌, None};
 ghost use Rattle.std.specs.Io.{ReadsAtMost};
 
 use super::place::{Outcome, run_in};
-use crate::files::{Folder, Source};
+use crate::files::{Folder, OpenFile};
 use crate::line::ClapReader;
 use crate::output::{Output, Printer};
 use crate::program::run;
 use crate::refusal::Refusal;
-use crate::trace::{Event, Role, Trace};
+use crate::trace::{Role, Trace};
 use std::io;
 
 // Some bytes, and after them an end, zeros without end, or a failure.
@@ -127,7 +127,7 @@ pub struct ShelfFile<'a> {
     content: Content<'a>,
 }
 
-impl Source for ShelfFile<'_> {
+impl OpenFile for ShelfFile<'_> {
     ghost role = { λ file. file.role };
 
     ghost remaining = { λ _. None };
@@ -141,25 +141,14 @@ impl<'a> Folder for Shelf<'a> {
     ghost content = { λ _ _. None };
 
     fn open(&mut self, role: Role, path: &str) -> Result<ShelfFile<'a>, Refusal> {
-        match self.find(path) {
-            Some(content) => {
-                self.trace = self.trace.and(&Event::Opened(role, path));
-                Ok(ShelfFile { role, content })
-            }
-            None => {
-                self.trace = self.trace.and(&Event::NotOpened(role, path));
-                Err(Refusal::FileFailed)
-            }
-        }
+        let found = self.find(path).ok_or(Refusal::FileFailed);
+        let content = self.trace.note_opening(role, path, found)?;
+        Ok(ShelfFile { role, content })
     }
 
     fn read(&mut self, file: &mut ShelfFile<'a>, buffer: &mut [u8]) -> io::Result<usize> {
-        let outcome = file.content.read(buffer);
-        self.trace = self.trace.and(&match &outcome {
-            Ok(n) => Event::Given(file.role, *n),
-            Err(error) => Event::Failed(file.role, error.kind()),
-        });
-        outcome
+        let answer = file.content.read(buffer);
+        self.trace.note_read(file.role, answer, buffer)
     }
 }
 
@@ -186,7 +175,6 @@ pub fn verify_to<O: Output>(
     let mut errors = Printer::new(Vec::new(rt.alloc()));
     let mut input: &[u8] = &[];
     run(
-        rt.alloc(),
         &mut ClapReader::new(rt.alloc()),
         &mut Shelf::new(rt, &files),
         &["verify", "p", "m", "s"],

@@ -1,45 +1,72 @@
-use Rattle.std.proofs.Common.{rules, ◌≡◌, ◌∙◌, ℕ, ◌+◌, ◌≤◌, List, ◌++◌, length, take, Option, arith, length-append, length-take-le}
-use Rattle.std.specs.Io.KnownBytes.{Consumes}
+use Rattle.std.proofs.Common.{rules, ◌≡◌, ◌∙◌, ℕ, ◌+◌, ◌≤◌, ◌<◌, List, ◌++◌, length, take, Option, arith, length-append, length-take-le}
+use Rattle.std.specs.Io.KnownBytes.{Consumes, IsAtEnd}
 use Rattle.std.proofs.KnownBytes.{Consumes-trans}
-use Rattle.command.proofs.Reading.{fails_later, fills_err, gives_forever, reads_more, too_large}
+use Rattle.typecodes.specs.Message.{IsContent}
+use Rattle.typecodes.proofs.Messages.{content_at_end}
+use Rattle.command.specs.Files.{Fills}
+use Rattle.command.specs.Trace.{Happening, ReadsOn, ReadsToEnd}
+use Rattle.command.specs.declared.trace.Role.{Role}
+use Rattle.command.proofs.Reading.{fails_later, fills_to_end, fills_whole, gives_forever, reads_err, reads_more, reads_rest, too_large}
 use Rattle.command.proofs.files.count_rest.Goals as goal
 use Rattle.command.proofs.files.count_rest.Goals.{else-loop-turn-test, then-loop-turn-test+in_ok-n+else-n-lt4096+then-count-ge-MOST}
 
--- the bytes of one more piece are counted
-counted : (first old new : Option (List ℕ)) (count n : ℕ) (piece : List ℕ) → n ≤ length piece → Consumes old new (take n piece)
-    → ((rest : List ℕ) × Consumes first old rest × (count ≡ length rest)) → ((rest : List ℕ) × Consumes first new rest × (count + n ≡ length rest))
-counted first old new count n piece within read (rest, before, count_is) = (
-  rest ++ take n piece,
-  Consumes-trans first old new rest (take n piece) before read,
-  omega (arith, count_is, length-append rest (take n piece), length-take-le n piece within),
-)
+-- So many bytes were read and counted.
+abbrev Counted : Role → ℕ → Option (List ℕ) → Option (List ℕ) → List Happening → List Happening → Type 0
+Counted role count left right old new =
+    (bytes : List ℕ) × (count ≡ length bytes) × Consumes left right bytes × ReadsOn role bytes old new
 
-pub returns-then-n-lt4096-clause-counts : goal.returns-then-n-lt4096-clause-counts
-returns-then-n-lt4096-clause-counts g c =
-    counted _ _ _ c.loop-turn.count c.in_ok-n.n c.fill.new.buffer c.in_ok-n.ensures.within c.in_ok-n.ensures.bytes c.loop-turn.invariant.2
+-- those of one more piece
+counted : (role of : Role) (count n room : ℕ) (first left right : Option (List ℕ)) (piece : List ℕ) (old before new : List Happening)
+    → n ≤ length piece → room ≤ n → of ≡ role → Consumes left right (take n piece) → Fills of room (take n piece) before new
+    → Counted role count first left old before → Counted role (count + n) first right old new
+counted role of count n room first left right piece old before new within enough same read fills (bytes, count_is, consumed, reads) =
+    let size : length (take n piece) ≡ n = length-take-le n piece within in (
+      bytes ++ take n piece,
+      omega (arith, count_is, length-append bytes (take n piece), size),
+      Consumes-trans first left right bytes (take n piece) consumed read,
+      reads_more role of bytes (take n piece) old before new reads same (fills_whole of room (take n piece) before new fills (omega (arith, size, enough))),
+    )
+
+-- those of the last piece
+counted_all : (role of : Role) (count n room : ℕ) (first left right : Option (List ℕ)) (piece : List ℕ) (old before new : List Happening)
+    → n ≤ length piece → n < room → of ≡ role → Consumes left right (take n piece) → IsAtEnd right → Fills of room (take n piece) before new
+    → Counted role count first left old before
+    → (bytes : List ℕ) × IsContent first bytes × (count + n ≡ length bytes) × ReadsToEnd role bytes old new
+counted_all role of count n room first left right piece old before new within less same read end fills (bytes, count_is, consumed, reads) =
+    let size : length (take n piece) ≡ n = length-take-le n piece within in (
+      bytes ++ take n piece,
+      content_at_end first right (bytes ++ take n piece) (Consumes-trans first left right bytes (take n piece) consumed read) end,
+      omega (arith, count_is, length-append bytes (take n piece), size),
+      reads_rest role of bytes (take n piece) old before new reads same (fills_to_end of room (take n piece) before new fills (omega (arith, size, less))),
+    )
 
 pub loop-turn-preserved : goal.loop-turn-preserved
 loop-turn-preserved g c = (
   omega arith,
   omega (arith, c.loop-turn.invariant.1),
-  counted _ _ _ c.loop-turn.count c.in_ok-n.n c.fill.new.buffer c.in_ok-n.ensures.within c.in_ok-n.ensures.bytes c.loop-turn.invariant.2,
-  c.fill.ensures.role ∙ c.loop-turn.invariant.3,
-  reads_more _ _ _ _ _ _ _ c.loop-turn.invariant.4 c.loop-turn.invariant.3 c.in_ok-n.ensures.trace,
+  c.fill.ensures.role ∙ c.loop-turn.invariant.2,
+  counted _ _ c.loop-turn.count c.in_ok-n.n _ _ _ _ c.fill.new.buffer _ _ _ c.in_ok-n.ensures.within (omega arith) c.loop-turn.invariant.2
+      c.in_ok-n.ensures.bytes c.in_ok-n.ensures.trace c.loop-turn.invariant.3,
 )
 
-pub returns-in_err-n-clause-trace : goal.returns-in_err-n-clause-trace
-returns-in_err-n-clause-trace g c =
-    fills_err _ c.from_residual.result c.in_err-n.field-0.0 _ _ c.from_residual.ensures.1
-    (fails_later _ _ _ _ _ _ _ c.loop-turn.invariant.4 c.loop-turn.invariant.3 c.in_err-n.ensures.trace)
+pub returns-in_err-n-clause-counts : goal.returns-in_err-n-clause-counts
+returns-in_err-n-clause-counts g c =
+    let (bytes, count_is, consumed, reads) = c.loop-turn.invariant.3 in
+    reads_err _ _ _ c.from_residual.result c.in_err-n.field-0.0 _ _ c.from_residual.ensures.1
+    (fails_later _ _ bytes _ _ _ _ reads c.loop-turn.invariant.2 c.in_err-n.ensures.trace)
 
-pub returns-then-n-lt4096-clause-trace : goal.returns-then-n-lt4096-clause-trace
-returns-then-n-lt4096-clause-trace g c = reads_more _ _ _ _ _ _ _ c.loop-turn.invariant.4 c.loop-turn.invariant.3 c.in_ok-n.ensures.trace
+pub returns-then-n-lt4096-clause-counts : goal.returns-then-n-lt4096-clause-counts
+returns-then-n-lt4096-clause-counts g c =
+    counted_all _ _ c.loop-turn.count c.in_ok-n.n _ _ _ _ c.fill.new.buffer _ _ _ c.in_ok-n.ensures.within (search rules) c.loop-turn.invariant.2
+    c.in_ok-n.ensures.bytes (c.in_ok-n.ensures.end (search rules)) c.in_ok-n.ensures.trace c.loop-turn.invariant.3
 
-pub returns-clause-trace : goal.returns-clause-trace
-returns-clause-trace g c = elim c.loop-turn-test.branch [
+pub returns-clause-counts : goal.returns-clause-counts
+returns-clause-counts g c = elim c.loop-turn-test.branch [
   | else-loop-turn-test w ↦
-      rw w.folder-is (gives_forever _ _ _ _ _ c.loop-turn.invariant.4 (omega (arith, c.loop-turn.invariant.1)) (too_large _ (search rules)))
+      let (bytes, count_is, consumed, reads) = c.loop-turn.invariant.3 in
+      rw w.folder-is (gives_forever _ bytes _ _ _ reads (omega (arith, c.loop-turn.invariant.1)) (too_large _ (search rules)))
   | then-loop-turn-test+in_ok-n+else-n-lt4096+then-count-ge-MOST w ↦
-      let reads = reads_more _ _ _ _ _ _ _ c.loop-turn.invariant.4 c.loop-turn.invariant.3 w.in_ok-n.ensures.trace in
-      rw w.folder-is (gives_forever _ _ _ _ _ reads (omega arith) (too_large _ (search rules)))
+      let (bytes, count_is, consumed, reads) = counted _ _ c.loop-turn.count w.in_ok-n.n _ _ _ _ w.fill.new.buffer _ _ _ w.in_ok-n.ensures.within
+      (omega arith) c.loop-turn.invariant.2 w.in_ok-n.ensures.bytes w.in_ok-n.ensures.trace c.loop-turn.invariant.3 in
+      rw w.folder-is (gives_forever _ bytes _ _ _ reads (omega arith) (too_large _ (search rules)))
 ]

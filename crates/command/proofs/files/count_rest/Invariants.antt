@@ -1,11 +1,11 @@
 use Rattle.std.proofs.Common.{◌≡◌, ◌≤◌, ◌^◌, ◌<◌, ℕ, List, length}
 use Rattle.std.specs.Io.KnownBytes.{Consumes}
-use Rattle.command.specs.Trace.{Reads}
+use Rattle.command.specs.Trace.{ReadsOn}
 use Rattle.command.proofs.files.count_rest.Given as goal
 
 abbrev pub invariant-loop-turn : goal.invariant-loop-turn
 invariant-loop-turn g l =
-    (l.count < 2 ^ 60) × (l.turn ≤ l.count)
-    × ((rest : List ℕ) × Consumes (g.D.File.Source.remaining l.initial.file) (g.D.File.Source.remaining l.file) rest × (l.count ≡ length rest))
-    × (g.D.File.Source.role l.file ≡ g.D.File.Source.role l.initial.file)
-    × Reads (g.D.File.Source.role l.initial.file) l.count (g.D.Folder.trace l.initial.folder) (g.D.Folder.trace l.folder)
+    (l.count < 2 ^ 60) × (l.turn ≤ l.count) × (g.D.File.OpenFile.role l.file ≡ g.D.File.OpenFile.role l.initial.file)
+    × ((bytes : List ℕ) × (l.count ≡ length bytes)
+    × Consumes (g.D.File.OpenFile.remaining l.initial.file) (g.D.File.OpenFile.remaining l.file) bytes
+    × ReadsOn (g.D.File.OpenFile.role l.initial.file) bytes (g.D.Folder.trace l.initial.folder) (g.D.Folder.trace l.folder))

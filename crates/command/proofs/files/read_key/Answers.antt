@@ -1,30 +1,36 @@
 use Rattle.std.proofs.Common.{◌≡◌, ◌+◌, ◌++◌, length, take, arith, length-append, length-take-le}
-use Rattle.std.proofs.KnownBytes.{Consumes-trans}
 use Rattle.command.proofs.Contents.{reads_key}
 use Rattle.typecodes.proofs.Messages.{content_at_end}
-use Rattle.command.proofs.Reading.{fails_later, reads_err, reads_more}
+use Rattle.command.proofs.Reading.{content_after, fails_later, fills_to_end, fills_whole, reads_err, reads_rest}
 use Rattle.command.proofs.files.read_key.Goals as goal
 
-pub returns-then-n-lt69-clause-key : goal.returns-then-n-lt69-clause-key
-returns-then-n-lt69-clause-key g c =
-    let buffer = c.fill.new.buffer in
-    let n = c.in_ok-n.n in
-    let reads = reads_key (take n buffer) c.read.result c.read.ensures.ok c.read.ensures.err in
-    (take n buffer, content_at_end _ _ (take n buffer) c.in_ok-n.ensures.bytes (c.in_ok-n.ensures.end (omega arith)), reads)
+pub returns-then-n-lt69 : goal.returns-then-n-lt69
+returns-then-n-lt69 g c =
+    let bytes = take c.in_ok-n.n c.fill.new.buffer in
+    let size = length-take-le c.in_ok-n.n c.fill.new.buffer c.in_ok-n.ensures.within in (
+      bytes,
+      content_at_end _ _ bytes c.in_ok-n.ensures.bytes (c.in_ok-n.ensures.end (omega arith)),
+      reads_key bytes c.read.result c.read.ensures.ok c.read.ensures.err,
+      fills_to_end _ _ bytes _ _ c.in_ok-n.ensures.trace (omega (arith, size)),
+    )
 
-pub returns-clause-key : goal.returns-clause-key
-returns-clause-key g c =
-    let first = take c.in_ok-n.n c.fill.new.buffer in
-    let (rest, read, counted) = c.in_ok-length.ensures.counts in
-    let all = Consumes-trans _ _ _ first rest c.in_ok-n.ensures.bytes read in
-    let size : c.in_ok-n.n + c.in_ok-length.field-0 ≡ length (first ++ rest) =
-    omega (arith, counted, length-append first rest, length-take-le c.in_ok-n.n c.fill.new.buffer c.in_ok-n.ensures.within) in
-    (first ++ rest, content_at_end _ _ (first ++ rest) all c.in_ok-length.ensures.end, (size, (λ e. omega (arith, e)), (λ e. omega (arith, e)), (λ e. omega (arith, e))))
+pub returns-in_err-length : goal.returns-in_err-length
+returns-in_err-length g c =
+    let bytes = take c.in_ok-n.n c.fill.new.buffer in
+    let size = length-take-le c.in_ok-n.n c.fill.new.buffer c.in_ok-n.ensures.within in
+    let first = fills_whole _ _ bytes _ _ c.in_ok-n.ensures.trace (omega (arith, size)) in
+    reads_err _ _ _ c.from_residual-in_err-length.result c.in_err-length.field-0.0 _ _ c.from_residual-in_err-length.ensures.1
+    (fails_later _ _ bytes _ _ _ _ first c.fill.ensures.role c.in_err-length.ensures.counts)
 
-pub returns-in_err-length-clause-trace : goal.returns-in_err-length-clause-trace
-returns-in_err-length-clause-trace g c =
-    reads_err _ c.from_residual-in_err-length.result c.in_err-length.field-0.0 _ _ c.from_residual-in_err-length.ensures.1
-    (fails_later _ _ _ _ _ _ _ c.in_ok-n.ensures.trace c.fill.ensures.role c.in_err-length.ensures.trace)
-
-pub returns-clause-trace : goal.returns-clause-trace
-returns-clause-trace g c = (_, reads_more _ _ _ _ _ _ _ c.in_ok-n.ensures.trace c.fill.ensures.role c.in_ok-length.ensures.trace)
+pub returns : goal.returns
+returns g c =
+    let bytes = take c.in_ok-n.n c.fill.new.buffer in
+    let size = length-take-le c.in_ok-n.n c.fill.new.buffer c.in_ok-n.ensures.within in
+    let first = fills_whole _ _ bytes _ _ c.in_ok-n.ensures.trace (omega (arith, size)) in
+    let (rest, fits, counted, reads) = c.in_ok-length.ensures.counts in
+    let all : c.in_ok-n.n + c.in_ok-length.field-0 ≡ length (bytes ++ rest) = omega (arith, counted, length-append bytes rest, size) in (
+      bytes ++ rest,
+      content_after _ _ bytes rest c.in_ok-n.ensures.bytes fits,
+      (all, (λ e. omega (arith, e)), (λ e. omega (arith, e)), (λ e. omega (arith, e))),
+      reads_rest _ _ bytes rest _ _ _ first c.fill.ensures.role reads,
+    )
