@@ -6,26 +6,10 @@ use Rattle.std.specs.IoError.{error_kind}
 use Rattle.std.specs.declared.io.Error.{Error}
 use Rattle.std.specs.declared.io.ErrorKind.TheVariants.{FileTooLarge, Interrupted, OutOfMemory, TimedOut}
 use Rattle.typecodes.specs.Message.{Gave, IsContent, ReadOutcome, Transitions, Transition, interruptions}
-use Rattle.typecodes.proofs.Messages.{Progress}
+use Rattle.typecodes.proofs.Messages.{Progress, gave-append, interruptions-append, reads-append}
 use Rattle.command.specs.Files.{FailsToRead, Fills, ReadsAllOrFails}
 use Rattle.command.specs.Trace.{Happening, ReadsOn, ReadsOnce, ReadsToEnd}
 use Rattle.command.specs.declared.trace.Role.{Role}
-
-reads-append : {M : Type 0} (step : Transition M) (xs ys : List ReadOutcome) (old middle new : M) → Transitions step xs old middle
-    → Transitions step ys middle new → Transitions step (xs ++ ys) old new
-reads-append step [] ys old middle new same more = subst (λ m. Transitions step ys m new) same more
-reads-append step (x ∷ xs) ys old middle new (next, first, later) more = (next, first, reads-append step xs ys next middle new later more)
-
-gave-append : (xs ys : List ReadOutcome) (a b : List ℕ) → Gave xs a → Gave ys b → Gave (xs ++ ys) (a ++ b)
-gave-append [] ys a b none more = subst (Gave ys) (ap (λ l. l ++ b) (sym none)) more
-gave-append (Ok bytes ∷ later) ys a b (some, (rest, is, gave)) more =
-    (some, (rest ++ b, ap (λ l. l ++ b) is ∙ append_assoc bytes rest b, gave-append later ys rest b gave more))
-gave-append (Err kind ∷ later) ys a b (interrupted, gave) more = (interrupted, gave-append later ys a b gave more)
-
-interruptions-append : (xs ys : List ReadOutcome) → interruptions (xs ++ ys) ≡ interruptions xs + interruptions ys
-interruptions-append [] ys = omega arith
-interruptions-append (Ok bytes ∷ later) ys = interruptions-append later ys
-interruptions-append (Err kind ∷ later) ys = let more = interruptions-append later ys in omega (arith, more)
 
 -- some reads, and one more after them
 reads-then : {M : Type 0} (step : Transition M) (xs ys : List ReadOutcome) (last : ReadOutcome) (old middle new : M) → Transitions step xs old middle

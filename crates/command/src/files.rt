@@ -48,6 +48,7 @@ pub trait Folder {
 
     /// Reads into the buffer, as `Read::read` does.
     fn read(&mut self, file: &mut Self::File, buffer: &mut [u8]) -> io::Result<usize>
+        requires { 0 < length buffer.old }
         ensures trace { ReadsOnce (Self.File.role file.old) (trace self.old) (read_outcome result buffer.new)
             (trace self.new) }
         ensures role { Self.File.role file.new ≡ Self.File.role file.old }

@@ -1,6 +1,7 @@
 //! What a store of records is.
 
-ghost use Rattle.std.specs.Prelude.{◌≡◌, ◌⊎◌, ◌≤◌, ◌∷◌, [], ◌++◌, ℕ, List, Bool, true, false, IsTrue, length};
+ghost use Rattle.std.specs.Prelude.{◌≡◌, ◌≢◌, ◌⊎◌, ◌≤◌, ◌∷◌, [], ◌++◌, ℕ, List, Bool, true, false, IsTrue, length};
+ghost use Rattle.std.specs.Prelude.{IfErr};
 ghost use Rattle.state_file.specs.Disk.{Counts, LeavesOnly};
 
 mod file_store;
@@ -77,12 +78,15 @@ pub trait Store {
         ensures most { most self.new ≡ most self.old };
 
     /// Adds a record at the end; the caller gives a Key where there is none yet. A stop at any moment of it leaves
-    /// the old records, or these and the new one.
+    /// the old records, or these and the new one; of one that is refused with another answer than 45, the old ones.
     fn append(&mut self, new: &Record) -> Result<(), StoreFault>
         requires { CanFollow (list self.old) new.now }
         ensures any_moment { IsTrue (honest self.old) → stopped self.old ≡ false →
             LeavesOnly moment left_since self.old self.new
             (λ left. (left ≡ list self.old) ⊎ (left ≡ list self.old ++ new.now ∷ [])) }
+        ensures refused { IsTrue (honest self.old) → stopped self.old ≡ false → IfErr result (λ fault.
+            fault ≢ StoreFault.DeviceFailed →
+            LeavesOnly moment left_since self.old self.new (λ left. left ≡ list self.old)) }
         ensures stays { stopped self.old ≡ true → self.new ≡ self.old }
         ensures answer { Appends (most self.old) (list self.old) (stopped self.old) new.now (list self.new)
             (stopped self.new)

@@ -6,19 +6,19 @@ use Rattle.std.specs.declared.io.ErrorKind.{ErrorKind}
 use Rattle.std.specs.declared.io.ErrorKind.TheVariants.{Interrupted}
 use Rattle.typecodes.specs.Message.{CantBeRead, Feeds, Gave, GivesText, GivesAll, IsContent, ReadOutcome, interruptions, ReadWhole, Transitions, Transition, PieceRead}
 
-reads-append : {M : Type 0} (transition : Transition M) (xs ys : List ReadOutcome) (old middle new : M) → Transitions transition xs old middle
+pub reads-append : {M : Type 0} (transition : Transition M) (xs ys : List ReadOutcome) (old middle new : M) → Transitions transition xs old middle
     → Transitions transition ys middle new → Transitions transition (xs ++ ys) old new
 reads-append transition [] ys old middle new same more = subst (λ m. Transitions transition ys m new) same more
 reads-append transition (x ∷ xs) ys old middle new (next, first, later) more =
     (next, first, reads-append transition xs ys next middle new later more)
 
-gave-append : (xs ys : List ReadOutcome) (a b : List ℕ) → Gave xs a → Gave ys b → Gave (xs ++ ys) (a ++ b)
+pub gave-append : (xs ys : List ReadOutcome) (a b : List ℕ) → Gave xs a → Gave ys b → Gave (xs ++ ys) (a ++ b)
 gave-append [] ys a b none more = subst (Gave ys) (ap (λ l. l ++ b) (sym none)) more
 gave-append (Ok bytes ∷ later) ys a b (some, (rest, is, gave)) more =
     (some, (rest ++ b, ap (λ l. l ++ b) is ∙ append_assoc bytes rest b, gave-append later ys rest b gave more))
 gave-append (Err kind ∷ later) ys a b (interrupted, gave) more = (interrupted, gave-append later ys a b gave more)
 
-interruptions-append : (xs ys : List ReadOutcome) → interruptions (xs ++ ys) ≡ interruptions xs + interruptions ys
+pub interruptions-append : (xs ys : List ReadOutcome) → interruptions (xs ++ ys) ≡ interruptions xs + interruptions ys
 interruptions-append [] ys = omega arith
 interruptions-append (Ok bytes ∷ later) ys = interruptions-append later ys
 interruptions-append (Err kind ∷ later) ys = let more = interruptions-append later ys in omega (arith, more)

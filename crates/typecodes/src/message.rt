@@ -1,6 +1,6 @@
 //! Messages, which are read in pieces and held nowhere whole.
 
-ghost use Rattle.std.specs.Prelude.{◌≤◌, ◌^◌, ℕ, List, ⊤, length, IfOk};
+ghost use Rattle.std.specs.Prelude.{◌<◌, ◌≤◌, ◌^◌, ℕ, List, ⊤, length, IfOk};
 ghost use Rattle.std.specs.Io.{ReadsAtMost};
 ghost use Rattle.std.specs.Io.KnownBytes.{ReadConsumes};
 ghost use Rattle.std.specs.declared.option.Option.{Option};
@@ -18,8 +18,9 @@ pub trait Message {
     // what a read does to the message, where that is known: from this state, with this outcome, to that one
     ghost transition: { Self → ReadOutcome → Self → Type 0 } = { λ _ _ _. ⊤ };
 
-    /// Reads into the buffer, as `Read::read` does.
+    /// Reads into the buffer, as `Read::read` does. The buffer takes a byte at least, so that no bytes mean the end.
     fn read_into(&mut self, buffer: &mut [u8]) -> io::Result<usize>
+        requires { 0 < length buffer.old }
         ensures bound { ReadsAtMost result buffer.new }
         ensures bytes { ReadConsumes (remaining self.old) (remaining self.new) result buffer.new }
         ensures transition { transition self.old (read_outcome result buffer.new) self.new };

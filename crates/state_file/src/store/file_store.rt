@@ -234,6 +234,10 @@ impl<D: Disk + Drop> Store for FileStore<D> {
             LeavesOnly (λ store. D.moment (disk_of store)) (λ store. LeftLists (D.left_since (disk_of store)))
             self.old self.new
             (λ left. (left ≡ records_of self.old) ⊎ (left ≡ records_of self.old ++ new.now ∷ [])) }
+        ensures refused { IsTrue (D.honest (disk_of self.old)) → has_stopped self.old ≡ false → IfErr result (λ fault.
+            fault ≢ StoreFault.DeviceFailed →
+            LeavesOnly (λ store. D.moment (disk_of store)) (λ store. LeftLists (D.left_since (disk_of store)))
+            self.old self.new (λ left. left ≡ records_of self.old)) }
         ensures stays { has_stopped self.old ≡ true → self.new ≡ self.old }
         ensures contents { IsTrue (D.honest (disk_of self.old)) → has_stopped self.old ≡ false →
             LeavesOnly D.moment D.left_since (disk_of self.old) (disk_of self.new)

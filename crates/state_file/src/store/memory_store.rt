@@ -156,6 +156,10 @@ impl Store for MemoryStore {
         ensures any_moment { IsTrue true → has_stopped self.old ≡ false →
             LeavesOnly (λ store. length (records_of store)) (λ store. HadBeen (records_of store)) self.old self.new
             (λ left. (left ≡ records_of self.old) ⊎ (left ≡ records_of self.old ++ new.now ∷ [])) }
+        ensures refused { IsTrue true → has_stopped self.old ≡ false → IfErr result (λ fault.
+            fault ≢ StoreFault.DeviceFailed →
+            LeavesOnly (λ store. length (records_of store)) (λ store. HadBeen (records_of store)) self.old self.new
+            (λ left. left ≡ records_of self.old)) }
         ensures stays { has_stopped self.old ≡ true → self.new ≡ self.old }
         ensures limit { limit_of self.new ≡ limit_of self.old }
         ensures cut { Cuts (cut_of self.old) (records_of self.old) new.now (records_of self.new) (cut_of self.new)

@@ -5,21 +5,10 @@ use Rattle.std.specs.Io.KnownBytes.{Consumes}
 use Rattle.std.proofs.KnownBytes.{Consumes-trans, Consumes-kept}
 use borrow.Rule.Slice.PartMut.{put_mid, post_of}
 use Rattle.typecodes.specs.Message.{GivesAll, Transition}
+use Rattle.typecodes.proofs.Written.{slice_range-put_mid, take_split}
 use Rattle.typecodes.proofs.Messages.{fails, gives, gives-all, Progress, interrupted-once, read-more}
 use Rattle.typecodes.proofs.message.read_piece.Goals as goal
 use Rattle.typecodes.proofs.message.read_piece.Goals.{in-Ok, in-Err+else-ne}
-
--- what stood before the bytes that were read stays, and they follow it
-take_split : (a b : ℕ) (old new : List ℕ) → a ≤ b → take a new ≡ take a old → take a old ++ slice_range new a b ≡ take b new
-take_split a b old new h front =
-    let same : a + (b - a) ≡ b = omega arith in
-    ap (λ l. l ++ slice_range new a b) (sym front) ∙ sym (take-add a (b - a) new) ∙ ap (λ n. take n new) same
-
-slice_range-put_mid : (a k n : ℕ) (xs ys : List ℕ) → a ≤ length xs → n ≤ length ys → slice_range (put_mid a k xs ys) a (a + n) ≡ take n ys
-slice_range-put_mid a k n xs ys within fits =
-    let same : (a + n) - a ≡ n = omega arith in
-    let after = post_of a k xs in
-    ap (take ((a + n) - a)) (drop_at (take a xs) (ys ++ after) a (length-take-le a xs within)) ∙ ap (λ m. take m (ys ++ after)) same ∙ take-append-le n ys after fits
 
 pub loop-turn-preserved : goal.loop-turn-preserved
 loop-turn-preserved g c =

@@ -1,5 +1,5 @@
 use Rattle.std.proofs.Common.{inl, ◌*◌, [], ◌∷◌, ◌++◌, ℕ, length, take, refl, sym, ◌∙◌, ap, subst, arith, length-append}
-use Rattle.state_file.proofs.Lists.{kept_alone, lists_leave}
+use Rattle.state_file.proofs.Lists.{kept_alone, lists_leave, lists_stay}
 use Rattle.state_file.proofs.Moments.{started}
 use Rattle.state_file.specs.declared.store.file_store.FileStore.{FileStore}
 use Rattle.state_file.specs.FileStore.{kept_leaves}
@@ -80,3 +80,10 @@ pub returns-in-Err-clause-any_moment : goal.returns-in-Err-clause-any_moment
 returns-in-Err-clause-any_moment g c honest running =
     let self = c.args.self.now in
     lists_leave (λ (store : FileStore g.row.D.Denot g.D.Disk). store.disk) g.D.Disk.moment g.D.Disk.left_since self _ self.records (self.records ++ c.args.new.now ∷ []) (returns-in-Err-clause-contents g c honest running)
+
+pub returns-then-self-ge-MOST-clause-refused : goal.returns-then-self-ge-MOST-clause-refused
+returns-then-self-ge-MOST-clause-refused g c honest running other =
+    let self = c.args.self.now in
+    lists_stay (λ store. store.disk) g.D.Disk.moment g.D.Disk.left_since self self self.records
+    (started g.D.Disk.moment g.D.Disk.left_since self.disk _
+    (λ left since. kept_leaves self.records self.tag (g.D.Disk.state self.disk) left (self.kept honest running) (g.met.D.Disk.only_now self.disk left honest since)))
