@@ -1,15 +1,14 @@
 -- What the wanted records of a request come to, one after the other.
-use Rattle.std.proofs.Common.{◌≡◌, ◌∙◌, ℕ, zero, suc, ◌+◌, ◌-◌, Bool, true, false, List, [], ◌∷◌, ◌++◌, length, Option, Some, None, Result, Ok, Err, refl, sym, ap, subst, append_assoc, append-nil}
+use Rattle.std.proofs.Common.{◌≡◌, ◌∙◌, ℕ, suc, ◌-◌, false, List, [], ◌∷◌, ◌++◌, Option, Some, refl, sym, ap, append_assoc}
 use Rattle.std.specs.Prelude.{slice_index_or, if◌then◌else◌}
-use Rattle.std.specs.List.{concat}
 use Rattle.state_file.specs.Laws.{bottom_of}
 use Rattle.state_file.specs.declared.record.Key.{Key}
 use Rattle.state_file.specs.declared.record.Record.{Record}
-use Rattle.sign_core.specs.declared.fault.SignFault.TheVariants.{OutOfMemory, RandomFailed, RandomRepeated}
+use Rattle.sign_core.specs.declared.fault.SignFault.TheVariants.{RandomRepeated}
 use Rattle.sign_core.specs.StoreLedger.{has_identifier, next_at}
 use Rattle.sign_core.specs.Textbook.{Trees, lms_secret, trees_of}
-use Rattle.sign_core.specs.StoreWorld.{Chance, Draw, Fate, Outcome, acked, cut, cut_new, cut_old, no_memory}
-use Rattle.sign_core.specs.StoreWorld.{appended, drawing, extend_record, extended, extended_by, extended_with, fulfilled, open_on, refused}
+use Rattle.sign_core.specs.StoreWorld.{Chance, Draw, Fate, Outcome, acked}
+use Rattle.sign_core.specs.StoreWorld.{appended, drawing, extend_record, extended, extended_with, fulfilled, open_on, refused}
 
 -- bytes that are drawn one after the other
 pub drawing_twice : {A : Type 0} (a b : List ℕ) (outcome : Outcome A) → drawing a (drawing b outcome) ≡ drawing (a ++ b) outcome
@@ -35,7 +34,7 @@ next_extend key trees records level identifier seed randomizer =
     (next_at key.secret records (level - 1))
 
 -- one new tree: I is none of the records, and the append has this fate
-extends_by : (key : Key) (level : ℕ) (found : Option Trees) (trees : Trees) → found ≡ Some trees → (records : List Record) (identifier seed randomizer : List ℕ) (fate : Fate)
+pub extends_by : (key : Key) (level : ℕ) (found : Option Trees) (trees : Trees) → found ≡ Some trees → (records : List Record) (identifier seed randomizer : List ℕ) (fate : Fate)
     → has_identifier records identifier ≡ false → (next : List Record → Outcome (List ℕ))
     → extended (open_on records) key level found (whole_draw identifier seed randomizer fate) next
     ≡ drawing identifier (drawing (seed ++ randomizer) (appended (open_on records) (next_extend key trees records level identifier seed randomizer) fate next))

@@ -179,7 +179,7 @@ first_is records k is = elim (found_illegal records 0 records) [
 
 -- ---- one more record
 
-illegal_append : (all : List Record) (k : ℕ) (xs ys : List Record)
+pub illegal_append : (all : List Record) (k : ℕ) (xs ys : List Record)
     → illegal_from all k (xs ++ ys) ≡ option_or (illegal_from all k xs) (illegal_from all (k + length xs) ys)
 illegal_append all k [] ys = let here : k ≡ k + 0 = omega arith in ap (λ n. illegal_from all n ys) here
 illegal_append all k (first ∷ xs) ys =
@@ -193,7 +193,7 @@ illegal_append all k (first ∷ xs) ys =
     by true rest = rest
     by false rest = refl
 
-illegal_front : (records more : List Record) (k : ℕ) (rest : List Record) → k + length rest ≤ length records
+pub illegal_front : (records more : List Record) (k : ℕ) (rest : List Record) → k + length rest ≤ length records
     → illegal_from (records ++ more) k rest ≡ illegal_from records k rest
 illegal_front records more k [] within = refl
 illegal_front records more k (first ∷ rest) within =
@@ -212,3 +212,29 @@ first_illegal_appended records entry =
     ∙ ap (λ n. option_or (illegal_from (records ++ entry ∷ []) 0 records) (illegal_from (records ++ entry ∷ []) n (entry ∷ []))) here
     ∙ (λ i. option_or (illegal_front records (entry ∷ []) 0 records (omega arith) i)
     (cond (can_follow (key_in (whole i)) (whole i) entry) None (Some (length records))))
+
+-- ---- more records
+
+-- the first illegal record of a longer list
+pub first_illegal_joined : (records more : List Record)
+    → first_illegal (records ++ more) ≡ option_or (first_illegal records) (illegal_from (records ++ more) (length records) more)
+first_illegal_joined records more =
+    let here : 0 + length records ≡ length records = omega arith in
+    illegal_append (records ++ more) 0 records more
+    ∙ ap (λ n. option_or (illegal_from (records ++ more) 0 records) (illegal_from (records ++ more) n more)) here
+    ∙ ap (λ o. option_or o (illegal_from (records ++ more) (length records) more)) (illegal_front records more 0 records (omega arith))
+
+-- it stands no earlier than the search begins
+illegal_least : (all : List Record) (k : ℕ) (rest : List Record) (j : ℕ) → illegal_from all k rest ≡ Some j → k ≤ j
+illegal_least all k [] j is = absurd (none-some j is)
+illegal_least all k (first ∷ rest) j is = by (Follows all k first) is (illegal_least all (k + 1) rest j)
+  where
+    by : (follows : Bool) → cond follows (illegal_from all (k + 1) rest) (Some k) ≡ Some j → (illegal_from all (k + 1) rest ≡ Some j → k + 1 ≤ j) → k ≤ j
+    by true is later = omega (arith, later is)
+    by false is later = omega (arith, same_Some k j is)
+
+-- where a beginning is legal, it stands after it
+pub illegal_after : (records more : List Record) (j : ℕ) → first_illegal records ≡ None → first_illegal (records ++ more) ≡ Some j → length records ≤ j
+illegal_after records more j legal is =
+    illegal_least (records ++ more) (length records) more j
+    (sym (first_illegal_joined records more ∙ ap (λ o. option_or o (illegal_from (records ++ more) (length records) more)) legal) ∙ is)

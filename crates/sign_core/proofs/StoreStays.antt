@@ -78,7 +78,7 @@ before_stays level xs ys k within = ap (λ records. unwrap_or (current level rec
 
 -- ---- secrets and signatures
 
-secret_stays : (trees : Trees) (xs ys : List Record) (tree : ℕ) → tree < length xs → secret_at trees (xs ++ ys) tree ≡ secret_at trees xs tree
+pub secret_stays : (trees : Trees) (xs ys : List Record) (tree : ℕ) → tree < length xs → secret_at trees (xs ++ ys) tree ≡ secret_at trees xs tree
 secret_stays trees xs ys tree low = ap (secret_by trees) (slice_get_front xs ys tree low)
 
 secret_before_stays : (trees : Trees) (xs ys : List Record) (level k : ℕ) → 0 < length xs → k ≤ length xs
@@ -102,7 +102,7 @@ signing_stays trees xs ys parent (Some (Retire upto)) low = refl
 signing_stays trees xs ys parent (Some Moved) low = refl
 signing_stays trees xs ys parent None low = refl
 
-signings_stay : (trees : Trees) (level : ℕ) (xs ys : List Record) (tree : ℕ) → tree < length xs
+pub signings_stay : (trees : Trees) (level : ℕ) (xs ys : List Record) (tree : ℕ) → tree < length xs
     → signings_above trees level (xs ++ ys) tree ≡ signings_above trees level xs tree
 signings_stay trees zero xs ys tree low = refl
 signings_stay trees (suc level) xs ys tree low =

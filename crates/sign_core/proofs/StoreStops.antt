@@ -59,9 +59,9 @@ stops_by records outcome ways others leads stops = record {
   more = stops.more;
   reaches = stops.reaches;
   each = λ first rest are. elim (stops.each first rest are) as (λ u. (first ≡ []) ⊎ others (records ++ first)) [
-      inl none ↦ inl none
+    | inl none ↦ inl none
     | inr way ↦ inr (leads (records ++ first) way)
-    ];
+  ];
 }
 
 -- one record, and then more
@@ -74,8 +74,8 @@ longer records entry more ways later ended leads each (x ∷ first) rest are =
     let same : entry ≡ x = cc in
     let others : more ≡ first ++ rest = cc in
     inr (elim (each first rest others) as (λ u. ways (records ++ x ∷ first)) [
-      inl none ↦ subst (λ l. ways (records ++ x ∷ l)) (sym none) (subst (λ e. ways (records ++ e ∷ [])) same ended)
-    | inr way ↦ subst (λ e. ways (records ++ e ∷ first)) same (subst ways (append_assoc records (entry ∷ []) first) (leads _ way))
+      | inl none ↦ subst (λ l. ways (records ++ x ∷ l)) (sym none) (subst (λ e. ways (records ++ e ∷ [])) same ended)
+      | inr way ↦ subst (λ e. ways (records ++ e ∷ first)) same (subst ways (append_assoc records (entry ∷ []) first) (leads _ way))
     ])
 
 -- an append with another fate was cut off, or what comes after it
@@ -95,19 +95,19 @@ stops_append {A = A} {I = I} i state entry acked next nexts later =
       more = entry ∷ stops.more;
       reaches = stops.reaches ∙ append_assoc state.records (entry ∷ []) stops.more;
       each = longer state.records entry stops.more (Appended i state entry nexts) (OneCut (λ i unused. nexts i unused (state.records ++ entry ∷ [])))
-        (ended i state entry nexts) (λ left way. ((acked, way.0), way.1)) stops.each;
+          (ended i state entry nexts) (λ left way. ((acked, way.0), way.1)) stops.each;
     }
 stops_append i state entry cut_old next nexts later = record {
   more = entry ∷ [];
   reaches = refl;
   each = longer state.records entry [] (Appended i state entry nexts) (λ left. ⊥) (ended i state entry nexts) (λ left way. absurd way)
-    (λ first rest none. inl (nothing_first first rest none));
+      (λ first rest none. inl (nothing_first first rest none));
 }
 stops_append i state entry cut_new next nexts later = record {
   more = entry ∷ [];
   reaches = refl;
   each = longer state.records entry [] (Appended i state entry nexts) (λ left. ⊥) (ended i state entry nexts) (λ left way. absurd way)
-    (λ first rest none. inl (nothing_first first rest none));
+      (λ first rest none. inl (nothing_first first rest none));
 }
 stops_append i state entry no_memory next nexts later = refuses state _ _
 
@@ -243,11 +243,14 @@ stops_fulfilled key name chance zero draws all records =
     (stops_bound (open_on records) key name (randomizer_from key.secret chance.bound.fields) chance.given chance.bound.fate))
 stops_fulfilled key name chance (suc below) draws all records =
     stops_by records _ _ _
-    (λ left way. (record {
-      trees = record { fields = (first_draw draws).fields; fate = way.0.0 } ∷ way.0.1.trees;
-      all = (all_first draws all, way.0.1.all);
-      fate = way.0.1.fate;
-    }, way.1))
+    (λ left way. (
+      record {
+        trees = record { fields = (first_draw draws).fields; fate = way.0.0 } ∷ way.0.1.trees;
+        all = (all_first draws all, way.0.1.all);
+        fate = way.0.1.fate;
+      },
+      way.1,
+    ))
     (stops_extended {I = Others} no_others (open_on records) key (bottom_of key.secret - below) (trees_of key.secret) (first_draw draws)
     (fulfilled key name chance below (later_draws draws)) (λ o unused. fulfilled key name (other_chance chance o.fate unused) below o.trees)
     (stops_fulfilled key name chance below (later_draws draws) (all_later draws all)))
@@ -325,8 +328,8 @@ left_by limit world outcome ways left stops leads begins =
     let (first, rest, is, are) = beyond world.state.records stops.more begins.count begins.enough in
     let whole = begins.beginning ∙ ap (take begins.count) stops.reaches ∙ is in
     elim (stops.each first rest are) as (λ u. IsLeftBy limit world left) [
-      inl none ↦ left_by_stop limit world left (whole ∙ ap (λ l. world.state.records ++ l) none ∙ append-nil world.state.records)
-    | inr way ↦ subst (IsLeftBy limit world) (sym whole) (leads (world.state.records ++ first) way)
+      | inl none ↦ left_by_stop limit world left (whole ∙ ap (λ l. world.state.records ++ l) none ∙ append-nil world.state.records)
+      | inr way ↦ subst (IsLeftBy limit world) (sym whole) (leads (world.state.records ++ first) way)
     ]
 
 nothing_handed : (name : List ℕ) (given : Option (List ℕ)) (answer : Result (List ℕ) SignFault) → answer ≡ Err StoreFailed
@@ -339,29 +342,29 @@ nothing_handed name None (Err fault) is = refl
 pub stop_law : StopLaw
 stop_law = record {
   creates = λ limit world spec chance left can begins.
-    left_by limit world (created world.state spec chance) _ left (stops_after chance.failed_load world.state spec chance)
-    (λ all way. record {
-      events = create spec (fated chance way.0.0) ∷ [];
-      possible = (can, tt);
-      leads = ap (λ s. record { state = s; handed = world.handed }) (way.1 []).0;
-    }) begins;
+      left_by limit world (created world.state spec chance) _ left (stops_after chance.failed_load world.state spec chance)
+      (λ all way. record {
+        events = create spec (fated chance way.0.0) ∷ [];
+        possible = (can, tt);
+        leads = ap (λ s. record { state = s; handed = world.handed }) (way.1 []).0;
+      }) begins;
   requests = λ limit world name chance left can begins.
-    left_by limit world (requested limit world.state name chance) _ left (stops_under limit world.state name chance can.1.trees (key_in world.state.records))
-    (λ all way. record {
-      events = request name (other_chance chance way.0.fate way.0.trees) ∷ [];
-      possible = ((can.0, record { trees = way.0.all; bound = can.1.bound }), tt);
-      leads = ap (λ s. record {
+      left_by limit world (requested limit world.state name chance) _ left (stops_under limit world.state name chance can.1.trees (key_in world.state.records))
+      (λ all way. record {
+        events = request name (other_chance chance way.0.fate way.0.trees) ∷ [];
+        possible = ((can.0, record { trees = way.0.all; bound = can.1.bound }), tt);
+        leads = ap (λ s. record {
           state = s;
           handed = world.handed ++ handed_with name chance.given (requested limit world.state name (other_chance chance way.0.fate way.0.trees)).answer;
         }) (way.1 []).0
-        ∙ ap (λ l. record { state = closed_on all; handed = l })
-        (ap (λ l. world.handed ++ l) (nothing_handed name chance.given _ (way.1 []).1) ∙ append-nil world.handed);
-    }) begins;
+            ∙ ap (λ l. record { state = closed_on all; handed = l })
+            (ap (λ l. world.handed ++ l) (nothing_handed name chance.given _ (way.1 []).1) ∙ append-nil world.handed);
+      }) begins;
   retires = λ limit world upto fate left begins.
-    left_by limit world (retired limit world.state upto fate) _ left (stops_retired limit world.state upto fate (key_in world.state.records))
-    (λ all way. record {
-      events = retire upto way.0.0 ∷ [];
-      possible = (tt, tt);
-      leads = ap (λ s. record { state = s; handed = world.handed }) (way.1 []).0;
-    }) begins;
+      left_by limit world (retired limit world.state upto fate) _ left (stops_retired limit world.state upto fate (key_in world.state.records))
+      (λ all way. record {
+        events = retire upto way.0.0 ∷ [];
+        possible = (tt, tt);
+        leads = ap (λ s. record { state = s; handed = world.handed }) (way.1 []).0;
+      }) begins;
 }

@@ -16,3 +16,8 @@ pub mod Create
 pub mod Key
 pub mod RngSource
 pub mod StoreSigner
+pub mod StoreTable
+pub mod StoreLinks
+pub mod StoreSigning
+pub mod StoreRequest
+pub mod StoreWriting

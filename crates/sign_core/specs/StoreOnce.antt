@@ -1,7 +1,7 @@
 -- The law over all runs: no leaf at any level signs two digests.
-use Rattle.std.specs.Prelude.{◌≡◌, ◌≢◌, ◌⊎◌, ◌↔◌, ℕ, ◌+◌, ◌-◌, ◌<◌, ◌≤◌, true, false, List, [], ◌∷◌, ◌++◌, Contains}
+use Rattle.std.specs.Prelude.{◌≡◌, ◌≢◌, ◌⊎◌, ◌↔◌, ℕ, ◌+◌, ◌-◌, ◌≤◌, true, false, List, [], ◌∷◌, ◌++◌, Contains}
 use Rattle.std.specs.Prelude.{length, map}
-use Rattle.std.specs.Prelude.{Option, Some, None, Result, Ok, Err, IsOk, if◌then◌else◌, slice_get, take}
+use Rattle.std.specs.Prelude.{Option, Some, None, Ok, Err, IsOk, if◌then◌else◌, slice_get, take}
 use Rattle.std.specs.List.{AllByRecursion}
 use Rattle.std.specs.Option.{option_to_list}
 use Rattle.typecodes.specs.declared.spec.Spec.{Spec}
@@ -26,7 +26,7 @@ use Rattle.sign_core.specs.StoreLedger.{binding_in, deepest, has_moved, key_in, 
 use Rattle.sign_core.specs.StoreUses.{LeafUse, MakesUses}
 use Rattle.sign_core.specs.StoreWorld.{Chance, Creation, Draw, Event, Fate, Handed, Opening, Outcome, State, World}
 use Rattle.sign_core.specs.StoreWorld.{acked, cut_new, cut_old, no_memory, create, reopen, request, retire, stop}
-use Rattle.sign_core.specs.StoreWorld.{after, answered, appended, beginning, closed_on, created, new_key, open_on}
+use Rattle.sign_core.specs.StoreWorld.{after, answered, beginning, closed_on, created, new_key, open_on}
 use Rattle.sign_core.specs.StoreWorld.{opened, reading, refused}
 use Rattle.sign_core.specs.StoreWorld.{requested, retired, run, secret_from}
 use Rattle.sign_core.specs.Textbook.{digest_at, public_in, signature_at}

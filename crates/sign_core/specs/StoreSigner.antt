@@ -1,7 +1,8 @@
 -- What a signer over a store is to its callers, and what its calls are: steps of the world.
-use Rattle.std.specs.Prelude.{◌≡◌, ◌≢◌, ◌⊎◌, ℕ, ◌+◌, ◌-◌, ◌<◌, ◌≤◌, Bool, true, false, IsTrue, List, [], ◌∷◌, ◌++◌}
-use Rattle.std.specs.Prelude.{length, take}
+use Rattle.std.specs.Prelude.{◌≡◌, ◌⊎◌, ℕ, ◌+◌, ◌<◌, ◌≤◌, Bool, true, false, IsTrue, List, [], ◌∷◌, ◌++◌}
+use Rattle.std.specs.Prelude.{length}
 use Rattle.std.specs.Prelude.{Option, Some, None, Result, Ok, Err}
+use Rattle.std.specs.List.{concat}
 use Rattle.typecodes.specs.declared.message.Message as message
 use Rattle.typecodes.specs.declared.spec.Spec.{Spec}
 use Rattle.typecodes.specs.Message.{CantBeRead, ReadWhole}
@@ -11,24 +12,29 @@ use Rattle.state_file.specs.declared.refused.Refused.{Refused}
 use Rattle.state_file.specs.declared.record.Bound.{Bound}
 use Rattle.state_file.specs.declared.record.Key.{Key}
 use Rattle.state_file.specs.declared.record.Record.{Record}
+use Rattle.state_file.specs.declared.record.Record.TheVariants.{Key as KeyRecord}
 use Rattle.state_file.specs.declared.record.Secret.{Secret}
 use Rattle.state_file.specs.declared.record.Secret.TheVariants.{Lms, Hss, Xmss}
 use Rattle.state_file.specs.declared.store.Store as store
 use Rattle.state_file.specs.Disk.{Counts, LeavesOnly}
-use Rattle.state_file.specs.Laws.{IsLegal}
+use Rattle.state_file.specs.Laws.{IsLegal, bottom_of}
+use Rattle.state_file.specs.Store.{IsRecordAt}
 use Rattle.sign_core.specs.declared.key.AnyPublic.{AnyPublic}
 use Rattle.sign_core.specs.declared.fault.SignFault.{SignFault}
 use Rattle.sign_core.specs.declared.fault.SignFault.TheVariants.{DeviceFailed, NoMemoryToOpen, OutOfMemory}
-use Rattle.sign_core.specs.declared.fault.SignFault.TheVariants.{RandomFailed, StoreFailed}
-use Rattle.sign_core.specs.declared.fault.SignFault.TheVariants.{Moved, Stopped, Unreadable}
+use Rattle.sign_core.specs.declared.fault.SignFault.TheVariants.{KeyThere, RandomFailed, StoreFailed}
+use Rattle.sign_core.specs.declared.fault.SignFault.TheVariants.{Illegal, Moved, Stopped, Unreadable}
 use Rattle.sign_core.specs.declared.source.Source as source
 use Rattle.sign_core.specs.Source.{Provides}
-use Rattle.sign_core.specs.StoreLedger.{binding_in, deepest, key_in, wanted_count}
-use Rattle.sign_core.specs.StoreOnce.{AreDraws, AreFields, CanFailLoad, CanStopOpening, IsBeginning, key_sizes}
+use Rattle.sign_core.specs.StoreLedger.{binding_in, can_follow, deepest, key_in, leaves_of_current, next_at}
+use Rattle.sign_core.specs.StoreLedger.{wanted_count}
+use Rattle.sign_core.specs.StoreOnce.{AreDraws, AreFields, IsBeginning, key_sizes}
 use Rattle.sign_core.specs.StoreOnce.{public_of_key, reached}
-use Rattle.sign_core.specs.StoreWorld.{Chance, Creation, Fate, Opening, Outcome, State, closed_on, created, opened}
-use Rattle.sign_core.specs.StoreWorld.{requested, retired}
-use Rattle.sign_core.specs.Textbook.{AllHaveSizes}
+use Rattle.sign_core.specs.StoreWorld.{Chance, Creation, Fate, Opening, Outcome, State}
+use Rattle.sign_core.specs.StoreWorld.{answered, appended, closed_on, created, open_on, opened, requested}
+use Rattle.sign_core.specs.StoreWorld.{retired, secret_from}
+use Rattle.sign_core.specs.StoreTable.{Table}
+use Rattle.sign_core.specs.Textbook.{AllHaveSizes, public_in}
 
 -- ---- a signer
 
@@ -40,6 +46,16 @@ pub record View (S R : Type 0) : Type 0 where
   pub records : List Record
   pub is_open : Bool
   pub spare : ℕ
+
+-- one with these parts, and the ledger's records and memory
+abbrev pub view_of : {S R : Type 0} → S → R → Table → (is_open : Bool) → View S R
+view_of store random ledger is_open = record {
+  store = store;
+  random = random;
+  records = ledger.records;
+  is_open = is_open;
+  spare = ledger.spare;
+}
 
 -- its state in the world
 abbrev pub state_of : {S R : Type 0} → View S R → State
@@ -84,11 +100,15 @@ abbrev pub is_device_failed : SignFault → Bool
 is_device_failed DeviceFailed = true
 is_device_failed _ = false
 
+-- memory was refused while the records were read
+abbrev pub is_no_memory : SignFault → Bool
+is_no_memory NoMemoryToOpen = true
+is_no_memory _ = false
+
 -- What a call does to its store: the list grows as the records do; a stop at any moment of it leaves the old records
--- and
--- a beginning of what was reached; and each failure of the device is answered.
-pub record KeepsStore {S A : Type 0} (g : store.Ghosts S) (old new : S) (records : List Record) (outcome : Outcome A)
-    : Type 0 where
+-- and a beginning of those that were reached; and each failure of the device is answered.
+pub record KeepsStore {S A : Type 0} (g : store.Ghosts S) (old new : S) (records : List Record)
+    (outcome : Outcome A) : Type 0 where
   pub list : GrowsAlike (g.list old) (g.list new) records outcome.state.records
   pub moments : IsTrue (g.honest old) → g.stopped old ≡ false
       → LeavesOnly g.moment g.left_since old new (IsBeginning (length records) (reached outcome))
@@ -120,6 +140,35 @@ AppendsTo old entry new stopped before after (Err _) = ⊥
 abbrev pub LeavesEither : {S : Type 0} → store.Ghosts S → (old new : S) → Record → Type 0
 LeavesEither g old new entry = IsTrue (g.honest old) → g.stopped old ≡ false
     → LeavesOnly g.moment g.left_since old new (λ left. (left ≡ g.list old) ⊎ (left ≡ g.list old ++ entry ∷ []))
+
+-- .. or of a call that adds nothing, the old list
+abbrev pub LeavesOld : {S : Type 0} → store.Ghosts S → (old new : S) → Type 0
+LeavesOld g old new = IsTrue (g.honest old) → g.stopped old ≡ false
+    → LeavesOnly g.moment g.left_since old new (λ left. left ≡ g.list old)
+
+-- all that an append comes to
+pub record IsAppended {S A : Type 0} (g : store.Ghosts S) (old new : S) (entry : Record) (answer : Result A SignFault)
+    : Type 0 where
+  pub running : g.stopped old ≡ false
+  pub stored : AppendsTo (g.list old) entry (g.list new) (g.stopped new) (g.failures old) (g.failures new) answer
+  pub moments : LeavesEither g old new entry
+  pub refused : answer ≡ Err OutOfMemory → LeavesOld g old new
+  pub refusals : Counts is_out_of_memory (g.refusals old) (g.refusals new) answer
+  pub honest : g.honest new ≡ g.honest old
+  pub most : g.most new ≡ g.most old
+
+-- a record is added, and nothing answered
+abbrev pub added : State → Record → Fate → Outcome (Unit {0})
+added state entry fate = appended state entry fate (λ records. answered (open_on records) tt)
+
+-- A signer appends a record, with some fate, and takes it up where the append is acknowledged.
+pub record Adds {S R : Type 0} (g : store.Ghosts S) (old new : View S R) (entry : Record)
+    (answer : Result (Unit {0}) SignFault) : Type 0 where
+  pub fate : Fate
+  pub ends : Ends g old new (added (state_of old) entry fate) answer
+  pub random : new.random ≡ old.random
+  pub refusals : Counts is_out_of_memory (g.refusals old.store) (g.refusals new.store) answer
+  pub spare : old.spare ≤ new.spare + 1
 
 -- why a signer is hindered at once: it is closed, or its records go on elsewhere
 abbrev pub Hinders : (is_open has_moved : Bool) → SignFault → Type 0
@@ -159,9 +208,11 @@ RefusesMemory false answer before after = after ≡ before
 
 -- A call of sign is a step of the world, by some chance: the bytes that are drawn are those that the source gave; the
 -- message is read or as it was; and memory is refused only where it is lacking.
-pub record Signs {S R M : Type 0} (g : store.Ghosts S) (r : source.Ghosts R) (m : message.Ghosts M) (key : Key)
+pub record Signs {S R M : Type 0} (g : store.Ghosts S) (r : source.Ghosts R) (m : message.Ghosts M)
     (old new : View S R) (name : List ℕ) (before after : M) (capacity : ℕ) (answer : Result (List ℕ) SignFault)
     : Type 0 where
+  pub key : Key
+  pub keyed : key_in old.records ≡ Some key
   pub chance : Chance
   pub outcome : Outcome (List ℕ)
   pub step : requested (g.most old.store) (state_of old) name chance ≡ outcome
@@ -175,6 +226,12 @@ pub record Signs {S R M : Type 0} (g : store.Ghosts S) (r : source.Ghosts R) (m 
   pub refusals : RefusesMemory chance.has_room answer (g.refusals old.store) (g.refusals new.store)
 
 -- ---- retire
+
+-- The next leaf of the current bottom tree, and how many leaves that has.
+abbrev pub IsBottom : List Record → ℕ × ℕ → Type 0
+IsBottom records bottom = (key : Key) → key_in records ≡ Some key
+    → (bottom.0 ≡ next_at key.secret records (bottom_of key.secret))
+    × (bottom.1 ≡ leaves_of_current key.secret records (bottom_of key.secret))
 
 -- A call of retire is a step of the world; it draws nothing and takes no memory of its own.
 pub record Retires {S R : Type 0} (g : store.Ghosts S) (old new : View S R) (upto : ℕ)
@@ -199,11 +256,11 @@ random_after (Ok signer) = signer.random
 random_after (Err refused) = refused.given.1
 
 -- A signer answers its public key, and is open on the records acknowledged; or the fault is answered.
-abbrev pub IsAnswered : {S R : Type 0} → Outcome AnyPublic → Result (View S R) (Refused (S × R) SignFault) → Type 0
-IsAnswered outcome (Ok signer) = (public : AnyPublic) × (outcome.answer ≡ Ok public)
+abbrev pub IsAnswered : {S R : Type 0} → Result (View S R) (Refused (S × R) SignFault) → Outcome AnyPublic → Type 0
+IsAnswered (Ok signer) outcome = (public : AnyPublic) × (outcome.answer ≡ Ok public)
     × (public_of_key (key_in signer.records) ≡ Some public) × (signer.records ≡ outcome.acknowledged)
     × (signer.is_open ≡ true)
-IsAnswered outcome (Err refused) = outcome.answer ≡ Err refused.fault
+IsAnswered (Err refused) outcome = outcome.answer ≡ Err refused.fault
 
 -- what the load of record 0 failed with, by the store that it failed on
 abbrev pub LoadFails : Option SignFault → List Record → (stopped honest : Bool) → Type 0
@@ -215,20 +272,81 @@ LoadFails (Some StoreFailed) list stopped honest = stopped ≡ false
 LoadFails (Some OutOfMemory) list stopped honest = stopped ≡ false
 LoadFails (Some _) list stopped honest = ⊥
 
--- A call of create is a step of the world, by some chance: it takes no memory of its own.
-pub record Creates {S R : Type 0} (g : store.Ghosts S) (r : source.Ghosts R) (spec : Spec) (kept_in : S) (random : R)
-    (result : Result (View S R) (Refused (S × R) SignFault)) : Type 0 where
+-- What looking for a key in a store finds, by the answer: none is there, one is, or the load failed.
+abbrev pub FindsNone : {A : Type 0} (list : List Record) (honest old_stopped new_stopped : Bool)
+    (failures_before failures_after : ℕ) → Result A SignFault → Type 0
+FindsNone list honest old_stopped new_stopped before after (Ok _) =
+    (old_stopped ≡ false) × (length list ≡ 0) × (new_stopped ≡ false) × (after ≡ before)
+FindsNone list honest old_stopped new_stopped before after (Err KeyThere) =
+    (old_stopped ≡ false) × (1 ≤ length list) × (after ≡ before)
+FindsNone list honest old_stopped new_stopped before after (Err Stopped) = (old_stopped ≡ true) × (after ≡ before)
+FindsNone list honest old_stopped new_stopped before after (Err (Unreadable slot)) =
+    (old_stopped ≡ false) × (honest ≡ false) × (slot ≡ 0) × (0 < length list) × (after ≡ before)
+FindsNone list honest old_stopped new_stopped before after (Err StoreFailed) =
+    (old_stopped ≡ false) × (after ≡ before + 1)
+FindsNone list honest old_stopped new_stopped before after (Err OutOfMemory) =
+    (old_stopped ≡ false) × (after ≡ before)
+FindsNone list honest old_stopped new_stopped before after (Err _) = ⊥
+
+-- all that it comes to
+pub record LooksForKey {S A : Type 0} (g : store.Ghosts S) (old new : S) (answer : Result A SignFault) : Type 0 where
+  pub finds : FindsNone (g.list old) (g.honest old) (g.stopped old) (g.stopped new) (g.failures old) (g.failures new)
+      answer
+  pub list : g.list new ≡ g.list old
+  pub moments : LeavesOld g old new
+  pub refusals : Counts is_out_of_memory (g.refusals old) (g.refusals new) answer
+  pub honest : g.honest new ≡ g.honest old
+  pub most : g.most new ≡ g.most old
+
+-- What is drawn makes the secret; or it is less, where the source fails.
+abbrev pub IsDrawn : Spec → (fields : List (List ℕ)) → Result Secret SignFault → Type 0
+IsDrawn spec fields (Ok secret) = secret_from spec fields ≡ Some secret
+IsDrawn spec fields (Err RandomFailed) = secret_from spec fields ≡ None
+IsDrawn spec fields (Err _) = ⊥
+
+-- what drawing a secret does
+pub record DrawsSecret {R : Type 0} (r : source.Ghosts R) (spec : Spec) (old new : R) (answer : Result Secret SignFault)
+    : Type 0 where
+  pub fields : List (List ℕ)
+  pub drawn : IsDrawn spec fields answer
+  pub possible : AreFields (key_sizes spec) fields
+  pub source : Provides (r.upcoming old) (concat fields) (r.upcoming new)
+  pub failures : Counts is_random_failed (r.failures old) (r.failures new) answer
+
+-- Where record 0 can't be loaded, or is there, the source is as it was.
+abbrev pub LeavesSource : {R : Type 0} → (failed_load : Option SignFault) → List Record → (old new : R) → Type 0
+LeavesSource (Some fault) list old new = new ≡ old
+LeavesSource None [] old new = Unit {0}
+LeavesSource None (entry ∷ entries) old new = new ≡ old
+
+-- To make a key in a store is a step of the world, by some chance, with an outcome that is the answer: it takes no
+-- memory of its own.
+pub record MakesKey {S R : Type 0} (g : store.Ghosts S) (r : source.Ghosts R) (spec : Spec) (old new : S)
+    (before after : R) (IsAnswer : Outcome AnyPublic → Type 0) : Type 0 where
   pub chance : Creation
   pub outcome : Outcome AnyPublic
-  pub step : created (closed_on (g.list kept_in)) spec chance ≡ outcome
-  pub answer : IsAnswered outcome result
-  pub store : KeepsStore g kept_in (store_after result) (g.list kept_in) outcome
-  pub load : LoadFails chance.failed_load (g.list kept_in) (g.stopped kept_in) (g.honest kept_in)
+  pub step : created (closed_on (g.list old)) spec chance ≡ outcome
+  pub answer : IsAnswer outcome
+  pub store : KeepsStore g old new (g.list old) outcome
+  pub load : LoadFails chance.failed_load (g.list old) (g.stopped old) (g.honest old)
   pub possible : AreFields (key_sizes spec) chance.fields
-  pub source : Provides (r.upcoming random) outcome.drawn (r.upcoming (random_after result))
-  pub failures : Counts is_random_failed (r.failures random) (r.failures (random_after result)) outcome.answer
+  pub source : Provides (r.upcoming before) outcome.drawn (r.upcoming after)
+  pub leaves : LeavesSource chance.failed_load (g.list old) before after
+  pub failures : Counts is_random_failed (r.failures before) (r.failures after) outcome.answer
   pub room : chance.has_room ≡ true
-  pub refusals : Counts is_out_of_memory (g.refusals kept_in) (g.refusals (store_after result)) outcome.answer
+  pub refusals : Counts is_out_of_memory (g.refusals old) (g.refusals new) outcome.answer
+
+-- A key is made, with its public key, and its record is the only one; or the fault is answered.
+abbrev pub IsMade : Result Key SignFault → Outcome AnyPublic → Type 0
+IsMade (Ok key) outcome = (public : AnyPublic) × (outcome.answer ≡ Ok public) × (public_in key ≡ Some public)
+    × (outcome.acknowledged ≡ KeyRecord key ∷ [])
+IsMade (Err fault) outcome = outcome.answer ≡ Err fault
+
+-- A call of create makes a key.
+abbrev pub Creates : {S R : Type 0} → store.Ghosts S → source.Ghosts R → Spec → (kept_in : S) → (random : R)
+    → Result (View S R) (Refused (S × R) SignFault) → Type 0
+Creates g r spec kept_in random result =
+    MakesKey g r spec kept_in (store_after result) random (random_after result) (IsAnswered result)
 
 -- the record that couldn't be loaded, and why
 abbrev pub StopsOpening : Opening → List Record → (stopped honest : Bool) → Type 0
@@ -240,22 +358,78 @@ StopsOpening (Some (slot, DeviceFailed)) list stopped honest = (stopped ≡ fals
 StopsOpening (Some (slot, NoMemoryToOpen)) list stopped honest = (stopped ≡ false) × (slot ≤ length list)
 StopsOpening (Some (slot, _)) list stopped honest = ⊥
 
--- A call of open is a step of the world, on the records that were loaded: as many as the store has, and where it is
--- honest its own.
-pub record Opens {S R : Type 0} (g : store.Ghosts S) (kept_in : S) (random : R)
-    (result : Result (View S R) (Refused (S × R) SignFault)) : Type 0 where
+-- What memory an opening is refused is its store's, which counts it, or the signer's own.
+abbrev pub RefusesToOpen : {A : Type 0} → Result A SignFault → (before after : ℕ) → Type 0
+RefusesToOpen (Err NoMemoryToOpen) before after = (after ≡ before) ⊎ (after ≡ before + 1)
+RefusesToOpen answer before after = after ≡ before
+
+-- What the load of record k gives in an opening, by the answer.
+abbrev pub LoadsAt : (honest : Bool) (list : List Record) (old_stopped : Bool) (k : ℕ) (new_stopped : Bool)
+    (failures_before failures_after : ℕ) → Result (Option Record) SignFault → Type 0
+LoadsAt honest list old_stopped k new_stopped before after (Ok None) =
+    (old_stopped ≡ false) × (length list ≤ k) × (new_stopped ≡ false) × (after ≡ before)
+LoadsAt honest list old_stopped k new_stopped before after (Ok (Some entry)) =
+    (old_stopped ≡ false) × (k < length list) × IsRecordAt honest list k entry × (new_stopped ≡ false)
+    × (after ≡ before)
+LoadsAt honest list old_stopped k new_stopped before after (Err Stopped) = (old_stopped ≡ true) × (after ≡ before)
+LoadsAt honest list old_stopped k new_stopped before after (Err (Unreadable slot)) =
+    (old_stopped ≡ false) × (honest ≡ false) × (slot ≡ k) × (k < length list) × (after ≡ before)
+LoadsAt honest list old_stopped k new_stopped before after (Err DeviceFailed) =
+    (old_stopped ≡ false) × (after ≡ before + 1)
+LoadsAt honest list old_stopped k new_stopped before after (Err NoMemoryToOpen) =
+    (old_stopped ≡ false) × (after ≡ before)
+LoadsAt honest list old_stopped k new_stopped before after (Err _) = ⊥
+
+-- all that it comes to
+pub record LoadsRecord {S : Type 0} (g : store.Ghosts S) (old new : S) (k : ℕ)
+    (answer : Result (Option Record) SignFault) : Type 0 where
+  pub loads : LoadsAt (g.honest old) (g.list old) (g.stopped old) k (g.stopped new) (g.failures old) (g.failures new)
+      answer
+  pub list : g.list new ≡ g.list old
+  pub moments : LeavesOld g old new
+  pub refusals : Counts is_no_memory (g.refusals old) (g.refusals new) answer
+  pub honest : g.honest new ≡ g.honest old
+  pub most : g.most new ≡ g.most old
+
+-- What taking up the next record comes to, by the answer: it can follow those before it, and stands after them; or it
+-- can't, and its place is answered; or it could, and there is no memory for it.
+abbrev pub TakesUp : {A : Type 0} (old new : Table) (entry : Record) → Result A SignFault → Type 0
+TakesUp old new entry (Ok _) =
+    (can_follow (Some old.key) old.records entry ≡ true) × (new.key ≡ old.key)
+    × (new.records ≡ old.records ++ entry ∷ [])
+TakesUp old new entry (Err (Illegal k)) =
+    (can_follow (Some old.key) old.records entry ≡ false) × (k ≡ length old.records) × (new.records ≡ old.records)
+TakesUp old new entry (Err NoMemoryToOpen) =
+    (can_follow (Some old.key) old.records entry ≡ true) × (new.records ≡ old.records)
+TakesUp old new entry (Err _) = ⊥
+
+-- To load the records of a store is a step of the world, with an outcome that is the answer. It goes over as many
+-- records as the store has, and where the store is honest over its own.
+pub record LoadsAll {S : Type 0} (g : store.Ghosts S) (old new : S) (IsAnswer : Outcome AnyPublic → Type 0)
+    : Type 0 where
   pub records : List Record
-  pub long : length records ≡ length (g.list kept_in)
-  pub same : IsTrue (g.honest kept_in) → records ≡ g.list kept_in
+  pub long : length records ≡ length (g.list old)
+  pub same : IsTrue (g.honest old) → records ≡ g.list old
   pub chance : Opening
   pub outcome : Outcome AnyPublic
   pub step : opened (closed_on records) chance ≡ outcome
-  pub answer : IsAnswered outcome result
-  pub load : StopsOpening chance (g.list kept_in) (g.stopped kept_in) (g.honest kept_in)
-  pub list : g.list (store_after result) ≡ g.list kept_in
-  pub moments : IsTrue (g.honest kept_in) → g.stopped kept_in ≡ false
-      → LeavesOnly g.moment g.left_since kept_in (store_after result) (λ left. left ≡ g.list kept_in)
-  pub failures : Counts is_device_failed (g.failures kept_in) (g.failures (store_after result)) outcome.answer
+  pub answer : IsAnswer outcome
+  pub load : StopsOpening chance (g.list old) (g.stopped old) (g.honest old)
+  pub list : g.list new ≡ g.list old
+  pub moments : LeavesOld g old new
+  pub failures : Counts is_device_failed (g.failures old) (g.failures new) outcome.answer
+  pub refusals : RefusesToOpen outcome.answer (g.refusals old) (g.refusals new)
+  pub honest : g.honest new ≡ g.honest old
+  pub most : g.most new ≡ g.most old
+
+-- The records are taken up, and their key has a public one; or the fault is answered.
+abbrev pub IsTakenUp : Result Table SignFault → Outcome AnyPublic → Type 0
+IsTakenUp (Ok table) outcome = (public : AnyPublic) × (outcome.answer ≡ Ok public)
+    × (public_of_key (key_in table.records) ≡ Some public) × (table.records ≡ outcome.acknowledged)
+IsTakenUp (Err fault) outcome = outcome.answer ≡ Err fault
+
+-- A call of open loads the records, and draws nothing.
+pub record Opens {S R : Type 0} (g : store.Ghosts S) (kept_in : S) (random : R)
+    (result : Result (View S R) (Refused (S × R) SignFault)) : Type 0 where
+  pub loads : LoadsAll g kept_in (store_after result) (IsAnswered result)
   pub same_random : random_after result ≡ random
-  pub honest : g.honest (store_after result) ≡ g.honest kept_in
-  pub most : g.most (store_after result) ≡ g.most kept_in

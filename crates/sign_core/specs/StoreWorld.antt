@@ -1,8 +1,8 @@
 -- The world of one key, and what each event does to it: its records, whether a signer is open on them, and what was
 -- handed out.
-use Rattle.std.specs.Prelude.{◌≡◌, ℕ, zero, suc, ◌+◌, ◌-◌, Bool, true, false, not, List, [], ◌∷◌, ◌++◌, length}
+use Rattle.std.specs.Prelude.{ℕ, zero, suc, ◌+◌, ◌-◌, Bool, true, false, not, List, [], ◌∷◌, ◌++◌, length}
 use Rattle.std.specs.Prelude.{replicate, slice_index_or}
-use Rattle.std.specs.Prelude.{Option, Some, None, Result, Ok, Err, nat_le, nat_lt, is_some, unwrap_or, if◌then◌else◌}
+use Rattle.std.specs.Prelude.{Option, Some, None, Result, Ok, Err, nat_le, nat_lt, if◌then◌else◌}
 use Rattle.std.specs.List.{concat}
 use Rattle.typecodes.specs.declared.spec.Spec.{Spec}
 use Rattle.typecodes.specs.declared.spec.Spec.TheVariants.{Lms as LmsSpec, Hss as HssSpec, Xmss as XmssSpec}
@@ -25,7 +25,7 @@ use Rattle.sign_core.specs.declared.fault.SignFault.TheVariants.{Changed, Exhaus
 use Rattle.sign_core.specs.declared.fault.SignFault.TheVariants.{StoreFailed}
 use Rattle.sign_core.specs.declared.fault.SignFault.TheVariants.{Stopped, MessageRead, Damaged, OutOfMemory, LedgerFull}
 use Rattle.sign_core.specs.declared.fault.SignFault.TheVariants.{Moved, RetireRange, NoKey, Illegal, KeyThere}
-use Rattle.sign_core.specs.StoreLedger.{are_same, binding_in, current, deepest, first_illegal, has_identifier}
+use Rattle.sign_core.specs.StoreLedger.{are_same, binding_in, deepest, first_illegal, has_identifier}
 use Rattle.sign_core.specs.StoreLedger.{has_moved}
 use Rattle.sign_core.specs.StoreLedger.{key_in, leaves_of_current, next_at, wanted_count}
 use Rattle.sign_core.specs.Textbook.{Trees, damaged_in, digest_at, lms_secret, public_in, root_by, secret_at}

@@ -1,7 +1,7 @@
 -- The textbook signature of a binding, and what is sound: functions of the records alone.
-use Rattle.std.specs.Prelude.{◌≡◌, ℕ, zero, suc, ◌+◌, ◌-◌, ◌<◌, Bool, true, false, not, List, [], ◌∷◌, ◌++◌, ◌&&◌}
-use Rattle.std.specs.Prelude.{length, take, map, find, slice_get, slice_index_or, unwrap_or, replicate}
-use Rattle.std.specs.Prelude.{Option, Some, None, if◌then◌else◌}
+use Rattle.std.specs.Prelude.{◌≡◌, ℕ, zero, suc, ◌-◌, Bool, true, false, not, List, [], ◌∷◌, ◌++◌, ◌&&◌}
+use Rattle.std.specs.Prelude.{length, take, find, slice_get, slice_index_or, unwrap_or}
+use Rattle.std.specs.Prelude.{Option, Some, None}
 use Rattle.typecodes.specs.declared.types.LmsPair.{LmsPair}
 use Rattle.typecodes.specs.declared.types.XmssType.{XmssType}
 use Rattle.typecodes.specs.Levels.{AreLevels}
@@ -16,7 +16,7 @@ use Rattle.xmss.specs.Secret.{digest_in as xmss_digest_in, root_in as xmss_root_
 use Rattle.xmss.specs.Writing.{signature_bytes as xmss_signature_bytes, textbook as xmss_textbook}
 use Rattle.hss.specs.Secret.{Signing}
 use Rattle.hss.specs.Writing.{signature_bytes as hss_signature_bytes, textbook as hss_textbook}
-use Rattle.state_file.specs.Laws.{IsLegal, bottom_of}
+use Rattle.state_file.specs.Laws.{IsLegal}
 use Rattle.state_file.specs.declared.record.Bound.{Bound}
 use Rattle.state_file.specs.declared.record.Extend.{Extend}
 use Rattle.state_file.specs.declared.record.Key.{Key}
@@ -27,7 +27,7 @@ use Rattle.state_file.specs.declared.record.Secret.{Secret}
 use Rattle.state_file.specs.declared.record.Secret.TheVariants.{Lms, Hss, Xmss}
 use Rattle.sign_core.specs.declared.key.AnyPublic.{AnyPublic}
 use Rattle.sign_core.specs.declared.key.AnyPublic.TheVariants.{Lms as AnyLms, Hss as AnyHss, Xmss as AnyXmss}
-use Rattle.sign_core.specs.StoreLedger.{are_same, binding_in, current, key_in}
+use Rattle.sign_core.specs.StoreLedger.{are_same, current, key_in}
 
 -- ---- secrets
 

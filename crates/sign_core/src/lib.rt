@@ -24,9 +24,9 @@
 //! list of such steps no leaf signs two digests (`once_law`). `AnyPublic` and `verify_any` are the keys of
 //! the three schemes by their lengths (`specs/Key.antt`).
 //!
-//! Beside it stand the definitions and laws of the signer over a store, which is to take its place: for LMS, HSS and
-//! XMSS, with openings, stops and retired leaves (`specs/StoreWorld.antt`, `specs/StoreOnce.antt`, `store_once_law`).
-//! No call is tied to them yet.
+//! Beside it stands the signer over a store that is to take its place: for LMS, HSS and XMSS, with openings, stops and
+//! retired leaves (`src/store_signer.rt`). Its calls are steps of the world of `specs/StoreWorld.antt`, of which
+//! `store_once_law` and the other laws speak (`specs/StoreSigner.antt`, `specs/StoreOnce.antt`). It isn't public yet.
 #![tactic(auto)]
 
 mod create;
@@ -41,8 +41,13 @@ mod signing;
 mod source;
 mod store_chain;
 mod store_laws;
+mod store_ledger;
+mod store_links;
 mod store_roots;
+mod store_signer;
+mod store_standing;
 mod store_trees;
+mod store_writing;
 #[cfg(test)]
 mod tests;
 

@@ -1,4 +1,4 @@
-use Rattle.std.proofs.Common.{rules, ◌≡◌, ℕ, length, ap, sym, ◌∙◌}
+use Rattle.std.proofs.Common.{rules, ◌≡◌, length, ap, sym, ◌∙◌}
 use Rattle.typecodes.specs.Types.{height_of}
 use Rattle.lms.specs.Secret.{joins_of, leaves_of}
 use Rattle.merkle.specs.Tree.{Leaves}

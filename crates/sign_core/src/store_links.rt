@@ -1,15 +1,15 @@
 //! The trees of a chain, from the Key's down, with what a leaf of each signs; and what they sign with it.
 
-ghost use Rattle.std.specs.Prelude.{◌≡◌, ◌<◌, ◌≤◌, ◌+◌, ◌^◌, ◌∷◌, [], ◌++◌, Some, None, true, false, length, map, take};
-ghost use Rattle.std.specs.Prelude.{option_map, IfErr, OnOk};
+ghost use Rattle.std.specs.Prelude.{◌≡◌, ◌<◌, ◌+◌, ◌^◌, ◌∷◌, [], ◌++◌, Some, None, true, false, length};
+ghost use Rattle.std.specs.Prelude.{option_map, slice_index_or, IfErr, OnOk};
 ghost use Rattle.arrayvec.specs.ArrayVec.{array_vec_len};
 ghost use Rattle.typecodes.specs.Types.{height_of};
 ghost use Rattle.lmots.specs.Key.{message_digest_of};
 ghost use Rattle.lms.specs.Writing.{public_bytes};
 
+use crate::store_chain::write_lms;
 use crate::store_ledger::Ledger;
 use crate::store_roots::lms_root;
-use crate::store_chain::{write_hss, write_lms};
 use arrayvec::ArrayVec;
 use hss::Level;
 use lmots::LmOts;
@@ -58,13 +58,19 @@ impl<'a> KeyTrees<'a> {
         Some(KeyTrees { top, pairs })
     }
 
+    /// The types of a level's trees; the top tree's, where there is no such level.
+    pub(crate) fn pair(&self, level: u8) -> LmsPair
+        ensures { result ≡ slice_index_or (trees_in self.now).pairs level (trees_in self.now).top.pair }
+    {
+        *self.pairs.get(usize::from(level)).unwrap_or(&self.top.pair)
+    }
+
     /// The secret of the tree that an Extend makes.
     pub(crate) fn secret_of(&self, extend: &Extend) -> LmsSecret
         ensures { result ≡ secret_by (trees_in self.now) (Some (ExtendRecord extend.now)) }
     {
-        let pair = self.pairs.get(usize::from(extend.level)).unwrap_or(&self.top.pair);
         LmsSecret {
-            pair: *pair,
+            pair: self.pair(extend.level),
             identifier: extend.identifier,
             seed: extend.seed,
         }
@@ -89,12 +95,16 @@ impl<'a> KeyTrees<'a> {
         ensures { result ≡ is_sound_at ledger.now.key ledger.now.records place }
     {
         match ledger.made(place) {
-            Some(made) => link.is_said_by(&made.extend, self.secret_at(ledger, made.parent).identifier),
+            Some(made) => link.is_said_by(
+                &made.extend,
+                self.secret_at(ledger, made.parent).identifier,
+            ),
             None => ledger.key().root == link.root,
         }
     }
 
-    // Adds the tree of a level at a place, a leaf of which signs as given; or answers the place, if its record isn't sound.
+    // Adds the tree of a level at a place, a leaf of which signs as given; or answers the place, if its record is not
+    // sound.
     fn push_tree(
         &self,
         ledger: &Ledger,
@@ -174,6 +184,19 @@ pub(crate) struct Signed {
     pub(crate) digest: [u8; 32],
 }
 
+impl Signed {
+    /// What a leaf will sign with isn't known yet.
+    pub(crate) fn unset(leaf: u32) -> Self
+        ensures { result.leaf ≡ leaf }
+    {
+        Signed {
+            leaf,
+            randomizer: [0; 32],
+            digest: [0; 32],
+        }
+    }
+}
+
 /// A tree of a chain with its root, and what a leaf of it signs with, with the leaf's authentication path.
 #[derive(Clone, Copy)]
 pub(crate) struct Link {
@@ -189,9 +212,7 @@ impl Link {
     ghost use Rattle.lms.specs.Secret.{path_in, public_of};
     ghost use Rattle.lms.specs.Writing.{signature_bytes, textbook};
     ghost use Rattle.hss.specs.Secret.{signing_of};
-    ghost use Rattle.hss.specs.Signature.{signature_size};
-    ghost use Rattle.hss.specs.Writing.{signature_bytes as hss_signature_bytes, textbook as hss_textbook};
-    ghost use Rattle.sign_core.specs.StoreLinks.{AreMade, IsMade, pairs_of, says_key, signing_of_link, signings_of};
+    ghost use Rattle.sign_core.specs.StoreLinks.{IsMade, says_key, signing_of_link};
 
     /// The tree of a secret, of which a leaf signs. Each leaf is made once.
     pub(crate) fn new(secret: LmsSecret, signed: Signed) -> Self
@@ -203,6 +224,27 @@ impl Link {
         let mut path = [[0; 32]; 25];
         let height = usize::from(secret.pair.tree.height());
         let root = lms_root(secret, signed.leaf, &mut path[..height]);
+        Link {
+            secret,
+            root,
+            signed,
+            path,
+        }
+    }
+
+    /// The same link, whose leaf signs with this.
+    pub(crate) fn signing(self, signed: Signed) -> Self
+        requires { signed.leaf ≡ self.signed.leaf }
+        ensures secret { result.secret ≡ self.secret }
+        ensures signed { result.signed ≡ signed }
+        ensures made { IsMade self → IsMade result }
+    {
+        let Link {
+            secret,
+            root,
+            path,
+            ..
+        } = self;
         Link {
             secret,
             root,
@@ -257,25 +299,14 @@ impl Link {
         let height = usize::from(self.secret.pair.tree.height());
         let signed = &self.signed;
         let path = &self.path[..height];
-        write_lms(&self.secret, signed.leaf, &signed.randomizer, &signed.digest, path, into);
-    }
-
-    /// Writes the textbook signature of the levels of a chain, from the top down: that of an HSS key.
-    pub(crate) fn write_all<'a>(above: &'a [Link], bottom: &'a Link, into: &mut [u8])
-        requires few { length above.now ≤ 7 }
-        requires made { AreMade above.now }
-        requires bottom { IsMade bottom.now }
-        requires room { length into.old ≡ signature_size (pairs_of above.now bottom.now) }
-        ensures { into.new ≡ hss_signature_bytes
-            (hss_textbook (signings_of above.now) (signing_of_link bottom.now)) }
-    {
-        let last: Level<'a> = bottom.level();
-        let mut levels: [Level<'a>; 8] = [last; 8];
-        for (i, link) in above.iter().enumerate() {
-            let level: Level<'a> = link.level();
-            levels[i] = level;
-        }
-        write_hss(&levels[..above.len()], &last, into);
+        write_lms(
+            &self.secret,
+            signed.leaf,
+            &signed.randomizer,
+            &signed.digest,
+            path,
+            into,
+        );
     }
 
     // Whether an Extend says the tree's root, and the digest of its public key under the parent's I.
@@ -298,7 +329,12 @@ impl Link {
 }
 
 // Q, the digest of a public key, which a leaf of the tree of this I signs with this C.
-fn key_digest(identifier: [u8; 16], leaf: u32, randomizer: &[u8; 32], public: &LmsPublic) -> [u8; 32]
+fn key_digest(
+    identifier: [u8; 16],
+    leaf: u32,
+    randomizer: &[u8; 32],
+    public: &LmsPublic,
+) -> [u8; 32]
     ensures { result ≡ message_digest_of identifier leaf randomizer.now (public_bytes public.now) }
 {
     let mut bytes = [0; 56];

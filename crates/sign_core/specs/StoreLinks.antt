@@ -1,6 +1,5 @@
 -- The chains of LMS trees that a signer makes in memory, and what they sign.
-use Rattle.std.specs.Prelude.{◌≡◌, ℕ, zero, suc, List, [], ◌∷◌, ◌++◌, take, map, slice_get, Option, Some, None, ◌&&◌, Bool}
-use Rattle.typecodes.specs.declared.types.LmsPair.{LmsPair}
+use Rattle.std.specs.Prelude.{◌≡◌, ℕ, zero, suc, List, take, map, slice_get, Some, ◌&&◌, Bool}
 use Rattle.typecodes.specs.Types.{height_of}
 use Rattle.lmots.specs.Key.{message_digest_of}
 use Rattle.lms.specs.declared.key.LmsPublic.{LmsPublic}
@@ -38,10 +37,6 @@ signing_of_link link = signing_with link.secret link.signed
 -- what the trees of a chain sign with
 abbrev pub signings_of : List Link → List Signing
 signings_of links = map signing_of_link links
-
--- the types of a chain's trees
-abbrev pub pairs_of : (above : List Link) (bottom : Link) → List LmsPair
-pairs_of above bottom = map (λ link. link.secret.pair) (above ++ bottom ∷ [])
 
 -- The root of a link is that of its tree, and its path that of its leaf.
 pub record IsMade (link : Link) : Type 0 where

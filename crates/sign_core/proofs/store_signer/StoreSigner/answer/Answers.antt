@@ -1,0 +1,32 @@
+use Rattle.std.proofs.Common.{rules, ◌≡◌, ◌∙◌, Err, ap, sym, subst}
+use Rattle.std.specs.Prelude.{vec_capacity}
+use Rattle.sign_core.specs.Signer.{answered}
+use Rattle.sign_core.specs.StoreLedger.{key_in}
+use Rattle.sign_core.specs.StoreSigner.{IsSigner, Signs}
+use Rattle.sign_core.specs.StoreSigning.{IsBindingOf}
+use Rattle.sign_core.specs.StoreTable.{kept_at}
+use Rattle.sign_core.proofs.StoreSigns.{hindered_signs, repeats_signs}
+use Rattle.sign_core.proofs.store_signer.StoreSigner.answer.Goals as goal
+
+pub returns-in_err-check_open : goal.returns-in_err-check_open
+returns-in_err-check_open g c =
+    let v = c.args.self.now in
+    let answer : c.from_residual.result ≡ Err c.in_err-check_open.field-0.0 = search rules in
+    subst (λ a. Signs g.S.Store g.R.Source g.M.Message v v c.args.name.now c.args.message.now c.args.message.now (vec_capacity c.args.out.now)
+    (answered a c.args.out.now.items)) (sym answer)
+    (hindered_signs g.S.Store g.R.Source g.M.Message v c.args.name.now c.args.message.now (vec_capacity c.args.out.now) c.self.inside.ledger.key
+    c.in_err-check_open.field-0.0 (subst (IsSigner g.S.Store) c.self.view_is c.self.invariant.0)
+    (λ left honest running since. g.met.S.Store.leaves_nothing_else v.store left honest running since)
+    (ap (λ w. key_in w.records) (sym c.self.view_is) ∙ c.self.invariant.1) c.in_err-check_open.ensures.refused)
+
+pub returns-in-Some : goal.returns-in-Some
+returns-in-Some g c =
+    let v = c.args.self.now in
+    let key = c.self.inside.ledger.key in
+    let keyed = ap (λ w. key_in w.records) (sym c.self.view_is) ∙ c.self.invariant.1 in
+    let is : IsBindingOf v.records c.in-Some.binding key c.args.name.now =
+    ap (λ w. kept_at key.secret w.records c.args.name.now) (sym c.self.view_is) ∙ sym c.find.ensures ∙ c.in-Some.is in
+    repeats_signs g.S.Store g.R.Source g.M.Message v c.args.name.now c.args.message.now c.repeat.new.message (vec_capacity c.args.out.now) key
+    c.in-Some.binding (answered c.repeat.result c.repeat.new.out.items) (subst (IsSigner g.S.Store) c.self.view_is c.self.invariant.0)
+    (λ left honest running since. g.met.S.Store.leaves_nothing_else v.store left honest running since)
+    keyed c.in_ok-check_open.ensures.open c.in_ok-check_open.ensures.stays is (c.repeat.ensures key keyed c.args.name.now is)

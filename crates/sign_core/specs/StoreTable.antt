@@ -1,0 +1,152 @@
+-- What a ledger keeps of the records in memory, and that it is theirs.
+use Rattle.std.specs.Prelude.{◌≡◌, ◌⊎◌, ℕ, ◌+◌, ◌-◌, ◌^◌, ◌<◌, ◌≤◌, Bool, true, false, List, [], ◌∷◌, ◌++◌, length}
+use Rattle.std.specs.Prelude.{take, drop, slice_get, nat_eq, Option, Some, None, option_map, is_some, Result, Ok, Err}
+use Rattle.std.specs.Cmp.Lexicographic.{pointwise}
+use Rattle.std.specs.declared.hash.FoldHasher.{FoldHasher}
+use Rattle.std.specs.declared.hash.BuildHasherDefault.{BuildHasherDefault}
+use Rattle.std.specs.HashMap.{HashMap, get}
+use Rattle.state_file.specs.Laws.{IsLegal, bottom_of}
+use Rattle.state_file.specs.declared.record.Bound.{Bound}
+use Rattle.state_file.specs.declared.record.Key.{Key}
+use Rattle.state_file.specs.declared.record.Record.{Record}
+use Rattle.state_file.specs.declared.record.Record.TheVariants.{Key as KeyRecord, Extend as ExtendRecord}
+use Rattle.state_file.specs.declared.record.Record.TheVariants.{Bound as BoundRecord, Retire, Moved}
+use Rattle.state_file.specs.declared.record.Secret.{Secret}
+use Rattle.sign_core.specs.declared.store_ledger.Binding.{Binding}
+use Rattle.sign_core.specs.declared.store_ledger.Made.{Made}
+use Rattle.sign_core.specs.declared.store_ledger.LedgerFault.{LedgerFault}
+use Rattle.sign_core.specs.declared.store_ledger.LedgerFault.TheVariants.{Empty, Illegal, OutOfMemory}
+use Rattle.sign_core.specs.declared.store_trees.Tree.{Tree}
+use Rattle.sign_core.specs.StoreLedger.{binding_in, can_follow, first_illegal, has_identifier, has_moved, key_in}
+use Rattle.sign_core.specs.StoreTrees.{HasTrees}
+use Rattle.sign_core.specs.Textbook.{AllHaveSizes, tree_before}
+
+-- What callers see of a ledger: its key, its records, the Key's first, and for how many more records it has memory.
+pub record Table : Type 0 where
+  pub key : Key
+  pub records : List Record
+  pub spare : ℕ
+
+-- ---- maps
+
+-- a map from texts
+abbrev pub ByText : Type 0 → Type 0
+ByText V = HashMap (List ℕ) V (BuildHasherDefault FoldHasher)
+
+abbrev pub of_text : {V : Type 0} → ByText V → List ℕ → Option V
+of_text entries text = get (pointwise nat_eq) entries text
+
+-- a map from places
+abbrev pub ByPlace : Type 0 → Type 0
+ByPlace V = HashMap ℕ V (BuildHasherDefault FoldHasher)
+
+abbrev pub of_place : {V : Type 0} → ByPlace V → ℕ → Option V
+of_place entries place = get nat_eq entries place
+
+-- ---- what is kept of a record
+
+-- an Extend, with the tree that was current above it
+abbrev pub made_by : List Record → (place : ℕ) → Option Record → Option Made
+made_by records place (Some (ExtendRecord extend)) =
+    Some (record { extend = extend; parent = tree_before (extend.level - 1) records place })
+made_by records place (Some (KeyRecord key)) = None
+made_by records place (Some (BoundRecord bound)) = None
+made_by records place (Some (Retire upto)) = None
+made_by records place (Some Moved) = None
+made_by records place None = None
+
+abbrev pub made_at : List Record → (place : ℕ) → Option Made
+made_at records place = made_by records place (slice_get records place)
+
+-- a binding with its place, and the bottom tree that was current before it
+abbrev pub kept_of : Secret → List Record → (ℕ × Bound) → Binding
+kept_of secret records (place, bound) = record {
+  place = place;
+  leaf = bound.leaf;
+  randomizer = bound.randomizer;
+  digest = bound.digest;
+  tree = tree_before (bottom_of secret) records place;
+}
+
+abbrev pub kept_at : Secret → List Record → (name : List ℕ) → Option Binding
+kept_at secret records name = option_map (kept_of secret records) (binding_in records name)
+
+-- ---- a ledger
+
+-- What a ledger keeps is what its records say: the Extends by their places, the bindings by their names, which I stand
+-- after the Key's, the current trees with their next leaves, how many records there are, and whether a Moved is last.
+pub record IsTableOf (records : List Record) (key : Key) (made : ByPlace Made) (bindings : ByText Binding)
+    (identifiers : ByText ℕ) (levels : List (Option Tree)) (count : ℕ) (moved : Bool) : Type 0 where
+  pub legal : IsLegal records
+  pub keyed : key_in records ≡ Some key
+  pub sizes : AllHaveSizes records
+  pub counted : count ≡ length records
+  pub moved_is : moved ≡ has_moved records
+  pub trees_are : HasTrees key.secret records levels
+  pub made_are : (place : ℕ) → of_place made place ≡ made_at records place
+  pub bindings_are : (name : List ℕ) → of_text bindings name ≡ kept_at key.secret records name
+  pub identifiers_are : (identifier : List ℕ)
+      → is_some (of_text identifiers identifier) ≡ has_identifier (drop 1 records) identifier
+
+-- Extends and Bounds take memory in a ledger.
+abbrev pub TakesMemory : Record → Type 0
+TakesMemory (ExtendRecord extend) = Unit {0}
+TakesMemory (BoundRecord bound) = Unit {0}
+TakesMemory (KeyRecord key) = ⊥
+TakesMemory (Retire upto) = ⊥
+TakesMemory Moved = ⊥
+
+-- A record was added: the key stays, and the memory for one more record may be used.
+pub record Grows (entry : Record) (old new : Table) : Type 0 where
+  pub key : new.key ≡ old.key
+  pub records : new.records ≡ old.records ++ entry ∷ []
+  pub spare : old.spare ≤ new.spare + 1
+
+-- ---- records that are taken up
+
+-- the number that reports a fault
+abbrev pub fault_number : LedgerFault → ℕ
+fault_number Empty = 40
+fault_number (Illegal k) = 44
+fault_number OutOfMemory = 46
+
+-- Nothing changed, but that there may be more memory.
+pub record Stays (old new : Table) : Type 0 where
+  pub key : new.key ≡ old.key
+  pub records : new.records ≡ old.records
+  pub spare : old.spare ≤ new.spare
+
+-- One more record can be counted, and there is memory for it.
+pub record HasRoom (entry : Record) (table : Table) : Type 0 where
+  pub few : length table.records < 2 ^ 32 - 1
+  pub room : TakesMemory entry → 0 < table.spare
+
+-- It takes memory and there was none, or there are as many records as can be counted.
+abbrev pub LacksRoom : (entry : Record) → Table → Type 0
+LacksRoom entry table = (TakesMemory entry × (table.spare ≡ 0)) ⊎ (length table.records ≡ 2 ^ 32 - 1)
+
+-- A record was taken up, by the answer: it was added, or it can't stand after these, or there is no room for it.
+abbrev pub TakesUp : (old new : Table) → Record → Result (Unit {0}) LedgerFault → Type 0
+TakesUp old new entry (Ok done) = (can_follow (Some old.key) old.records entry ≡ true) × Grows entry old new
+TakesUp old new entry (Err Empty) = ⊥
+TakesUp old new entry (Err (Illegal k)) =
+    (can_follow (Some old.key) old.records entry ≡ false) × (k ≡ length old.records) × Stays old new
+TakesUp old new entry (Err OutOfMemory) =
+    (can_follow (Some old.key) old.records entry ≡ true) × LacksRoom entry old × Stays old new
+
+-- ---- a list of records that is taken up
+
+-- The list is legal up to a record that takes memory, or up to the 2^32nd; it is no first one.
+pub record LacksMemory (records : List Record) : Type 0 where
+  pub place : ℕ
+  pub entry : Record
+  pub stands : slice_get records place ≡ Some entry
+  pub legal : IsLegal (take (place + 1) records)
+  pub later : 0 < place
+  pub lacking : TakesMemory entry ⊎ (place ≡ 2 ^ 32 - 1)
+
+-- why a list isn't taken up
+abbrev pub IsRefused : List Record → LedgerFault → Type 0
+IsRefused records Empty = records ≡ []
+IsRefused records (Illegal k) = first_illegal records ≡ Some k
+IsRefused records OutOfMemory = LacksMemory records
