@@ -1,3 +1,4 @@
+pub mod Accepting
 pub mod Contents
 pub mod Deciding
 pub mod Explaining

@@ -3,7 +3,7 @@
 ghost use Rattle.std.specs.Prelude.{◌≡◌, ◌⊎◌, ℕ, List, ◌∷◌, [], IfErr, IfOk};
 ghost use Rattle.std.specs.Prelude.{IfSome, IsSomeAnd, MatchResult, Some, codes, map};
 ghost use Rattle.clap.specs.Words.{HasKind, app_of, fault_of, kind_of, subcommand_name_of, subcommand_rows_of};
-ghost use Rattle.command.specs.Line.{IsVerifyLine, command_of, hbsign_app, line_of, named_files, paths_of};
+ghost use Rattle.command.specs.Line.{IsLineOf, IsVerifyLine, command_of, hbsign_app, line_of, named_files, paths_of};
 ghost use Rattle.command.specs.LineFault.{CountsRefusals, HasLineFault, HasText, line_faults};
 
 use crate::answer::Answer;
@@ -58,6 +58,7 @@ pub trait LineReader {
             → MatchResult result (λ request. line_of request ≡ codes "verify" ∷ p ∷ m ∷ s ∷ [])
             (λ fault. fault ≡ LineFault.OutOfMemory) }
         ensures ok { IfOk result (λ _. fault_of hbsign_app (map S.text words.now) ≡ []) }
+        ensures accepts { IfOk result (IsLineOf (map S.text words.now)) }
         ensures err { IfErr result (λ fault. (fault ≡ LineFault.OutOfMemory)
             ⊎ HasLineFault (map S.text words.now) fault) }
         ensures text { IfErr result HasText }
@@ -104,6 +105,7 @@ fn read<'a, S: AsStr>(alloc: Global, words: &'a [S]) -> Result<Request<'a>, Erro
         → MatchResult result (λ request. line_of request ≡ codes "verify" ∷ p ∷ m ∷ s ∷ [])
         (λ error. kind_of error ≡ ErrorKind.OutOfMemory) }
     ensures ok { IfOk result (λ _. fault_of hbsign_app (map S.text words.now) ≡ []) }
+    ensures accepts { IfOk result (IsLineOf (map S.text words.now)) }
     ensures err { IfErr result (HasKind (line_faults (map S.text words.now))) }
 {
     let mut command = hbsign(alloc)?;
