@@ -6,6 +6,7 @@ pub mod Finding
 pub mod Judging
 pub mod LineFaults
 pub mod Reading
+pub mod SmallLines
 pub mod Taking
 pub mod Visiting
 pub mod Walking

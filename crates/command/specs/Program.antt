@@ -44,7 +44,7 @@ Explains fault.Version old new status = Helps version_line old new status
 Explains (fault.Refused text) old new status = (status ≡ 2) × (new ≡ old)
 Explains fault.OutOfMemory old new status = Reports (Err OutOfMemory) old new status
 
--- The words have a fault, of which this comes. A text of help begins with a capital letter, and so is no answer's line.
+-- The words have a fault, of which this comes. No line of a text of help can be taken for an answer's.
 abbrev pub ExplainsLine : List (List ℕ) → Taken → Taken → ℕ → Type 0
 ExplainsLine words old new status =
     (why : LineFault) × HasLineFault words why × HasText why × Explains why old new status

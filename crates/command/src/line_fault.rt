@@ -2,7 +2,7 @@
 
 ghost use Rattle.std.specs.Prelude.{◌≡◌, ◌<◌, ◌⊎◌, IfOk, IsTrue, length, string_bytes};
 ghost use Rattle.clap.specs.Words.{kind_of};
-ghost use Rattle.command.specs.LineFault.{BeginsWithCapital, HasText, IsFaultOf};
+ghost use Rattle.command.specs.LineFault.{BeginsWithCapital, HasText, IsFaultOf, IsHelp, has_small_line};
 
 use clap::Error;
 use clap::error::ErrorKind;
@@ -11,7 +11,7 @@ use std::alloc::{AllocError, Global};
 /// Why a line gives no request.
 #[derive(Debug, Drop)]
 pub enum LineFault {
-    /// Help was requested. Its text begins with a capital letter, as no answer's line does.
+    /// Help was requested. No line of its text can be taken for an answer's.
     Help(String),
     /// The version was requested.
     Version,
@@ -55,11 +55,12 @@ impl LineFault {
     }
 }
 
-// The text, or one that begins with a capital letter.
+// The text, or one that no answer's line can be taken for.
+#[tactic(auto, unfolding(crate::specs::LineFault::has_small_line))]
 fn help_or_usage(alloc: Global, text: String) -> Result<String, AllocError>
-    ensures { IfOk result (λ help. BeginsWithCapital (string_bytes help)) }
+    ensures { IfOk result (λ help. IsHelp (string_bytes help)) }
 {
-    if begins_with_capital(text.as_str()) {
+    if begins_with_capital(text.as_str()) && !has_small_line(text.as_bytes()) {
         Ok(text)
     } else {
         String::from_str(alloc, USAGE)
@@ -71,6 +72,20 @@ fn begins_with_capital(text: &str) -> bool
     ensures { IsTrue result → BeginsWithCapital text.now }
 {
     matches!(text.as_bytes().first(), Some(b'A'..=b'Z'))
+}
+
+// Whether a line of a text begins with a letter from a to z.
+fn has_small_line(text: &[u8]) -> bool
+    ensures { result ≡ has_small_line 10 text.now }
+{
+    let mut before = b'\n';
+    for byte in text {
+        if before == b'\n' && byte.is_ascii_lowercase() {
+            return true;
+        }
+        before = *byte;
+    }
+    false
 }
 
 // The text, or one that isn't empty.
