@@ -4,7 +4,6 @@ pub mod Deciding
 pub mod Explaining
 pub mod Finding
 pub mod Judging
-pub mod LineFaults
 pub mod Reading
 pub mod SmallLines
 pub mod Taking

@@ -1,5 +1,5 @@
 -- Whether a line of a text begins with a letter from a to z, byte by byte.
-use Rattle.std.proofs.Common.{◌≡◌, ◌==◌, ◌&&◌, ◌||◌, ◌<◌, ◌≤◌, ◌∙◌, ◌+◌, ◌≢◌, ℕ, List, [], true, false, drop, length, refl, slice_index_or, ap, sym}
+use Rattle.std.proofs.Common.{◌≡◌, ◌==◌, ◌&&◌, ◌||◌, ◌<◌, ◌≤◌, ◌∙◌, ◌+◌, ◌≢◌, ℕ, List, true, false, drop, length, refl, slice_index_or, ap, sym}
 use Rattle.std.specs.Char.{is_ascii_lowercase}
 use Rattle.std.proofs.lemmas.Bool.{and_left, and_right, ne_eqb}
 use Rattle.std.proofs.lemmas.List.{drop_all, drop_more}

@@ -1,6 +1,6 @@
 //! The words of a command line, as `clap` reads them.
 
-ghost use Rattle.std.specs.Prelude.{◌≡◌, ◌⊎◌, ℕ, List, ◌∷◌, [], IfErr, IfOk};
+ghost use Rattle.std.specs.Prelude.{◌≡◌, ◌⊎◌, ◌+◌, ℕ, List, ◌∷◌, [], IfErr, IfOk};
 ghost use Rattle.std.specs.Prelude.{IfSome, IsSomeAnd, MatchResult, Some, codes, map};
 ghost use Rattle.clap.specs.Words.{HasKind, app_of, fault_of, kind_of, subcommand_name_of, subcommand_rows_of};
 ghost use Rattle.command.specs.Line.{IsLineOf, IsVerifyLine, command_of, hbsign_app, line_of, named_files, paths_of};
@@ -9,6 +9,7 @@ ghost use Rattle.command.specs.LineFault.{CountsRefusals, HasLineFault, HasText,
 use crate::answer::Answer;
 use crate::files::Folder;
 use crate::line_fault::LineFault;
+use crate::texts::Texts;
 use crate::verify::Verify;
 use clap::error::ErrorKind;
 use clap::{ArgMatches, Command, Error};
@@ -69,6 +70,7 @@ pub trait LineReader {
 #[derive(Drop)]
 pub struct ClapReader {
     alloc: Global,
+    texts: Texts,
     refusals: Count,
 }
 
@@ -77,24 +79,24 @@ impl ClapReader {
     pub fn new(alloc: Global) -> Self {
         ClapReader {
             alloc,
+            texts: Texts::new(alloc),
             refusals: Count::new(),
         }
     }
 }
 
 impl LineReader for ClapReader {
-    ghost refusals = { λ reader. reader.refusals };
+    // to `clap`, and for its texts
+    ghost refusals = { λ reader. reader.refusals + reader.texts.refusals };
 
     fn read<'a, S: AsStr>(&mut self, words: &'a [S]) -> Result<Request<'a>, LineFault> {
         match read(self.alloc, words) {
             Ok(request) => Ok(request),
-            Err(error) => {
-                let fault = LineFault::of(self.alloc, &error);
-                if matches!(fault, LineFault::OutOfMemory) {
-                    self.refusals.add_one();
-                }
-                Err(fault)
+            Err(error) if matches!(error.kind(), ErrorKind::OutOfMemory) => {
+                self.refusals.add_one();
+                Err(LineFault::OutOfMemory)
             }
+            Err(error) => Err(LineFault::of(&mut self.texts, &error)),
         }
     }
 }
