@@ -16,13 +16,14 @@ BeginsWithCapital [] = ⊥
 BeginsWithCapital (byte ∷ bytes) = (65 ≤ byte) × (byte ≤ 90)
 
 -- A line begins with a letter from a to z in the text that follows this byte; 10 ends a line.
-unfoldable pub has_small_line : ℕ → List ℕ → Bool
-has_small_line before [] = false
-has_small_line before (byte ∷ bytes) = (before == 10 && is_ascii_lowercase byte) || has_small_line byte bytes
+unfoldable pub has_lowercase_line : ℕ → List ℕ → Bool
+has_lowercase_line before [] = false
+has_lowercase_line before (byte ∷ bytes) = (before == 10 && is_ascii_lowercase byte) || has_lowercase_line byte bytes
 
--- A text that no answer's line can be taken for: it begins with a capital letter, and no line of it with a small one.
+-- A text that no answer's line can be taken for: it begins with a capital letter, and no line of it with a lowercase
+-- one.
 abbrev pub IsHelp : List ℕ → Type 0
-IsHelp text = BeginsWithCapital text × (has_small_line 10 text ≡ false)
+IsHelp text = BeginsWithCapital text × (has_lowercase_line 10 text ≡ false)
 
 -- The text of help has no line that an answer has, and that of a refusal isn't empty.
 abbrev pub HasText : LineFault → Type 0

@@ -3,7 +3,8 @@
 ghost use Rattle.std.specs.Prelude.{◌≡◌, ◌≢◌, ◌<◌, ◌⊎◌, IfOk, IsTrue, length, string_bytes};
 ghost use Rattle.clap.specs.Words.{kind_of};
 ghost use Rattle.command.specs.Output.{CountsFailure};
-ghost use Rattle.command.specs.LineFault.{BeginsWithCapital, CountsFault, HasText, IsFaultOf, IsHelp, has_small_line};
+ghost use Rattle.command.specs.LineFault.{BeginsWithCapital, CountsFault, HasText, IsFaultOf, IsHelp};
+ghost use Rattle.command.specs.LineFault.{has_lowercase_line};
 
 use crate::texts::TextMaker;
 use clap::Error;
@@ -30,8 +31,8 @@ const USAGE: &str = "Usage: hbsign <COMMAND>\n";
 const REFUSED_LINE: &str = "error: this line can't be read\n";
 
 impl LineFault {
-    /// The fault of a line for which `clap` gives this error, which isn't that there is no memory; or that there is none
-    /// for its text.
+    /// The fault of a line for which `clap` gives this error, which isn't that there is no memory; or that there is
+    /// none for its text.
     pub fn of<T: TextMaker>(texts: &mut T, error: &Error) -> LineFault
         requires { kind_of error.now ≢ ErrorKind.OutOfMemory }
         ensures kind { (result ≡ LineFault.OutOfMemory) ⊎ IsFaultOf result (kind_of error.now) }
@@ -66,12 +67,12 @@ impl LineFault {
 }
 
 // The text, or one that no answer's line can be taken for.
-#[tactic(auto, unfolding(crate::specs::LineFault::has_small_line))]
+#[tactic(auto, unfolding(crate::specs::LineFault::has_lowercase_line))]
 fn help_or_usage<T: TextMaker>(texts: &mut T, text: String) -> Result<String, AllocError>
     ensures help { IfOk result (λ help. IsHelp (string_bytes help)) }
     ensures counts { CountsFailure result (T.refusals texts.old) (T.refusals texts.new) }
 {
-    if begins_with_capital(text.as_str()) && !has_small_line(text.as_bytes()) {
+    if begins_with_capital(text.as_str()) && !has_lowercase_line(text.as_bytes()) {
         Ok(text)
     } else {
         texts.copy(USAGE)
@@ -86,8 +87,8 @@ fn begins_with_capital(text: &str) -> bool
 }
 
 // Whether a line of a text begins with a letter from a to z.
-fn has_small_line(text: &[u8]) -> bool
-    ensures { result ≡ has_small_line 10 text.now }
+fn has_lowercase_line(text: &[u8]) -> bool
+    ensures { result ≡ has_lowercase_line 10 text.now }
 {
     let mut before = b'\n';
     for byte in text {

@@ -1,11 +1,11 @@
 use Rattle.std.proofs.Common.{◌∙◌, sym}
-use Rattle.command.proofs.SmallLines.{large_line, no_line, same_line, small_line}
-use Rattle.command.proofs.line_fault.has_small_line.Goals.{else-before-eq10-via-then-before-eq10+else-is_ascii_lowercase, else-before-eq10-via-else-before-eq10}
-use Rattle.command.proofs.line_fault.has_small_line.Goals as goal
+use Rattle.command.proofs.LowercaseLines.{other_line, no_line, same_line, lowercase_line}
+use Rattle.command.proofs.line_fault.has_lowercase_line.Goals.{else-before-eq10-via-then-before-eq10+else-is_ascii_lowercase, else-before-eq10-via-else-before-eq10}
+use Rattle.command.proofs.line_fault.has_lowercase_line.Goals as goal
 
 pub returns-then-is_ascii_lowercase : goal.returns-then-is_ascii_lowercase
 returns-then-is_ascii_lowercase c =
-    small_line c.args.text.now c.loop-byte.byte-index c.loop-byte.before c.loop-byte-test.true c.if-before-eq10.true
+    lowercase_line c.args.text.now c.loop-byte.byte-index c.loop-byte.before c.loop-byte-test.true c.if-before-eq10.true
     (sym c.is_ascii_lowercase.ensures.value ∙ c.if-is_ascii_lowercase.true)
     ∙ sym c.loop-byte.invariant
 
@@ -14,7 +14,7 @@ loop-byte-preserved c =
     elim c.else-before-eq10.branch [
       | else-before-eq10-via-then-before-eq10+else-is_ascii_lowercase w ↦
           c.loop-byte.invariant
-          ∙ large_line c.args.text.now c.loop-byte.byte-index c.loop-byte.before c.loop-byte-test.true
+          ∙ other_line c.args.text.now c.loop-byte.byte-index c.loop-byte.before c.loop-byte-test.true
           (sym w.is_ascii_lowercase.ensures.value ∙ w.if-is_ascii_lowercase.false)
       | else-before-eq10-via-else-before-eq10 w ↦
           c.loop-byte.invariant

@@ -1,7 +1,0 @@
-use Rattle.std.proofs.Common.{◌≡◌, drop}
-use Rattle.command.specs.LineFault.{has_small_line}
-use Rattle.command.proofs.line_fault.has_small_line.Given as goal
-
--- what is left, after the last byte, has such a line exactly where the text has one
-abbrev pub invariant-loop-byte : goal.invariant-loop-byte
-invariant-loop-byte l = has_small_line 10 l.text ≡ has_small_line l.before (drop l.byte-index l.text)
