@@ -31,7 +31,7 @@ pub struct Texts {
 }
 
 impl Texts {
-    /// Of which none was refused memory yet.
+    /// A maker that was refused no memory yet.
     pub fn new(alloc: Global) -> Self {
         Texts {
             alloc,
