@@ -1,10 +1,11 @@
+pub mod Accepting
 pub mod Contents
 pub mod Deciding
 pub mod Explaining
 pub mod Finding
 pub mod Judging
-pub mod LineFaults
 pub mod Reading
+pub mod LowercaseLines
 pub mod Taking
 pub mod Visiting
 pub mod Walking

@@ -1,11 +1,11 @@
 -- Transitions of a file, one after the other.
-use Rattle.std.proofs.Common.{◌≡◌, ◌∙◌, ◌<◌, ℕ, ◌+◌, ◌≤◌, ◌^◌, List, [], ◌∷◌, ◌++◌, length, Result, Ok, Err, IsErrAnd, inl, inr, refl, sym, ap, subst, arith, append_assoc, length-append, Option, Some, None}
+use Rattle.std.proofs.Common.{◌≡◌, ◌∙◌, ◌<◌, ℕ, ◌≤◌, ◌^◌, List, [], ◌∷◌, ◌++◌, length, Result, Ok, Err, IsErrAnd, inl, inr, refl, sym, ap, subst, arith, append_assoc, length-append, Option, Some, None}
 use Rattle.std.specs.declared.io.ErrorKind.{ErrorKind}
 use Rattle.std.specs.Io.KnownBytes.{Consumes}
 use Rattle.std.specs.IoError.{error_kind}
 use Rattle.std.specs.declared.io.Error.{Error}
 use Rattle.std.specs.declared.io.ErrorKind.TheVariants.{FileTooLarge, Interrupted, OutOfMemory, TimedOut}
-use Rattle.typecodes.specs.Message.{Gave, IsContent, ReadOutcome, Transitions, Transition, interruptions}
+use Rattle.typecodes.specs.Message.{IsContent, ReadOutcome, Transitions, Transition}
 use Rattle.typecodes.proofs.Messages.{Progress, gave-append, interruptions-append, reads-append}
 use Rattle.command.specs.Files.{FailsToRead, Fills, ReadsAllOrFails}
 use Rattle.command.specs.Trace.{Happening, ReadsOn, ReadsOnce, ReadsToEnd}

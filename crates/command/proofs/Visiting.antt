@@ -2,7 +2,7 @@
 use Rattle.std.proofs.Common.{◌≡◌, ◌∙◌, ℕ, List, [], ◌∷◌, ◌++◌, Option, Result, Ok, Err, IsErrAnd, codes, inl, inr, ap, subst, append_assoc}
 use Rattle.command.specs.Verify.{AnswersOf, FailsToOpen, OpensInTurn, ReadsInTurn, Verifies, all_opened}
 use Rattle.command.specs.Files.{Shows}
-use Rattle.command.specs.Line.{Serves, line_of, paths_of}
+use Rattle.command.specs.Line.{AreTexts, IsLineOf, IsVerifyLine, Serves, line_of, paths_of}
 use Rattle.command.specs.Trace.{Happening}
 use Rattle.command.specs.declared.line.Request.{Request}
 use Rattle.command.specs.declared.line.Request.TheVariants.{Verify}
@@ -57,10 +57,11 @@ serves_files (Verify those) files content answer old new same verifies =
     (subst (λ x. Verifies content those.public.now x files.signature.now answer old new) second
     (subst (λ x. Verifies content x files.message.now files.signature.now answer old new) first verifies))
 
--- a request is to verify some files,
-pub serves_some : {A : Type 0} (request : Request) (content : List ℕ → Option (List ℕ)) (answer : Result A Refusal) (old new : List Happening)
-    → Serves request content answer old new → (p : List ℕ) × (m : List ℕ) × (s : List ℕ) × Verifies content p m s answer old new
-serves_some (Verify files) content answer old new serves = (files.public.now, files.message.now, files.signature.now, serves)
+-- a request of a line is to verify its files,
+pub serves_some : {A : Type 0} (words : List (List ℕ)) (request : Request) (content : List ℕ → Option (List ℕ)) (answer : Result A Refusal)
+    (old new : List Happening) → IsLineOf words request → Serves request content answer old new
+    → (p : List ℕ) × (m : List ℕ) × (s : List ℕ) × (AreTexts words → IsVerifyLine words p m s) × Verifies content p m s answer old new
+serves_some words (Verify files) content answer old new line serves = (files.public.now, files.message.now, files.signature.now, line, serves)
 
 -- those of its line
 pub serves_line : {A : Type 0} (request : Request) (p m s : List ℕ) (content : List ℕ → Option (List ℕ)) (answer : Result A Refusal) (old new : List Happening)

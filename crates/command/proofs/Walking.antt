@@ -21,21 +21,21 @@ unfolding clap_on_literals
 simple_and_free = refl
 
 -- a walk that waits for a positional, before `--` or after it
-abbrev at : Bool → Collected → ℕ → Walk
+abbrev pub at : Bool → Collected → ℕ → Walk
 at trailing collected position =
     record { held = collected; waiting = idle; position = position; is_trailing = trailing; stopped = None }
 
 -- a word that is taken for a file: it is no option, or stands after `--`
-abbrev IsTaken : Bool → List ℕ → Type 0
+abbrev pub IsTaken : Bool → List ℕ → Type 0
 IsTaken true word = ⊤
 IsTaken false word = IsFileWord word
 
 -- a first byte that is no hyphen, in both spellings of the test
-is_no_hyphen : (byte : ℕ) → byte ≢ 45 → (nat_eq byte 45 ≡ false) × ((byte == 45) ≡ false)
+pub is_no_hyphen : (byte : ℕ) → byte ≢ 45 → (nat_eq byte 45 ≡ false) × ((byte == 45) ≡ false)
 is_no_hyphen byte file = (ne_eqb byte 45 file, ne_eqb byte 45 file)
 
 -- a file's word is a value
-word_is_value : (c : List Rule) (b : Bool) (position : ℕ) (word : List ℕ) (h : Collected) → IsTaken b word
+pub word_is_value : (c : List Rule) (b : Bool) (position : ℕ) (word : List ℕ) (h : Collected) → IsTaken b word
     → word_met c [] b idle position word h ≡ (h, value)
 word_is_value c true position word h taken = refl
 word_is_value c false position [] h file = refl
@@ -46,7 +46,7 @@ word_is_value c false position (x ∷ []) h file = elim (cases_eq x 45) [
 word_is_value c false position (x ∷ y ∷ xs) h file = rw ((is_no_hyphen x file).0, (is_no_hyphen x file).1) refl
 
 -- so the walk takes it to the positional whose turn it is
-word_walks : (c : List Rule) (b : Bool) (position : ℕ) (word : List ℕ) (h : Collected) → IsTaken b word
+pub word_walks : (c : List Rule) (b : Bool) (position : ℕ) (word : List ℕ) (h : Collected) → IsTaken b word
     → walked c [] (at b h position) word ≡ to_positional c (arg_by_index c position) word (at b h position) h
 unfolding walked
 word_walks c b position word h taken = rw (word_is_value c b position word h taken) refl
@@ -62,12 +62,12 @@ word_passes s false (x ∷ []) h file = elim (cases_eq x 45) [
 word_passes s false (x ∷ y ∷ xs) h file = rw ((is_no_hyphen x file).0, (is_no_hyphen x file).1) refl
 
 -- so its turn fails only by that positional
-turn_passes : (s : Shape) (b : Bool) (position : ℕ) (word : List ℕ) (h : Collected) → IsTaken b word
+pub turn_passes : (s : Shape) (b : Bool) (position : ℕ) (word : List ℕ) (h : Collected) → IsTaken b word
     → turn_fault s [] (at b h position) word ≡ step_fault s position h value
 turn_passes s b position word h taken = rw (word_is_value s.rules b position word h taken, word_passes s b word h taken) refl
 
 -- the built command `verify`
-abbrev leaf : Shape
+abbrev pub leaf : Shape
 leaf = built_leaf (inherited (with_leaf_noted (marked_built hbsign_app.top)) verify_app.top)
 
 -- The walk goes over these words without a fault, and ends so.
@@ -90,15 +90,15 @@ goes from next to word words step well (ends, passes) = (
 )
 
 -- what the parser has after the first file,
-abbrev after_1 : List ℕ → Collected
+abbrev pub after_1 : List ℕ → Collected
 after_1 p = record nothing_collected { pending = Some (codes "PUBLIC", p ∷ []) }
 
 -- after the second,
-abbrev after_2 : List ℕ → List ℕ → Collected
+abbrev pub after_2 : List ℕ → List ℕ → Collected
 after_2 p m = (to_positional leaf.rules (arg_by_index leaf.rules 2) m (at false (after_1 p) 2) (after_1 p)).held
 
 -- and after the third
-abbrev after_3 : List ℕ → List ℕ → List ℕ → Collected
+abbrev pub after_3 : List ℕ → List ℕ → List ℕ → Collected
 after_3 p m s = (to_positional leaf.rules (arg_by_index leaf.rules 3) s (at false (after_2 p m) 3) (after_2 p m)).held
 
 -- the walk goes on after `--`
@@ -176,7 +176,7 @@ finds_all : (p m s : List ℕ) → files_of (finished leaf.rules (after_3 p m s)
 finds_all p m s = refl
 
 -- where the walk over the line stops: at the word `verify`, with these words after it
-abbrev stopped_at : List (List ℕ) → Walk
+abbrev pub stopped_at : List (List ℕ) → Walk
 stopped_at words = record (walk_from nothing_collected) { stopped = Some (codes "verify", words) }
 
 -- more words are added to those,
@@ -194,7 +194,7 @@ stops_well s subcommands words [] = refl
 stops_well s subcommands words (word ∷ more) = stops_well s subcommands (words ++ word ∷ []) more
 
 -- the built program
-abbrev whole : App
+abbrev pub whole : App
 whole = built hbsign_app
 
 first_step : walked whole.top.rules (names_of whole) (walk_from nothing_collected) (codes "verify") ≡ stopped_at []
@@ -205,10 +205,10 @@ first_well : turn_fault whole.top (names_of whole) (walk_from nothing_collected)
 unfolding clap_on_literals
 first_well = refl
 
-line_walk : (names : List (List ℕ)) → walk whole.top.rules (names_of whole) nothing_collected (codes "verify" ∷ names) ≡ stopped_at names
+pub line_walk : (names : List (List ℕ)) → walk whole.top.rules (names_of whole) nothing_collected (codes "verify" ∷ names) ≡ stopped_at names
 line_walk names = ap (λ w. fold (walked whole.top.rules (names_of whole)) w names) first_step ∙ stops whole.top.rules (names_of whole) [] names
 
-line_well : (names : List (List ℕ)) → walk_fault whole.top (names_of whole) (walk_from nothing_collected) (codes "verify" ∷ names) ≡ []
+pub line_well : (names : List (List ℕ)) → walk_fault whole.top (names_of whole) (walk_from nothing_collected) (codes "verify" ∷ names) ≡ []
 unfolding walk_fault
 line_well names =
     ap (λ k. or_else k (walk_fault whole.top (names_of whole) (walked whole.top.rules (names_of whole) (walk_from nothing_collected) (codes "verify")) names)) first_well
@@ -223,7 +223,7 @@ entered_leaf : (names : List (List ℕ)) → subcommand_of hbsign_app (codes "ve
 entered_leaf names = ap (λ (w : Walk). entered whole w.stopped) (line_walk names) ∙ found_leaf names
 
 -- the faults at the end of a walk that enters no subcommand
-abbrev end_fault : Walk → Kinds
+abbrev pub end_fault : Walk → Kinds
 end_fault w = or_else (settle_fault leaf.rules leaf.args_override_self w.held)
     (or_else (defaults_fault (settled leaf.rules w.held).rows leaf.rules) (check_fault leaf (finished leaf.rules w.held) false))
 
@@ -239,14 +239,14 @@ verifies_well names p m s (b, (ends, passes)) =
     ∙ ap end_fault ends ∙ ends_well b p m s
 
 -- the faults of the line, from those of its walk and what the walk comes to
-abbrev whole_fault : Walk → Kinds → Kinds
+abbrev pub whole_fault : Walk → Kinds → Kinds
 whole_fault w walking = or_else walking (or_else (entered_fault whole w.stopped)
     (or_else (settle_fault whole.top.rules whole.top.args_override_self w.held)
     (or_else (defaults_fault (settled whole.top.rules w.held).rows whole.top.rules)
     (check_fault whole.top (finished whole.top.rules w.held) (is_some (entered whole w.stopped))))))
 
 -- they are those of `verify`
-leaf_fault : (names : List (List ℕ)) → whole_fault (stopped_at names) [] ≡ or_else (level_fault leaf [] nothing_collected names false []) []
+pub leaf_fault : (names : List (List ℕ)) → whole_fault (stopped_at names) [] ≡ or_else (level_fault leaf [] nothing_collected names false []) []
 unfolding clap_on_literals
 leaf_fault names = refl
 

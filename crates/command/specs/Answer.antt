@@ -1,12 +1,13 @@
 -- The line that reports each answer, and the exit status.
-use Rattle.std.proofs.Common.{arith}
-use Rattle.std.specs.Prelude.{ℕ, List, codes, ◌++◌, Result, Ok, Err, ◌≡◌, ◌⊎◌}
+use Rattle.std.proofs.Common.{arith, ap, sym, refl, inl, inr, ◌∙◌}
+use Rattle.std.proofs.lemmas.Bool.{false≢true, or_right}
+use Rattle.std.specs.Prelude.{ℕ, List, [], ◌∷◌, codes, ◌++◌, Result, Ok, Err, ◌≡◌, ◌⊎◌, true}
 use Rattle.command.specs.declared.answer.Done.{Done}
 use Rattle.command.specs.declared.answer.Done.TheVariants.{Verified}
 use Rattle.command.specs.declared.refusal.Refusal.{Refusal}
 use Rattle.command.specs.declared.refusal.Refusal.TheVariants.{Key, Signature, OutOfMemory, FileFailed}
 use Rattle.typecodes.specs.declared.refusal.Refusal.TheVariants.{MessageRead}
-use Rattle.command.specs.LineFault.{BeginsWithCapital}
+use Rattle.command.specs.LineFault.{BeginsWithCapital, IsHelp, has_lowercase_line}
 use Rattle.command.specs.Refusal.{refusal_line}
 use Rattle.command.specs.Output.{Taken, Writes, Fails}
 
@@ -37,3 +38,25 @@ Reports answer old new status =
 pub line_is_lower : (answer : Result Done Refusal) → BeginsWithCapital (answer_line answer) → ⊥
 line_is_lower (Ok Verified) capital = omega (arith, capital)
 line_is_lower (Err refusal) capital = omega (arith, capital)
+
+-- A text that begins with an answer's line has a line that begins with a lowercase letter,
+line_is_lowercase : (answer : Result Done Refusal) (after : List ℕ)
+    → has_lowercase_line 10 (answer_line answer ++ after) ≡ true
+unfolding has_lowercase_line
+line_is_lowercase (Ok Verified) after = refl
+line_is_lowercase (Err refusal) after = refl
+
+-- and so has one in which this stands after a line's end.
+line_after : (byte : ℕ) (before line : List ℕ) → has_lowercase_line 10 line ≡ true
+    → has_lowercase_line byte (before ++ 10 ∷ line) ≡ true
+unfolding has_lowercase_line
+line_after byte [] line lowercase = or_right _ _ lowercase
+line_after byte (next ∷ before) line lowercase = or_right _ _ (line_after next before line lowercase)
+
+-- So no line of a text of help is an answer's: neither its first, nor one that stands after the end of another.
+pub help_has_no_answer : (text before after : List ℕ) (answer : Result Done Refusal) → IsHelp text
+    → (text ≡ answer_line answer ++ after) ⊎ (text ≡ before ++ 10 ∷ (answer_line answer ++ after)) → ⊥
+help_has_no_answer text before after answer (capital, none) (inl first) =
+    false≢true (sym none ∙ ap (has_lowercase_line 10) first ∙ line_is_lowercase answer after)
+help_has_no_answer text before after answer (capital, none) (inr later) =
+    false≢true (sym none ∙ ap (has_lowercase_line 10) later ∙ line_after 10 before _ (line_is_lowercase answer after))

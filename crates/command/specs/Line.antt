@@ -1,6 +1,7 @@
 -- Lines: the program's commands as `clap` knows them, what a line requests, and how it is served.
 use Rattle.std.specs.Prelude.{true, codes, ◌≢◌, ⊤, ℕ, List, [], ◌∷◌, ◌≡◌}
 use Rattle.std.specs.Prelude.{◌⊎◌, ◌++◌, Option, Result, option_map}
+use Rattle.std.specs.Str.{IsUtf8}
 use Rattle.clap.specs.Words.{App, new_app, with_subcommand, Text, Row, first_of}
 use Rattle.command.specs.declared.verify.Verify.{Verify as VerifyFiles}
 use Rattle.command.specs.declared.line.Request.{Request}
@@ -42,6 +43,11 @@ NamesFiles words files =
     ⊎ ((before : List (List ℕ)) × (after : List (List ℕ)) × (words ≡ before ++ codes "--" ∷ after)
     × (files ≡ before ++ after) × AreFileWords before)
 
+-- each word is text, as each `str` is
+abbrev pub AreTexts : List (List ℕ) → Type 0
+AreTexts [] = ⊤
+AreTexts (word ∷ words) = IsUtf8 word × AreTexts words
+
 -- a line `verify public message signature`, with or without `--`
 abbrev pub IsVerifyLine : List (List ℕ) → List ℕ → List ℕ → List ℕ → Type 0
 IsVerifyLine words public message signature =
@@ -54,6 +60,11 @@ paths_of files = files.public.now ∷ files.message.now ∷ files.signature.now 
 -- the words that a request stands for
 abbrev pub line_of : Request → List Text
 line_of (Verify files) = codes "verify" ∷ paths_of files
+
+-- Where the words are texts, they are a line `verify` of the request's files.
+abbrev pub IsLineOf : List (List ℕ) → Request → Type 0
+IsLineOf words (Verify files) =
+    AreTexts words → IsVerifyLine words files.public.now files.message.now files.signature.now
 
 -- the command's name
 abbrev pub command_of : Request → Text

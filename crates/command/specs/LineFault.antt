@@ -1,5 +1,7 @@
 -- Why a line gives no request: the kinds of `clap`'s errors, and the texts that are printed.
 use Rattle.std.specs.Prelude.{ℕ, List, [], ◌∷◌, ◌≡◌, ◌≤◌, ◌<◌, ◌+◌, ⊤, Result, Ok, Err, length, string_bytes}
+use Rattle.std.specs.Prelude.{Bool, false, ◌==◌, ◌&&◌, ◌||◌}
+use Rattle.std.specs.Char.{is_ascii_lowercase}
 use Rattle.clap.specs.Kinds.{or_else}
 use Rattle.clap.specs.Words.{IsAmong, Kinds, fault_of}
 use Rattle.clap.specs.declared.error.kind.ErrorKind.{ErrorKind}
@@ -13,9 +15,19 @@ abbrev pub BeginsWithCapital : List ℕ → Type 0
 BeginsWithCapital [] = ⊥
 BeginsWithCapital (byte ∷ bytes) = (65 ≤ byte) × (byte ≤ 90)
 
--- The text of help begins with a capital letter, and that of a refusal isn't empty.
+-- A line begins with a letter from a to z in the text that follows this byte; 10 ends a line.
+unfoldable pub has_lowercase_line : ℕ → List ℕ → Bool
+has_lowercase_line before [] = false
+has_lowercase_line before (byte ∷ bytes) = (before == 10 && is_ascii_lowercase byte) || has_lowercase_line byte bytes
+
+-- A text that no answer's line can be taken for: it begins with a capital letter, and no line of it with a lowercase
+-- one.
+abbrev pub IsHelp : List ℕ → Type 0
+IsHelp text = BeginsWithCapital text × (has_lowercase_line 10 text ≡ false)
+
+-- The text of help has no line that an answer has, and that of a refusal isn't empty.
 abbrev pub HasText : LineFault → Type 0
-HasText (Help text) = BeginsWithCapital (string_bytes text)
+HasText (Help text) = IsHelp (string_bytes text)
 HasText Version = ⊤
 HasText (Refused text) = 0 < length (string_bytes text)
 HasText OutOfMemory = ⊤

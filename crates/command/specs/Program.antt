@@ -6,7 +6,7 @@ use Rattle.command.specs.declared.line_fault.LineFault.{LineFault}
 use Rattle.command.specs.declared.line_fault.LineFault.TheVariants as fault
 use Rattle.command.specs.declared.refusal.Refusal.TheVariants.{OutOfMemory}
 use Rattle.clap.specs.Words.{fault_of}
-use Rattle.command.specs.Line.{hbsign_app}
+use Rattle.command.specs.Line.{AreTexts, IsVerifyLine, hbsign_app}
 use Rattle.command.specs.LineFault.{HasLineFault, HasText}
 use Rattle.command.specs.Verify.{Verifies}
 use Rattle.command.specs.Answer.{Reports}
@@ -44,7 +44,7 @@ Explains fault.Version old new status = Helps version_line old new status
 Explains (fault.Refused text) old new status = (status ≡ 2) × (new ≡ old)
 Explains fault.OutOfMemory old new status = Reports (Err OutOfMemory) old new status
 
--- The words have a fault, of which this comes. A text of help begins with a capital letter, and so is no answer's line.
+-- The words have a fault, of which this comes. No line of a text of help can be taken for an answer's.
 abbrev pub ExplainsLine : List (List ℕ) → Taken → Taken → ℕ → Type 0
 ExplainsLine words old new status =
     (why : LineFault) × HasLineFault words why × HasText why × Explains why old new status
@@ -55,12 +55,13 @@ ReportsNoMemory refused before after old new status =
     refused × (after ≡ before) × Reports (Err OutOfMemory) old new status
 
 -- What a run of the program on these words does to files and the output: of words without a fault it answers `verify`
--- of some paths; of others it does what their fault requests, and opens no file; or there is no memory.
+-- of some paths, and where the words are texts, they are a line `verify` of these paths; of others it does what their
+-- fault requests, and opens no file; or there is no memory.
 abbrev pub Runs : List (List ℕ) → (List ℕ → Option (List ℕ)) → Type 0 → List Happening → List Happening
     → Taken → Taken → ℕ → Type 0
 Runs words content refused before after old new status =
     ((fault_of hbsign_app words ≡ []) × ((p : List ℕ) × (m : List ℕ) × (s : List ℕ)
-    × ReportsVerify content p m s before after old new status))
+    × (AreTexts words → IsVerifyLine words p m s) × ReportsVerify content p m s before after old new status))
     ⊎ ((after ≡ before) × ExplainsLine words old new status)
     ⊎ ReportsNoMemory refused before after old new status
 

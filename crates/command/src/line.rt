@@ -1,14 +1,15 @@
 //! The words of a command line, as `clap` reads them.
 
-ghost use Rattle.std.specs.Prelude.{◌≡◌, ◌⊎◌, ℕ, List, ◌∷◌, [], IfErr, IfOk};
+ghost use Rattle.std.specs.Prelude.{◌≡◌, ◌⊎◌, ◌+◌, ℕ, List, ◌∷◌, [], IfErr, IfOk};
 ghost use Rattle.std.specs.Prelude.{IfSome, IsSomeAnd, MatchResult, Some, codes, map};
 ghost use Rattle.clap.specs.Words.{HasKind, app_of, fault_of, kind_of, subcommand_name_of, subcommand_rows_of};
-ghost use Rattle.command.specs.Line.{IsVerifyLine, command_of, hbsign_app, line_of, named_files, paths_of};
+ghost use Rattle.command.specs.Line.{IsLineOf, IsVerifyLine, command_of, hbsign_app, line_of, named_files, paths_of};
 ghost use Rattle.command.specs.LineFault.{CountsRefusals, HasLineFault, HasText, line_faults};
 
 use crate::answer::Answer;
 use crate::files::Folder;
 use crate::line_fault::LineFault;
+use crate::texts::Texts;
 use crate::verify::Verify;
 use clap::error::ErrorKind;
 use clap::{ArgMatches, Command, Error};
@@ -58,6 +59,7 @@ pub trait LineReader {
             → MatchResult result (λ request. line_of request ≡ codes "verify" ∷ p ∷ m ∷ s ∷ [])
             (λ fault. fault ≡ LineFault.OutOfMemory) }
         ensures ok { IfOk result (λ _. fault_of hbsign_app (map S.text words.now) ≡ []) }
+        ensures accepts { IfOk result (IsLineOf (map S.text words.now)) }
         ensures err { IfErr result (λ fault. (fault ≡ LineFault.OutOfMemory)
             ⊎ HasLineFault (map S.text words.now) fault) }
         ensures text { IfErr result HasText }
@@ -68,6 +70,7 @@ pub trait LineReader {
 #[derive(Drop)]
 pub struct ClapReader {
     alloc: Global,
+    texts: Texts,
     refusals: Count,
 }
 
@@ -76,24 +79,24 @@ impl ClapReader {
     pub fn new(alloc: Global) -> Self {
         ClapReader {
             alloc,
+            texts: Texts::new(alloc),
             refusals: Count::new(),
         }
     }
 }
 
 impl LineReader for ClapReader {
-    ghost refusals = { λ reader. reader.refusals };
+    // to `clap`, and for its texts
+    ghost refusals = { λ reader. reader.refusals + reader.texts.refusals };
 
     fn read<'a, S: AsStr>(&mut self, words: &'a [S]) -> Result<Request<'a>, LineFault> {
         match read(self.alloc, words) {
             Ok(request) => Ok(request),
-            Err(error) => {
-                let fault = LineFault::of(self.alloc, &error);
-                if matches!(fault, LineFault::OutOfMemory) {
-                    self.refusals.add_one();
-                }
-                Err(fault)
+            Err(error) if matches!(error.kind(), ErrorKind::OutOfMemory) => {
+                self.refusals.add_one();
+                Err(LineFault::OutOfMemory)
             }
+            Err(error) => Err(LineFault::of(&mut self.texts, &error)),
         }
     }
 }
@@ -104,6 +107,7 @@ fn read<'a, S: AsStr>(alloc: Global, words: &'a [S]) -> Result<Request<'a>, Erro
         → MatchResult result (λ request. line_of request ≡ codes "verify" ∷ p ∷ m ∷ s ∷ [])
         (λ error. kind_of error ≡ ErrorKind.OutOfMemory) }
     ensures ok { IfOk result (λ _. fault_of hbsign_app (map S.text words.now) ≡ []) }
+    ensures accepts { IfOk result (IsLineOf (map S.text words.now)) }
     ensures err { IfErr result (HasKind (line_faults (map S.text words.now))) }
 {
     let mut command = hbsign(alloc)?;

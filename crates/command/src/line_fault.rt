@@ -1,17 +1,20 @@
 //! What comes of a line that requests nothing of the program's commands.
 
-ghost use Rattle.std.specs.Prelude.{◌≡◌, ◌<◌, ◌⊎◌, IfOk, IsTrue, length, string_bytes};
+ghost use Rattle.std.specs.Prelude.{◌≡◌, ◌≢◌, ◌<◌, ◌⊎◌, IfOk, IsTrue, length, string_bytes};
 ghost use Rattle.clap.specs.Words.{kind_of};
-ghost use Rattle.command.specs.LineFault.{BeginsWithCapital, HasText, IsFaultOf};
+ghost use Rattle.command.specs.Output.{CountsFailure};
+ghost use Rattle.command.specs.LineFault.{BeginsWithCapital, CountsFault, HasText, IsFaultOf, IsHelp};
+ghost use Rattle.command.specs.LineFault.{has_lowercase_line};
 
+use crate::texts::TextMaker;
 use clap::Error;
 use clap::error::ErrorKind;
-use std::alloc::{AllocError, Global};
+use std::alloc::AllocError;
 
 /// Why a line gives no request.
 #[derive(Debug, Drop)]
 pub enum LineFault {
-    /// Help was requested. Its text begins with a capital letter, as no answer's line does.
+    /// Help was requested. No line of its text can be taken for an answer's.
     Help(String),
     /// The version was requested.
     Version,
@@ -28,41 +31,51 @@ const USAGE: &str = "Usage: hbsign <COMMAND>\n";
 const REFUSED_LINE: &str = "error: this line can't be read\n";
 
 impl LineFault {
-    /// The fault of a line for which `clap` gives this error, or that there is no memory for its text.
-    pub fn of(alloc: Global, error: &Error) -> LineFault
+    /// The fault of a line for which `clap` gives this error, which isn't that there is no memory; or that there is
+    /// none for its text.
+    pub fn of<T: TextMaker>(texts: &mut T, error: &Error) -> LineFault
+        requires { kind_of error.now ≢ ErrorKind.OutOfMemory }
         ensures kind { (result ≡ LineFault.OutOfMemory) ⊎ IsFaultOf result (kind_of error.now) }
         ensures text { HasText result }
+        ensures counts { CountsFault result (T.refusals texts.old) (T.refusals texts.new) }
     {
-        match LineFault::with_text(alloc, error) {
+        match LineFault::with_text(texts, error) {
             Ok(fault) => fault,
             Err(_) => LineFault::OutOfMemory,
         }
     }
 
     // The same, with the text that `clap` makes for the error.
-    fn with_text(alloc: Global, error: &Error) -> Result<LineFault, AllocError>
+    fn with_text<T: TextMaker>(texts: &mut T, error: &Error) -> Result<LineFault, AllocError>
+        requires { kind_of error.now ≢ ErrorKind.OutOfMemory }
         ensures kind { IfOk result (λ fault. IsFaultOf fault (kind_of error.now)) }
         ensures text { IfOk result HasText }
+        ensures counts { CountsFailure result (T.refusals texts.old) (T.refusals texts.new) }
     {
         Ok(match error.kind() {
-            ErrorKind::OutOfMemory => return Err(AllocError),
             ErrorKind::DisplayHelp => {
-                LineFault::Help(help_or_usage(alloc, format!(in alloc; "{error}")?)?)
+                let text = texts.of_error(error)?;
+                LineFault::Help(help_or_usage(texts, text)?)
             }
             ErrorKind::DisplayVersion => LineFault::Version,
-            _ => LineFault::Refused(text_or_refusal(alloc, format!(in alloc; "{error}")?)?),
+            _ => {
+                let text = texts.of_error(error)?;
+                LineFault::Refused(text_or_refusal(texts, text)?)
+            }
         })
     }
 }
 
-// The text, or one that begins with a capital letter.
-fn help_or_usage(alloc: Global, text: String) -> Result<String, AllocError>
-    ensures { IfOk result (λ help. BeginsWithCapital (string_bytes help)) }
+// The text, or one that no answer's line can be taken for.
+#[tactic(auto, unfolding(crate::specs::LineFault::has_lowercase_line))]
+fn help_or_usage<T: TextMaker>(texts: &mut T, text: String) -> Result<String, AllocError>
+    ensures help { IfOk result (λ help. IsHelp (string_bytes help)) }
+    ensures counts { CountsFailure result (T.refusals texts.old) (T.refusals texts.new) }
 {
-    if begins_with_capital(text.as_str()) {
+    if begins_with_capital(text.as_str()) && !has_lowercase_line(text.as_bytes()) {
         Ok(text)
     } else {
-        String::from_str(alloc, USAGE)
+        texts.copy(USAGE)
     }
 }
 
@@ -73,12 +86,27 @@ fn begins_with_capital(text: &str) -> bool
     matches!(text.as_bytes().first(), Some(b'A'..=b'Z'))
 }
 
+// Whether a line of a text begins with a letter from a to z.
+fn has_lowercase_line(text: &[u8]) -> bool
+    ensures { result ≡ has_lowercase_line 10 text.now }
+{
+    let mut before = b'\n';
+    for byte in text {
+        if before == b'\n' && byte.is_ascii_lowercase() {
+            return true;
+        }
+        before = *byte;
+    }
+    false
+}
+
 // The text, or one that isn't empty.
-fn text_or_refusal(alloc: Global, text: String) -> Result<String, AllocError>
-    ensures { IfOk result (λ refusal. 0 < length (string_bytes refusal)) }
+fn text_or_refusal<T: TextMaker>(texts: &mut T, text: String) -> Result<String, AllocError>
+    ensures text { IfOk result (λ refusal. 0 < length (string_bytes refusal)) }
+    ensures counts { CountsFailure result (T.refusals texts.old) (T.refusals texts.new) }
 {
     if text.is_empty() {
-        String::from_str(alloc, REFUSED_LINE)
+        texts.copy(REFUSED_LINE)
     } else {
         Ok(text)
     }

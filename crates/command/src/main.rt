@@ -6,10 +6,11 @@
 //! ```
 //!
 //! `program::run` is the whole program, over a reader of lines, a folder of files, an input and two outputs. It reads
-//! the line (`line`; `line_fault` is why one gives no request), does what is requested (a module for each command, as
-//! `verify`) and reports what came of it (`answer`, `refusal`). `files` and `output` are where it meets the machine,
-//! and `trace` is what contracts see of what it does to files. Its contract: which files are opened and read, in which
-//! order, and that the line printed and the exit status are those of the right answer.
+//! the line (`line`; `line_fault` is why one gives no request, and `texts` makes the text that says so), does what is
+//! requested (a module for each command, as `verify`) and reports what came of it (`answer`, `refusal`). `files` and
+//! `output` are where it meets the machine, and `trace` is what contracts see of what it does to files. Its contract:
+//! which files are opened and read, in which order, and that the line printed and the exit status are those of the
+//! right answer.
 #![tactic(auto)]
 
 mod answer;
@@ -21,6 +22,7 @@ mod program;
 mod refusal;
 #[cfg(test)]
 mod tests;
+mod texts;
 mod trace;
 mod verify;
 

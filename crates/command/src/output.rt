@@ -76,8 +76,8 @@ fn write_part<W: Write>(writer: &mut W, part: &Part<'_>) -> io::Result<()>
     }
 }
 
-// What a writer answered, which is counted where it failed. No other function counts.
-fn counted(answer: io::Result<()>, failures: &mut Count) -> io::Result<()>
+/// What was answered, which is counted where it is a failure. No other function counts.
+pub fn counted<T, E>(answer: Result<T, E>, failures: &mut Count) -> Result<T, E>
     ensures answer { result ≡ answer }
     ensures counts { CountsFailure answer failures.old failures.new }
 {

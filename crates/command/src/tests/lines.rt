@@ -54,7 +54,7 @@ fn explains_a_wrong_line(rt: HostRuntime) -> Result<(), Fail> {
         let words: Vec<&str> = line.split_whitespace().collect(rt.alloc())?;
         let outcome = run_words(&rt, &words);
         assert!(rt; outcome.output.is_empty(), "{line}");
-        assert!(rt; has_usage(&outcome.errors), "{line}");
+        assert!(rt; has(&outcome.errors, b"Usage: hbsign"), "{line}");
         assert_eq!(rt; outcome.status, 2, "{line}");
     }
     Ok(())
@@ -78,17 +78,18 @@ fn helps(rt: HostRuntime) -> Result<(), Fail> {
         let words: Vec<&str> = line.split_whitespace().collect(rt.alloc())?;
         let outcome = run_words(&rt, &words);
         assert!(rt; outcome.output.starts_with(beginning), "{line}");
+        assert!(rt; has(&outcome.output, b"\n  -h, --help"), "{line}");
+        assert!(rt; !has(&outcome.output, b"\nverified"), "{line}");
+        assert!(rt; !has(&outcome.output, b"\nrefused"), "{line}");
         assert!(rt; outcome.errors.is_empty(), "{line}");
         assert_eq!(rt; outcome.status, 0, "{line}");
     }
     Ok(())
 }
 
-// Whether a text shows how the program is called.
-fn has_usage(text: &[u8]) -> bool {
-    let usage = b"Usage: hbsign";
-    text.windows(usage.len())
-        .any(|window| window == usage.as_slice())
+// Whether these bytes stand in a text.
+fn has(text: &[u8], bytes: &[u8]) -> bool {
+    !bytes.is_empty() && text.windows(bytes.len()).any(|window| window == bytes)
 }
 
 #[test]

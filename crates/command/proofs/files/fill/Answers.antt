@@ -1,9 +1,8 @@
-use Rattle.std.proofs.Common.{◌≡◌, ℕ, ◌+◌, ◌-◌, ◌≤◌, ◌<◌, List, [], ◌++◌, Ok, Err, rules, arith, length, take, slice_range, sym, ap, ◌∙◌, subst, inl, inr, refl, le_refl, drop_at, length-take-le, take-add, take_all}
-use Rattle.std.proofs.lemmas.List.{take-append-le}
+use Rattle.std.proofs.Common.{◌≡◌, ℕ, ◌+◌, ◌-◌, ◌≤◌, ◌<◌, List, [], ◌++◌, Ok, Err, rules, arith, length, take, sym, ap, ◌∙◌, subst, inl, inr, refl, le_refl, length-take-le, take_all}
 use Rattle.std.proofs.lemmas.Slice.{take-put_mid_below}
 use Rattle.std.specs.Io.KnownBytes.{Consumes}
 use Rattle.std.proofs.KnownBytes.{Consumes-trans, Consumes-kept}
-use borrow.Rule.Slice.PartMut.{put_mid, post_of}
+use borrow.Rule.Slice.PartMut.{put_mid}
 use Rattle.typecodes.proofs.Written.{slice_range-put_mid, take_split}
 use Rattle.typecodes.proofs.Messages.{Progress, gives, gives-all, interrupted-once, read-more}
 use Rattle.command.specs.Files.{Fills}

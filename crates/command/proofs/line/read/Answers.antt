@@ -1,6 +1,7 @@
 use Rattle.std.proofs.Common.{ap, ◌∙◌, map, sym, subst}
 use Rattle.clap.specs.Words.{HasKind, fault_of, is_simple, is_simple_and_free, subcommand_of}
 use Rattle.command.specs.Line.{hbsign_app, named_files}
+use Rattle.command.proofs.Accepting.{requested}
 use Rattle.command.proofs.Finding.{handed_err, handed_on, only_memory, or_others}
 use Rattle.command.proofs.Walking.{finds_line, no_fault, simple, simple_and_free}
 use Rattle.command.proofs.line.read.Goals as goal
@@ -30,6 +31,13 @@ pub returns-in-Some-clause-ok : goal.returns-in-Some-clause-ok
 returns-in-Some-clause-ok g c =
     let built = c.in_ok-command.ensures in
     ap (λ app. fault_of app (map g.S.AsStr.text c.args.words.now)) (sym built) ∙ c.in_ok-matches.ensures.kinds (ap is_simple_and_free built ∙ simple_and_free)
+
+pub returns-in-Some-clause-accepts : goal.returns-in-Some-clause-accepts
+returns-in-Some-clause-accepts g c =
+    let built = c.in_ok-command.ensures in
+    let found = (c.in_ok-matches.ensures.ok.2 (ap is_simple built ∙ simple)).1 in
+    let none = ap (λ app. fault_of app (map g.S.AsStr.text c.args.words.now)) (sym built) ∙ c.in_ok-matches.ensures.kinds (ap is_simple_and_free built ∙ simple_and_free) in
+    requested _ c.in-Some.request none (λ p m s line. c.in-Some.ensures.files p m s (ap named_files (found ∙ ap (λ app. subcommand_of app (map g.S.AsStr.text c.args.words.now)) built) ∙ finds_line _ p m s line))
 
 pub returns-clause-verifies : goal.returns-clause-verifies
 returns-clause-verifies g c p m s line =

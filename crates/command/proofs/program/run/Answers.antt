@@ -5,8 +5,8 @@ use Rattle.command.proofs.program.run.Goals as goal
 
 pub returns-in-Ok-clause-runs : goal.returns-in-Ok-clause-runs
 returns-in-Ok-clause-runs g c =
-    let (p, m, s, verifies) = serves_some c.in-Ok.request _ c.answer.result _ _ c.answer.ensures in
-    inl (c.in-Ok.ensures.ok, (p, m, s, (c.answer.result, verifies, c.report.ensures)))
+    let (p, m, s, line, verifies) = serves_some _ c.in-Ok.request _ c.answer.result _ _ c.in-Ok.ensures.accepts c.answer.ensures in
+    inl (c.in-Ok.ensures.ok, (p, m, s, line, (c.answer.result, verifies, c.report.ensures)))
 
 pub returns-in-Ok-clause-verifies : goal.returns-in-Ok-clause-verifies
 returns-in-Ok-clause-verifies g c p m s line =
