@@ -124,12 +124,18 @@ fn tagged(previous: &[u8; 32], fields: &[u8]) -> [u8; 32] {
     hasher.finalize()
 }
 
-// Whether a store over the file of three records gives its tags, until its disk fails.
-fn gives_tags(alloc: Global) -> Option<bool> {
-    let file = file_of(alloc, 3)?;
+// The tags of the slots of a file of three records, each after the one before.
+fn three_tags(file: &[u8]) -> Option<[[u8; 32]; 3]> {
     let first = tagged(&[0; 32], file.get(1..224)?);
     let second = tagged(&first, file.get(257..480)?);
     let third = tagged(&second, file.get(513..736)?);
+    Some([first, second, third])
+}
+
+// Whether a store over the file of three records gives its tags, until its disk fails.
+fn gives_tags(alloc: Global) -> Option<bool> {
+    let file = file_of(alloc, 3)?;
+    let [first, second, third] = three_tags(&file)?;
     // two calls for the length, two for the Key, ten for three slots and the gate after them, and three tags
     let mut disk = MemoryDisk::of(alloc, &file).ok()?;
     disk.fail_at(18);
