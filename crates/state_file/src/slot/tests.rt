@@ -89,16 +89,30 @@ fn bound() -> Result<Record, BadName> {
     }))
 }
 
-// The record has these bytes, which are read as the record; and no byte of them can be another.
-fn assert_drawn(rt: &impl Abort, entry: &Record, drawn: &[u8; 223]) {
-    assert_eq!(rt; record_bytes(entry), *drawn);
-    assert!(rt; read_record(drawn) == Some(entry.copied()));
+// Whether the record has these bytes, and they are read as the record.
+fn is_drawn(entry: &Record, drawn: &[u8; 223]) -> bool {
+    record_bytes(entry) == *drawn && read_record(drawn) == Some(entry.copied())
+}
+
+// The first of these bytes of the record that can be another: they are still read as the record, or have its tag.
+fn first_free(entry: &Record, drawn: &[u8; 223]) -> Option<usize> {
     for place in 0..223 {
         let mut other = *drawn;
         other[place] ^= 0x5a;
-        assert!(rt; read_record(&other) != Some(entry.copied()));
-        assert_ne!(rt; tag(&[0; 32], &other), tag(&[0; 32], drawn));
+        let same_tag = tag(&[0; 32], &other) == tag(&[0; 32], drawn);
+        if same_tag || read_record(&other) == Some(entry.copied()) {
+            return Some(place);
+        }
     }
+    None
+}
+
+// The record has these bytes, which are read as the record; and no byte of them can be another.
+fn assert_drawn(rt: &impl Abort, entry: &Record, drawn: &[u8; 223]) {
+    assert_eq!(rt;
+        (is_drawn(entry, drawn), first_free(entry, drawn)),
+        (true, None)
+    );
 }
 
 #[test]
@@ -288,22 +302,47 @@ fn tags_follow_each_other(rt: HostRuntime) {
     assert_eq!(rt; tag(&first, &drawn::BOUND), drawn::SECOND_TAG);
 }
 
+// Whether these fields begin as those of a Key, and their version, if it is known.
+fn known_by(fields: &[u8; 223]) -> (bool, Option<Version>) {
+    (begins_key(fields), version(fields))
+}
+
 #[test]
 fn what_a_first_slot_is_known_by(rt: HostRuntime) {
-    for key in [drawn::LMS_KEY, drawn::HSS_KEY, drawn::XMSS_KEY] {
-        assert!(rt; begins_key(&key));
-        assert_eq!(rt; version(&key), Some(Version::One));
+    for (fields, wanted) in [
+        (&drawn::LMS_KEY, (true, Some(Version::One))),
+        (&drawn::HSS_KEY, (true, Some(Version::One))),
+        (&drawn::XMSS_KEY, (true, Some(Version::One))),
+        (&drawn::BOUND, (false, None)),
+    ] {
+        assert_eq!(rt; known_by(fields), wanted);
     }
-    assert!(rt; !begins_key(&drawn::BOUND));
-    for place in 0..11 {
-        let mut other = drawn::LMS_KEY;
-        other[place] ^= 0x5a;
-        assert_eq!(rt; begins_key(&other), place >= 9);
-        assert_eq!(rt; version(&other).is_some(), place < 9);
+}
+
+// What the fields of a Key are known by, with one byte changed.
+fn known_with(place: usize) -> (bool, Option<Version>) {
+    let mut other = drawn::LMS_KEY;
+    if let Some(byte) = other.get_mut(place) {
+        *byte ^= 0x5a;
     }
-    assert_eq!(rt; Version::from_code(1), Some(Version::One));
-    assert_eq!(rt; Version::from_code(0), None);
-    assert_eq!(rt; Version::from_code(2), None);
+    known_by(&other)
+}
+
+#[test]
+fn each_byte_that_a_first_slot_is_known_by(rt: HostRuntime) {
+    for place in 0..9 {
+        assert_eq!(rt; known_with(place), (false, Some(Version::One)));
+    }
+    for place in 9..11 {
+        assert_eq!(rt; known_with(place), (true, None));
+    }
+}
+
+#[test]
+fn versions_and_their_codes(rt: HostRuntime) {
+    for (code, wanted) in [(0, None), (1, Some(Version::One)), (2, None)] {
+        assert_eq!(rt; Version::from_code(code), wanted);
+    }
     assert_eq!(rt; Version::One.code(), 1);
 }
 

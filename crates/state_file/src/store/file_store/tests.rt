@@ -117,19 +117,25 @@ fn a_file_has_its_slots_and_one_byte(rt: HostRuntime) {
 }
 
 // The tag of these fields after a slot of that tag.
-fn tagged(previous: &[u8; 32], fields: Option<&[u8]>) -> Option<[u8; 32]> {
+fn tagged(previous: &[u8; 32], fields: &[u8]) -> [u8; 32] {
     let mut hasher = Sha256::new();
     hasher.update(previous);
-    hasher.update(fields?);
-    Some(hasher.finalize())
+    hasher.update(fields);
+    hasher.finalize()
+}
+
+// The tags of the slots of a file of three records, each after the one before.
+fn three_tags(file: &[u8]) -> Option<[[u8; 32]; 3]> {
+    let first = tagged(&[0; 32], file.get(1..224)?);
+    let second = tagged(&first, file.get(257..480)?);
+    let third = tagged(&second, file.get(513..736)?);
+    Some([first, second, third])
 }
 
 // Whether a store over the file of three records gives its tags, until its disk fails.
 fn gives_tags(alloc: Global) -> Option<bool> {
     let file = file_of(alloc, 3)?;
-    let first = tagged(&[0; 32], file.get(1..224))?;
-    let second = tagged(&first, file.get(257..480))?;
-    let third = tagged(&second, file.get(513..736))?;
+    let [first, second, third] = three_tags(&file)?;
     // two calls for the length, two for the Key, ten for three slots and the gate after them, and three tags
     let mut disk = MemoryDisk::of(alloc, &file).ok()?;
     disk.fail_at(18);
