@@ -131,8 +131,7 @@ impl Ledger {
         }
     }
 
-    /// That of a list of records, which it takes up in their order. The list is legal at an `Ok`, and an `Err` leaves
-    /// nothing behind:
+    /// That of a list of records, which it takes up in their order. The list is legal at an `Ok`. The faults:
     ///
     /// - 40 `Empty`: there is no record.
     /// - 44 `Illegal(k)`: record k is the first at which the list stops being legal, 0 where it doesn't begin with a

@@ -24,7 +24,7 @@ use crate::fault::SignFault;
 use crate::key::AnyPublic;
 use crate::signing::draw;
 use crate::source::Source;
-use crate::store_ledger::Ledger;
+use crate::store_ledger::{Ledger, LedgerFault};
 use arrayvec::ArrayVec;
 use hss::HssPublic;
 use lms::{LmsPublic, LmsSecret, LmsTree};
@@ -279,15 +279,12 @@ fn key_of(entry: Record) -> Option<Key>
 
 // Takes up the next record that was loaded, where it can follow those before it.
 fn take_up(ledger: &mut Ledger, entry: &Record) -> Result<(), SignFault>
-    requires few { length ledger.old.records < 2 ^ 32 - 1 }
     ensures { TakesUp ledger.old ledger.new entry.now result }
 {
-    if !ledger.can_follow(entry) {
-        return Err(SignFault::Illegal(ledger.len()));
-    }
-    ledger.reserve(1).map_err(|_| SignFault::NoMemoryToOpen)?;
-    ledger.push(entry.copied());
-    Ok(())
+    ledger.take_up(entry).map_err(|fault| match fault {
+        LedgerFault::Illegal(place) => SignFault::Illegal(place),
+        LedgerFault::Empty | LedgerFault::OutOfMemory => SignFault::NoMemoryToOpen,
+    })
 }
 
 // Loads the records of a store in their order, and takes them up.

@@ -1,7 +1,7 @@
 //! Requests: what hinders one, and which way it goes.
 
 ghost use Rattle.std.specs.Prelude.{◌≡◌, ◌<◌, ◌-◌, [], ℕ, List, None, Some, true, false, length, vec_capacity};
-ghost use Rattle.std.specs.Prelude.{OnErr};
+ghost use Rattle.std.specs.Prelude.{IsSome, OnErr};
 ghost use Rattle.state_file.specs.Laws.{levels_of};
 ghost use Rattle.sign_core.specs.Signer.{answered};
 ghost use Rattle.sign_core.specs.StoreLedger.{binding_in, deepest, has_moved};
@@ -85,6 +85,8 @@ impl<S: Store, R: Source> StoreSigner<S, R> {
         ensures step { Signs S.Store R.Source M.Message self.old self.new name.now message.old message.new
             (vec_capacity out.old) (answered result out.new.items) }
         ensures empty { OnErr result (out.new.items ≡ []) }
+        // A name that is bound changes nothing, whatever the answer.
+        ensures repeat { IsSome (binding_in self.old.records name.now) → self.new ≡ self.old }
     {
         if let Err(fault) = self.answer(name, message, out) {
             out.clear();
@@ -100,8 +102,9 @@ impl<S: Store, R: Source> StoreSigner<S, R> {
         message: &mut M,
         out: &mut Vec<u8>,
     ) -> Result<(), SignFault>
-        ensures { Signs S.Store R.Source M.Message self.old self.new name.now message.old message.new
+        ensures step { Signs S.Store R.Source M.Message self.old self.new name.now message.old message.new
             (vec_capacity out.old) (answered result out.new.items) }
+        ensures repeat { IsSome (binding_in self.old.records name.now) → self.new ≡ self.old }
     {
         self.check_open()?;
         match self.ledger.find(name) {

@@ -8,8 +8,8 @@ use Rattle.sign_core.specs.StoreTable.{kept_at}
 use Rattle.sign_core.proofs.StoreSigns.{hindered_signs, repeats_signs}
 use Rattle.sign_core.proofs.store_signer.StoreSigner.answer.Goals as goal
 
-pub returns-in_err-check_open : goal.returns-in_err-check_open
-returns-in_err-check_open g c =
+pub returns-in_err-check_open-clause-step : goal.returns-in_err-check_open-clause-step
+returns-in_err-check_open-clause-step g c =
     let v = c.args.self.now in
     let answer : c.from_residual.result ≡ Err c.in_err-check_open.field-0.0 = search rules in
     subst (λ a. Signs g.S.Store g.R.Source g.M.Message v v c.args.name.now c.args.message.now c.args.message.now (vec_capacity c.args.out.now)
@@ -19,8 +19,8 @@ returns-in_err-check_open g c =
     (λ left honest running since. g.met.S.Store.leaves_nothing_else v.store left honest running since)
     (ap (λ w. key_in w.records) (sym c.self.view_is) ∙ c.self.invariant.1) c.in_err-check_open.ensures.refused)
 
-pub returns-in-Some : goal.returns-in-Some
-returns-in-Some g c =
+pub returns-in-Some-clause-step : goal.returns-in-Some-clause-step
+returns-in-Some-clause-step g c =
     let v = c.args.self.now in
     let key = c.self.inside.ledger.key in
     let keyed = ap (λ w. key_in w.records) (sym c.self.view_is) ∙ c.self.invariant.1 in
