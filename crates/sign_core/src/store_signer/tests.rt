@@ -417,6 +417,23 @@ fn makes_two_trees(alloc: Global) -> Option<bool> {
     Some(has_levels && is_first && file_in(store)?.len() == 1025)
 }
 
+// Whether the first name under a key of XMSS signs by leaf 0, and two records stand then.
+fn signs_by_the_first_leaf(alloc: Global) -> Option<bool> {
+    let tape = counting::<96>(0);
+    let mut signer = held(alloc, "xmss:10", MemoryStore::with_limit(alloc, 100), &tape)?;
+    let signature = answer(alloc, &mut signer, b"fw-1", &[1])?.ok()?;
+    let is_first = signature.get(..4) == Some([0; 4].as_slice());
+    let is_left = signer.left().as_slice() == [1023].as_slice();
+    let mut store = signer.into_store();
+    let has_two = bound_at(&mut store, 1)?.leaf == 0 && store.load(2) == Ok(None);
+    Some(signature.len() == 2500 && is_first && is_left && has_two)
+}
+
+#[test]
+fn an_xmss_key_signs_by_its_first_leaf(rt: HostRuntime) {
+    assert_eq!(rt; signs_by_the_first_leaf(rt.alloc()), Some(true));
+}
+
 #[test]
 fn a_key_of_three_levels_makes_two_trees(rt: HostRuntime) {
     assert_eq!(rt; makes_two_trees(rt.alloc()), Some(true));
