@@ -1,244 +1,265 @@
 -- What the law says of a world follows from what every event keeps.
-use Rattle.std.proofs.Common.{◌≡◌, ◌≢◌, ◌∙◌, refl, sym, ap, ap₂, subst, ℕ, ◌+◌, ◌<◌, ◌^◌, Bool, true, false, List, [], ◌∷◌, ◌++◌, length, Option, Some, None, Result, Ok, Err, arith}
-use Rattle.std.specs.Prelude.{Contains, if◌then◌else◌, nat_le, nat_lt, not}
+use Rattle.std.proofs.Common.{◌≡◌, ◌≢◌, ◌∙◌, ◌↔◌, refl, sym, ap, subst, ℕ, ◌+◌, ◌-◌, ◌≤◌, ◌⊎◌, inl, inr, Bool, true, false, List, [], ◌∷◌, ◌++◌}
+use Rattle.std.proofs.Common.{length, Option, Some, None, Ok, Err, arith}
+use Rattle.std.specs.Prelude.{Contains, if◌then◌else◌, nat_lt, not}
 use Rattle.std.specs.Cmp.Lexicographic.{bytes_decides}
-use Rattle.std.proofs.lemmas.Bool.{le-ltb, lt-leb}
+use Rattle.std.proofs.lemmas.Bool.{le-ltb}
 use Rattle.std.proofs.lemmas.List.Elements.{Contains-push}
-use Rattle.typecodes.specs.declared.types.LmsPair.{LmsPair}
-use Rattle.typecodes.specs.Layout.{Spells}
-use Rattle.typecodes.specs.Types.{height_of}
-use Rattle.typecodes.proofs.Spelling.{one_value}
-use Rattle.lmots.specs.Key.{message_digest_of}
-use Rattle.lms.specs.declared.key.LmsPublic.{LmsPublic}
-use Rattle.lms.specs.Signature.{Signature, signature}
-use Rattle.lms.specs.Secret.{public_of}
-use Rattle.lms.specs.Writing.{textbook}
-use Rattle.lms.specs.Verification.{IsValid}
+use Rattle.typecodes.specs.declared.spec.Spec.{Spec}
+use Rattle.state_file.specs.Laws.{bottom_of}
 use Rattle.state_file.specs.declared.record.Bound.{Bound}
-use Rattle.sign_core.specs.declared.ledger.LmsKey.{LmsKey}
+use Rattle.state_file.specs.declared.record.Key.{Key}
 use Rattle.state_file.specs.declared.record.Record.{Record}
-use Rattle.state_file.specs.declared.record.Record.TheVariants.{Bound as BoundRecord}
-use Rattle.sign_core.specs.declared.fault.SignFault.{SignFault}
-use Rattle.sign_core.specs.declared.fault.SignFault.TheVariants.{Changed, Damaged, OutOfMemory, Stopped, StoreFailed}
-use Rattle.sign_core.specs.Ledger.{binding_of, is_sound, key_of, key_record, next_leaf, public_key_of, same_bytes, secret_of, signature_of}
-use Rattle.sign_core.specs.Uses.{LeafUse, Uses, Verifies}
-use Rattle.sign_core.specs.World.{Chance, Creation, Handed, Outcome, State, World, acked, after, appended, created, cut_new, cut_old, handed_with, new_bound, new_key, no_memory, refused, repeated, request, requested, requested_of, requested_under}
-use Rattle.sign_core.specs.Once.{IsOnce, IsRecorded, ShareLeaf}
-use Rattle.lms.proofs.Signing.{textbook_valid}
-use Rattle.sign_core.proofs.TextbookSpelling.{textbook_spelled}
-use Rattle.sign_core.proofs.OnceRecords.{binding_named, binding_stands}
-use Rattle.sign_core.proofs.OnceSteps.{for_request}
-use Rattle.sign_core.proofs.OnceRuns.{IsBinding, IsKept}
+use Rattle.state_file.specs.declared.record.Record.TheVariants.{Key as KeyRecord}
+use Rattle.state_file.specs.declared.record.Secret.{Secret}
+use Rattle.sign_core.specs.declared.key.AnyPublic.{AnyPublic}
+use Rattle.sign_core.specs.declared.fault.SignFault.TheVariants.{Changed, Damaged, Exhausted, Illegal, LedgerFull, OutOfMemory, Stopped, StoreFailed}
+use Rattle.sign_core.specs.declared.fault.SignFault.TheVariants.{Moved as MovedAway}
+use Rattle.sign_core.specs.Records.{are_same, binding_in, deepest, first_illegal, has_moved, key_in, wanted_count}
+use Rattle.sign_core.specs.Once.{AreComplete, CanStopOpening, IsBoundTo, IsOnce}
+use Rattle.sign_core.specs.World.{Chance, Creation, Handed, Opening, Outcome, State, World, acked, after, answered, bound_anew, bound_sound}
+use Rattle.sign_core.specs.World.{created, handed_with, new_key, open_on, opened}
+use Rattle.sign_core.specs.World.{opened_by, opened_on, published, reading, refused, repeated, repeated_sound, request, requested, requested_of}
+use Rattle.sign_core.specs.World.{requested_under, secret_from}
+use Rattle.sign_core.specs.Textbook.{AreSound, damaged_in, digest_at, public_in, signature_at, tree_before}
+use Rattle.sign_core.proofs.Illegal.{none_from_legal}
+use Rattle.sign_core.proofs.Valid.{undamaged}
+use Rattle.sign_core.proofs.Ends.{Ends, IsDamaged, ended_anew, ended_request}
+use Rattle.sign_core.proofs.Fresh.{IsFine, fine_fulfilled, randomizer_drawn}
+use Rattle.sign_core.proofs.OnceKept.{IsKept, sound_with}
+use Rattle.sign_core.proofs.OneLeaf.{handed_valid, one_digest, one_name, one_signature}
+use Rattle.sign_core.proofs.Sizes.{key_has_sizes, public_made, spec_public, trees_made}
 
--- the textbook signature of a binding
-abbrev signed_for : LmsKey → Bound → Signature
-signed_for key bound = textbook (secret_of key) bound.leaf bound.randomizer bound.digest
+-- ---- sound records
 
--- it is spelled by the binding's bytes
-binding_spelled : (key : LmsKey) (bound : Bound) → IsBinding key bound → Spells signature (signed_for key bound) (signature_of key bound)
-binding_spelled key bound fits = textbook_spelled (secret_of key) bound.leaf bound.randomizer bound.digest fits.inside fits.randomizer
+never_damaged : (Q : Outcome (List ℕ) → Type 0) (state : State) (handed : List Handed) (key : Key) → IsKept state.records handed
+    → key_in state.records ≡ Some key → IsDamaged Q state key
+never_damaged Q state handed key kept keyed level tree slot is =
+    absurd (let none = undamaged state.records key level tree (sound_with state.records handed key kept keyed) keyed in cc (none, is))
 
--- a sound key is that of its secret
-sound_public : (key : LmsKey) → is_sound key ≡ true → public_of (secret_of key) ≡ public_key_of key
-sound_public key sound =
-    let with_root : List ℕ → LmsPublic = λ root. record { pair = key.pair; identifier = key.identifier; root = root } in
-    ap with_root ((bytes_decides (public_of (secret_of key)).root key.root).0 sound)
+-- ---- an open signer
 
--- and the signature is valid for each message of the bound digest
-binding_valid : (key : LmsKey) (bound : Bound) (message : List ℕ) → IsBinding key bound → is_sound key ≡ true
-    → message_digest_of key.identifier bound.leaf bound.randomizer message ≡ bound.digest → IsValid (public_key_of key) message (signed_for key bound)
-binding_valid key bound message fits sound digest =
-    let valid = textbook_valid (secret_of key) bound.leaf bound.randomizer message fits.inside in
-    subst (λ public. IsValid public message (signed_for key bound)) (sound_public key sound)
-    (subst (λ q. IsValid (public_of (secret_of key)) message (textbook (secret_of key) bound.leaf bound.randomizer q)) digest valid)
+-- it goes by the binding of the name
+open_request : (limit : ℕ) (state : State) (key : Key) (name : List ℕ) (chance : Chance) (found : Option (ℕ × Bound)) → state.is_open ≡ true
+    → has_moved state.records ≡ false
+    → key_in state.records ≡ Some key → binding_in state.records name ≡ found
+    → requested limit state name chance ≡ requested_of limit state key name chance found
+open_request limit state key name chance found open_now stays keyed is =
+    let own = requested_of limit state key name chance (binding_in state.records name) in
+    let rest : Bool → Outcome (List ℕ) = λ moved. if moved then refused state MovedAway else own in
+    ap (requested_under limit state name chance) keyed
+    ∙ ap (λ test. if not test then refused state Stopped else rest (has_moved state.records)) open_now
+    ∙ ap rest stays ∙ ap (requested_of limit state key name chance) is
 
--- what was handed out is of a binding that can be signed
-binding_fits : (world : World) (x : Handed) → IsKept world.state.records world.handed → (is : IsRecorded world.state.records x) → IsBinding is.key is.bound
-binding_fits world x kept is = kept.signed is.key is.bound is.keyed (binding_stands world.state.records x.name is.bound is.named)
-
--- the bytes that were handed out spell the binding's signature
-handed_spelled : (world : World) (x : Handed) → IsKept world.state.records world.handed → (is : IsRecorded world.state.records x)
-    → Spells signature (signed_for is.key is.bound) x.signature
-handed_spelled world x kept is =
-    subst (Spells signature (signed_for is.key is.bound)) (sym is.signature) (binding_spelled is.key is.bound (binding_fits world x kept is))
-
-handed_valid : (world : World) (x : Handed) → IsKept world.state.records world.handed → IsRecorded world.state.records x
-    → (key : LmsKey) × (key_of world.state.records ≡ Some key) × Verifies (public_key_of key) x.message x.signature
-handed_valid world x kept is = (
-  is.key,
-  is.keyed,
-  record {
-    read = signed_for is.key is.bound;
-    spelled = handed_spelled world x kept is;
-    valid = binding_valid is.key is.bound x.message (binding_fits world x kept is) (kept.sound is.key is.keyed) is.digest;
-  },
-)
-
--- the use that handed-out bytes make is the binding's
-use_is : (world : World) (key : LmsKey) (x : Handed) (u : LeafUse) → IsKept world.state.records world.handed → key_of world.state.records ≡ Some key
-    → (is : IsRecorded world.state.records x) → Uses (public_key_of key) x.message x.signature u
-    → (u.leaf ≡ is.bound.leaf) × (u.digest ≡ is.bound.digest)
-use_is world key x u kept keyed is uses =
-    let same : key ≡ is.key = cc in
-    let read : uses.read ≡ signed_for is.key is.bound = one_value signature uses.read (signed_for is.key is.bound) x.signature uses.spelled (handed_spelled world x kept is) in
-    let digest_by : Signature → LmsKey → List ℕ = λ s k. message_digest_of k.identifier s.q s.randomizer x.message in (
-      uses.leaf ∙ ap (λ s. s.q) read,
-      uses.digest ∙ ap (λ s. digest_by s key) read ∙ ap (digest_by (signed_for is.key is.bound)) same ∙ is.digest,
-    )
-
--- the signatures that are recorded for one name are one
-one_recorded : (records : List Record) (x y : Handed) → IsRecorded records x → IsRecorded records y → x.name ≡ y.name → x.signature ≡ y.signature
-one_recorded records x y is_x is_y name =
-    let found : binding_of records x.name ≡ binding_of records y.name = ap (binding_of records) name in
-    let key : is_x.key ≡ is_y.key = cc (is_x.keyed, is_y.keyed) in
-    let bound : is_x.bound ≡ is_y.bound = cc (found, is_x.named, is_y.named) in
-    is_x.signature ∙ ap₂ signature_of key bound ∙ sym is_y.signature
-
--- signatures that use one leaf are of one binding
-one_binding : (world : World) (x y : Handed) (u v : LeafUse) → IsKept world.state.records world.handed → ShareLeaf world x y u v → (x.name ≡ y.name) × (u.digest ≡ v.digest)
-one_binding world x y u v kept share =
-    let records = world.state.records in
-    let is_x = kept.recorded x share.first in
-    let is_y = kept.recorded y share.second in
-    let use_x = use_is world share.key x u kept share.keyed is_x share.first_use in
-    let use_y = use_is world share.key y v kept share.keyed is_y share.second_use in
-    let one : is_x.bound ≡ is_y.bound = kept.leaves is_x.bound is_y.bound (binding_stands records x.name is_x.bound is_x.named)
-    (binding_stands records y.name is_y.bound is_y.named) (sym use_x.0 ∙ share.leaf ∙ use_y.0) in (
-      sym (binding_named records x.name is_x.bound is_x.named) ∙ ap (λ b. b.name) one ∙ binding_named records y.name is_y.bound is_y.named,
-      use_x.1 ∙ ap (λ b. b.digest) one ∙ sym use_y.1,
-    )
-
--- ---- what creates and requests get
-
--- a create begins a key where no record stands and nothing fails
-begins_key : (state : State) (pair : LmsPair) (identifier seed : List ℕ) (chance : Creation) → state.records ≡ []
-    → chance.failed_load ≡ None → chance.drawn ≡ Some (identifier, seed) → chance.has_room ≡ true → chance.fate ≡ acked
-    → (let key = new_key pair identifier seed in
-    created state pair chance ≡ record { state = record { records = key_record key ∷ []; is_open = true }; answer = Ok (public_key_of key) })
-begins_key state pair identifier seed chance empty loaded drawn room fate = rw (loaded, empty, drawn, room, fate) refl
-
--- an open signer goes by the binding of the name
-open_request : (limit : ℕ) (state : State) (key : LmsKey) (name message : List ℕ) (chance : Chance) (found : Option Bound) → state.is_open ≡ true
-    → key_of state.records ≡ Some key → binding_of state.records name ≡ found
-    → requested limit state name message chance ≡ requested_of limit state key name message chance found
-open_request limit state key name message chance found open_now keyed is =
-    let under = ap (requested_under limit state name message chance) keyed in
-    let of_open = ap (λ test. if test then requested_of limit state key name message chance (binding_of state.records name) else refused state Stopped) open_now in
-    under ∙ of_open ∙ ap (requested_of limit state key name message chance) is
-
--- a free name is bound to the next leaf, where nothing fails
-fresh_request : (limit : ℕ) (state : State) (key : LmsKey) (name message randomizer : List ℕ) (chance : Chance) → is_sound key ≡ true → state.is_open ≡ true
-    → key_of state.records ≡ Some key → binding_of state.records name ≡ None
-    → next_leaf state.records < 2 ^ height_of key.pair.tree → length state.records < limit
-    → chance.has_room ≡ true → chance.drawn ≡ Some randomizer → chance.fate ≡ acked
-    → (let new = new_bound key (next_leaf state.records) name message randomizer in
-    requested limit state name message chance
-    ≡ record { state = record { records = state.records ++ BoundRecord new ∷ []; is_open = true }; answer = Ok (signature_of key new) })
-fresh_request limit state key name message randomizer chance sound open_now keyed free inside short room drawn fate =
-    let left : nat_le (2 ^ height_of key.pair.tree) (next_leaf state.records) ≡ false = lt-leb _ _ inside in
-    let fits : nat_lt limit (length state.records + 1) ≡ false = le-ltb limit (length state.records + 1) (omega arith) in
-    open_request limit state key name message chance None open_now keyed free ∙ rw (left, fits, room, sound, drawn, fate) refl
-
--- a request that the store fails closes the signer
-failed_request : (limit : ℕ) (state : State) (name message : List ℕ) (chance : Chance) → (requested limit state name message chance).answer ≡ Err StoreFailed
-    → (requested limit state name message chance).state.is_open ≡ false
-failed_request limit state name message chance =
-    for_request (λ outcome. outcome.answer ≡ Err StoreFailed → outcome.state.is_open ≡ false) limit state name message chance (record {
-      refused_for = λ fault other whole failed. absurd (other (cc));
-      damaged = λ key keyed unsound failed. absurd (cc);
-      recorded = λ key bound keyed named digest failed. absurd (cc);
-      bound = λ key randomizer keyed free inside drawn.
-          let new = new_bound key (next_leaf state.records) name message randomizer in
-          elim chance.fate as (λ f. (appended state (BoundRecord new) (signature_of key new) f).answer ≡ Err StoreFailed
-          → (appended state (BoundRecord new) (signature_of key new) f).state.is_open ≡ false) [
-            | acked ↦ λ failed. absurd (cc)
-            | cut_old ↦ λ failed. refl
-            | cut_new ↦ λ failed. refl
-            | no_memory ↦ λ failed. absurd (cc)
-          ];
-    })
-
--- a request under sound keys alone is never answered that a slot is damaged
-never_damaged : (limit : ℕ) (state : State) (name message : List ℕ) (chance : Chance) (slot : ℕ) → ((key : LmsKey) → key_of state.records ≡ Some key → is_sound key ≡ true)
-    → (requested limit state name message chance).answer ≢ Err (Damaged slot)
-never_damaged limit state name message chance slot sound =
-    for_request (λ outcome. outcome.answer ≢ Err (Damaged slot)) limit state name message chance (record {
-      refused_for = λ fault other whole upcoming. whole slot (cc);
-      damaged = λ key keyed unsound upcoming. absurd (let is = sound key keyed in cc);
-      recorded = λ key bound keyed named digest upcoming. absurd (cc);
-      bound = λ key randomizer keyed free inside drawn.
-          let new = new_bound key (next_leaf state.records) name message randomizer in
-          elim chance.fate as (λ f. (appended state (BoundRecord new) (signature_of key new) f).answer ≢ Err (Damaged slot)) [
-            | acked ↦ λ upcoming. absurd (cc)
-            | cut_old ↦ λ upcoming. absurd (cc)
-            | cut_new ↦ λ upcoming. absurd (cc)
-            | no_memory ↦ λ upcoming. absurd (cc)
-          ];
-    })
-
--- a closed signer answers none
-closed_under : (limit : ℕ) (state : State) (name message : List ℕ) (chance : Chance) (found : Option LmsKey) → state.is_open ≡ false
-    → requested_under limit state name message chance found ≡ refused state Stopped
-closed_under limit state name message chance (Some key) closed = rw closed refl
-closed_under limit state name message chance None closed = refl
-
--- what a request answers is handed out
-handed_out : (limit : ℕ) (world : World) (name message signature : List ℕ) (chance : Chance) → (requested limit world.state name message chance).answer ≡ Ok signature
-    → Contains (after limit world (request name message chance)).handed (record { name = name; message = message; signature = signature })
-handed_out limit world name message signature chance answer =
-    let x : Handed = record { name = name; message = message; signature = signature } in
-    subst (λ a. Contains (world.handed ++ handed_with name message a) x) (sym answer) (Contains-push world.handed x)
+-- ---- a name that is bound
 
 -- what can't be true is false
 false_from : (test : Bool) → (test ≡ true → ⊥) → test ≡ false
 false_from true never = absurd (never refl)
 false_from false never = refl
 
--- a message of another digest is refused
-answers_changed : (key : LmsKey) (bound : Bound) (message : List ℕ) (chance : Chance) → message_digest_of key.identifier bound.leaf bound.randomizer message ≢ bound.digest
-    → repeated key bound message chance ≡ Err Changed
-answers_changed key bound message chance other =
-    let digest = message_digest_of key.identifier bound.leaf bound.randomizer message in
-    let test : same_bytes digest bound.digest ≡ false = false_from _ (λ same. other ((bytes_decides digest bound.digest).0 same)) in
-    rw test refl
+pub answers_changed : (limit : ℕ) (state : State) (key : Key) (k : ℕ) (bound : Bound) (name message : List ℕ) (chance : Chance)
+    → state.is_open ≡ true → has_moved state.records ≡ false → key_in state.records ≡ Some key
+    → binding_in state.records name ≡ Some (k, bound) → chance.given ≡ Some message
+    → digest_at key state.records k bound.leaf bound.randomizer message ≢ bound.digest
+    → requested limit state name chance ≡ reading (refused state Changed)
+answers_changed limit state key k bound name message chance open_now stays keyed named given other =
+    let digest = digest_at key state.records k bound.leaf bound.randomizer message in
+    let bottom = bottom_of key.secret in
+    let rest = repeated_sound state key k bound (damaged_in key bottom state.records (tree_before bottom state.records k)) in
+    let test : are_same digest bound.digest ≡ false = false_from _ (λ same. other ((bytes_decides digest bound.digest).0 same)) in
+    open_request limit state key name chance (Some (k, bound)) open_now stays keyed named
+    ∙ ap (repeated state key k bound chance) given
+    ∙ ap (λ same. reading (if not same then refused state Changed else (if not chance.has_room then refused state OutOfMemory else rest))) test
 
 -- the branches of a negated test
-turned : {A : Type 0} (test : Bool) (x y : A) → (if not test then x else y) ≡ (if test then y else x)
-turned true x y = refl
-turned false x y = refl
+turned_choice : {A : Type 0} (test : Bool) (x y : A) → (if not test then x else y) ≡ (if test then y else x)
+turned_choice true x y = refl
+turned_choice false x y = refl
 
--- a message of the bound digest gets the signature, unless memory is refused
-answers_repeated : (key : LmsKey) (bound : Bound) (message : List ℕ) (chance : Chance) → is_sound key ≡ true
-    → message_digest_of key.identifier bound.leaf bound.randomizer message ≡ bound.digest
-    → repeated key bound message chance ≡ (if chance.has_room then Ok (signature_of key bound) else Err OutOfMemory)
-answers_repeated key bound message chance sound same =
-    let digest = message_digest_of key.identifier bound.leaf bound.randomizer message in
-    let test : same_bytes digest bound.digest ≡ true = (bytes_decides digest bound.digest).1 same in
-    rw (test, sound) (turned chance.has_room (Err OutOfMemory) (Ok (signature_of key bound)))
+pub answers_repeated : (limit : ℕ) (state : State) (handed : List Handed) (key : Key) (k : ℕ) (bound : Bound) (name message : List ℕ) (chance : Chance)
+    → IsKept state.records handed → state.is_open ≡ true → has_moved state.records ≡ false → chance.given ≡ Some message
+    → IsBoundTo state.records key name message k bound
+    → requested limit state name chance
+    ≡ reading (if chance.has_room then answered state (signature_at key state.records k bound) else refused state OutOfMemory)
+answers_repeated limit state handed key k bound name message chance kept open_now stays given is =
+    let digest = digest_at key state.records k bound.leaf bound.randomizer message in
+    let bottom = bottom_of key.secret in
+    let tree = tree_before bottom state.records k in
+    let whole = undamaged state.records key bottom tree (sound_with state.records handed key kept is.keyed) is.keyed in
+    let test : are_same digest bound.digest ≡ true = (bytes_decides digest bound.digest).1 is.digest in
+    let rest : Option ℕ → Outcome (List ℕ) = λ damaged. if not chance.has_room then refused state OutOfMemory else repeated_sound state key k bound damaged in
+    open_request limit state key name chance (Some (k, bound)) open_now stays is.keyed is.named
+    ∙ ap (repeated state key k bound chance) given
+    ∙ ap (λ same. reading (if not same then refused state Changed else rest (damaged_in key bottom state.records tree))) test
+    ∙ ap (λ damaged. reading (rest damaged)) whole
+    ∙ ap reading (turned_choice chance.has_room (refused state OutOfMemory) (answered state (signature_at key state.records k bound)))
 
--- an answer that changes nothing
-abbrev answered : State → Result (List ℕ) SignFault → Outcome (List ℕ)
-answered state answer = record { state = state; answer = answer }
+-- ---- a name that isn't bound
+
+pub fresh_fine : (limit : ℕ) (state : State) (handed : List Handed) (key : Key) (level : ℕ) (name message : List ℕ) (chance : Chance)
+    → IsKept state.records handed
+    → state.is_open ≡ true → has_moved state.records ≡ false → key_in state.records ≡ Some key
+    → binding_in state.records name ≡ None → deepest key.secret state.records ≡ Some level
+    → length state.records + wanted_count key.secret level ≤ limit → chance.given ≡ Some message
+    → AreComplete key.secret (bottom_of key.secret - level) chance → IsFine (requested limit state name chance)
+fresh_fine limit state handed key level name message chance kept open_now stays keyed unbound is short given whole =
+    let records = state.records in
+    let bottom = bottom_of key.secret in
+    let sizes = key_has_sizes records key kept.sizes keyed in
+    let tree = tree_before level records (length records) in
+    let fits : nat_lt limit (length records + wanted_count key.secret level) ≡ false = le-ltb limit (length records + wanted_count key.secret level) short in
+    let sound : damaged_in key level records tree ≡ None = undamaged records key level tree (sound_with records handed key kept keyed) keyed in
+    let (drawn, is_drawn) = randomizer_drawn key.secret chance.bound.fields whole.bound.fields in
+    let fine = fine_fulfilled key name drawn message chance (bottom - level) chance.trees records given is_drawn whole.bound.acknowledged
+    (λ more. trees_made key.secret sizes (omega (arith, more))) whole.enough whole.each in
+    let room_then : Bool → Outcome (List ℕ) = λ room. if not room then refused state OutOfMemory else bound_sound state key name chance level
+    (damaged_in key level records tree) in
+    let way = open_request limit state key name chance None open_now stays keyed unbound
+    ∙ ap (bound_anew limit state key name chance) is
+    ∙ ap (λ full. if full then refused state LedgerFull else room_then chance.has_room) fits
+    ∙ ap room_then whole.room
+    ∙ ap (bound_sound state key name chance level) sound in
+    subst IsFine (sym way) fine
+
+-- 22 comes where no leaf is free, and nowhere else
+not_exhausted : Ends (λ outcome. outcome.answer ≢ Err Exhausted)
+not_exhausted = record {
+  drawn = λ bytes outcome never. never;
+  read = λ outcome never. never;
+  refused_for = λ state fault plain is. plain.0 (cc);
+  cut_off = λ acknowledged entry left is. cc;
+  gives = λ state signature is. cc;
+}
+
+anew_exhausted : (limit : ℕ) (state : State) (key : Key) (name : List ℕ) (chance : Chance) (level : Option ℕ)
+    → (bound_anew limit state key name chance level).answer ≡ Err Exhausted
+    → level ≡ None
+anew_exhausted limit state key name chance None is = refl
+anew_exhausted limit state key name chance (Some level) is =
+    absurd (ended_anew (λ outcome. outcome.answer ≢ Err Exhausted) not_exhausted limit state key name chance level (λ level tree slot damaged other. cc) is)
+
+pub exhausted_exactly : (limit : ℕ) (state : State) (key : Key) (name : List ℕ) (chance : Chance) → state.is_open ≡ true → has_moved state.records ≡ false
+    → key_in state.records ≡ Some key → binding_in state.records name ≡ None
+    → ((requested limit state name chance).answer ≡ Err Exhausted) ↔ (deepest key.secret state.records ≡ None)
+exhausted_exactly limit state key name chance open_now stays keyed unbound =
+    let way : requested limit state name chance ≡ bound_anew limit state key name chance (deepest key.secret state.records) =
+    open_request limit state key name chance None open_now stays keyed unbound in
+    let answers = ap (λ outcome. outcome.answer) way in (
+      λ is. anew_exhausted limit state key name chance (deepest key.secret state.records) (sym answers ∙ is),
+      λ none. answers ∙ ap (λ level. (bound_anew limit state key name chance level).answer) none,
+    )
+
+-- ---- any request
+
+not_damaged : (slot : ℕ) → Ends (λ outcome. outcome.answer ≢ Err (Damaged slot))
+not_damaged slot = record {
+  drawn = λ bytes outcome never. never;
+  read = λ outcome never. never;
+  refused_for = λ state fault plain is. plain.2 slot (cc);
+  cut_off = λ acknowledged entry left is. cc;
+  gives = λ state signature is. cc;
+}
+
+pub answers_whole : (limit : ℕ) (state : State) (handed : List Handed) (name : List ℕ) (chance : Chance) (slot : ℕ) → IsKept state.records handed
+    → (requested limit state name chance).answer ≢ Err (Damaged slot)
+answers_whole limit state handed name chance slot kept =
+    ended_request (λ outcome. outcome.answer ≢ Err (Damaged slot)) (not_damaged slot) limit state name chance
+    (λ key keyed. never_damaged (λ outcome. outcome.answer ≢ Err (Damaged slot)) state handed key kept keyed) (λ is. cc)
+
+abbrev Closes : Outcome (List ℕ) → Type 0
+Closes outcome = outcome.answer ≡ Err StoreFailed → outcome.state.is_open ≡ false
+
+ends_closed : Ends Closes
+ends_closed = record {
+  drawn = λ bytes outcome closes. closes;
+  read = λ outcome closes. closes;
+  refused_for = λ state fault plain is. absurd (plain.1 (cc));
+  cut_off = λ acknowledged entry left is. refl;
+  gives = λ state signature is. absurd (cc);
+}
+
+pub failed_closes : (limit : ℕ) (state : State) (name : List ℕ) (chance : Chance) → (requested limit state name chance).answer ≡ Err StoreFailed
+    → (requested limit state name chance).state.is_open ≡ false
+failed_closes limit state name chance =
+    ended_request Closes ends_closed limit state name chance (λ key keyed level tree slot damaged is. absurd (cc)) (λ is. absurd (cc))
+
+closed_under : (limit : ℕ) (state : State) (name : List ℕ) (chance : Chance) (found : Option Key) → state.is_open ≡ false
+    → requested_under limit state name chance found ≡ refused state Stopped
+closed_under limit state name chance (Some key) closed = rw closed refl
+closed_under limit state name chance None closed = refl
+
+-- what a request answers is handed out
+pub handed_out : (limit : ℕ) (world : World) (name message signature : List ℕ) (chance : Chance) → chance.given ≡ Some message
+    → (requested limit world.state name chance).answer ≡ Ok signature
+    → Contains (after limit world (request name chance)).handed (record { name = name; message = message; signature = signature })
+handed_out limit world name message signature chance given answer =
+    let x : Handed = record { name = name; message = message; signature = signature } in
+    let out : handed_with name chance.given (requested limit world.state name chance).answer ≡ x ∷ [] =
+    ap (λ g. handed_with name g (requested limit world.state name chance).answer) given ∙ ap (handed_with name (Some message)) answer in
+    subst (λ more. Contains (world.handed ++ more) x) (sym out) (Contains-push world.handed x)
+
+-- ---- creates and openings
+
+pub begins_key : (state : State) (spec : Spec) (secret : Secret) (chance : Creation) (public : AnyPublic) → state.records ≡ [] → chance.failed_load ≡ None
+    → secret_from spec chance.fields ≡ Some secret → chance.has_room ≡ true → chance.fate ≡ acked → public_in (new_key secret) ≡ Some public
+    → (created state spec chance).state ≡ open_on (KeyRecord (new_key secret) ∷ [])
+begins_key state spec secret chance public empty loaded drawn room fate is = rw (loaded, empty, drawn, room, fate, is) refl
+
+none_illegal_in : (records : List Record) → (records ≡ []) ⊎ AreSound records → first_illegal records ≡ None
+none_illegal_in records (inl empty) = ap first_illegal empty
+none_illegal_in records (inr sound) = none_from_legal records sound.legal
+
+legal_published : (records : List Record) (public : Option AnyPublic) (slot : ℕ) → (published records public).answer ≢ Err (Illegal slot)
+legal_published records (Some public) slot is = cc
+legal_published records None slot is = cc
+
+legal_on : (records : List Record) (found : Option Key) (slot : ℕ) → (opened_on records found).answer ≢ Err (Illegal slot)
+legal_on records None slot is = cc
+legal_on records (Some key) slot is = legal_published records (public_in key) slot is
+
+legal_opened : (state : State) (chance : Opening) (slot : ℕ) → CanStopOpening chance → (opened_by state chance None).answer ≢ Err (Illegal slot)
+legal_opened state None slot can is = legal_on state.records (key_in state.records) slot is
+legal_opened state (Some (place, fault)) slot can is = elim can [
+  | inl a ↦ cc
+  | inr (inl b) ↦ cc
+  | inr (inr (inl c)) ↦ cc
+  | inr (inr (inr d)) ↦ cc
+]
+
+pub opens_legal : (state : State) (handed : List Handed) (chance : Opening) (slot : ℕ) → IsKept state.records handed → CanStopOpening chance
+    → (opened state chance).answer ≢ Err (Illegal slot)
+opens_legal state handed chance slot kept can =
+    subst (λ illegal. (opened_by state chance illegal).answer ≢ Err (Illegal slot)) (sym (none_illegal_in state.records kept.ground))
+    (legal_opened state chance slot can)
+
+pub opens_again : (state : State) (handed : List Handed) (key : Key) → IsKept state.records handed → key_in state.records ≡ Some key
+    → (opened state None).state ≡ open_on state.records
+opens_again state handed key kept keyed =
+    let (public, is) = public_made key.secret key.root (key_has_sizes state.records key kept.sizes keyed) in
+    ap (λ illegal. (opened_by state None illegal).state) (none_illegal_in state.records kept.ground)
+    ∙ ap (λ found. (opened_on state.records found).state) keyed ∙ ap (λ p. (published state.records p).state) is
 
 -- ---- all parts of the law
 
 pub once : (limit : ℕ) (world : World) → IsKept world.state.records world.handed → IsOnce limit world
 once limit world kept = record {
-  one_digest = λ x y u v share. (one_binding world x y u v kept share).1;
-  one_name = λ x y u v share. (one_binding world x y u v kept share).0;
-  one_signature = λ x y in_x in_y. one_recorded world.state.records x y (kept.recorded x in_x) (kept.recorded y in_y);
+  one_digest = λ x y uses others u v were. one_digest world x y uses others u v kept were;
+  one_name = λ x y uses others u v were. one_name world x y uses others u v kept were;
+  one_signature = λ x y in_x in_y. one_signature world.state.records x y (kept.recorded x in_x) (kept.recorded y in_y);
   recorded = kept.recorded;
-  valid = λ x in_x. handed_valid world x kept (kept.recorded x in_x);
-  counted = handed_out limit world;
-  begins = begins_key world.state;
-  changed = λ key bound name message chance open_now keyed named other.
-      open_request limit world.state key name message chance (Some bound) open_now keyed named ∙ ap (answered world.state) (answers_changed key bound message chance other);
-  repeated = λ key bound name message chance open_now keyed named same.
-      open_request limit world.state key name message chance (Some bound) open_now keyed named
-      ∙ ap (answered world.state) (answers_repeated key bound message chance (kept.sound key keyed) same);
-  fresh = λ key name message randomizer chance open_now keyed. fresh_request limit world.state key name message randomizer chance (kept.sound key keyed) open_now keyed;
-  sound = kept.sound;
-  undamaged = λ name message chance slot. never_damaged limit world.state name message chance slot kept.sound;
-  stops = failed_request limit world.state;
-  closed = λ name message chance. closed_under limit world.state name message chance (key_of world.state.records);
+  valid = λ x there. handed_valid world x kept there;
+  counted = λ name message signature chance. handed_out limit world name message signature chance;
+  changed = λ key k bound name message chance. answers_changed limit world.state key k bound name message chance;
+  repeated = λ key k bound name message chance. answers_repeated limit world.state world.handed key k bound name message chance kept;
+  begins = λ spec secret chance can empty loaded drawn.
+      let (public, is) = spec_public spec chance.fields secret can drawn in
+      λ room fate. begins_key world.state spec secret chance public empty loaded drawn room fate is;
+  fresh = λ key level name message chance. fresh_fine limit world.state world.handed key level name message chance kept;
+  exhausted = λ key name chance. exhausted_exactly limit world.state key name chance;
+  undamaged = λ name chance slot. answers_whole limit world.state world.handed name chance slot kept;
+  legal = λ chance slot. opens_legal world.state world.handed chance slot kept;
+  reopens = λ key. opens_again world.state world.handed key kept;
+  stops = λ name chance. failed_closes limit world.state name chance;
+  closed = λ name chance. closed_under limit world.state name chance (key_in world.state.records);
 }

@@ -1,122 +1,152 @@
--- What a list of records says, and what a signer keeps of it in memory.
-use Rattle.std.specs.Prelude.{◌≡◌, ◌⊎◌, ℕ, ◌+◌, ◌≤◌, ◌<◌, ◌^◌, Bool, false, not, List, [], ◌∷◌, find, fold, map}
-use Rattle.std.specs.Prelude.{Option, Some, None, max, nat_eq, nat_le, nat_lt, if◌then◌else◌}
+-- What a ledger keeps of the records in memory, and that it is theirs.
+use Rattle.std.specs.Prelude.{◌≡◌, ◌⊎◌, ℕ, ◌+◌, ◌-◌, ◌^◌, ◌<◌, ◌≤◌, Bool, true, false, List, [], ◌∷◌, ◌++◌, length}
+use Rattle.std.specs.Prelude.{take, drop, slice_get, nat_eq, Option, Some, None, option_map, is_some, Result, Ok, Err}
 use Rattle.std.specs.Cmp.Lexicographic.{pointwise}
+use Rattle.std.specs.declared.hash.FoldHasher.{FoldHasher}
+use Rattle.std.specs.declared.hash.BuildHasherDefault.{BuildHasherDefault}
+use Rattle.std.specs.HashMap.{HashMap, get}
+use Rattle.state_file.specs.Laws.{IsLegal, bottom_of}
 use Rattle.state_file.specs.declared.record.Bound.{Bound}
+use Rattle.state_file.specs.declared.record.Key.{Key}
 use Rattle.state_file.specs.declared.record.Record.{Record}
 use Rattle.state_file.specs.declared.record.Record.TheVariants.{Key as KeyRecord, Extend as ExtendRecord}
 use Rattle.state_file.specs.declared.record.Record.TheVariants.{Bound as BoundRecord, Retire, Moved}
 use Rattle.state_file.specs.declared.record.Secret.{Secret}
-use Rattle.state_file.specs.declared.record.Secret.TheVariants.{Lms, Hss, Xmss}
-use Rattle.state_file.specs.declared.record.Version.TheVariants.{One}
-use Rattle.typecodes.specs.Types.{height_of}
-use Rattle.lms.specs.declared.key.LmsPublic.{LmsPublic}
-use Rattle.lms.specs.declared.secret.LmsSecret.{LmsSecret}
-use Rattle.lms.specs.Secret.{public_of}
-use Rattle.lms.specs.Writing.{signature_bytes, textbook}
-use Rattle.sign_core.specs.declared.ledger.LmsKey.{LmsKey}
-use Rattle.sign_core.specs.declared.fault.SignFault.{SignFault}
-use Rattle.sign_core.specs.declared.fault.SignFault.TheVariants.{Exhausted, Damaged, OutOfMemory, LedgerFull}
+use Rattle.sign_core.specs.declared.ledger.Binding.{Binding}
+use Rattle.sign_core.specs.declared.ledger.Made.{Made}
+use Rattle.sign_core.specs.declared.ledger.LedgerFault.{LedgerFault}
+use Rattle.sign_core.specs.declared.ledger.LedgerFault.TheVariants.{Empty, Illegal, OutOfMemory}
+use Rattle.sign_core.specs.declared.trees.Tree.{Tree}
+use Rattle.sign_core.specs.Records.{binding_in, can_follow, first_illegal, has_identifier, has_moved, key_in}
+use Rattle.sign_core.specs.Trees.{HasTrees}
+use Rattle.sign_core.specs.Textbook.{AllHaveSizes, tree_before}
 
--- whether two lists of bytes are one
-abbrev pub same_bytes : List ℕ → List ℕ → Bool
-same_bytes a b = pointwise nat_eq a b
+-- What callers see of a ledger: its key, its records, the Key's first, and for how many more records it has memory.
+pub record Table : Type 0 where
+  pub key : Key
+  pub records : List Record
+  pub spare : ℕ
 
--- the record of an LMS key, in a file of version 1
-abbrev pub key_record : LmsKey → Record
-key_record key = KeyRecord (record { version = One; secret = Lms key.pair key.identifier key.seed; root = key.root })
+-- ---- maps
 
--- the LMS key that a secret and a root are; those of another scheme are none
-abbrev pub lms_key : Secret → List ℕ → Option LmsKey
-lms_key (Lms pair identifier seed) root =
-    Some (record { pair = pair; identifier = identifier; seed = seed; root = root })
-lms_key (Hss levels identifier seed) root = None
-lms_key (Xmss tree secret_seed prf_key public_seed) root = None
+-- a map from texts
+abbrev pub ByText : Type 0 → Type 0
+ByText V = HashMap (List ℕ) V (BuildHasherDefault FoldHasher)
 
--- the key: record 0, if it is that of an LMS key
-abbrev pub key_of : List Record → Option LmsKey
-key_of [] = None
-key_of (KeyRecord key ∷ rest) = lms_key key.secret key.root
-key_of (ExtendRecord extend ∷ rest) = None
-key_of (BoundRecord bound ∷ rest) = None
-key_of (Retire upto ∷ rest) = None
-key_of (Moved ∷ rest) = None
+abbrev pub of_text : {V : Type 0} → ByText V → List ℕ → Option V
+of_text entries text = get (pointwise nat_eq) entries text
 
--- the bindings, in their order
-abbrev pub bounds_of : List Record → List Bound
-bounds_of [] = []
-bounds_of (KeyRecord key ∷ rest) = bounds_of rest
-bounds_of (ExtendRecord extend ∷ rest) = bounds_of rest
-bounds_of (BoundRecord bound ∷ rest) = bound ∷ bounds_of rest
-bounds_of (Retire upto ∷ rest) = bounds_of rest
-bounds_of (Moved ∷ rest) = bounds_of rest
+-- a map from places
+abbrev pub ByPlace : Type 0 → Type 0
+ByPlace V = HashMap ℕ V (BuildHasherDefault FoldHasher)
 
--- the binding of a name, among bindings
-abbrev pub bound_in : List Bound → List ℕ → Option Bound
-bound_in bounds name = find (λ bound. same_bytes bound.name name) bounds
+abbrev pub of_place : {V : Type 0} → ByPlace V → ℕ → Option V
+of_place entries place = get nat_eq entries place
 
--- and among records
-abbrev pub binding_of : List Record → List ℕ → Option Bound
-binding_of records name = bound_in (bounds_of records) name
+-- ---- what is kept of a record
 
--- the number above the leaf of the key's tree that a record names, or above those that it retires
-abbrev pub above_of : Record → ℕ
-above_of (KeyRecord key) = 0
-above_of (ExtendRecord extend) = 0
-above_of (BoundRecord bound) = bound.leaf + 1
-above_of (Retire upto) = upto
-above_of Moved = 0
+-- an Extend, with the tree that was current above it
+abbrev pub made_by : List Record → (place : ℕ) → Option Record → Option Made
+made_by records place (Some (ExtendRecord extend)) =
+    Some (record { extend = extend; parent = tree_before (extend.level - 1) records place })
+made_by records place (Some (KeyRecord key)) = None
+made_by records place (Some (BoundRecord bound)) = None
+made_by records place (Some (Retire upto)) = None
+made_by records place (Some Moved) = None
+made_by records place None = None
 
--- the least number above every leaf that a record names or retires
-abbrev pub next_leaf : List Record → ℕ
-next_leaf records = fold max 0 (map above_of records)
+abbrev pub made_at : List Record → (place : ℕ) → Option Made
+made_at records place = made_by records place (slice_get records place)
 
--- the secret that a key is made from
-abbrev pub secret_of : LmsKey → LmsSecret
-secret_of key = record { pair = key.pair; identifier = key.identifier; seed = key.seed }
+-- a binding with its place, and the bottom tree that was current before it
+abbrev pub kept_of : Secret → List Record → (ℕ × Bound) → Binding
+kept_of secret records (place, bound) = record {
+  place = place;
+  leaf = bound.leaf;
+  randomizer = bound.randomizer;
+  digest = bound.digest;
+  tree = tree_before (bottom_of secret) records place;
+}
 
--- the public key that a key's record says
-abbrev pub public_key_of : LmsKey → LmsPublic
-public_key_of key = record { pair = key.pair; identifier = key.identifier; root = key.root }
+abbrev pub kept_at : Secret → List Record → (name : List ℕ) → Option Binding
+kept_at secret records name = option_map (kept_of secret records) (binding_in records name)
 
--- whether the root of the record is that of its secret
-abbrev pub is_sound : LmsKey → Bool
-is_sound key = same_bytes (public_of (secret_of key)).root key.root
+-- ---- a ledger
 
--- The textbook signature of a binding: a function of the records alone.
-abbrev pub signature_of : LmsKey → Bound → List ℕ
-signature_of key bound = signature_bytes (textbook (secret_of key) bound.leaf bound.randomizer bound.digest)
+-- What a ledger keeps is what its records say: the Extends by their places, the bindings by their names, which I stand
+-- after the Key's, the current trees with their next leaves, how many records there are, and whether a Moved is last.
+pub record IsTableOf (records : List Record) (key : Key) (made : ByPlace Made) (bindings : ByText Binding)
+    (identifiers : ByText ℕ) (levels : List (Option Tree)) (count : ℕ) (moved : Bool) : Type 0 where
+  pub legal : IsLegal records
+  pub keyed : key_in records ≡ Some key
+  pub sizes : AllHaveSizes records
+  pub counted : count ≡ length records
+  pub moved_is : moved ≡ has_moved records
+  pub trees_are : HasTrees key.secret records levels
+  pub made_are : (place : ℕ) → of_place made place ≡ made_at records place
+  pub bindings_are : (name : List ℕ) → of_text bindings name ≡ kept_at key.secret records name
+  pub identifiers_are : (identifier : List ℕ)
+      → is_some (of_text identifiers identifier) ≡ has_identifier (drop 1 records) identifier
 
--- ---- what is kept in memory
+-- Extends and Bounds take memory in a ledger.
+abbrev pub TakesMemory : Record → Type 0
+TakesMemory (ExtendRecord extend) = Unit {0}
+TakesMemory (BoundRecord bound) = Unit {0}
+TakesMemory (KeyRecord key) = ⊥
+TakesMemory (Retire upto) = ⊥
+TakesMemory Moved = ⊥
 
--- the records of a key and its bindings
-abbrev pub records_of : LmsKey → List Bound → List Record
-records_of key bounds = key_record key ∷ map BoundRecord bounds
+-- A record was added: the key stays, and the memory for one more record may be used.
+pub record Grows (entry : Record) (old new : Table) : Type 0 where
+  pub key : new.key ≡ old.key
+  pub records : new.records ≡ old.records ++ entry ∷ []
+  pub spare : old.spare ≤ new.spare + 1
 
--- The store runs, its records are those of the key and the bindings, and `leaf` is the next leaf.
-pub record IsLedgerOf (list : List Record) (stopped : Bool) (key : LmsKey) (bounds : List Bound) (leaf : ℕ)
-    : Type 0 where
-  pub running : stopped ≡ false
-  pub records : list ≡ records_of key bounds
-  pub next : leaf ≡ next_leaf list
-  pub inside : leaf ≤ 2 ^ height_of key.pair.tree
+-- ---- records that are taken up
 
--- The memory that a request lacks: `out`, of this capacity, can't take the signature of this size; or, under a name
--- that isn't bound, the ledger has no memory for one more binding.
-abbrev pub LacksMemory : Option Bound → (size capacity spare : ℕ) → Type 0
-LacksMemory (Some bound) size capacity spare = capacity < size
-LacksMemory None size capacity spare = (capacity < size) ⊎ (spare ≡ 0)
+-- the number that reports a fault
+abbrev pub fault_number : LedgerFault → ℕ
+fault_number Empty = 40
+fault_number (Illegal k) = 44
+fault_number OutOfMemory = 46
 
--- why no new name is bound, if there is a reason before the draw: by the next leaf, how many records there
--- are, whether memory is granted, and whether the record's root is the secret's
-abbrev pub hindrance : (limit height next count : ℕ) (has_room sound : Bool) → Option SignFault
-hindrance limit height next count has_room sound =
-    if nat_le (2 ^ height) next then Some Exhausted
-    else (if nat_lt limit (count + 1) then Some LedgerFull
-    else (if not has_room then Some OutOfMemory
-    else (if not sound then Some (Damaged 0) else None)))
+-- Nothing changed, but that there may be more memory.
+pub record Stays (old new : Table) : Type 0 where
+  pub key : new.key ≡ old.key
+  pub records : new.records ≡ old.records
+  pub spare : old.spare ≤ new.spare
 
--- Nothing hinders, or this fault does; and memory is refused only where it is lacking.
-abbrev pub Hinders : (limit height next count : ℕ) (lacking : Type 0) (sound : Bool) → Option SignFault → Type 0
-Hinders limit height next count lacking sound fault =
-    (has_room : Bool) × (fault ≡ hindrance limit height next count has_room sound) × (has_room ≡ false → lacking)
+-- One more record can be counted, and there is memory for it.
+pub record HasRoom (entry : Record) (table : Table) : Type 0 where
+  pub few : length table.records < 2 ^ 32 - 1
+  pub room : TakesMemory entry → 0 < table.spare
+
+-- It takes memory and there was none, or there are as many records as can be counted.
+abbrev pub LacksRoom : (entry : Record) → Table → Type 0
+LacksRoom entry table = (TakesMemory entry × (table.spare ≡ 0)) ⊎ (length table.records ≡ 2 ^ 32 - 1)
+
+-- A record was taken up, by the answer: it was added, or it can't stand after these, or there is no room for it.
+abbrev pub TakesUp : (old new : Table) → Record → Result (Unit {0}) LedgerFault → Type 0
+TakesUp old new entry (Ok done) = (can_follow (Some old.key) old.records entry ≡ true) × Grows entry old new
+TakesUp old new entry (Err Empty) = ⊥
+TakesUp old new entry (Err (Illegal k)) =
+    (can_follow (Some old.key) old.records entry ≡ false) × (k ≡ length old.records) × Stays old new
+TakesUp old new entry (Err OutOfMemory) =
+    (can_follow (Some old.key) old.records entry ≡ true) × LacksRoom entry old × Stays old new
+
+-- ---- a list of records that is taken up
+
+-- The list is legal up to a record that takes memory, or up to the 2^32nd; it is no first one.
+pub record LacksMemory (records : List Record) : Type 0 where
+  pub place : ℕ
+  pub entry : Record
+  pub stands : slice_get records place ≡ Some entry
+  pub legal : IsLegal (take (place + 1) records)
+  pub later : 0 < place
+  pub lacking : TakesMemory entry ⊎ (place ≡ 2 ^ 32 - 1)
+
+-- why a list isn't taken up
+abbrev pub IsRefused : List Record → LedgerFault → Type 0
+IsRefused records Empty = records ≡ []
+IsRefused records (Illegal k) = first_illegal records ≡ Some k
+IsRefused records OutOfMemory = LacksMemory records

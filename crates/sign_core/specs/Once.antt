@@ -1,70 +1,161 @@
--- The law over all runs: no leaf signs twice.
-use Rattle.std.specs.Prelude.{◌≡◌, ◌≢◌, ℕ, ◌<◌, ◌^◌, true, false, List, [], ◌∷◌, ◌++◌, Contains, length}
-use Rattle.std.specs.Prelude.{Option, Some, None, Ok, Err, if◌then◌else◌}
+-- The law over all runs: no leaf at any level signs two digests.
+use Rattle.std.specs.Prelude.{◌≡◌, ◌≢◌, ◌⊎◌, ◌↔◌, ℕ, ◌+◌, ◌-◌, ◌≤◌, true, false, List, [], ◌∷◌, ◌++◌, Contains}
+use Rattle.std.specs.Prelude.{length, map}
+use Rattle.std.specs.Prelude.{Option, Some, None, Ok, Err, IsOk, if◌then◌else◌, slice_get, take}
 use Rattle.std.specs.List.{AllByRecursion}
-use Rattle.typecodes.specs.declared.types.LmsPair.{LmsPair}
+use Rattle.std.specs.Option.{option_to_list}
+use Rattle.typecodes.specs.declared.spec.Spec.{Spec}
+use Rattle.typecodes.specs.declared.spec.Spec.TheVariants.{Lms, Hss, Xmss}
+use Rattle.typecodes.specs.Spec.{IsSpec}
 use Rattle.typecodes.specs.Name.{IsName}
 use Rattle.typecodes.specs.Layout.{AreBytes}
-use Rattle.typecodes.specs.Types.{height_of}
-use Rattle.lmots.specs.Key.{message_digest_of}
+use Rattle.state_file.specs.Laws.{bottom_of}
 use Rattle.state_file.specs.declared.record.Bound.{Bound}
-use Rattle.sign_core.specs.declared.ledger.LmsKey.{LmsKey}
+use Rattle.state_file.specs.declared.record.Key.{Key}
 use Rattle.state_file.specs.declared.record.Record.{Record}
-use Rattle.state_file.specs.declared.record.Record.TheVariants.{Bound as BoundRecord}
-use Rattle.sign_core.specs.declared.fault.SignFault.TheVariants.{Changed, Damaged, OutOfMemory, Stopped, StoreFailed}
-use Rattle.sign_core.specs.Ledger.{binding_of, is_sound, key_of, key_record, next_leaf, public_key_of, signature_of}
-use Rattle.sign_core.specs.Uses.{LeafUse, Uses, Verifies}
-use Rattle.sign_core.specs.World.{Chance, Creation, Event, create, request, Handed, World, acked, after, beginning}
-use Rattle.sign_core.specs.World.{created, new_bound, new_key, refused, requested, run}
+use Rattle.state_file.specs.declared.record.Record.TheVariants.{Key as KeyRecord}
+use Rattle.state_file.specs.declared.record.Secret.{Secret}
+use Rattle.state_file.specs.declared.record.Secret.TheVariants.{Lms as LmsSecret, Hss as HssSecret, Xmss as XmssSecret}
+use Rattle.sign_core.specs.declared.key.AnyPublic.{AnyPublic}
+use Rattle.sign_core.specs.declared.fault.SignFault.{SignFault}
+use Rattle.sign_core.specs.declared.fault.SignFault.TheVariants.{Changed, Damaged, Exhausted, Illegal, OutOfMemory}
+use Rattle.sign_core.specs.declared.fault.SignFault.TheVariants.{Stopped, StoreFailed, Unreadable}
+use Rattle.sign_core.specs.declared.fault.SignFault.TheVariants.{DeviceFailed, NoMemoryToOpen, RandomRepeated}
+use Rattle.sign_core.specs.Key.{KeyVerdict}
+use Rattle.sign_core.specs.Records.{binding_in, deepest, has_moved, key_in, wanted_count}
+use Rattle.sign_core.specs.Uses.{LeafUse, MakesUses}
+use Rattle.sign_core.specs.World.{Chance, Creation, Draw, Event, Fate, Handed, Opening, Outcome, State, World}
+use Rattle.sign_core.specs.World.{acked, cut_new, cut_old, no_memory, create, reopen, request, retire, stop}
+use Rattle.sign_core.specs.World.{after, answered, beginning, closed_on, created, new_key, open_on}
+use Rattle.sign_core.specs.World.{opened, reading, refused}
+use Rattle.sign_core.specs.World.{requested, retired, run, secret_from}
+use Rattle.sign_core.specs.Textbook.{digest_at, public_in, signature_at}
 
--- what is drawn has its length: I 16 bytes, SEED and C 32
-abbrev pub IsDrawn : Option (List ℕ) → Type 0
-IsDrawn None = Unit {0}
-IsDrawn (Some randomizer) = (length randomizer ≡ 32) × AreBytes randomizer
+-- ---- events that can come
 
-abbrev pub AreDrawn : Option (List ℕ × List ℕ) → Type 0
-AreDrawn None = Unit {0}
-AreDrawn (Some drawn) = (length drawn.0 ≡ 16) × AreBytes drawn.0 × (length drawn.1 ≡ 32) × AreBytes drawn.1
+-- the fields of a draw have their sizes in bytes; the last of them may be missing
+abbrev pub AreFields : (sizes : List ℕ) → (fields : List (List ℕ)) → Type 0
+AreFields sizes [] = Unit {0}
+AreFields [] (field ∷ fields) = ⊥
+AreFields (size ∷ sizes) (field ∷ fields) = (length field ≡ size) × AreBytes field × AreFields sizes fields
+
+-- what a create draws: I and SEED, or the three seeds of XMSS
+abbrev pub key_sizes : Spec → List ℕ
+key_sizes (Lms pair) = 16 ∷ 32 ∷ []
+key_sizes (Hss levels) = 16 ∷ 32 ∷ []
+key_sizes (Xmss tree) = 32 ∷ 32 ∷ 32 ∷ []
+
+-- what a new tree draws: I, SEED and C
+abbrev pub tree_sizes : List ℕ
+tree_sizes = 16 ∷ 32 ∷ 32 ∷ []
+
+abbrev pub IsTreeDraw : Draw → Type 0
+IsTreeDraw draw = AreFields tree_sizes draw.fields
+
+-- what a binding draws: C, but nothing for XMSS
+abbrev pub randomizer_sizes : Secret → List ℕ
+randomizer_sizes (LmsSecret pair identifier seed) = 32 ∷ []
+randomizer_sizes (HssSecret levels identifier seed) = 32 ∷ []
+randomizer_sizes (XmssSecret tree secret_seed prf_key public_seed) = []
+
+-- The draws of a request: those of trees, and C for the binding.
+pub record AreDraws (chance : Chance) : Type 0 where
+  pub trees : AllByRecursion IsTreeDraw chance.trees
+  pub bound : AreFields (32 ∷ []) chance.bound.fields
+
+-- what the load of record 0 can fail with in a create, and what stops an opening at a slot
+abbrev pub CanFailLoad : Option SignFault → Type 0
+CanFailLoad None = Unit {0}
+CanFailLoad (Some fault) =
+    (fault ≡ Stopped) ⊎ (fault ≡ Unreadable 0) ⊎ (fault ≡ StoreFailed) ⊎ (fault ≡ OutOfMemory)
+
+abbrev pub CanStopOpening : Opening → Type 0
+CanStopOpening None = Unit {0}
+CanStopOpening (Some (slot, fault)) =
+    (fault ≡ Stopped) ⊎ (fault ≡ Unreadable slot) ⊎ (fault ≡ DeviceFailed) ⊎ (fault ≡ NoMemoryToOpen)
 
 abbrev pub IsEvent : Event → Type 0
-IsEvent (create pair chance) = AreDrawn chance.drawn
-IsEvent (request name message chance) = IsName name × IsDrawn chance.drawn
+IsEvent (create spec chance) =
+    IsSpec spec × CanFailLoad chance.failed_load × AreFields (key_sizes spec) chance.fields
+IsEvent (reopen chance) = CanStopOpening chance
+IsEvent (request name chance) = IsName name × AreDraws chance
+IsEvent (retire upto fate) = Unit {0}
+IsEvent stop = Unit {0}
 
 -- each event is one that can come
 abbrev pub AllEvents : List Event → Type 0
 AllEvents events = AllByRecursion IsEvent events
 
+-- ---- draws of which none is missing
+
+-- as many fields as sizes, and an append that is acknowledged
+pub record IsComplete (sizes : List ℕ) (draw : Draw) : Type 0 where
+  pub fields : length draw.fields ≡ length sizes
+  pub acknowledged : draw.fate ≡ acked
+
+-- What a request draws for so many new trees and a binding: nothing of it fails.
+pub record AreComplete (secret : Secret) (trees : ℕ) (chance : Chance) : Type 0 where
+  pub enough : length chance.trees ≡ trees
+  pub each : (i : ℕ) (draw : Draw) → slice_get chance.trees i ≡ Some draw → IsComplete tree_sizes draw
+  pub bound : IsComplete (randomizer_sizes secret) chance.bound
+  pub room : chance.has_room ≡ true
+
 -- ---- what was handed out
 
--- A signature that was handed out is the recorded one: its name is bound, to the digest of its message
--- under the bound leaf and C, and its bytes are those of the binding's textbook signature.
-pub record IsRecorded (records : List Record) (x : Handed) : Type 0 where
-  pub key : LmsKey
-  pub bound : Bound
-  pub keyed : key_of records ≡ Some key
-  pub named : binding_of records x.name ≡ Some bound
-  pub digest : message_digest_of key.identifier bound.leaf bound.randomizer x.message ≡ bound.digest
-  pub signature : x.signature ≡ signature_of key bound
+-- The bytes are a valid signature of the message under the key.
+abbrev pub Verifies : AnyPublic → (message bytes : List ℕ) → Type 0
+Verifies public message bytes = KeyVerdict {A = Unit {0}} public message bytes (Ok tt)
 
--- Two signatures were handed out, and by their bytes they use one leaf of the key's tree.
-pub record ShareLeaf (world : World) (x y : Handed) (u v : LeafUse) : Type 0 where
-  pub key : LmsKey
-  pub keyed : key_of world.state.records ≡ Some key
+-- A name is bound to the digest of this message under the bound leaf and C.
+pub record IsBoundTo (records : List Record) (key : Key) (name message : List ℕ) (k : ℕ) (bound : Bound) : Type 0 where
+  pub keyed : key_in records ≡ Some key
+  pub named : binding_in records name ≡ Some (k, bound)
+  pub digest : digest_at key records k bound.leaf bound.randomizer message ≡ bound.digest
+
+-- A signature that was handed out is the textbook signature of its name's binding, to the digest of its message.
+pub record IsRecorded (records : List Record) (x : Handed) : Type 0 where
+  pub key : Key
+  pub k : ℕ
+  pub bound : Bound
+  pub is_bound : IsBoundTo records key x.name x.message k bound
+  pub signature : x.signature ≡ signature_at key records k bound
+
+-- the public key of the world's record 0
+abbrev pub public_of_key : Option Key → Option AnyPublic
+public_of_key None = None
+public_of_key (Some key) = public_in key
+
+abbrev pub public_in_world : World → Option AnyPublic
+public_in_world world = public_of_key (key_in world.state.records)
+
+-- Two signatures were handed out, and by their bytes they make these uses.
+pub record WereHanded (world : World) (x y : Handed) (uses others : List LeafUse) : Type 0 where
+  pub public : AnyPublic
+  pub keyed : public_in_world world ≡ Some public
   pub first : Contains world.handed x
   pub second : Contains world.handed y
-  pub first_use : Uses (public_key_of key) x.message x.signature u
-  pub second_use : Uses (public_key_of key) y.message y.signature v
+  pub first_uses : MakesUses public x.message x.signature uses
+  pub second_uses : MakesUses public y.message y.signature others
+
+-- Two uses are of one leaf of one tree.
+pub record IsOneLeaf (u v : LeafUse) : Type 0 where
   pub identifier : u.identifier ≡ v.identifier
   pub leaf : u.leaf ≡ v.leaf
+
+-- the use of the bottom level is the last one
+abbrev pub IsLast : LeafUse → List LeafUse → Type 0
+IsLast u uses = (above : List LeafUse) × (uses ≡ above ++ u ∷ [])
 
 -- ---- the law
 
 -- What holds in a world, whatever came before.
 pub record IsOnce (limit : ℕ) (world : World) : Type 0 where
-  -- no leaf signs two digests
-  pub one_digest : (x y : Handed) (u v : LeafUse) → ShareLeaf world x y u v → u.digest ≡ v.digest
-  -- no leaf signs under two names
-  pub one_name : (x y : Handed) (u v : LeafUse) → ShareLeaf world x y u v → x.name ≡ y.name
+  -- no leaf at any level signs two digests
+  pub one_digest : (x y : Handed) (uses others : List LeafUse) (u v : LeafUse) → WereHanded world x y uses others
+      → Contains uses u → Contains others v → IsOneLeaf u v → u.digest ≡ v.digest
+  -- no leaf of a bottom tree signs under two names
+  pub one_name : (x y : Handed) (uses others : List LeafUse) (u v : LeafUse) → WereHanded world x y uses others
+      → IsLast u uses → IsLast v others → IsOneLeaf u v → x.name ≡ y.name
   -- one name has one signature
   pub one_signature : (x y : Handed) → Contains world.handed x → Contains world.handed y → x.name ≡ y.name
       → x.signature ≡ y.signature
@@ -72,62 +163,152 @@ pub record IsOnce (limit : ℕ) (world : World) : Type 0 where
   pub recorded : (x : Handed) → Contains world.handed x → IsRecorded world.state.records x
   -- and is valid for its message under the key
   pub valid : (x : Handed) → Contains world.handed x
-      → (key : LmsKey) × (key_of world.state.records ≡ Some key) × Verifies (public_key_of key) x.message x.signature
+      → (public : AnyPublic) × (public_in_world world ≡ Some public) × Verifies public x.message x.signature
   -- what a request answers is handed out
-  pub counted : (name message signature : List ℕ) (chance : Chance)
-      → (requested limit world.state name message chance).answer ≡ Ok signature
-      → Contains (after limit world (request name message chance)).handed
+  pub counted : (name message signature : List ℕ) (chance : Chance) → chance.given ≡ Some message
+      → (requested limit world.state name chance).answer ≡ Ok signature
+      → Contains (after limit world (request name chance)).handed
       (record { name = name; message = message; signature = signature })
-  -- a create where no record stands begins a key, where nothing fails
-  pub begins : (pair : LmsPair) (identifier seed : List ℕ) (chance : Creation) → world.state.records ≡ []
-      → chance.failed_load ≡ None → chance.drawn ≡ Some (identifier, seed)
-      → chance.has_room ≡ true → chance.fate ≡ acked
-      → (let key = new_key pair identifier seed in
-      created world.state pair chance ≡ record {
-        state = record { records = key_record key ∷ []; is_open = true };
-        answer = Ok (public_key_of key);
-      })
-  -- a request to an open signer whose name is bound to another digest is refused as changed, and changes nothing
-  pub changed : (key : LmsKey) (bound : Bound) (name message : List ℕ) (chance : Chance) → world.state.is_open ≡ true
-      → key_of world.state.records ≡ Some key → binding_of world.state.records name ≡ Some bound
-      → message_digest_of key.identifier bound.leaf bound.randomizer message ≢ bound.digest
-      → requested limit world.state name message chance ≡ refused world.state Changed
+  -- a request to an open signer whose name is bound to another digest is refused as changed, and changes nothing; no
+  -- record follows a Moved
+  pub changed : (key : Key) (k : ℕ) (bound : Bound) (name message : List ℕ) (chance : Chance)
+      → world.state.is_open ≡ true → has_moved world.state.records ≡ false → key_in world.state.records ≡ Some key
+      → binding_in world.state.records name ≡ Some (k, bound) → chance.given ≡ Some message
+      → digest_at key world.state.records k bound.leaf bound.randomizer message ≢ bound.digest
+      → requested limit world.state name chance ≡ reading (refused world.state Changed)
   -- a repeated one gets the recorded signature, unless memory is refused, and changes nothing
-  pub repeated : (key : LmsKey) (bound : Bound) (name message : List ℕ) (chance : Chance) → world.state.is_open ≡ true
-      → key_of world.state.records ≡ Some key → binding_of world.state.records name ≡ Some bound
-      → message_digest_of key.identifier bound.leaf bound.randomizer message ≡ bound.digest
-      → requested limit world.state name message chance
-      ≡ record {
-        state = world.state;
-        answer = if chance.has_room then Ok (signature_of key bound) else Err OutOfMemory;
-      }
-  -- a new name gets the next leaf, where one is left, the store takes one more record and nothing fails
-  pub fresh : (key : LmsKey) (name message randomizer : List ℕ) (chance : Chance) → world.state.is_open ≡ true
-      → key_of world.state.records ≡ Some key → binding_of world.state.records name ≡ None
-      → next_leaf world.state.records < 2 ^ height_of key.pair.tree → length world.state.records < limit
-      → chance.has_room ≡ true → chance.drawn ≡ Some randomizer → chance.fate ≡ acked
-      → (let new = new_bound key (next_leaf world.state.records) name message randomizer in
-      requested limit world.state name message chance
-      ≡ record {
-        state = record { records = world.state.records ++ BoundRecord new ∷ []; is_open = true };
-        answer = Ok (signature_of key new);
-      })
-  -- the recorded root is that of the recorded secret
-  pub sound : (key : LmsKey) → key_of world.state.records ≡ Some key → is_sound key ≡ true
-  -- so no request is answered that a record is damaged
-  pub undamaged : (name message : List ℕ) (chance : Chance) (slot : ℕ)
-      → (requested limit world.state name message chance).answer ≢ Err (Damaged slot)
-  -- a request whose append the store fails closes the signer
-  pub stops : (name message : List ℕ) (chance : Chance)
-      → (requested limit world.state name message chance).answer ≡ Err StoreFailed
-      → (requested limit world.state name message chance).state.is_open ≡ false
+  pub repeated : (key : Key) (k : ℕ) (bound : Bound) (name message : List ℕ) (chance : Chance)
+      → world.state.is_open ≡ true → has_moved world.state.records ≡ false → chance.given ≡ Some message
+      → IsBoundTo world.state.records key name message k bound
+      → requested limit world.state name chance
+      ≡ reading (if chance.has_room then answered world.state (signature_at key world.state.records k bound)
+      else refused world.state OutOfMemory)
+  -- a create where no record stands begins a key, where nothing fails
+  pub begins : (spec : Spec) (secret : Secret) (chance : Creation) → IsSpec spec → world.state.records ≡ []
+      → chance.failed_load ≡ None → secret_from spec chance.fields ≡ Some secret → chance.has_room ≡ true
+      → chance.fate ≡ acked
+      → (created world.state spec chance).state ≡ open_on (KeyRecord (new_key secret) ∷ [])
+  -- a new name is signed where a leaf is free, the store takes the records that are wanted and nothing fails, but for
+  -- an I
+  -- that was drawn before
+  pub fresh : (key : Key) (level : ℕ) (name message : List ℕ) (chance : Chance) → world.state.is_open ≡ true
+      → has_moved world.state.records ≡ false → key_in world.state.records ≡ Some key
+      → binding_in world.state.records name ≡ None → deepest key.secret world.state.records ≡ Some level
+      → length world.state.records + wanted_count key.secret level ≤ limit → chance.given ≡ Some message
+      → AreComplete key.secret (bottom_of key.secret - level) chance
+      → ((requested limit world.state name chance).answer ≡ Err RandomRepeated)
+      ⊎ IsOk (requested limit world.state name chance).answer
+  -- 22 comes exactly where no leaf is free at any level
+  pub exhausted : (key : Key) (name : List ℕ) (chance : Chance) → world.state.is_open ≡ true
+      → has_moved world.state.records ≡ false → key_in world.state.records ≡ Some key
+      → binding_in world.state.records name ≡ None
+      → ((requested limit world.state name chance).answer ≡ Err Exhausted)
+      ↔ (deepest key.secret world.state.records ≡ None)
+  -- no request is answered that a record is damaged
+  pub undamaged : (name : List ℕ) (chance : Chance) (slot : ℕ)
+      → (requested limit world.state name chance).answer ≢ Err (Damaged slot)
+  -- and no opening that the records aren't legal
+  pub legal : (chance : Opening) (slot : ℕ) → CanStopOpening chance
+      → (opened world.state chance).answer ≢ Err (Illegal slot)
+  -- an opening where nothing fails opens the signer on the records, where there is a key
+  pub reopens : (key : Key) → key_in world.state.records ≡ Some key
+      → (opened world.state None).state ≡ open_on world.state.records
+  -- a request or a retiring whose append the store fails closes the signer
+  pub stops : (name : List ℕ) (chance : Chance)
+      → (requested limit world.state name chance).answer ≡ Err StoreFailed
+      → (requested limit world.state name chance).state.is_open ≡ false
   -- and a closed one hands nothing out and changes nothing
-  pub closed : (name message : List ℕ) (chance : Chance) → world.state.is_open ≡ false
-      → requested limit world.state name message chance ≡ refused world.state Stopped
+  pub closed : (name : List ℕ) (chance : Chance) → world.state.is_open ≡ false
+      → requested limit world.state name chance ≡ refused world.state Stopped
 
 -- it holds after every list of events from the beginning
 abbrev pub OnceLaw : Type 0
 OnceLaw = (limit : ℕ) (events : List Event) → AllEvents events → IsOnce limit (run limit beginning events)
+
+-- ---- cuts
+
+-- the other outcome of an append that is cut off
+abbrev pub turned : Fate → Fate
+turned acked = acked
+turned cut_old = cut_new
+turned cut_new = cut_old
+turned no_memory = no_memory
+
+abbrev pub turned_draw : Draw → Draw
+turned_draw draw = record { fields = draw.fields; fate = turned draw.fate }
+
+abbrev pub turned_chance : Chance → Chance
+turned_chance chance = record {
+  has_room = chance.has_room;
+  trees = map turned_draw chance.trees;
+  bound = turned_draw chance.bound;
+  given = chance.given;
+}
+
+abbrev pub turned_creation : Creation → Creation
+turned_creation chance = record {
+  failed_load = chance.failed_load;
+  fields = chance.fields;
+  has_room = chance.has_room;
+  fate = turned chance.fate;
+}
+
+-- what was reached: the acknowledged records, and the one whose append was cut off, if one was
+abbrev pub reached : {A : Type 0} → Outcome A → List Record
+reached outcome = outcome.acknowledged ++ option_to_list outcome.failed
+
+-- Two outcomes differ at most in what a cut left: the acknowledged records, or all that was reached.
+pub record IsOther {A : Type 0} (first second : Outcome A) : Type 0 where
+  pub answer : second.answer ≡ first.answer
+  pub is_open : second.state.is_open ≡ first.state.is_open
+  pub acknowledged : second.acknowledged ≡ first.acknowledged
+  pub failed : second.failed ≡ first.failed
+  pub drawn : second.drawn ≡ first.drawn
+  pub is_read : second.is_read ≡ first.is_read
+  pub uncut : first.failed ≡ None → second.state ≡ first.state
+  pub left : first.failed ≢ None → ((first.state.records ≡ first.acknowledged) × (second.state.records ≡ reached first))
+      ⊎ ((first.state.records ≡ reached first) × (second.state.records ≡ first.acknowledged))
+
+-- Where an append is cut off, the event with the other outcome is one that can come as well, and leaves the other list.
+pub record CutLaw : Type 0 where
+  pub creates : (state : State) (spec : Spec) (chance : Creation)
+      → IsOther (created state spec chance) (created state spec (turned_creation chance))
+  pub requests : (limit : ℕ) (state : State) (name : List ℕ) (chance : Chance)
+      → IsOther (requested limit state name chance) (requested limit state name (turned_chance chance))
+  pub retires : (limit : ℕ) (state : State) (upto : ℕ) (fate : Fate)
+      → IsOther (retired limit state upto fate) (retired limit state upto (turned fate))
+  pub events : (spec : Spec) (creation : Creation) (name : List ℕ) (chance : Chance)
+      → (IsEvent (create spec creation) → IsEvent (create spec (turned_creation creation)))
+      × (IsEvent (request name chance) → IsEvent (request name (turned_chance chance)))
+
+-- ---- stops inside of an event
+
+-- a beginning of all, no shorter than this
+pub record IsBeginning (least : ℕ) (all left : List Record) : Type 0 where
+  pub count : ℕ
+  pub enough : least ≤ count
+  pub beginning : left ≡ take count all
+
+-- Events that can come lead from a world to a closed one with these records, and hand out nothing.
+pub record IsLeftBy (limit : ℕ) (world : World) (left : List Record) : Type 0 where
+  pub events : List Event
+  pub possible : AllEvents events
+  pub leads : run limit world events ≡ record { state = closed_on left; handed = world.handed }
+
+-- What a stop at any moment of an event leaves, a beginning of what the event reaches and no shorter than the records
+-- before it, is what events leave that can come: one whose append is cut off there, or none and a stop.
+pub record StopLaw : Type 0 where
+  pub creates : (limit : ℕ) (world : World) (spec : Spec) (chance : Creation) (left : List Record)
+      → IsEvent (create spec chance)
+      → IsBeginning (length world.state.records) (reached (created world.state spec chance)) left
+      → IsLeftBy limit world left
+  pub requests : (limit : ℕ) (world : World) (name : List ℕ) (chance : Chance) (left : List Record)
+      → IsEvent (request name chance)
+      → IsBeginning (length world.state.records) (reached (requested limit world.state name chance)) left
+      → IsLeftBy limit world left
+  pub retires : (limit : ℕ) (world : World) (upto : ℕ) (fate : Fate) (left : List Record)
+      → IsBeginning (length world.state.records) (reached (retired limit world.state upto fate)) left
+      → IsLeftBy limit world left
 
 -- ---- what lasts
 

@@ -1,107 +1,435 @@
--- What the calls of a signer are: steps of the world.
-use Rattle.std.specs.Prelude.{◌≡◌, ℕ, ◌+◌, Bool, false, ◌&&◌, ◌||◌, List, []}
-use Rattle.std.specs.Prelude.{Option, Some, None, is_some, Result, Ok, Err, if◌then◌else◌}
+-- What a signer over a store is to its callers, and what its calls are: steps of the world.
+use Rattle.std.specs.Prelude.{◌≡◌, ◌⊎◌, ℕ, ◌+◌, ◌<◌, ◌≤◌, Bool, true, false, IsTrue, List, [], ◌∷◌, ◌++◌}
+use Rattle.std.specs.Prelude.{length}
+use Rattle.std.specs.Prelude.{Option, Some, None, Result, Ok, Err}
+use Rattle.std.specs.List.{concat}
+use Rattle.typecodes.specs.declared.message.Message as message
+use Rattle.typecodes.specs.declared.spec.Spec.{Spec}
+use Rattle.typecodes.specs.Message.{CantBeRead, ReadWhole}
+use Rattle.typecodes.specs.Types.{lms_signature_len_of, xmss_signature_len_of}
+use Rattle.hss.specs.Signature.{signature_size as hss_signature_size}
+use Rattle.state_file.specs.declared.refused.Refused.{Refused}
 use Rattle.state_file.specs.declared.record.Bound.{Bound}
+use Rattle.state_file.specs.declared.record.Key.{Key}
 use Rattle.state_file.specs.declared.record.Record.{Record}
-use Rattle.typecodes.specs.Types.{lms_signature_len_of}
-use Rattle.sign_core.specs.declared.ledger.LmsKey.{LmsKey}
+use Rattle.state_file.specs.declared.record.Record.TheVariants.{Key as KeyRecord}
+use Rattle.state_file.specs.declared.record.Secret.{Secret}
+use Rattle.state_file.specs.declared.record.Secret.TheVariants.{Lms, Hss, Xmss}
+use Rattle.state_file.specs.declared.store.Store as store
+use Rattle.state_file.specs.Disk.{Counts, LeavesOnly}
+use Rattle.state_file.specs.Laws.{IsLegal, bottom_of}
+use Rattle.state_file.specs.Store.{IsRecordAt}
+use Rattle.sign_core.specs.declared.key.AnyPublic.{AnyPublic}
 use Rattle.sign_core.specs.declared.fault.SignFault.{SignFault}
-use Rattle.sign_core.specs.declared.fault.SignFault.TheVariants.{RandomFailed, StoreFailed, OutOfMemory}
-use Rattle.sign_core.specs.Ledger.{LacksMemory, binding_of}
-use Rattle.sign_core.specs.Once.{IsDrawn}
+use Rattle.sign_core.specs.declared.fault.SignFault.TheVariants.{DeviceFailed, NoMemoryToOpen, OutOfMemory}
+use Rattle.sign_core.specs.declared.fault.SignFault.TheVariants.{KeyThere, RandomFailed, StoreFailed}
+use Rattle.sign_core.specs.declared.fault.SignFault.TheVariants.{Illegal, Moved, Stopped, Unreadable}
+use Rattle.sign_core.specs.declared.source.Source as source
 use Rattle.sign_core.specs.Source.{Provides}
-use Rattle.sign_core.specs.World.{Chance, State, acked, repeated, requested}
+use Rattle.sign_core.specs.Records.{binding_in, can_follow, deepest, key_in, leaves_of_current, next_at}
+use Rattle.sign_core.specs.Records.{wanted_count}
+use Rattle.sign_core.specs.Once.{AreDraws, AreFields, IsBeginning, key_sizes}
+use Rattle.sign_core.specs.Once.{public_of_key, reached}
+use Rattle.sign_core.specs.World.{Chance, Creation, Fate, Opening, Outcome, State}
+use Rattle.sign_core.specs.World.{answered, appended, closed_on, created, open_on, opened, requested}
+use Rattle.sign_core.specs.World.{retired, secret_from}
+use Rattle.sign_core.specs.Ledger.{Table}
+use Rattle.sign_core.specs.Textbook.{AllHaveSizes, public_in}
 
--- What a signer is, to its callers: its store, its source, the key of record 0, whether it is open, and for how
--- many more bindings its ledger has memory.
+-- ---- a signer
+
+-- What a signer is, to its callers: its store, its source, its records, whether it is open, and for how many more
+-- records it has memory.
 pub record View (S R : Type 0) : Type 0 where
   pub store : S
   pub random : R
-  pub key : LmsKey
+  pub records : List Record
   pub is_open : Bool
   pub spare : ℕ
 
-abbrev pub state_of : List Record → Bool → State
-state_of records is_open = record { records = records; is_open = is_open }
+-- one with these parts, and the ledger's records and memory
+abbrev pub view_of : {S R : Type 0} → S → R → Table → (is_open : Bool) → View S R
+view_of store random ledger is_open = record {
+  store = store;
+  random = random;
+  records = ledger.records;
+  is_open = is_open;
+  spare = ledger.spare;
+}
 
--- the answer of a call that gives this value where it is Ok
-abbrev pub answered : {A B : Type 0} → Result A SignFault → B → Result B SignFault
-answered (Ok _) value = Ok value
-answered (Err fault) value = Err fault
+-- its state in the world
+abbrev pub state_of : {S R : Type 0} → View S R → State
+state_of view = record { records = view.records; is_open = view.is_open }
 
--- ---- requests
+-- The store runs, it has as many records, and where it is honest it has these.
+pub record IsTied {S : Type 0} (g : store.Ghosts S) (kept_in : S) (records : List Record) : Type 0 where
+  pub running : g.stopped kept_in ≡ false
+  pub long : length (g.list kept_in) ≡ length records
+  pub same : IsTrue (g.honest kept_in) → g.list kept_in ≡ records
 
--- the source gave C, or it gave nothing
-abbrev pub Draws : Option (List ℕ) → (upcoming left : Option (List ℕ)) → Type 0
-Draws None upcoming left = left ≡ upcoming
-Draws (Some bytes) upcoming left = Provides upcoming bytes left
+-- Its records are legal. While it is open they are those of its store; where it is closed, its store has stopped.
+pub record IsSigner {S R : Type 0} (g : store.Ghosts S) (view : View S R) : Type 0 where
+  pub legal : IsLegal view.records
+  pub sizes : AllHaveSizes view.records
+  pub tied : view.is_open ≡ true → IsTied g view.store view.records
+  pub shut : view.is_open ≡ false → g.stopped view.store ≡ true
 
--- whether a request reads its message: where its name is bound, or C was drawn for it
-abbrev pub is_read : State → List ℕ → Option (List ℕ) → Bool
-is_read state name drawn = (state.is_open && is_some (binding_of state.records name)) || is_some drawn
+-- ---- what a call does to the store
 
--- How often a store has refused memory: once more where a signer answers so though it had room itself, and else not.
-abbrev pub RefusalCount : {A : Type 0} → Result A SignFault → (has_room : Bool) (before after : ℕ) → Type 0
-RefusalCount (Err OutOfMemory) has_room before after = after ≡ (if has_room then before + 1 else before)
-RefusalCount _ has_room before after = after ≡ before
+-- The records that a call adds are added to the store's list, too.
+pub record GrowsAlike (old_list new_list old_records new_records : List Record) : Type 0 where
+  pub more : List Record
+  pub list : new_list ≡ old_list ++ more
+  pub records : new_records ≡ old_records ++ more
 
--- A call of sign is a step of the world, by some chance: the drawn C is what the source gave, memory is refused
--- only where it is lacking and before C is drawn, or by the store, and the message is read to its end or left.
-pub record Signs (limit : ℕ) (lacking : Type 0) (old new : State) (upcoming left : Option (List ℕ))
-    (refusals_before refusals_after : ℕ) (name message rest : List ℕ) (answer : Result (List ℕ) SignFault)
+-- the device failed, the source did, or memory was refused
+abbrev pub is_store_failed : SignFault → Bool
+is_store_failed StoreFailed = true
+is_store_failed _ = false
+
+abbrev pub is_random_failed : SignFault → Bool
+is_random_failed RandomFailed = true
+is_random_failed _ = false
+
+abbrev pub is_out_of_memory : SignFault → Bool
+is_out_of_memory OutOfMemory = true
+is_out_of_memory _ = false
+
+-- the device failed while the records were read
+abbrev pub is_device_failed : SignFault → Bool
+is_device_failed DeviceFailed = true
+is_device_failed _ = false
+
+-- memory was refused while the records were read
+abbrev pub is_no_memory : SignFault → Bool
+is_no_memory NoMemoryToOpen = true
+is_no_memory _ = false
+
+-- What a call does to its store: the list grows as the records do; a stop at any moment of it leaves the old records
+-- and a beginning of those that were reached; and each failure of the device is answered.
+pub record KeepsStore {S A : Type 0} (g : store.Ghosts S) (old new : S) (records : List Record)
+    (outcome : Outcome A) : Type 0 where
+  pub list : GrowsAlike (g.list old) (g.list new) records outcome.state.records
+  pub moments : IsTrue (g.honest old) → g.stopped old ≡ false
+      → LeavesOnly g.moment g.left_since old new (IsBeginning (length records) (reached outcome))
+  pub failures : Counts is_store_failed (g.failures old) (g.failures new) outcome.answer
+  pub honest : g.honest new ≡ g.honest old
+  pub most : g.most new ≡ g.most old
+
+-- The outcome is that of a call of a signer.
+pub record Ends {S R A : Type 0} (g : store.Ghosts S) (old new : View S R) (outcome : Outcome A)
+    (answer : Result A SignFault) : Type 0 where
+  pub answer_is : outcome.answer ≡ answer
+  pub records : new.records ≡ outcome.acknowledged
+  pub is_open : new.is_open ≡ outcome.state.is_open
+  pub store : KeepsStore g old.store new.store old.records outcome
+
+-- What an append does to a store that runs and has room, by its answer: to the list, to whether the store has stopped,
+-- and to the count of its device's failures.
+abbrev pub AppendsTo : {A : Type 0} (old : List Record) (entry : Record) (new : List Record) (stopped : Bool)
+    (failures_before failures_after : ℕ) → Result A SignFault → Type 0
+AppendsTo old entry new stopped before after (Ok _) =
+    (new ≡ old ++ entry ∷ []) × (stopped ≡ false) × (after ≡ before)
+AppendsTo old entry new stopped before after (Err StoreFailed) =
+    ((new ≡ old) ⊎ (new ≡ old ++ entry ∷ [])) × (stopped ≡ true) × (after ≡ before + 1)
+AppendsTo old entry new stopped before after (Err OutOfMemory) =
+    (new ≡ old) × (stopped ≡ false) × (after ≡ before)
+AppendsTo old entry new stopped before after (Err _) = ⊥
+
+-- a stop at any moment of it leaves the old list, or the new record as well
+abbrev pub LeavesEither : {S : Type 0} → store.Ghosts S → (old new : S) → Record → Type 0
+LeavesEither g old new entry = IsTrue (g.honest old) → g.stopped old ≡ false
+    → LeavesOnly g.moment g.left_since old new (λ left. (left ≡ g.list old) ⊎ (left ≡ g.list old ++ entry ∷ []))
+
+-- .. or of a call that adds nothing, the old list
+abbrev pub LeavesOld : {S : Type 0} → store.Ghosts S → (old new : S) → Type 0
+LeavesOld g old new = IsTrue (g.honest old) → g.stopped old ≡ false
+    → LeavesOnly g.moment g.left_since old new (λ left. left ≡ g.list old)
+
+-- all that an append comes to
+pub record IsAppended {S A : Type 0} (g : store.Ghosts S) (old new : S) (entry : Record) (answer : Result A SignFault)
     : Type 0 where
+  pub running : g.stopped old ≡ false
+  pub stored : AppendsTo (g.list old) entry (g.list new) (g.stopped new) (g.failures old) (g.failures new) answer
+  pub moments : LeavesEither g old new entry
+  pub refused : answer ≡ Err OutOfMemory → LeavesOld g old new
+  pub refusals : Counts is_out_of_memory (g.refusals old) (g.refusals new) answer
+  pub honest : g.honest new ≡ g.honest old
+  pub most : g.most new ≡ g.most old
+
+-- a record is added, and nothing answered
+abbrev pub added : State → Record → Fate → Outcome (Unit {0})
+added state entry fate = appended state entry fate (λ records. answered (open_on records) tt)
+
+-- A signer appends a record, with some fate, and takes it up where the append is acknowledged.
+pub record Adds {S R : Type 0} (g : store.Ghosts S) (old new : View S R) (entry : Record)
+    (answer : Result (Unit {0}) SignFault) : Type 0 where
+  pub fate : Fate
+  pub ends : Ends g old new (added (state_of old) entry fate) answer
+  pub random : new.random ≡ old.random
+  pub refusals : Counts is_out_of_memory (g.refusals old.store) (g.refusals new.store) answer
+  pub spare : old.spare ≤ new.spare + 1
+
+-- why a signer is hindered at once: it is closed, or its records go on elsewhere
+abbrev pub Hinders : (is_open has_moved : Bool) → SignFault → Type 0
+Hinders is_open has_moved Stopped = is_open ≡ false
+Hinders is_open has_moved Moved = (is_open ≡ true) × (has_moved ≡ true)
+Hinders is_open has_moved _ = ⊥
+
+-- ---- sign
+
+-- how many bytes a key's signatures have
+abbrev pub signature_size : Secret → ℕ
+signature_size (Lms pair identifier seed) = lms_signature_len_of pair
+signature_size (Hss levels identifier seed) = hss_signature_size levels
+signature_size (Xmss tree secret_seed prf_key public_seed) = xmss_signature_len_of tree
+
+-- how many records a new name wants
+abbrev pub wanted_by : Secret → Option ℕ → ℕ
+wanted_by secret None = 0
+wanted_by secret (Some level) = wanted_count secret level
+
+-- The memory that a request lacks: the output, of this capacity, can't take the signature; or, under a name that isn't
+-- bound, there is none for as many more records as it wants.
+abbrev pub LacksMemory : Secret → (wanted : ℕ) → Option (ℕ × Bound) → (capacity spare : ℕ) → Type 0
+LacksMemory secret wanted (Some found) capacity spare = capacity < signature_size secret
+LacksMemory secret wanted None capacity spare = (capacity < signature_size secret) ⊎ (spare < wanted)
+
+-- What becomes of the message: it was read whole and gave this text, or can't be read; or it is as it was.
+abbrev pub IsRead : {M : Type 0} → message.Ghosts M → (is_read : Bool) → (given : Option (List ℕ)) → M → M → Type 0
+IsRead m true (Some text) old new = ReadWhole m.transition m.remaining text old new
+IsRead m true None old new = CantBeRead m.transition old new
+IsRead m false given old new = new ≡ old
+
+-- A refusal for want of memory is the signer's own, before anything is drawn, or one of its store.
+abbrev pub RefusesMemory : {A : Type 0} → (has_room : Bool) → Result A SignFault → (before after : ℕ) → Type 0
+RefusesMemory true answer before after = Counts is_out_of_memory before after answer
+RefusesMemory false answer before after = after ≡ before
+
+-- A call of sign is a step of the world, by some chance: the bytes that are drawn are those that the source gave; the
+-- message is read or as it was; and memory is refused only where it is lacking.
+pub record Signs {S R M : Type 0} (g : store.Ghosts S) (r : source.Ghosts R) (m : message.Ghosts M)
+    (old new : View S R) (name : List ℕ) (before after : M) (capacity : ℕ) (answer : Result (List ℕ) SignFault)
+    : Type 0 where
+  pub key : Key
+  pub keyed : key_in old.records ≡ Some key
   pub chance : Chance
-  pub step : requested limit old name message chance ≡ record { state = new; answer = answer }
-  pub drawn : Draws chance.drawn upcoming left
-  pub possible : IsDrawn chance.drawn
-  pub memory : chance.has_room ≡ false → lacking
-  pub early : chance.has_room ≡ false → chance.drawn ≡ None
-  pub refusals : RefusalCount answer chance.has_room refusals_before refusals_after
-  pub read : rest ≡ (if is_read old name chance.drawn then [] else message)
+  pub outcome : Outcome (List ℕ)
+  pub step : requested (g.most old.store) (state_of old) name chance ≡ outcome
+  pub ends : Ends g old new outcome answer
+  pub possible : AreDraws chance
+  pub source : Provides (r.upcoming old.random) outcome.drawn (r.upcoming new.random)
+  pub failures : Counts is_random_failed (r.failures old.random) (r.failures new.random) answer
+  pub message : IsRead m outcome.is_read chance.given before after
+  pub room : chance.has_room ≡ false → LacksMemory key.secret (wanted_by key.secret (deepest key.secret old.records))
+      (binding_in old.records name) capacity old.spare
+  pub refusals : RefusesMemory chance.has_room answer (g.refusals old.store) (g.refusals new.store)
 
--- The same of a signer: its store has these records, takes so many and has refused memory so often, its source has so
--- much still to give, and the output has this capacity.
-abbrev pub SignsOver : {S R : Type 0} → (S → List Record) → (most refusals : S → ℕ) → (R → Option (List ℕ))
-    → (old new : View S R) → (name message rest : List ℕ) (capacity : ℕ) → Result (List ℕ) SignFault → Type 0
-SignsOver list most refusals upcoming old new name message rest capacity answer =
-    let size = lms_signature_len_of old.key.pair in
-    Signs (most old.store) (LacksMemory (binding_of (list old.store) name) size capacity old.spare)
-    (state_of (list old.store) old.is_open) (state_of (list new.store) new.is_open)
-    (upcoming old.random) (upcoming new.random) (refusals old.store) (refusals new.store) name message rest answer
+-- ---- retire
 
--- What a request under a bound name is answered; memory is refused only where it is lacking.
-abbrev pub Repeats : LmsKey → Bound → (message : List ℕ) (lacking : Type 0) → Result (List ℕ) SignFault → Type 0
-Repeats key bound message lacking answer =
-    (has_room : Bool)
-    × (answer ≡ repeated key bound message (record { drawn = None; has_room = has_room; fate = acked }))
-    × (has_room ≡ false → lacking)
+-- The next leaf of the current bottom tree, and how many leaves that has.
+abbrev pub IsBottom : List Record → ℕ × ℕ → Type 0
+IsBottom records bottom = (key : Key) → key_in records ≡ Some key
+    → (bottom.0 ≡ next_at key.secret records (bottom_of key.secret))
+    × (bottom.1 ≡ leaves_of_current key.secret records (bottom_of key.secret))
 
--- What a refusal leaves as it was: all, but that the ledger may have got memory, that a source that failed has
--- counted it, and that a store may have been written where it or memory failed.
-abbrev pub Leaves : {A S R : Type 0} → Result A SignFault → View S R → View S R → Type 0
-Leaves (Ok _) old new = Unit {0}
-Leaves (Err StoreFailed) old new = Unit {0}
-Leaves (Err OutOfMemory) old new = Unit {0}
-Leaves (Err RandomFailed) old new = new ≡ record old { random = new.random; spare = new.spare }
-Leaves (Err _) old new = new ≡ record old { spare = new.spare }
+-- A call of retire is a step of the world; it draws nothing and takes no memory of its own.
+pub record Retires {S R : Type 0} (g : store.Ghosts S) (old new : View S R) (upto : ℕ)
+    (answer : Result (Unit {0}) SignFault) : Type 0 where
+  pub fate : Fate
+  pub outcome : Outcome (Unit {0})
+  pub step : retired (g.most old.store) (state_of old) upto fate ≡ outcome
+  pub ends : Ends g old new outcome answer
+  pub random : new.random ≡ old.random
+  pub refusals : Counts is_out_of_memory (g.refusals old.store) (g.refusals new.store) answer
 
--- ---- counts
+-- ---- create and open
 
--- the source has failed once where that is the answer, and else not
-abbrev pub RandomCount : {A : Type 0} → Result A SignFault → ℕ → ℕ → Type 0
-RandomCount (Err RandomFailed) before after = after ≡ before + 1
-RandomCount _ before after = after ≡ before
+-- the store afterwards, in the signer or handed back
+abbrev pub store_after : {S R : Type 0} → Result (View S R) (Refused (S × R) SignFault) → S
+store_after (Ok signer) = signer.store
+store_after (Err refused) = refused.given.0
 
--- and so for the store's device
-abbrev pub StoreCount : {A : Type 0} → Result A SignFault → ℕ → ℕ → Type 0
-StoreCount (Err StoreFailed) before after = after ≡ before + 1
-StoreCount _ before after = after ≡ before
+-- the source afterwards
+abbrev pub random_after : {S R : Type 0} → Result (View S R) (Refused (S × R) SignFault) → R
+random_after (Ok signer) = signer.random
+random_after (Err refused) = refused.given.1
 
--- What each request counts and keeps: the failures of the source and of the store, the key, and what the store is.
-pub record Counts {A S R : Type 0} (random_failures : R → ℕ) (store_failures most : S → ℕ) (honest : S → Bool)
-    (result : Result A SignFault) (old new : View S R) : Type 0 where
-  pub random : RandomCount result (random_failures old.random) (random_failures new.random)
-  pub store : StoreCount result (store_failures old.store) (store_failures new.store)
-  pub same_key : new.key ≡ old.key
-  pub same_honest : honest new.store ≡ honest old.store
-  pub same_most : most new.store ≡ most old.store
+-- A signer answers its public key, and is open on the records acknowledged; or the fault is answered.
+abbrev pub IsAnswered : {S R : Type 0} → Result (View S R) (Refused (S × R) SignFault) → Outcome AnyPublic → Type 0
+IsAnswered (Ok signer) outcome = (public : AnyPublic) × (outcome.answer ≡ Ok public)
+    × (public_of_key (key_in signer.records) ≡ Some public) × (signer.records ≡ outcome.acknowledged)
+    × (signer.is_open ≡ true)
+IsAnswered (Err refused) outcome = outcome.answer ≡ Err refused.fault
+
+-- what the load of record 0 failed with, by the store that it failed on
+abbrev pub LoadFails : Option SignFault → List Record → (stopped honest : Bool) → Type 0
+LoadFails None list stopped honest = stopped ≡ false
+LoadFails (Some Stopped) list stopped honest = stopped ≡ true
+LoadFails (Some (Unreadable slot)) list stopped honest =
+    (stopped ≡ false) × (honest ≡ false) × (slot ≡ 0) × (0 < length list)
+LoadFails (Some StoreFailed) list stopped honest = stopped ≡ false
+LoadFails (Some OutOfMemory) list stopped honest = stopped ≡ false
+LoadFails (Some _) list stopped honest = ⊥
+
+-- What looking for a key in a store finds, by the answer: none is there, one is, or the load failed.
+abbrev pub FindsNone : {A : Type 0} (list : List Record) (honest old_stopped new_stopped : Bool)
+    (failures_before failures_after : ℕ) → Result A SignFault → Type 0
+FindsNone list honest old_stopped new_stopped before after (Ok _) =
+    (old_stopped ≡ false) × (length list ≡ 0) × (new_stopped ≡ false) × (after ≡ before)
+FindsNone list honest old_stopped new_stopped before after (Err KeyThere) =
+    (old_stopped ≡ false) × (1 ≤ length list) × (after ≡ before)
+FindsNone list honest old_stopped new_stopped before after (Err Stopped) = (old_stopped ≡ true) × (after ≡ before)
+FindsNone list honest old_stopped new_stopped before after (Err (Unreadable slot)) =
+    (old_stopped ≡ false) × (honest ≡ false) × (slot ≡ 0) × (0 < length list) × (after ≡ before)
+FindsNone list honest old_stopped new_stopped before after (Err StoreFailed) =
+    (old_stopped ≡ false) × (after ≡ before + 1)
+FindsNone list honest old_stopped new_stopped before after (Err OutOfMemory) =
+    (old_stopped ≡ false) × (after ≡ before)
+FindsNone list honest old_stopped new_stopped before after (Err _) = ⊥
+
+-- all that it comes to
+pub record LooksForKey {S A : Type 0} (g : store.Ghosts S) (old new : S) (answer : Result A SignFault) : Type 0 where
+  pub finds : FindsNone (g.list old) (g.honest old) (g.stopped old) (g.stopped new) (g.failures old) (g.failures new)
+      answer
+  pub list : g.list new ≡ g.list old
+  pub moments : LeavesOld g old new
+  pub refusals : Counts is_out_of_memory (g.refusals old) (g.refusals new) answer
+  pub honest : g.honest new ≡ g.honest old
+  pub most : g.most new ≡ g.most old
+
+-- What is drawn makes the secret; or it is less, where the source fails.
+abbrev pub IsDrawn : Spec → (fields : List (List ℕ)) → Result Secret SignFault → Type 0
+IsDrawn spec fields (Ok secret) = secret_from spec fields ≡ Some secret
+IsDrawn spec fields (Err RandomFailed) = secret_from spec fields ≡ None
+IsDrawn spec fields (Err _) = ⊥
+
+-- what drawing a secret does
+pub record DrawsSecret {R : Type 0} (r : source.Ghosts R) (spec : Spec) (old new : R) (answer : Result Secret SignFault)
+    : Type 0 where
+  pub fields : List (List ℕ)
+  pub drawn : IsDrawn spec fields answer
+  pub possible : AreFields (key_sizes spec) fields
+  pub source : Provides (r.upcoming old) (concat fields) (r.upcoming new)
+  pub failures : Counts is_random_failed (r.failures old) (r.failures new) answer
+
+-- Where record 0 can't be loaded, or is there, the source is as it was.
+abbrev pub LeavesSource : {R : Type 0} → (failed_load : Option SignFault) → List Record → (old new : R) → Type 0
+LeavesSource (Some fault) list old new = new ≡ old
+LeavesSource None [] old new = Unit {0}
+LeavesSource None (entry ∷ entries) old new = new ≡ old
+
+-- To make a key in a store is a step of the world, by some chance, with an outcome that is the answer: it takes no
+-- memory of its own.
+pub record MakesKey {S R : Type 0} (g : store.Ghosts S) (r : source.Ghosts R) (spec : Spec) (old new : S)
+    (before after : R) (IsAnswer : Outcome AnyPublic → Type 0) : Type 0 where
+  pub chance : Creation
+  pub outcome : Outcome AnyPublic
+  pub step : created (closed_on (g.list old)) spec chance ≡ outcome
+  pub answer : IsAnswer outcome
+  pub store : KeepsStore g old new (g.list old) outcome
+  pub load : LoadFails chance.failed_load (g.list old) (g.stopped old) (g.honest old)
+  pub possible : AreFields (key_sizes spec) chance.fields
+  pub source : Provides (r.upcoming before) outcome.drawn (r.upcoming after)
+  pub leaves : LeavesSource chance.failed_load (g.list old) before after
+  pub failures : Counts is_random_failed (r.failures before) (r.failures after) outcome.answer
+  pub room : chance.has_room ≡ true
+  pub refusals : Counts is_out_of_memory (g.refusals old) (g.refusals new) outcome.answer
+
+-- A key is made, with its public key, and its record is the only one; or the fault is answered.
+abbrev pub IsMade : Result Key SignFault → Outcome AnyPublic → Type 0
+IsMade (Ok key) outcome = (public : AnyPublic) × (outcome.answer ≡ Ok public) × (public_in key ≡ Some public)
+    × (outcome.acknowledged ≡ KeyRecord key ∷ [])
+IsMade (Err fault) outcome = outcome.answer ≡ Err fault
+
+-- A call of create makes a key.
+abbrev pub Creates : {S R : Type 0} → store.Ghosts S → source.Ghosts R → Spec → (kept_in : S) → (random : R)
+    → Result (View S R) (Refused (S × R) SignFault) → Type 0
+Creates g r spec kept_in random result =
+    MakesKey g r spec kept_in (store_after result) random (random_after result) (IsAnswered result)
+
+-- the record that couldn't be loaded, and why
+abbrev pub StopsOpening : Opening → List Record → (stopped honest : Bool) → Type 0
+StopsOpening None list stopped honest = stopped ≡ false
+StopsOpening (Some (slot, Stopped)) list stopped honest = (stopped ≡ true) × (slot ≡ 0)
+StopsOpening (Some (slot, Unreadable k)) list stopped honest =
+    (stopped ≡ false) × (honest ≡ false) × (k ≡ slot) × (slot < length list)
+StopsOpening (Some (slot, DeviceFailed)) list stopped honest = (stopped ≡ false) × (slot ≤ length list)
+StopsOpening (Some (slot, NoMemoryToOpen)) list stopped honest = (stopped ≡ false) × (slot ≤ length list)
+StopsOpening (Some (slot, _)) list stopped honest = ⊥
+
+-- What memory an opening is refused is its store's, which counts it, or the signer's own.
+abbrev pub RefusesToOpen : {A : Type 0} → Result A SignFault → (before after : ℕ) → Type 0
+RefusesToOpen (Err NoMemoryToOpen) before after = (after ≡ before) ⊎ (after ≡ before + 1)
+RefusesToOpen answer before after = after ≡ before
+
+-- What the load of record k gives in an opening, by the answer.
+abbrev pub LoadsAt : (honest : Bool) (list : List Record) (old_stopped : Bool) (k : ℕ) (new_stopped : Bool)
+    (failures_before failures_after : ℕ) → Result (Option Record) SignFault → Type 0
+LoadsAt honest list old_stopped k new_stopped before after (Ok None) =
+    (old_stopped ≡ false) × (length list ≤ k) × (new_stopped ≡ false) × (after ≡ before)
+LoadsAt honest list old_stopped k new_stopped before after (Ok (Some entry)) =
+    (old_stopped ≡ false) × (k < length list) × IsRecordAt honest list k entry × (new_stopped ≡ false)
+    × (after ≡ before)
+LoadsAt honest list old_stopped k new_stopped before after (Err Stopped) = (old_stopped ≡ true) × (after ≡ before)
+LoadsAt honest list old_stopped k new_stopped before after (Err (Unreadable slot)) =
+    (old_stopped ≡ false) × (honest ≡ false) × (slot ≡ k) × (k < length list) × (after ≡ before)
+LoadsAt honest list old_stopped k new_stopped before after (Err DeviceFailed) =
+    (old_stopped ≡ false) × (after ≡ before + 1)
+LoadsAt honest list old_stopped k new_stopped before after (Err NoMemoryToOpen) =
+    (old_stopped ≡ false) × (after ≡ before)
+LoadsAt honest list old_stopped k new_stopped before after (Err _) = ⊥
+
+-- all that it comes to
+pub record LoadsRecord {S : Type 0} (g : store.Ghosts S) (old new : S) (k : ℕ)
+    (answer : Result (Option Record) SignFault) : Type 0 where
+  pub loads : LoadsAt (g.honest old) (g.list old) (g.stopped old) k (g.stopped new) (g.failures old) (g.failures new)
+      answer
+  pub list : g.list new ≡ g.list old
+  pub moments : LeavesOld g old new
+  pub refusals : Counts is_no_memory (g.refusals old) (g.refusals new) answer
+  pub honest : g.honest new ≡ g.honest old
+  pub most : g.most new ≡ g.most old
+
+-- What taking up the next record comes to, by the answer: it can follow those before it, and stands after them; or it
+-- can't, and its place is answered; or it could, and there is no memory for it.
+abbrev pub TakesUp : {A : Type 0} (old new : Table) (entry : Record) → Result A SignFault → Type 0
+TakesUp old new entry (Ok _) =
+    (can_follow (Some old.key) old.records entry ≡ true) × (new.key ≡ old.key)
+    × (new.records ≡ old.records ++ entry ∷ [])
+TakesUp old new entry (Err (Illegal k)) =
+    (can_follow (Some old.key) old.records entry ≡ false) × (k ≡ length old.records) × (new.records ≡ old.records)
+TakesUp old new entry (Err NoMemoryToOpen) =
+    (can_follow (Some old.key) old.records entry ≡ true) × (new.records ≡ old.records)
+TakesUp old new entry (Err _) = ⊥
+
+-- To load the records of a store is a step of the world, with an outcome that is the answer. It goes over as many
+-- records as the store has, and where the store is honest over its own.
+pub record LoadsAll {S : Type 0} (g : store.Ghosts S) (old new : S) (IsAnswer : Outcome AnyPublic → Type 0)
+    : Type 0 where
+  pub records : List Record
+  pub long : length records ≡ length (g.list old)
+  pub same : IsTrue (g.honest old) → records ≡ g.list old
+  pub chance : Opening
+  pub outcome : Outcome AnyPublic
+  pub step : opened (closed_on records) chance ≡ outcome
+  pub answer : IsAnswer outcome
+  pub load : StopsOpening chance (g.list old) (g.stopped old) (g.honest old)
+  pub list : g.list new ≡ g.list old
+  pub moments : LeavesOld g old new
+  pub failures : Counts is_device_failed (g.failures old) (g.failures new) outcome.answer
+  pub refusals : RefusesToOpen outcome.answer (g.refusals old) (g.refusals new)
+  pub honest : g.honest new ≡ g.honest old
+  pub most : g.most new ≡ g.most old
+
+-- The records are taken up, and their key has a public one; or the fault is answered.
+abbrev pub IsTakenUp : Result Table SignFault → Outcome AnyPublic → Type 0
+IsTakenUp (Ok table) outcome = (public : AnyPublic) × (outcome.answer ≡ Ok public)
+    × (public_of_key (key_in table.records) ≡ Some public) × (table.records ≡ outcome.acknowledged)
+IsTakenUp (Err fault) outcome = outcome.answer ≡ Err fault
+
+-- A call of open loads the records, and draws nothing.
+pub record Opens {S R : Type 0} (g : store.Ghosts S) (kept_in : S) (random : R)
+    (result : Result (View S R) (Refused (S × R) SignFault)) : Type 0 where
+  pub loads : LoadsAll g kept_in (store_after result) (IsAnswered result)
+  pub same_random : random_after result ≡ random

@@ -27,7 +27,7 @@ use Rattle.state_file.specs.declared.record.Secret.{Secret}
 use Rattle.state_file.specs.declared.record.Secret.TheVariants.{Lms, Hss, Xmss}
 use Rattle.sign_core.specs.declared.key.AnyPublic.{AnyPublic}
 use Rattle.sign_core.specs.declared.key.AnyPublic.TheVariants.{Lms as AnyLms, Hss as AnyHss, Xmss as AnyXmss}
-use Rattle.sign_core.specs.StoreLedger.{are_same, current, key_in}
+use Rattle.sign_core.specs.Records.{are_same, current, key_in}
 
 -- ---- secrets
 

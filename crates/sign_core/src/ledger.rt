@@ -1,160 +1,440 @@
-//! The records of a key, kept in memory.
+//! The records of a key as a signer keeps them in memory: the trees and bindings that they make, and what is
+//! looked up in them. A Retire takes no memory.
 
-ghost use Rattle.std.specs.Prelude.{◌≡◌, ◌^◌, true, ◌<◌, ◌+◌, ◌-◌, ◌∷◌, [], ◌++◌, Some, None, MatchOption, IfErr};
-ghost use Rattle.std.specs.Prelude.{OnErr, OnOk, vec_len, vec_capacity, length};
-ghost use Rattle.typecodes.specs.Types.{height_of, lms_signature_len_of};
-ghost use Rattle.lms.specs.Secret.{path_in};
-ghost use Rattle.sign_core.specs.Ledger.{bound_in, key_record};
+ghost use Rattle.std.specs.Prelude.{◌≡◌, ◌<◌, ◌≤◌, ◌+◌, ◌-◌, ◌^◌, ◌∷◌, ◌++◌, [], ℕ, Some, None, true, length};
+ghost use Rattle.std.specs.Prelude.{option_map, slice_get, MatchOption, OnOk, OnErr, IfOk, IfErr, ◌↔◌};
+ghost use Rattle.sign_core.specs.Records.{binding_in, can_follow, can_follow_legal, deepest, free_at};
+ghost use Rattle.sign_core.specs.Records.{has_identifier, has_moved, is_free, key_in};
+ghost use Rattle.sign_core.specs.Ledger.{TakesMemory};
 
-use crate::fault::SignFault;
-use crate::signing::{digest, make_room, sound_path};
-use state_file::{Bound, Key, Record, Secret, Version};
-use typecodes::{LmsPair, Name};
+use crate::trees::{Tree, Trees};
+use state_file::{Bound, Extend, Key, Record, RecordList, Secret};
+use std::alloc::{AllocError, Global};
+use std::collections::HashMap;
+use std::marker::Model;
+use thiserror::Error;
+use typecodes::Name;
 
-/// An LMS key as its record says it: its types, the secret that its leaves are made from, and its
-/// root.
-#[derive(Clone, Copy)]
-pub(crate) struct LmsKey {
-    pub(crate) pair: LmsPair,
-    /// I, 16 bytes.
-    pub(crate) identifier: [u8; 16],
-    /// SEED, 32 bytes.
-    pub(crate) seed: [u8; 32],
-    /// T[1], 32 bytes.
-    pub(crate) root: [u8; 32],
+/// Why records aren't taken up.
+#[derive(Clone, Copy, Debug, PartialEq, Eq, Error)]
+pub enum LedgerFault {
+    /// 40: there is no record.
+    #[error("there is no record")]
+    Empty,
+    /// 44: record k isn't legal where it stands; those before it are.
+    #[error("record {0} isn't legal where it stands")]
+    Illegal(u32),
+    /// 46: memory was refused, or there are 2^32 records or more.
+    #[error("memory was refused")]
+    OutOfMemory,
 }
 
-impl LmsKey {
-    /// The record of the key.
-    pub(crate) fn record(&self) -> Record
-        ensures { result ≡ key_record self.now }
+impl LedgerFault {
+    ghost use Rattle.sign_core.specs.Ledger.{fault_number};
+
+    /// The number that reports the fault: 40, 44 or 46.
+    pub fn number(self) -> u8
+        ensures { result ≡ fault_number self }
     {
-        Record::Key(Key {
-            version: Version::One,
-            secret: Secret::Lms {
-                pair: self.pair,
-                identifier: self.identifier,
-                seed: self.seed,
-            },
-            root: self.root,
-        })
-    }
-}
-
-/// The key, its bindings, and the next leaf.
-#[derive(Drop)]
-pub(crate) struct Ledger {
-    pub(crate) key: LmsKey,
-    pub(crate) bounds: Vec<Bound>,
-    pub(crate) next: u32,
-}
-
-/// The binding of a name.
-pub(crate) fn find_bound<'a>(bounds: &'a [Bound], name: &Name) -> Option<&'a Bound>
-    ensures { MatchOption result (bound_in bounds.entry.now name.now ≡ None)
-        (λ found. bound_in bounds.entry.now name.now ≡ Some found.now) }
-{
-    for bound in bounds {
-        if bound.name == *name {
-            return Some(bound);
+        match self {
+            LedgerFault::Empty => 40,
+            LedgerFault::Illegal(_) => 44,
+            LedgerFault::OutOfMemory => 46,
         }
     }
-    None
+}
+
+/// The tree of an Extend, and the place of the tree whose leaf signs it.
+#[derive(Clone, Copy)]
+pub(crate) struct Made {
+    pub(crate) extend: Extend,
+    pub(crate) parent: u32,
+}
+
+/// The binding of a name: the place of its record, and the leaf that it names in the tree of a place.
+#[derive(Clone, Copy)]
+pub(crate) struct Binding {
+    pub(crate) place: u32,
+    pub(crate) leaf: u32,
+    pub(crate) randomizer: [u8; 32],
+    pub(crate) digest: [u8; 32],
+    pub(crate) tree: u32,
+}
+
+// Whether a record takes memory in a ledger.
+fn takes_memory(entry: &Record) -> bool
+    ensures { TakesMemory entry.now ↔ (result ≡ true) }
+{
+    matches!(entry, Record::Extend(_) | Record::Bound(_))
+}
+
+/// The records of a key, a legal list of them.
+#[derive(Drop)]
+pub struct Ledger {
+    // for contracts alone
+    records: RecordList,
+    key: Key,
+    // the Extends by their places
+    made: HashMap<u32, Made>,
+    bindings: HashMap<Name, Binding>,
+    // the places of the Extends by their I
+    identifiers: HashMap<[u8; 16], u32>,
+    trees: Trees,
+    count: u32,
+    moved: bool,
+}
+
+impl Model for Ledger {
+    ghost use Rattle.std.specs.Prelude.{min};
+    ghost use Rattle.std.specs.HashMap.{spare};
+    ghost use Rattle.sign_core.specs.Ledger.{IsTableOf, Table};
+
+    ghost Value = { Table };
+
+    ghost view = { λ s. record {
+      key = s.key;
+      records = s.records;
+      spare = min (spare s.made) (min (spare s.bindings) (spare s.identifiers));
+    } };
+
+    ghost invariant = { λ s. IsTableOf s.records s.key s.made s.bindings s.identifiers s.trees.levels s.count s.moved };
 }
 
 impl Ledger {
-    ghost use Rattle.sign_core.specs.Fault.{fault_of};
-    ghost use Rattle.sign_core.specs.Ledger.{Hinders, LacksMemory, hindrance, is_sound, secret_of};
-    ghost use Rattle.sign_core.specs.Once.{IsDrawn};
-    ghost use Rattle.sign_core.specs.World.{new_bound};
+    ghost use Rattle.state_file.specs.Laws.{IsLegal, levels_of};
+    ghost use Rattle.state_file.specs.declared.record.Record.TheVariants.{Key as KeyRecord, Extend as ExtendRecord};
+    ghost use Rattle.state_file.specs.declared.record.Record.TheVariants.{Bound as BoundRecord, Retire as RetireRecord};
+    ghost use Rattle.state_file.specs.declared.record.Record.TheVariants.{Moved as MovedRecord};
+    ghost use Rattle.sign_core.specs.Ledger.{Grows, HasRoom, IsRefused, LacksRoom, Stays, TakesUp};
+    ghost use Rattle.sign_core.specs.Ledger.{kept_at, made_at};
+    ghost use Rattle.sign_core.specs.declared.ledger.LedgerFault.TheVariants.{Illegal, OutOfMemory};
+    ghost use Rattle.sign_core.specs.Trees.{tree_at};
+    ghost use Rattle.sign_core.specs.Textbook.{AllHaveSizes, HasSizes};
 
-    // Refuses where no leaf is free, or where the store takes no further record.
-    fn check_free(&self, limit: u32) -> Result<(), SignFault>
-        ensures { fault_of result ≡
-            hindrance limit (height_of self.now.key.pair.tree) self.now.next (length self.now.bounds.items + 1)
-            true true }
+    /// That of a key with no record after it.
+    pub(crate) fn new(alloc: Global, key: Key) -> Self
+        requires { HasSizes (KeyRecord key) }
+        ensures key { result.key ≡ key }
+        ensures records { result.records ≡ KeyRecord key ∷ [] }
     {
-        if self.next >= 1 << self.key.pair.tree.height() {
-            return Err(SignFault::Exhausted);
+        let mut records = RecordList::new();
+        records.push(&Record::Key(key.copied()));
+        Ledger {
+            records,
+            key,
+            made: HashMap::new(alloc),
+            bindings: HashMap::new(alloc),
+            identifiers: HashMap::new(alloc),
+            trees: Trees::of_key(),
+            count: 1,
+            moved: false,
         }
-        if self.bounds.len() + 1 >= limit as usize {
-            return Err(SignFault::LedgerFull);
+    }
+
+    /// That of a list of records, which it takes up in their order. The list is legal at an `Ok`. The faults:
+    ///
+    /// - 40 `Empty`: there is no record.
+    /// - 44 `Illegal(k)`: record k is the first at which the list stops being legal, 0 where it doesn't begin with a
+    ///   Key.
+    /// - 46 `OutOfMemory`: memory was refused for an Extend or a Bound, up to which the list is legal. A list of 2^32
+    ///   records or more is answered so, too, at the 2^32nd record.
+    pub fn replay(alloc: Global, records: &[Record]) -> Result<Self, LedgerFault>
+        ensures records { IfOk result (λ ledger. ledger.records ≡ records.now) }
+        ensures key { IfOk result (λ ledger. key_in records.now ≡ Some ledger.key) }
+        ensures legal { OnOk result (IsLegal records.now) }
+        ensures refused { IfErr result (IsRefused records.now) }
+    {
+        let (first, rest) = records.split_first().ok_or(LedgerFault::Empty)?;
+        let mut ledger = Ledger::begin(alloc, first)?;
+        for entry in rest {
+            ledger.take_up(entry)?;
+        }
+        Ok(ledger)
+    }
+
+    // That of a first record, if it is a Key.
+    fn begin(alloc: Global, first: &Record) -> Result<Self, LedgerFault>
+        ensures records { IfOk result (λ ledger. ledger.records ≡ first.now ∷ []) }
+        ensures key { IfOk result (λ ledger. key_in (first.now ∷ []) ≡ Some ledger.key) }
+        ensures refused { IfErr result (λ fault. (fault ≡ Illegal 0) × (key_in (first.now ∷ []) ≡ None)) }
+    {
+        match first {
+            Record::Key(key) => Ok(Ledger::new(alloc, key.copied())),
+            Record::Extend(_) | Record::Bound(_) | Record::Retire { .. } | Record::Moved => {
+                Err(LedgerFault::Illegal(0))
+            }
+        }
+    }
+
+    /// The key.
+    pub(crate) fn key(&self) -> &Key
+        ensures key { result.now ≡ self.now.key }
+        ensures first { key_in self.now.records ≡ Some result.now }
+        ensures legal { IsLegal self.now.records }
+        ensures sizes { AllHaveSizes self.now.records }
+    {
+        &self.key
+    }
+
+    /// How many records there are.
+    pub(crate) fn len(&self) -> u32
+        ensures { result ≡ length self.now.records }
+    {
+        self.count
+    }
+
+    /// Whether the last record is a Moved.
+    pub(crate) fn has_moved(&self) -> bool
+        ensures { result ≡ has_moved self.now.records }
+    {
+        self.moved
+    }
+
+    /// The tree of the Extend at a place.
+    pub(crate) fn made(&self, place: u32) -> Option<Made>
+        ensures { result ≡ made_at self.now.records place }
+    {
+        self.made.get(&place).copied()
+    }
+
+    /// The binding of a name.
+    pub(crate) fn find(&self, name: &Name) -> Option<Binding>
+        ensures { result ≡ kept_at self.now.key.secret self.now.records name.now }
+    {
+        self.bindings.get(name).copied()
+    }
+
+    /// Whether a record makes a tree with this I.
+    pub(crate) fn has_identifier(&self, identifier: &[u8; 16]) -> bool
+        ensures { result ≡ has_identifier self.now.records identifier.now }
+    {
+        let is_top = match &self.key.secret {
+            Secret::Lms {
+                identifier: top,
+                ..
+            }
+            | Secret::Hss {
+                identifier: top,
+                ..
+            } => top == identifier,
+            Secret::Xmss { .. } => false,
+        };
+        is_top || self.identifiers.contains_key(identifier)
+    }
+
+    /// The current tree of a level, with its next leaf.
+    pub(crate) fn current(&self, level: u8) -> Option<Tree>
+        requires { level < 8 }
+        ensures { result ≡ tree_at self.now.key.secret self.now.records level }
+    {
+        self.trees.get(usize::from(level))
+    }
+
+    /// How many leaves of a level's current tree are free.
+    pub(crate) fn left(&self, level: u8) -> u32
+        requires { level < levels_of self.now.key.secret }
+        ensures { result ≡ free_at self.now.key.secret self.now.records level }
+    {
+        let leaves = self.key.secret.leaves(level);
+        match self.current(level) {
+            Some(tree) => leaves - tree.next,
+            None => 0,
+        }
+    }
+
+    /// The deepest level whose current tree has a free leaf.
+    pub(crate) fn deepest(&self) -> Option<u8>
+        ensures { result ≡ deepest self.now.key.secret self.now.records }
+    {
+        for level in (0..self.key.secret.levels()).rev() {
+            if self.left(level) > 0 {
+                return Some(level);
+            }
+        }
+        None
+    }
+
+    /// Whether a record can stand after these.
+    pub(crate) fn can_follow(&self, entry: &Record) -> bool
+        ensures { result ≡ can_follow (Some self.now.key) self.now.records entry.now }
+    {
+        !self.moved
+            && match entry {
+                Record::Key(_) => false,
+                Record::Extend(extend) => self.takes_extend(extend),
+                Record::Bound(bound) => self.takes_bound(bound),
+                Record::Retire { upto } => self.takes_retire(*upto),
+                Record::Moved => true,
+            }
+    }
+
+    // Whether a leaf of a level's current tree can be named.
+    fn is_free(&self, level: u8, leaf: u32) -> bool
+        requires { level < levels_of self.now.key.secret }
+        ensures { result ≡ is_free self.now.key.secret self.now.records level leaf }
+    {
+        let leaves = self.key.secret.leaves(level);
+        match self.current(level) {
+            Some(tree) => leaf < leaves && tree.next <= leaf,
+            None => false,
+        }
+    }
+
+    // Whether an Extend can stand after these records, of which the last one isn't a Moved.
+    fn takes_extend(&self, extend: &Extend) -> bool
+        ensures { result ≡ can_follow_legal self.now.key.secret self.now.records (ExtendRecord extend.now) }
+    {
+        1 <= extend.level
+            && extend.level < self.key.secret.levels()
+            && self.is_free(extend.level - 1, extend.parent_leaf)
+            && !self.has_identifier(&extend.identifier)
+    }
+
+    // Whether a Bound can.
+    fn takes_bound(&self, bound: &Bound) -> bool
+        ensures { result ≡ can_follow_legal self.now.key.secret self.now.records (BoundRecord bound.now) }
+    {
+        let has_randomizer = match self.key.secret {
+            Secret::Lms { .. } | Secret::Hss { .. } => true,
+            Secret::Xmss { .. } => bound.randomizer == [0; 32],
+        };
+        self.is_free(self.key.secret.levels() - 1, bound.leaf)
+            && self.find(&bound.name).is_none()
+            && has_randomizer
+    }
+
+    // Whether a Retire can.
+    fn takes_retire(&self, upto: u32) -> bool
+        ensures { result ≡ can_follow_legal self.now.key.secret self.now.records (RetireRecord upto) }
+    {
+        let bottom = self.key.secret.levels() - 1;
+        self.current(bottom).is_some() && upto <= self.key.secret.leaves(bottom)
+    }
+
+    /// Takes up one more record, if it can stand after these. Nothing changes at an `Err`, but that there may be more
+    /// memory.
+    pub(crate) fn take_up(&mut self, entry: &Record) -> Result<(), LedgerFault>
+        ensures { TakesUp self.old self.new entry.now result }
+    {
+        if !self.can_follow(entry) {
+            return Err(LedgerFault::Illegal(self.count));
+        }
+        self.make_room(entry)?;
+        self.push(entry.copied());
+        Ok(())
+    }
+
+    // Makes room for one more record, if it takes memory.
+    fn make_room(&mut self, entry: &Record) -> Result<(), LedgerFault>
+        ensures stays { Stays self.old self.new }
+        ensures room { OnOk result (HasRoom entry.now self.new) }
+        ensures lacking { IfErr result (λ fault. (fault ≡ OutOfMemory) × LacksRoom entry.now self.old) }
+    {
+        if self.count == u32::MAX {
+            return Err(LedgerFault::OutOfMemory);
+        }
+        if takes_memory(entry) {
+            self.reserve(1).map_err(|_| LedgerFault::OutOfMemory)?;
         }
         Ok(())
     }
 
-    // Makes room for a signature, and for one more binding.
-    fn reserve(&mut self, out: &mut Vec<u8>) -> Result<(), SignFault>
-        ensures room { OnOk result (length out.new.items ≡ lms_signature_len_of self.old.key.pair) }
-        ensures reserved { OnOk result (vec_len self.new.bounds < vec_capacity self.new.bounds) }
-        ensures refused { IfErr result (λ fault. fault ≡ SignFault.OutOfMemory) }
-        // Memory is requested only where there isn't room for both yet.
-        ensures full { OnErr result (LacksMemory None (lms_signature_len_of self.old.key.pair) (vec_capacity out.old)
-            (vec_capacity self.old.bounds - vec_len self.old.bounds)) }
+    /// Makes room for so many more records.
+    pub(crate) fn reserve(&mut self, additional: usize) -> Result<(), AllocError>
         ensures key { self.new.key ≡ self.old.key }
-        ensures bounds { self.new.bounds.items ≡ self.old.bounds.items }
-        ensures next { self.new.next ≡ self.old.next }
+        ensures records { self.new.records ≡ self.old.records }
+        ensures room { OnOk result (additional ≤ self.new.spare) }
+        ensures lacking { OnErr result (self.old.spare < additional) }
+        ensures spare { self.old.spare ≤ self.new.spare }
     {
-        make_room(self.key.pair, out)?;
-        self.bounds.reserve(1).map_err(|_| SignFault::OutOfMemory)
+        self.made.reserve(additional)?;
+        self.bindings.reserve(additional)?;
+        self.identifiers.reserve(additional)
     }
 
-    /// Gets all ready for one more binding: room for it and for its signature, and its leaf's path.
-    /// Refuses where no leaf is free, the store takes no further record, memory is refused, or the
-    /// key's root isn't that of its secret.
-    pub(crate) fn prepare(
-        &mut self,
-        limit: u32,
-        path: &mut [[u8; 32]],
-        out: &mut Vec<u8>,
-    ) -> Result<(), SignFault>
-        requires { length path.old ≡ height_of self.old.key.pair.tree }
-        ensures hindrance { Hinders limit (height_of self.old.key.pair.tree) self.old.next
-            (length self.old.bounds.items + 1)
-            (LacksMemory None (lms_signature_len_of self.old.key.pair) (vec_capacity out.old)
-            (vec_capacity self.old.bounds - vec_len self.old.bounds))
-            (is_sound self.old.key) (fault_of result) }
-        ensures free { OnOk result (self.old.next < 2 ^ height_of self.old.key.pair.tree) }
-        ensures takes { OnOk result (length self.old.bounds.items + 1 < limit) }
-        ensures path { OnOk result (path.new ≡ path_in (secret_of self.old.key) self.old.next) }
-        ensures height { OnOk result (length path.new ≡ height_of self.old.key.pair.tree) }
-        ensures room { OnOk result (length out.new.items ≡ lms_signature_len_of self.old.key.pair) }
-        ensures reserved { OnOk result (vec_len self.new.bounds < vec_capacity self.new.bounds) }
-        ensures key { self.new.key ≡ self.old.key }
-        ensures bounds { self.new.bounds.items ≡ self.old.bounds.items }
-        ensures next { self.new.next ≡ self.old.next }
+    /// Adds a record that can stand after these, an Extend or a Bound into room that was made for it.
+    pub(crate) fn push(&mut self, entry: Record)
+        requires follows { can_follow (Some self.old.key) self.old.records entry ≡ true }
+        requires sizes { HasSizes entry }
+        requires few { length self.old.records < 2 ^ 32 - 1 }
+        requires room { TakesMemory entry → 0 < self.old.spare }
+        ensures grows { Grows entry self.old self.new }
     {
-        self.check_free(limit)?;
-        self.reserve(out)?;
-        if sound_path(&self.key, self.next, path) {
-            Ok(())
-        } else {
-            Err(SignFault::Damaged(0))
+        match entry {
+            Record::Extend(extend) => self.push_extend(extend),
+            Record::Bound(bound) => self.push_bound(bound),
+            Record::Retire { upto } => self.push_retire(upto),
+            Record::Moved => self.push_moved(),
+            Record::Key(_) => {}
         }
     }
 
-    /// The binding of a name to the next leaf, and to the message's digest under it.
-    pub(crate) fn next_bound(&self, name: &Name, randomizer: &[u8; 32], text: &[u8]) -> Bound
-        ensures bound { result ≡ new_bound self.now.key self.now.next name.now text.now randomizer.now }
-        ensures drawn { IsDrawn (Some randomizer.now) }
+    // Adds an Extend.
+    fn push_extend(&mut self, extend: Extend)
+        requires follows { can_follow (Some self.old.key) self.old.records (ExtendRecord extend) ≡ true }
+        requires sizes { HasSizes (ExtendRecord extend) }
+        requires few { length self.old.records < 2 ^ 32 - 1 }
+        requires room { 0 < self.old.spare }
+        ensures grows { Grows (ExtendRecord extend) self.old self.new }
     {
-        Bound {
-            name: name.copied(),
-            leaf: self.next,
-            randomizer: *randomizer,
-            digest: digest(&self.key, self.next, randomizer, text),
-        }
+        let level = usize::from(extend.level);
+        let parent = match self.trees.get(level - 1) {
+            Some(tree) => tree.place,
+            None => 0,
+        };
+        let _ = self.made.insert(self.count, Made { extend, parent });
+        let _ = self.identifiers.insert(extend.identifier, self.count);
+        self.trees.extend(level, extend.parent_leaf, self.count);
+        self.records.push(&Record::Extend(extend));
+        self.count += 1;
     }
 
-    /// Adds a binding to the next leaf, into room that was made for it.
-    pub(crate) fn push(&mut self, bound: Bound)
-        requires room { vec_len self.old.bounds < vec_capacity self.old.bounds }
-        requires next { self.old.next < 2 ^ 25 }
-        ensures bounds { self.new.bounds.items ≡ self.old.bounds.items ++ bound ∷ [] }
-        ensures next { self.new.next ≡ self.old.next + 1 }
-        ensures key { self.new.key ≡ self.old.key }
+    // Adds a Bound.
+    fn push_bound(&mut self, bound: Bound)
+        requires follows { can_follow (Some self.old.key) self.old.records (BoundRecord bound) ≡ true }
+        requires sizes { HasSizes (BoundRecord bound) }
+        requires few { length self.old.records < 2 ^ 32 - 1 }
+        requires room { 0 < self.old.spare }
+        ensures grows { Grows (BoundRecord bound) self.old self.new }
     {
-        self.bounds.push_reserved(bound);
-        self.next += 1;
+        let bottom = usize::from(self.key.secret.levels() - 1);
+        let tree = match self.trees.get(bottom) {
+            Some(tree) => tree.place,
+            None => 0,
+        };
+        self.trees.bind(bottom, bound.leaf);
+        let binding = Binding {
+            place: self.count,
+            leaf: bound.leaf,
+            randomizer: bound.randomizer,
+            digest: bound.digest,
+            tree,
+        };
+        let _ = self.bindings.insert(bound.name.copied(), binding);
+        self.records.push(&Record::Bound(bound));
+        self.count += 1;
+    }
+
+    // Adds a Retire, which takes no memory.
+    fn push_retire(&mut self, upto: u32)
+        requires follows { can_follow (Some self.old.key) self.old.records (RetireRecord upto) ≡ true }
+        requires few { length self.old.records < 2 ^ 32 - 1 }
+        ensures grows { Grows (RetireRecord upto) self.old self.new }
+    {
+        let bottom = usize::from(self.key.secret.levels() - 1);
+        self.trees.retire(bottom, upto);
+        self.records.push(&Record::Retire { upto });
+        self.count += 1;
+    }
+
+    // Adds a Moved, which takes no memory.
+    fn push_moved(&mut self)
+        requires follows { can_follow (Some self.old.key) self.old.records MovedRecord ≡ true }
+        requires few { length self.old.records < 2 ^ 32 - 1 }
+        ensures grows { Grows MovedRecord self.old self.new }
+    {
+        self.moved = true;
+        self.records.push(&Record::Moved);
+        self.count += 1;
     }
 }

@@ -1,62 +1,54 @@
-//! The signer of one LMS tree, over a store of records and a source of random bytes, and the law that no
-//! leaf signs twice; and the public keys of every scheme.
+//! The signer: public keys of every scheme, the ledger of a key's records, the signer over a store of records and a
+//! source of random bytes, and the law that no leaf signs twice.
 //!
 //! ```rust
 //! use sign_core::{AnyPublic, Signer, TapeSource, verify_any};
 //! use state_file::MemoryStore;
-//! use typecodes::{LmsPair, LmsType, Name, OtsType};
+//! use typecodes::{Name, Spec};
 //!
-//! let pair = LmsPair { tree: LmsType::H5, ots: OtsType::W8 };
 //! let store = MemoryStore::with_limit(rt.alloc(), 100);
-//! let made = Signer::create(rt.alloc(), pair, store, TapeSource::new(&random));
+//! let spec = Spec::parse("lms:H5/W8")?;
+//! let made = Signer::create(rt.alloc(), spec, store, TapeSource::new(&random));
 //! let mut signer = made.map_err(|refused| refused.fault)?;
+//! let name = Name::new(b"fw-1")?;
 //! let mut signature = Vec::new(rt.alloc());
-//! signer.sign(&Name::new(b"fw-1")?, &mut b"firmware".as_slice(), &mut signature)?;
+//! signer.sign(&name, &mut b"firmware".as_slice(), &mut signature)?;
 //!
-//! let public = AnyPublic::Lms(signer.public_key());
+//! let public = signer.public_key();
 //! assert_eq!(rt; AnyPublic::read(public.write().as_slice()), Ok(public));
 //! assert_eq!(rt; verify_any(&public, &mut b"firmware".as_slice(), &signature), Ok(()));
+//!
+//! let opened = Signer::open(rt.alloc(), signer.into_store(), TapeSource::new(&random));
+//! let signer = opened.map_err(|refused| refused.fault)?;
+//! assert_eq!(rt; signer.left().as_slice(), [31].as_slice());
 //! ```
 //!
-//! The model is `specs/World.antt`: what a create and a request do to the records of a key, and what they
-//! answer. The contract for the crates above: each call of `create` and of `sign` is such a step, by a
-//! chance that the store and the source decide (`specs/Create.antt`, `specs/Signer.antt`); and over every
-//! list of such steps no leaf signs two digests (`once_law`). `AnyPublic` and `verify_any` are the keys of
+//! The contract for the crates above: each call of `create`, `open`, `sign` and `retire` is a step of the world of one
+//! key, by a chance that the store, the source and the message decide (`specs/Signer.antt`, `specs/World.antt`). Over
+//! every list of such steps, and of stops at any moment, no leaf signs two digests, a name has one signature, and each
+//! signature that was handed out is valid (`once_law`, `specs/Once.antt`). `AnyPublic` and `verify_any` are the keys of
 //! the three schemes by their lengths (`specs/Key.antt`).
-//!
-//! Beside it stands the signer over a store that is to take its place: for LMS, HSS and XMSS, with openings, stops and
-//! retired leaves (`src/store_signer.rt`). Its calls are steps of the world of `specs/StoreWorld.antt`, of which
-//! `store_once_law` and the other laws speak (`specs/StoreSigner.antt`, `specs/StoreOnce.antt`). It isn't public yet.
 #![tactic(auto)]
 
-mod create;
 mod fault;
 mod key;
+mod laws;
 mod ledger;
-mod once;
-mod repeat;
+mod links;
 mod rng_source;
+mod roots;
 mod signer;
-mod signing;
 mod source;
-mod store_chain;
-mod store_laws;
-mod store_ledger;
-mod store_links;
-mod store_roots;
-mod store_signer;
-mod store_standing;
-mod store_trees;
-mod store_writing;
+mod standing;
 #[cfg(test)]
 mod tests;
+mod trees;
+mod writing;
 
 pub use crate::fault::SignFault;
 pub use crate::key::{AnyPublic, KeyFault, verify_any};
-pub use crate::once::{lasting_law, once_law};
+pub use crate::laws::{cut_law, lasting_law, ledger_laws, once_law, stop_law, textbook_laws};
+pub use crate::ledger::{Ledger, LedgerFault};
 pub use crate::rng_source::RngSource;
 pub use crate::signer::Signer;
 pub use crate::source::{Source, SourceFault, TapeSource};
-pub use crate::store_laws::{
-    cut_law, ledger_laws, stop_law, store_lasting_law, store_once_law, textbook_laws,
-};

@@ -1,22 +1,41 @@
-//! The signer over a store.
+//! The signer over a store of records.
 
-ghost use Rattle.std.specs.Prelude.{◌≡◌, ◌≤◌, ◌<◌, true, false, [], None, Some, OnErr, IfErr, IsSome, Err};
-ghost use Rattle.std.specs.Prelude.{vec_capacity};
+ghost use Rattle.std.specs.Prelude.{◌≡◌, ◌<◌, ◌≤◌, ◌-◌, ◌^◌, ◌∷◌, [], true, false, Some, Ok, Err, length, IfErr, IfOk};
+ghost use Rattle.std.specs.Prelude.{IfSome, None, OnOk};
+ghost use Rattle.state_file.specs.Disk.{Counts};
+ghost use Rattle.state_file.specs.Store.{CanFollow, is_key};
+ghost use Rattle.sign_core.specs.Source.{DrawsBytes};
+ghost use Rattle.sign_core.specs.Once.{AreFields};
+ghost use Rattle.sign_core.specs.Signer.{AppendsTo, DrawsSecret, Hinders, IsMade, LeavesEither, LeavesOld};
+ghost use Rattle.sign_core.specs.Signer.{IsTakenUp, IsTied, LoadsAll, LoadsRecord, LooksForKey, MakesKey, TakesUp};
+ghost use Rattle.sign_core.specs.Signer.{is_out_of_memory};
+ghost use Rattle.sign_core.specs.Textbook.{HasSizes, SecretHasSizes, lms_secret, public_in, root_by};
+ghost use Rattle.state_file.specs.declared.record.Record.TheVariants.{Key as KeyRecord};
+ghost use Rattle.typecodes.specs.Layout.{AreBytes};
+ghost use Rattle.typecodes.specs.Spec.{IsSpec};
+ghost use Rattle.lms.specs.Secret.{root_in};
 
-use crate::create::create_key;
+mod request;
+mod signing;
+#[cfg(test)]
+mod tests;
+
 use crate::fault::SignFault;
-use crate::ledger::{Ledger, find_bound};
-use crate::repeat::repeat;
-use crate::signing::{append, draw, take_all, write_bound};
-use crate::source::Source;
-use lms::LmsPublic;
-use state_file::{Record, Refused, Store};
+use crate::key::AnyPublic;
+use crate::ledger::{Ledger, LedgerFault};
+use crate::source::{Source, draw};
+use arrayvec::ArrayVec;
+use hss::HssPublic;
+use lms::{LmsPublic, LmsSecret, LmsTree};
+use merkle::root;
+use state_file::{Key, Record, Refused, Secret, Store, StoreFault, Version};
 use std::alloc::Global;
 use std::marker::Model;
-use typecodes::{LmsPair, Name};
+use typecodes::{LmsPair, Spec};
+use xmss::{XmssPublic, XmssSecret, XmssTree};
 
-/// Signs messages under names, each new name with a leaf of its own. What it signed stands in its
-/// store, and it draws each new randomizer from its source.
+/// Signs messages under names, each new name with a leaf of its own. What it signed stands in its store, and it draws
+/// its secrets and randomizers from its source.
 #[derive(Drop)]
 pub struct Signer<S: Store, R: Source> {
     store: S,
@@ -26,68 +45,313 @@ pub struct Signer<S: Store, R: Source> {
 }
 
 impl<S: Store, R: Source> Model for Signer<S, R> {
-    ghost use Rattle.std.specs.Prelude.{◌≡◌, ◌-◌, true, Some, vec_len, vec_capacity};
-    ghost use Rattle.sign_core.specs.Ledger.{IsLedgerOf, key_of};
-    ghost use Rattle.sign_core.specs.Signer.{View};
+    ghost use Rattle.std.specs.Prelude.{◌≡◌, Some};
+    ghost use Rattle.sign_core.specs.Records.{key_in};
+    ghost use Rattle.sign_core.specs.Signer.{IsSigner, View, view_of};
 
     ghost Value = { View S R };
 
-    ghost view = { λ s. record {
-      store = s.store;
-      random = s.random;
-      key = s.ledger.key;
-      is_open = s.is_open;
-      spare = vec_capacity s.ledger.bounds - vec_len s.ledger.bounds;
-    } };
+    ghost view = { λ s. view_of s.store s.random s.ledger s.is_open };
 
-    // The key is that of the store's records; while open, the ledger is what they say.
-    ghost invariant = { λ s. (key_of (S.list s.store) ≡ Some s.ledger.key) ×
-        (s.is_open ≡ true →
-        IsLedgerOf (S.list s.store) (S.stopped s.store) s.ledger.key s.ledger.bounds.items s.ledger.next) };
+    ghost invariant = { λ s. IsSigner S.Store (view_of s.store s.random s.ledger s.is_open)
+        × (key_in s.ledger.records ≡ Some s.ledger.key) };
+}
+
+// Appends a record to a store that runs and has room; only a Key comes first.
+fn append<S: Store>(store: &mut S, entry: &Record) -> Result<(), SignFault>
+    requires running { S.stopped store.old ≡ false }
+    requires room { length (S.list store.old) < S.most store.old }
+    requires key_first { CanFollow (S.list store.old) entry.now }
+    ensures stored { AppendsTo (S.list store.old) entry.now (S.list store.new) (S.stopped store.new)
+        (S.failures store.old) (S.failures store.new) result }
+    ensures any_moment { LeavesEither S.Store store.old store.new entry.now }
+    ensures refused { result ≡ Err SignFault.OutOfMemory → LeavesOld S.Store store.old store.new }
+    ensures refusals { Counts is_out_of_memory (S.refusals store.old) (S.refusals store.new) result }
+    ensures honest { S.honest store.new ≡ S.honest store.old }
+    ensures most { S.most store.new ≡ S.most store.old }
+{
+    store.append(entry).map_err(|fault| match fault {
+        StoreFault::OutOfMemory => SignFault::OutOfMemory,
+        _ => SignFault::StoreFailed,
+    })
+}
+
+// The public key that a key's record says.
+fn public_of(key: &Key) -> AnyPublic
+    ensures { public_in key.now ≡ Some result }
+{
+    match &key.secret {
+        Secret::Lms {
+            pair,
+            identifier,
+            ..
+        } => AnyPublic::Lms(LmsPublic {
+            pair: *pair,
+            identifier: *identifier,
+            root: key.root,
+        }),
+        Secret::Hss {
+            levels,
+            identifier,
+            ..
+        } => AnyPublic::Hss(HssPublic {
+            levels: levels.count(),
+            top: LmsPublic {
+                pair: levels.as_slice()[0],
+                identifier: *identifier,
+                root: key.root,
+            },
+        }),
+        Secret::Xmss {
+            tree,
+            public_seed,
+            ..
+        } => AnyPublic::Xmss(XmssPublic {
+            tree: *tree,
+            root: key.root,
+            seed: *public_seed,
+        }),
+    }
+}
+
+// Looks whether a store has no record yet.
+fn load_first<S: Store>(store: &mut S) -> Result<(), SignFault>
+    ensures { LooksForKey S.Store store.old store.new result }
+{
+    match store.load(0) {
+        Ok(None) => Ok(()),
+        Ok(Some(_)) => Err(SignFault::KeyThere),
+        Err(StoreFault::Stopped) => Err(SignFault::Stopped),
+        Err(StoreFault::Damaged(slot)) => Err(SignFault::Unreadable(slot)),
+        Err(StoreFault::DeviceFailed) => Err(SignFault::StoreFailed),
+        Err(StoreFault::OutOfMemory) => Err(SignFault::OutOfMemory),
+        Err(StoreFault::Full) => unreachable!(),
+    }
+}
+
+// The same bytes; each is below 256.
+fn bytes_of<const N: usize>(bytes: [u8; N]) -> [u8; N]
+    ensures same { result ≡ bytes.entry }
+    ensures range { AreBytes result }
+{
+    bytes
+}
+
+// Draws a field of a secret.
+fn draw_field<R: Source, const N: usize>(random: &mut R) -> Result<[u8; N], SignFault>
+    ensures drawn { DrawsBytes (R.failures random.old) (R.failures random.new)
+        (R.upcoming random.old) (R.upcoming random.new) result }
+    ensures field { IfOk result (λ bytes. AreFields (N ∷ []) (bytes ∷ [])) }
+{
+    let bytes = draw::<R, N>(random)?;
+    Ok(bytes_of(bytes))
+}
+
+// Draws what a key is made from.
+fn draw_secret<R: Source>(spec: &Spec, random: &mut R) -> Result<Secret, SignFault>
+    ensures { DrawsSecret R.Source spec.now random.old random.new result }
+{
+    match spec {
+        Spec::Lms(pair) => Ok(Secret::Lms {
+            pair: *pair,
+            identifier: draw_field(random)?,
+            seed: draw_field(random)?,
+        }),
+        Spec::Hss(levels) => Ok(Secret::Hss {
+            levels: levels.copied(),
+            identifier: draw_field(random)?,
+            seed: draw_field(random)?,
+        }),
+        Spec::Xmss(tree) => Ok(Secret::Xmss {
+            tree: *tree,
+            secret_seed: draw_field(random)?,
+            prf_key: draw_field(random)?,
+            public_seed: draw_field(random)?,
+        }),
+    }
+}
+
+// The root of a key's top tree.
+fn root_of(secret: &Secret) -> [u8; 32]
+    ensures { result ≡ root_by secret.now }
+{
+    match secret {
+        Secret::Lms {
+            pair,
+            identifier,
+            seed,
+        } => lms_root_of(*pair, identifier, seed),
+        Secret::Hss {
+            levels,
+            identifier,
+            seed,
+        } => lms_root_of(levels.as_slice()[0], identifier, seed),
+        Secret::Xmss {
+            tree,
+            secret_seed,
+            prf_key,
+            public_seed,
+        } => {
+            let secret = XmssSecret {
+                tree: *tree,
+                secret_seed: *secret_seed,
+                prf_key: *prf_key,
+                public_seed: *public_seed,
+            };
+            root(&mut XmssTree::new(secret), tree.height())
+        }
+    }
+}
+
+// The root of an LMS tree.
+fn lms_root_of(pair: LmsPair, identifier: &[u8; 16], seed: &[u8; 32]) -> [u8; 32]
+    ensures { result ≡ root_in (lms_secret pair identifier.now seed.now) }
+{
+    let secret = LmsSecret {
+        pair,
+        identifier: *identifier,
+        seed: *seed,
+    };
+    root(&mut LmsTree::new(secret), pair.tree.height())
+}
+
+// Makes a key where no record stands, and appends its record.
+fn create_key<S: Store, R: Source>(
+    spec: &Spec,
+    store: &mut S,
+    random: &mut R,
+) -> Result<Key, SignFault>
+    requires room { 1 ≤ S.most store.old }
+    requires spec { IsSpec spec.now }
+    ensures makes { MakesKey S.Store R.Source spec.now store.old store.new random.old random.new (IsMade result) }
+    ensures sizes { IfOk result (λ key. HasSizes (KeyRecord key)) }
+    ensures list { IfOk result (λ key. S.list store.new ≡ KeyRecord key ∷ []) }
+    ensures running { OnOk result (S.stopped store.new ≡ false) }
+{
+    load_first(store)?;
+    let secret = draw_secret(spec, random)?;
+    let key = Key {
+        version: Version::One,
+        root: root_of(&secret),
+        secret,
+    };
+    append(store, &Record::Key(key.copied()))?;
+    Ok(key)
+}
+
+// Loads record `slot` of a store that is opened, None after the last.
+fn load_at<S: Store>(store: &mut S, slot: u32) -> Result<Option<Record>, SignFault>
+    ensures { LoadsRecord S.Store store.old store.new slot result }
+{
+    match store.load(slot) {
+        Ok(found) => Ok(found),
+        Err(StoreFault::Stopped) => Err(SignFault::Stopped),
+        Err(StoreFault::Damaged(slot)) => Err(SignFault::Unreadable(slot)),
+        Err(StoreFault::DeviceFailed) => Err(SignFault::DeviceFailed),
+        Err(StoreFault::OutOfMemory) => Err(SignFault::NoMemoryToOpen),
+        Err(StoreFault::Full) => unreachable!(),
+    }
+}
+
+// Loads the key, record 0.
+fn load_key<S: Store>(store: &mut S) -> Result<Key, SignFault>
+    ensures loads { IfOk result (λ key. LoadsRecord S.Store store.old store.new 0 (Ok (Some (KeyRecord key)))) }
+    ensures sizes { IfOk result (λ key. HasSizes (KeyRecord key)) }
+    ensures refuses { IfErr result (λ fault. LoadsAll S.Store store.old store.new (IsTakenUp (Err fault))) }
+{
+    match load_at(store, 0)? {
+        Some(entry) => key_of(entry).ok_or(SignFault::Illegal(0)),
+        None => Err(SignFault::NoKey),
+    }
+}
+
+// The key that a record is.
+fn key_of(entry: Record) -> Option<Key>
+    ensures key { IfSome result (λ key. entry ≡ KeyRecord key) }
+    ensures other { result ≡ None → is_key entry ≡ false }
+{
+    match entry {
+        Record::Key(key) => Some(key),
+        Record::Extend(_) | Record::Bound(_) | Record::Retire { .. } | Record::Moved => None,
+    }
+}
+
+// Takes up the next record that was loaded, where it can follow those before it.
+fn take_up(ledger: &mut Ledger, entry: &Record) -> Result<(), SignFault>
+    ensures { TakesUp ledger.old ledger.new entry.now result }
+{
+    ledger.take_up(entry).map_err(|fault| match fault {
+        LedgerFault::Illegal(place) => SignFault::Illegal(place),
+        LedgerFault::Empty | LedgerFault::OutOfMemory => SignFault::NoMemoryToOpen,
+    })
+}
+
+// Loads the records of a store in their order, and takes them up.
+fn load_all<S: Store>(alloc: Global, store: &mut S) -> Result<Ledger, SignFault>
+    ensures loads { LoadsAll S.Store store.old store.new (IsTakenUp result) }
+    ensures tied { IfOk result (λ table. IsTied S.Store store.new table.records) }
+{
+    let mut ledger = Ledger::new(alloc, load_key(store)?);
+    for slot in 1..store.limit() {
+        match load_at(store, slot)? {
+            Some(entry) => take_up(&mut ledger, &entry)?,
+            None => return Ok(ledger),
+        }
+    }
+    Ok(ledger)
 }
 
 impl<S: Store, R: Source> Signer<S, R> {
-    ghost use Rattle.typecodes.specs.Types.{lms_signature_len_of};
-    ghost use Rattle.sign_core.specs.Create.{CreatesOver, LeavesSource, answer_of, random_after, store_after};
-    ghost use Rattle.sign_core.specs.Ledger.{binding_of, key_of, public_key_of};
-    ghost use Rattle.sign_core.specs.Signer.{Counts, Leaves, RandomCount, RefusalCount, SignsOver, StoreCount};
-    ghost use Rattle.sign_core.specs.Signer.{answered};
+    ghost use Rattle.sign_core.specs.Records.{can_follow, free_counts, has_moved, key_in};
+    ghost use Rattle.state_file.specs.declared.record.Key.{Key as K};
+    ghost use Rattle.sign_core.specs.Once.{public_of_key};
+    ghost use Rattle.sign_core.specs.Signer.{Adds, Creates, IsBottom, Opens, Retires};
+    ghost use Rattle.sign_core.specs.Ledger.{TakesMemory};
 
-    /// Makes a key in a store that has none, and the signer of it: draws I and then SEED, makes the
-    /// root, and appends the key's record. A refusal gives back the store and the source.
+    /// Makes a key in a store that has none, and the signer of it: draws what the key is made from, makes the top
+    /// tree's root, and appends the key's record. It takes no memory of its own. A refusal gives back the store and
+    /// the source.
     ///
     /// The caller gives a store that takes at least one record.
     pub fn create(
         alloc: Global,
-        pair: LmsPair,
+        spec: Spec,
         store: S,
         random: R,
     ) -> Result<Self, Refused<(S, R), SignFault>>
-        requires { 1 ≤ S.most store }
-        ensures step { CreatesOver S.list S.stopped S.honest R.upcoming pair store random result }
-        ensures leaves { IfErr result (λ refused. LeavesSource refused.fault random refused.given.1) }
-        ensures random { RandomCount (answer_of result) (R.failures random) (R.failures (random_after result)) }
-        ensures store { StoreCount (answer_of result) (S.failures store) (S.failures (store_after result)) }
-        ensures refusals { RefusalCount (answer_of result) true (S.refusals store) (S.refusals (store_after result)) }
-        ensures honest { S.honest (store_after result) ≡ S.honest store }
-        ensures most { S.most (store_after result) ≡ S.most store }
+        requires room { 1 ≤ S.most store }
+        requires spec { IsSpec spec }
+        ensures { Creates S.Store R.Source spec store random result }
     {
         let mut store = store;
         let mut random = random;
-        match create_key(pair, &mut store, &mut random) {
-            Ok(key) => {
-                let ledger = Ledger {
-                    key,
-                    bounds: Vec::new(alloc),
-                    next: 0,
-                };
-                Ok(Signer {
-                    store,
-                    random,
-                    ledger,
-                    is_open: true,
-                })
-            }
+        match create_key(&spec, &mut store, &mut random) {
+            Ok(key) => Ok(Signer {
+                store,
+                random,
+                ledger: Ledger::new(alloc, key),
+                is_open: true,
+            }),
+            Err(fault) => Err(Refused {
+                fault,
+                given: (store, random),
+            }),
+        }
+    }
+
+    /// Opens the signer on the records of a store: it loads them in their order. A refusal gives back the store and
+    /// the source.
+    pub fn open(alloc: Global, store: S, random: R) -> Result<Self, Refused<(S, R), SignFault>>
+        ensures { Opens S.Store store random result }
+    {
+        let mut store = store;
+        match load_all(alloc, &mut store) {
+            Ok(ledger) => Ok(Signer {
+                store,
+                random,
+                ledger,
+                is_open: true,
+            }),
             Err(fault) => Err(Refused {
                 fault,
                 given: (store, random),
@@ -96,87 +360,52 @@ impl<S: Store, R: Source> Signer<S, R> {
     }
 
     /// The public key of record 0.
-    pub fn public_key(&self) -> LmsPublic
-        ensures value { result ≡ public_key_of self.now.key }
-        ensures record { key_of (S.list self.now.store) ≡ Some self.now.key }
+    pub fn public_key(&self) -> AnyPublic
+        ensures { public_of_key (key_in self.now.records) ≡ Some result }
     {
-        let key = &self.ledger.key;
-        LmsPublic {
-            pair: key.pair,
-            identifier: key.identifier,
-            root: key.root,
-        }
+        public_of(self.ledger.key())
     }
 
-    /// Signs a message under a name: writes the signature's bytes into `out`. A name that is bound
-    /// has one digest and one signature; a new one takes the next leaf, and is bound before it signs.
-    pub fn sign(
-        &mut self,
-        name: &Name,
-        message: &mut &[u8],
-        out: &mut Vec<u8>,
-    ) -> Result<(), SignFault>
-        ensures step { SignsOver S.list S.most S.refusals R.upcoming self.old self.new name.now message.old.now
-            message.new.now (vec_capacity out.old) (answered result out.new.items) }
-        ensures empty { OnErr result (out.new.items ≡ []) }
-        ensures leaves { Leaves result self.old self.new }
-        ensures repeat { IsSome (binding_of (S.list self.old.store) name.now) → self.new ≡ self.old }
-        // A repeat wants memory only where there is no room for the signature yet.
-        ensures full { IsSome (binding_of (S.list self.old.store) name.now) → result ≡ Err SignFault.OutOfMemory →
-            vec_capacity out.old < lms_signature_len_of self.old.key.pair }
-        ensures counts { Counts R.failures S.failures S.most S.honest result self.old self.new }
+    /// How many leaves are free at each level, in its current tree.
+    pub fn left(&self) -> ArrayVec<u32, 8>
+        ensures { (key : K) → key_in self.now.records ≡ Some key →
+            result.items ≡ free_counts key.secret self.now.records }
     {
-        if let Err(fault) = self.answer(name, message, out) {
-            out.clear();
-            return Err(fault);
+        let mut counts = ArrayVec::new();
+        for level in 0..self.ledger.key().secret.levels() {
+            counts.push(self.ledger.left(level));
         }
-        Ok(())
+        counts
     }
 
-    // The same, but that `out` may be left with anything at an `Err`.
-    fn answer(
-        &mut self,
-        name: &Name,
-        message: &mut &[u8],
-        out: &mut Vec<u8>,
-    ) -> Result<(), SignFault>
-        ensures step { SignsOver S.list S.most S.refusals R.upcoming self.old self.new name.now message.old.now
-            message.new.now (vec_capacity out.old) (answered result out.new.items) }
-        ensures leaves { Leaves result self.old self.new }
-        ensures repeat { IsSome (binding_of (S.list self.old.store) name.now) → self.new ≡ self.old }
-        // A repeat wants memory only where there is no room for the signature yet.
-        ensures full { IsSome (binding_of (S.list self.old.store) name.now) → result ≡ Err SignFault.OutOfMemory →
-            vec_capacity out.old < lms_signature_len_of self.old.key.pair }
-        ensures counts { Counts R.failures S.failures S.most S.honest result self.old self.new }
+    // Refuses where the signer is closed, or its records go on elsewhere.
+    fn check_open(&self) -> Result<(), SignFault>
+        ensures open { OnOk result (self.now.is_open ≡ true) }
+        ensures stays { OnOk result (has_moved self.now.records ≡ false) }
+        ensures refused { IfErr result (λ fault. Hinders self.now.is_open (has_moved self.now.records) fault) }
     {
         if !self.is_open {
             return Err(SignFault::Stopped);
         }
-        match find_bound(&self.ledger.bounds, name) {
-            Some(bound) => repeat(&self.ledger.key, bound, message, out),
-            None => self.bind(name, message, out),
+        if self.ledger.has_moved() {
+            return Err(SignFault::Moved);
         }
+        Ok(())
     }
 
-    // Binds a new name, and signs under it.
-    fn bind(&mut self, name: &Name, message: &mut &[u8], out: &mut Vec<u8>) -> Result<(), SignFault>
+    // Appends a record to the store, and adds it to the ledger.
+    fn add(&mut self, entry: Record) -> Result<(), SignFault>
         requires open { self.old.is_open ≡ true }
-        requires unbound { binding_of (S.list self.old.store) name.now ≡ None }
-        ensures step { SignsOver S.list S.most S.refusals R.upcoming self.old self.new name.now message.old.now
-            message.new.now (vec_capacity out.old) (answered result out.new.items) }
-        ensures leaves { Leaves result self.old self.new }
-        ensures counts { Counts R.failures S.failures S.most S.honest result self.old self.new }
+        requires follows { can_follow (key_in self.old.records) self.old.records entry ≡ true }
+        requires sizes { HasSizes entry }
+        requires few { length self.old.records < S.most self.old.store }
+        requires counted { length self.old.records < 2 ^ 32 - 1 }
+        requires room { TakesMemory entry → 0 < self.old.spare }
+        ensures { Adds S.Store self.old self.new entry result }
     {
-        let mut nodes = [[0u8; 32]; 25];
-        let path = &mut nodes[..usize::from(self.ledger.key.pair.tree.height())];
-        self.ledger.prepare(self.store.limit(), path, out)?;
-        let randomizer = draw::<R, 32>(&mut self.random)?;
-        let bound = self.ledger.next_bound(name, &randomizer, take_all(message));
-        let entry = Record::Bound(bound.copied());
         match append(&mut self.store, &entry) {
             Ok(()) => {
-                write_bound(&self.ledger.key, &bound, path, out);
-                self.ledger.push(bound);
+                self.ledger.push(entry);
                 Ok(())
             }
             Err(fault) => {
@@ -184,6 +413,36 @@ impl<S: Store, R: Source> Signer<S, R> {
                 Err(fault)
             }
         }
+    }
+
+    // The next leaf of the current bottom tree, and how many leaves that has; 0 where there is none.
+    fn bottom(&self) -> (u32, u32)
+        ensures { IsBottom self.now.records result }
+    {
+        let secret = &self.ledger.key().secret;
+        let bottom = secret.levels() - 1;
+        match self.ledger.current(bottom) {
+            Some(tree) => (tree.next, secret.leaves(bottom)),
+            None => (0, 0),
+        }
+    }
+
+    /// Retires the leaves of the current bottom tree below `upto`: they sign nothing any more.
+    pub fn retire(&mut self, upto: u32) -> Result<(), SignFault>
+        ensures { Retires S.Store self.old self.new upto result }
+    {
+        self.check_open()?;
+        let (next, leaves) = self.bottom();
+        if upto > leaves {
+            return Err(SignFault::RetireRange);
+        }
+        if upto <= next {
+            return Ok(());
+        }
+        if self.ledger.len() >= self.store.limit() {
+            return Err(SignFault::LedgerFull);
+        }
+        self.add(Record::Retire { upto })
     }
 }
 

@@ -1,8 +1,10 @@
 //! Sources of random bytes.
 
 ghost use Rattle.std.specs.Prelude.{◌≡◌, ◌<◌, ◌↔◌, ℕ, List, Option, Some, IsErr, length};
-ghost use Rattle.sign_core.specs.Source.{Fills};
+ghost use Rattle.std.specs.Prelude.{IfOk};
+ghost use Rattle.sign_core.specs.Source.{DrawsBytes, Fills};
 
+use crate::fault::SignFault;
 use thiserror::Error;
 use typecodes::Count;
 
@@ -25,6 +27,19 @@ pub trait Source {
     fn fill(&mut self, into: &mut [u8]) -> Result<(), SourceFault>
         ensures { Fills (failures self.old) (failures self.new) (upcoming self.old) (upcoming self.new) into.new
             result };
+}
+
+/// Draws the next bytes of a source.
+pub(crate) fn draw<R: Source, const N: usize>(random: &mut R) -> Result<[u8; N], SignFault>
+    ensures drawn { DrawsBytes (R.failures random.old) (R.failures random.new)
+        (R.upcoming random.old) (R.upcoming random.new) result }
+    ensures len { IfOk result (λ bytes. length bytes ≡ N) }
+{
+    let mut bytes = [0u8; N];
+    match random.fill(&mut bytes) {
+        Ok(()) => Ok(bytes),
+        Err(_) => Err(SignFault::RandomFailed),
+    }
 }
 
 /// A source of given bytes in their order, for tests and known answers.

@@ -1,18 +1,12 @@
 use super::*;
 use hss::HssPublic;
-use lms::verify;
-use state_file::{Cut, Key, MemoryStore, Record, Secret, Store, Version};
+use state_file::{Cut, MemoryStore, Store};
 use std::alloc::{AllocError, Global};
 use std::process::Abort;
 use std::test::*;
-use typecodes::{LevelCount, LmsPair, LmsType, Name, OtsType, Refusal};
+use typecodes::{LevelCount, Name, Refusal, Spec};
 
 type TestSigner<'a> = Signer<MemoryStore, TapeSource<'a>>;
-
-const PAIR: LmsPair = LmsPair {
-    tree: LmsType::H5,
-    ots: OtsType::W8,
-};
 
 // The bytes 0, 1, 2, .. and again from 0.
 fn counting(alloc: Global, count: usize) -> Result<Vec<u8>, AllocError> {
@@ -23,9 +17,11 @@ fn counting(alloc: Global, count: usize) -> Result<Vec<u8>, AllocError> {
     Ok(bytes)
 }
 
-fn signer<'a>(alloc: Global, limit: u32, tape: &'a [u8]) -> Result<TestSigner<'a>, SignFault> {
-    let store = MemoryStore::with_limit(alloc, limit.max(1));
-    Signer::create(alloc, PAIR, store, TapeSource::new(tape)).map_err(|refused| refused.fault)
+// A new key of this type in a store of a hundred records.
+fn signer<'a>(alloc: Global, text: &str, tape: &'a [u8]) -> Result<TestSigner<'a>, Fail> {
+    let store = MemoryStore::with_limit(alloc, 100);
+    let made = Signer::create(alloc, Spec::parse(text)?, store, TapeSource::new(tape));
+    Ok(made.map_err(|refused| refused.fault)?)
 }
 
 // Signs, and verifies what is signed.
@@ -41,24 +37,8 @@ fn signed(
     signer.sign(&Name::new(name)?, &mut rest, &mut out)?;
     assert_eq!(rt; rest.len(), 0);
     let mut text = message;
-    verify(&signer.public_key(), &mut text, &out)?;
+    verify_any(&signer.public_key(), &mut text, &out)?;
     Ok(out)
-}
-
-// The fault of a request, which leaves nothing in `out`.
-fn refusal(
-    rt: &impl Abort,
-    alloc: Global,
-    signer: &mut TestSigner<'_>,
-    name: &[u8],
-    message: &[u8],
-) -> Result<Option<SignFault>, Fail> {
-    let mut out = Vec::new(alloc);
-    out.push(7)?;
-    let mut rest = message;
-    let answer = signer.sign(&Name::new(name)?, &mut rest, &mut out);
-    assert!(rt; answer.is_ok() || out.is_empty());
-    Ok(answer.err())
 }
 
 // The example of the crate's documentation.
@@ -66,37 +46,21 @@ fn refusal(
 fn what_is_signed_verifies(rt: HostRuntime) -> Result<(), Fail> {
     let random = counting(rt.alloc(), 80)?;
     let store = MemoryStore::with_limit(rt.alloc(), 100);
-    let made = Signer::create(rt.alloc(), PAIR, store, TapeSource::new(&random));
+    let spec = Spec::parse("lms:H5/W8")?;
+    let made = Signer::create(rt.alloc(), spec, store, TapeSource::new(&random));
     let mut signer = made.map_err(|refused| refused.fault)?;
+    let name = Name::new(b"fw-1")?;
     let mut signature = Vec::new(rt.alloc());
-    signer.sign(
-        &Name::new(b"fw-1")?,
-        &mut b"firmware".as_slice(),
-        &mut signature,
-    )?;
-    let public = AnyPublic::Lms(signer.public_key());
+    signer.sign(&name, &mut b"firmware".as_slice(), &mut signature)?;
+    let public = signer.public_key();
     assert_eq!(rt; AnyPublic::read(public.write().as_slice()), Ok(public));
     assert_eq!(rt;
         verify_any(&public, &mut b"firmware".as_slice(), &signature),
         Ok(())
     );
-    Ok(())
-}
-
-#[test]
-fn one_signature_for_a_name(rt: HostRuntime) -> Result<(), Fail> {
-    let tape = counting(rt.alloc(), 200)?;
-    let mut signer = signer(rt.alloc(), 100, &tape)?;
-    let first = signed(&rt, rt.alloc(), &mut signer, b"fw-1", &[1])?;
-    assert_eq!(rt; first.len(), 1292);
-    assert_eq!(rt; signed(&rt, rt.alloc(), &mut signer, b"fw-1", &[1])?, first);
-    assert_eq!(rt;
-        refusal(&rt, rt.alloc(), &mut signer, b"fw-1", &[2])?,
-        Some(SignFault::Changed)
-    );
-    let mut store = signer.into_store();
-    assert!(rt; store.load(1)?.is_some());
-    assert!(rt; store.load(2)?.is_none());
+    let opened = Signer::open(rt.alloc(), signer.into_store(), TapeSource::new(&random));
+    let signer = opened.map_err(|refused| refused.fault)?;
+    assert_eq!(rt; signer.left().as_slice(), [31].as_slice());
     Ok(())
 }
 
@@ -105,11 +69,11 @@ fn one_signature_for_a_name(rt: HostRuntime) -> Result<(), Fail> {
 fn a_signature_verifies_by_its_scheme(rt: HostRuntime) -> Result<(), Fail> {
     let message = [1];
     let tape = counting(rt.alloc(), 200)?;
-    let mut signer = signer(rt.alloc(), 100, &tape)?;
+    let mut signer = signer(rt.alloc(), "lms:H5/W8", &tape)?;
     let signature = signed(&rt, rt.alloc(), &mut signer, b"fw-1", &message)?;
-    let top = signer.public_key();
-    let mut text = message.as_slice();
-    verify_any(&AnyPublic::Lms(top), &mut text, &signature)?;
+    let AnyPublic::Lms(top) = signer.public_key() else {
+        return Err(Fail::from("another scheme"));
+    };
     let mut one_level = Vec::new(rt.alloc());
     one_level.resize(4, 0)?;
     one_level.extend_from_slice(&signature)?;
@@ -128,135 +92,14 @@ fn a_signature_verifies_by_its_scheme(rt: HostRuntime) -> Result<(), Fail> {
     Ok(())
 }
 
-// The append of a name's binding is cut: the signer is closed.
-fn cut_while_signing(rt: &impl Abort, alloc: Global, cut: Cut) -> Result<MemoryStore, Fail> {
-    let tape = counting(alloc, 200)?;
-    let mut store = MemoryStore::with_limit(alloc, 100);
-    store.cut_at(2, cut);
-    let made = Signer::create(alloc, PAIR, store, TapeSource::new(&tape));
-    let mut signer = made.map_err(|refused| refused.fault)?;
-    assert_eq!(rt;
-        refusal(rt, alloc, &mut signer, b"a", b"x")?,
-        Some(SignFault::StoreFailed)
-    );
-    assert_eq!(rt;
-        refusal(rt, alloc, &mut signer, b"a", b"x")?,
-        Some(SignFault::Stopped)
-    );
-    let mut store = signer.into_store();
-    store.reopen();
-    Ok(store)
-}
-
-#[test]
-fn cut_appends_close_the_signer(rt: HostRuntime) -> Result<(), Fail> {
-    let mut old = cut_while_signing(&rt, rt.alloc(), Cut::Old)?;
-    assert!(rt; old.load(1)?.is_none());
-    let mut new = cut_while_signing(&rt, rt.alloc(), Cut::New)?;
-    let Some(Record::Bound(bound)) = new.load(1)? else {
-        return Err(Fail::from(SignFault::Damaged(1)));
-    };
-    let tape = counting(rt.alloc(), 80)?;
-    assert_eq!(rt; bound.name.as_bytes(), b"a".as_slice());
-    assert_eq!(rt; bound.leaf, 0);
-    assert_eq!(rt; Some(bound.randomizer.as_slice()), tape.get(48..80));
-    Ok(())
-}
-
-#[test]
-fn what_is_drawn_stands_in_the_records(rt: HostRuntime) -> Result<(), Fail> {
-    let tape = counting(rt.alloc(), 0x50)?;
-    let mut signer = signer(rt.alloc(), 100, &tape)?;
-    signed(&rt, rt.alloc(), &mut signer, b"a", b"x")?;
-    let public = signer.public_key();
-    let mut store = signer.into_store();
-    let (Some(Record::Key(key)), Some(Record::Bound(bound))) = (store.load(0)?, store.load(1)?)
-    else {
-        return Err(Fail::from(SignFault::Damaged(0)));
-    };
-    let mut drawn = Vec::new(rt.alloc());
-    let Secret::Lms {
-        pair: _,
-        identifier,
-        seed,
-    } = key.secret
-    else {
-        return Err(Fail::from(SignFault::Damaged(0)));
-    };
-    drawn.extend_from_slice(&identifier)?;
-    drawn.extend_from_slice(&seed)?;
-    drawn.extend_from_slice(&bound.randomizer)?;
-    assert_eq!(rt; drawn, tape);
-    assert_eq!(rt; key.root, public.root);
-    Ok(())
-}
-
-#[test]
-fn a_source_that_ends(rt: HostRuntime) -> Result<(), Fail> {
-    let tape = counting(rt.alloc(), 48 + 31)?;
-    let mut signer = signer(rt.alloc(), 100, &tape)?;
-    assert_eq!(rt;
-        refusal(&rt, rt.alloc(), &mut signer, b"a", b"x")?,
-        Some(SignFault::RandomFailed)
-    );
-    assert_eq!(rt;
-        refusal(&rt, rt.alloc(), &mut signer, b"a", b"x")?,
-        Some(SignFault::RandomFailed)
-    );
-    let mut store = signer.into_store();
-    assert!(rt; store.load(0)?.is_some());
-    assert!(rt; store.load(1)?.is_none());
-    Ok(())
-}
-
-#[test]
-fn a_store_of_two_records(rt: HostRuntime) -> Result<(), Fail> {
-    let tape = counting(rt.alloc(), 200)?;
-    let mut signer = signer(rt.alloc(), 2, &tape)?;
-    signed(&rt, rt.alloc(), &mut signer, b"a", b"x")?;
-    assert_eq!(rt;
-        refusal(&rt, rt.alloc(), &mut signer, b"b", b"x")?,
-        Some(SignFault::LedgerFull)
-    );
-    signed(&rt, rt.alloc(), &mut signer, b"a", b"x")?;
-    Ok(())
-}
-
-#[test]
-fn a_store_with_a_key(rt: HostRuntime) -> Result<(), Fail> {
-    let tape = counting(rt.alloc(), 48)?;
-    let mut store = MemoryStore::with_limit(rt.alloc(), 2);
-    store.append(&Record::Key(Key {
-        version: Version::One,
-        secret: Secret::Lms {
-            pair: PAIR,
-            identifier: [1; 16],
-            seed: [2; 32],
-        },
-        root: [3; 32],
-    }))?;
-    let source = TapeSource::new(&tape);
-    match Signer::create(rt.alloc(), PAIR, store, source) {
-        Ok(_) => assert!(rt; false),
-        Err(refused) => {
-            assert_eq!(rt; refused.fault, SignFault::KeyThere);
-            let (mut store, mut source) = refused.given;
-            assert!(rt; store.load(1)?.is_none());
-            let mut all = [0; 48];
-            source.fill(&mut all)?;
-            assert_eq!(rt; all.as_slice(), tape.as_slice());
-        }
-    }
-    Ok(())
-}
-
 // A create that is refused gives its store back.
 #[test]
 fn a_cut_create(rt: HostRuntime) -> Result<(), Fail> {
     let tape = counting(rt.alloc(), 48)?;
     let mut store = MemoryStore::with_limit(rt.alloc(), 2);
     store.cut_at(1, Cut::Old);
-    match Signer::create(rt.alloc(), PAIR, store, TapeSource::new(&tape)) {
+    let spec = Spec::parse("lms:H5/W8")?;
+    match Signer::create(rt.alloc(), spec, store, TapeSource::new(&tape)) {
         Ok(_) => assert!(rt; false),
         Err(refused) => {
             assert_eq!(rt; refused.fault, SignFault::StoreFailed);
@@ -271,16 +114,19 @@ fn a_cut_create(rt: HostRuntime) -> Result<(), Fail> {
 #[test]
 fn a_key_of_thirty_two_leaves(rt: HostRuntime) -> Result<(), Fail> {
     let tape = counting(rt.alloc(), 48 + 33 * 32)?;
-    let mut signer = signer(rt.alloc(), 100, &tape)?;
+    let mut signer = signer(rt.alloc(), "lms:H5/W8", &tape)?;
     let first = signed(&rt, rt.alloc(), &mut signer, b"name-0", b"message")?;
     for i in 1..32u8 {
         let name = format!(in rt.alloc(); "name-{i}")?;
         signed(&rt, rt.alloc(), &mut signer, name.as_bytes(), b"message")?;
     }
+    let mut out = Vec::new(rt.alloc());
+    let name = Name::new(b"one-more")?;
     assert_eq!(rt;
-        refusal(&rt, rt.alloc(), &mut signer, b"one-more", b"message")?,
-        Some(SignFault::Exhausted)
+        signer.sign(&name, &mut b"message".as_slice(), &mut out),
+        Err(SignFault::Exhausted)
     );
+    assert!(rt; out.is_empty());
     assert_eq!(rt;
         signed(&rt, rt.alloc(), &mut signer, b"name-0", b"message")?,
         first
@@ -291,13 +137,7 @@ fn a_key_of_thirty_two_leaves(rt: HostRuntime) -> Result<(), Fail> {
 #[test]
 fn a_higher_tree(rt: HostRuntime) -> Result<(), Fail> {
     let tape = counting(rt.alloc(), 200)?;
-    let pair = LmsPair {
-        tree: LmsType::H10,
-        ots: OtsType::W4,
-    };
-    let store = MemoryStore::with_limit(rt.alloc(), 100);
-    let made = Signer::create(rt.alloc(), pair, store, TapeSource::new(&tape));
-    let mut signer = made.map_err(|refused| refused.fault)?;
+    let mut signer = signer(rt.alloc(), "lms:H10/W4", &tape)?;
     let first = signed(&rt, rt.alloc(), &mut signer, b"a", b"x")?;
     assert_eq!(rt; first.len(), 2508);
     assert_eq!(rt; signed(&rt, rt.alloc(), &mut signer, b"a", b"x")?, first);
@@ -324,18 +164,20 @@ fn signed_at_last(
 }
 
 // A create again, where memory was refused: in the store that it gave back.
-fn created_at_last<'a>(alloc: Global, tape: &'a [u8]) -> Result<TestSigner<'a>, SignFault> {
+fn created_at_last<'a>(alloc: Global, tape: &'a [u8]) -> Result<TestSigner<'a>, Fail> {
     let store = MemoryStore::with_limit(alloc, 100);
-    match Signer::create(alloc, PAIR, store, TapeSource::new(tape)) {
+    let spec = Spec::parse("lms:H5/W8")?;
+    match Signer::create(alloc, spec, store, TapeSource::new(tape)) {
         Ok(signer) => Ok(signer),
         Err(refused) => {
             let (store, _) = refused.given;
             match refused.fault {
                 SignFault::OutOfMemory => {
-                    let again = Signer::create(alloc, PAIR, store, TapeSource::new(tape));
-                    again.map_err(|refused| refused.fault)
+                    let spec = Spec::parse("lms:H5/W8")?;
+                    let again = Signer::create(alloc, spec, store, TapeSource::new(tape));
+                    Ok(again.map_err(|refused| refused.fault)?)
                 }
-                fault => Err(fault),
+                fault => Err(Fail::from(fault)),
             }
         }
     }
@@ -353,8 +195,9 @@ fn refused_memory_binds_no_name(rt: HostRuntime) -> Result<(), Fail> {
     let mut second = Vec::new(rt.alloc());
     signed_at_last(&rt, &mut signer, &Name::new(b"a")?, b"x", &mut first)?;
     signed_at_last(&rt, &mut signer, &Name::new(b"b")?, b"x", &mut second)?;
-    verify(&signer.public_key(), &mut b"x".as_slice(), &first)?;
-    verify(&signer.public_key(), &mut b"x".as_slice(), &second)?;
+    let public = signer.public_key();
+    verify_any(&public, &mut b"x".as_slice(), &first)?;
+    verify_any(&public, &mut b"x".as_slice(), &second)?;
     assert_eq!(rt; first.get(8..40), tape.get(48..80));
     assert_eq!(rt; second.get(8..40), tape.get(80..112));
     assert_eq!(rt; first.get(..4), Some([0, 0, 0, 0].as_slice()));

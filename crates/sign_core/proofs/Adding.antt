@@ -1,0 +1,239 @@
+-- What an append comes to for a signer, and for its store at any moment.
+use Rattle.std.proofs.Common.{◌≡◌, ◌⊎◌, ℕ, ◌+◌, ◌<◌, ◌≤◌, Bool, true, false, not, List, [], ◌∷◌, ◌++◌, length, Some, Ok, Err, refl}
+use Rattle.std.proofs.Common.{sym, ap, ◌∙◌, subst, arith, ⊎_elim, inl, inr, IsTrue, true≢false}
+use Rattle.std.specs.Prelude.{take}
+use Rattle.std.proofs.Math.Seq.{take-length}
+use Rattle.std.proofs.lemmas.List.{take_at}
+use Rattle.std.proofs.Common.{append-nil}
+use Rattle.state_file.specs.declared.record.Record.{Record}
+use Rattle.state_file.specs.declared.store.Store as store
+use Rattle.state_file.specs.Disk.{LeavesOnly}
+use Rattle.state_file.specs.Laws.{IsLegal}
+use Rattle.state_file.proofs.Moments.{weaker}
+use Rattle.sign_core.specs.declared.fault.SignFault.{SignFault}
+use Rattle.sign_core.specs.declared.fault.SignFault.TheVariants.{RandomRepeated, MessageRead, Moved as MovedFault, RetireRange, NoKey, Illegal, DeviceFailed}
+use Rattle.sign_core.specs.declared.fault.SignFault.TheVariants.{NoMemoryToOpen}
+use Rattle.sign_core.specs.declared.fault.SignFault.TheVariants.{Changed, Exhausted, RandomFailed, StoreFailed, Stopped, Damaged, OutOfMemory, LedgerFull}
+use Rattle.sign_core.specs.declared.fault.SignFault.TheVariants.{Unreadable, KeyThere}
+use Rattle.sign_core.specs.Fault.{closes}
+use Rattle.sign_core.specs.Once.{IsBeginning}
+use Rattle.sign_core.specs.Signer.{IsSigner, view_of, Adds, IsAppended, IsTied, LeavesEither, LeavesOld, View}
+use Rattle.sign_core.specs.Records.{can_follow, key_in}
+use Rattle.sign_core.specs.Ledger.{Grows, Table}
+use Rattle.sign_core.specs.Textbook.{AllHaveSizes, HasSizes, SecretHasSizes}
+use Rattle.state_file.specs.Laws.{levels_of}
+use Rattle.state_file.specs.declared.record.Key.{Key}
+use Rattle.state_file.specs.declared.record.Secret.{Secret}
+use Rattle.state_file.specs.declared.record.Secret.TheVariants.{Lms, Hss, Xmss}
+use Rattle.sign_core.proofs.Follow.{key_stays}
+use Rattle.sign_core.proofs.Legal.{grows as legal_grows}
+use Rattle.sign_core.proofs.Sizes.{key_has_sizes}
+use Rattle.sign_core.proofs.Stays.{old_or_new}
+use Rattle.sign_core.specs.World.{acked, cut_old, cut_new, no_memory}
+
+-- what a stop leaves in an append is a beginning of the records with the new one
+beginning_left : (list records left : List Record) (entry : Record) (all : List Record) → list ≡ records → all ≡ records ++ entry ∷ []
+    → (left ≡ list) ⊎ (left ≡ list ++ entry ∷ []) → IsBeginning (length records) all left
+beginning_left list records left entry all same is (inl old) = record {
+  count = length records;
+  enough = omega arith;
+  beginning = old ∙ same ∙ sym (ap (take (length records)) is ∙ take_at records (entry ∷ []) (length records) refl);
+}
+beginning_left list records left entry all same is (inr new) = record {
+  count = length all;
+  enough = omega (arith, ap length is, length_more records entry);
+  beginning = new ∙ ap (λ l. l ++ entry ∷ []) same ∙ sym is ∙ sym (take-length all);
+}
+  where
+    length_more : (records : List Record) (entry : Record) → length records ≤ length (records ++ entry ∷ [])
+    length_more [] entry = omega arith
+    length_more (first ∷ rest) entry = omega (arith, length_more rest entry)
+
+-- what a stop leaves in a call that leaves the old records
+beginning_kept : (records more left all : List Record) → left ≡ records → all ≡ records ++ more → IsBeginning (length records) all left
+beginning_kept records more left all is same = record {
+  count = length records;
+  enough = omega arith;
+  beginning = is ∙ sym (ap (take (length records)) same ∙ take_at records more (length records) refl);
+}
+
+pub moments_kept : {S : Type 0} (g : store.Ghosts S) (old new : S) (records more all : List Record) → LeavesOld g old new
+    → (IsTrue (g.honest old) → g.list old ≡ records) → all ≡ records ++ more
+    → IsTrue (g.honest old) → g.stopped old ≡ false → LeavesOnly g.moment g.left_since old new (IsBeginning (length records) all)
+moments_kept g old new records more all leaves same is honest running =
+    weaker g.moment g.left_since old new _ _ (λ left kept. beginning_kept records more left all (kept ∙ same honest) is) (leaves honest running)
+
+pub moments_left : {S : Type 0} (g : store.Ghosts S) (old new : S) (entry : Record) (records all : List Record) → LeavesEither g old new entry
+    → (IsTrue (g.honest old) → g.list old ≡ records) → all ≡ records ++ entry ∷ []
+    → IsTrue (g.honest old) → g.stopped old ≡ false → LeavesOnly g.moment g.left_since old new (IsBeginning (length records) all)
+moments_left g old new entry records all either same is honest running =
+    weaker g.moment g.left_since old new _ _ (λ left either_one. beginning_left (g.list old) records left entry all (same honest) is either_one) (either honest
+    running)
+
+-- an append of a signer that is opened
+pub adds_ok : {S R : Type 0} (g : store.Ghosts S) (old new : View S R) (entry : Record) → old.is_open ≡ true → IsTied g old.store old.records
+    → IsAppended {A = Unit {0}} g old.store new.store entry (Ok tt) → new.records ≡ old.records ++ entry ∷ [] → new.is_open ≡ true
+    → new.random ≡ old.random → old.spare ≤ new.spare + 1 → Adds g old new entry (Ok tt)
+adds_ok g old new entry was tied is records is_open random spare = record {
+  fate = acked;
+  ends = record {
+    answer_is = refl;
+    records = records;
+    is_open = is_open;
+    store = record {
+      list = record { more = entry ∷ []; list = is.stored.0; records = refl };
+      moments = moments_left g old.store new.store entry old.records _ is.moments tied.same (append-nil _);
+      failures = is.stored.2;
+      honest = is.honest;
+      most = is.most;
+    };
+  };
+  random = random;
+  refusals = is.refusals;
+  spare = spare;
+}
+
+pub adds_err : {S R : Type 0} (g : store.Ghosts S) (old new : View S R) (entry : Record) (fault : SignFault) → old.is_open ≡ true
+    → IsTied g old.store old.records
+    → IsAppended {A = Unit {0}} g old.store new.store entry (Err fault) → new.records ≡ old.records → new.is_open ≡ not (closes fault)
+    → new.random ≡ old.random → old.spare ≤ new.spare + 1 → Adds g old new entry (Err fault)
+adds_err g old new entry StoreFailed was tied is records is_open random spare =
+    ⊎_elim
+    (λ (same : g.list new.store ≡ g.list old.store). record {
+      fate = cut_old;
+      ends = record {
+        answer_is = refl;
+        records = records;
+        is_open = is_open;
+        store = record {
+          list = record { more = []; list = same ∙ sym (append-nil _); records = sym (append-nil _) };
+          moments = moments_left g old.store new.store entry old.records _ is.moments tied.same refl;
+          failures = is.stored.2;
+          honest = is.honest;
+          most = is.most;
+        };
+      };
+      random = random;
+      refusals = is.refusals;
+      spare = spare;
+    })
+    (λ (more : g.list new.store ≡ g.list old.store ++ entry ∷ []). record {
+      fate = cut_new;
+      ends = record {
+        answer_is = refl;
+        records = records;
+        is_open = is_open;
+        store = record {
+          list = record { more = entry ∷ []; list = more; records = refl };
+          moments = moments_left g old.store new.store entry old.records _ is.moments tied.same refl;
+          failures = is.stored.2;
+          honest = is.honest;
+          most = is.most;
+        };
+      };
+      random = random;
+      refusals = is.refusals;
+      spare = spare;
+    })
+    is.stored.0
+adds_err g old new entry OutOfMemory was tied is records is_open random spare = record {
+  fate = no_memory;
+  ends = record {
+    answer_is = refl;
+    records = records;
+    is_open = is_open ∙ sym was;
+    store = record {
+      list = record { more = []; list = is.stored.0 ∙ sym (append-nil _); records = sym (append-nil _) };
+      moments = moments_kept g old.store new.store old.records [] _ (is.refused refl) tied.same refl;
+      failures = is.stored.2;
+      honest = is.honest;
+      most = is.most;
+    };
+  };
+  random = random;
+  refusals = is.refusals;
+  spare = spare;
+}
+adds_err g old new entry Changed was tied is records is_open random spare = absurd is.stored
+adds_err g old new entry Exhausted was tied is records is_open random spare = absurd is.stored
+adds_err g old new entry RandomFailed was tied is records is_open random spare = absurd is.stored
+adds_err g old new entry Stopped was tied is records is_open random spare = absurd is.stored
+adds_err g old new entry LedgerFull was tied is records is_open random spare = absurd is.stored
+adds_err g old new entry KeyThere was tied is records is_open random spare = absurd is.stored
+adds_err g old new entry RandomRepeated was tied is records is_open random spare = absurd is.stored
+adds_err g old new entry MessageRead was tied is records is_open random spare = absurd is.stored
+adds_err g old new entry MovedFault was tied is records is_open random spare = absurd is.stored
+adds_err g old new entry RetireRange was tied is records is_open random spare = absurd is.stored
+adds_err g old new entry NoKey was tied is records is_open random spare = absurd is.stored
+adds_err g old new entry DeviceFailed was tied is records is_open random spare = absurd is.stored
+adds_err g old new entry NoMemoryToOpen was tied is records is_open random spare = absurd is.stored
+adds_err g old new entry (Damaged k) was tied is records is_open random spare = absurd is.stored
+adds_err g old new entry (Unreadable k) was tied is records is_open random spare = absurd is.stored
+adds_err g old new entry (Illegal k) was tied is records is_open random spare = absurd is.stored
+
+-- the same of a signer's parts
+pub adds_in_ok : {S R : Type 0} (g : store.Ghosts S) (old new : S) (random : R) (before after : Table) (is_open : Bool) (entry : Record) (v : View S R)
+    → view_of old random before is_open ≡ v → IsSigner g (view_of old random before is_open) → v.is_open ≡ true
+    → IsAppended {A = Unit {0}} g old new entry (Ok tt) → Grows entry before after → Adds g v (view_of new random after is_open) entry (Ok tt)
+adds_in_ok {S = S} {R = R} g old new random before after is_open entry v is signer opened appended grows =
+    subst (λ (w : View S R). w.is_open ≡ true → Adds g w (view_of new random after is_open) entry (Ok tt)) is
+    (λ was. adds_ok g (view_of old random before is_open) (view_of new random after is_open) entry was (signer.tied was) appended grows.records was refl
+    grows.spare)
+    opened
+
+pub adds_in_err : {S R : Type 0} (g : store.Ghosts S) (old new : S) (random : R) (before : Table) (is_open stays : Bool) (entry : Record) (fault : SignFault)
+    (v : View S R)
+    → view_of old random before is_open ≡ v → IsSigner g (view_of old random before is_open) → v.is_open ≡ true → stays ≡ not (closes fault)
+    → IsAppended {A = Unit {0}} g old new entry (Err fault) → Adds g v (view_of new random before stays) entry (Err fault)
+adds_in_err {S = S} {R = R} g old new random before is_open stays entry fault v is signer opened shut appended =
+    subst (λ (w : View S R). w.is_open ≡ true → Adds g w (view_of new random before stays) entry (Err fault)) is
+    (λ was. adds_err g (view_of old random before is_open) (view_of new random before stays) entry fault was (signer.tied was) appended refl shut refl (omega
+    arith))
+    opened
+
+-- ---- a signer that goes on
+
+grown_sizes : (records : List Record) (entry : Record) → AllHaveSizes records → HasSizes entry → AllHaveSizes (records ++ entry ∷ [])
+grown_sizes records entry sizes sized = λ k x at.
+    elim (old_or_new records entry k x at) [ inl old ↦ sizes k x old | inr same ↦ subst HasSizes same sized ]
+
+pub length_one_more : (records : List Record) (entry : Record) → length (records ++ entry ∷ []) ≡ length records + 1
+length_one_more [] entry = refl
+length_one_more (first ∷ rest) entry = omega (arith, length_one_more rest entry)
+
+pub some_records : (records : List Record) (key : Key) → key_in records ≡ Some key → 0 < length records
+some_records [] key is = absurd (cc)
+some_records (first ∷ rest) key is = omega arith
+
+pub signer_grown : {S R : Type 0} (g : store.Ghosts S) (old new : S) (random : R) (before after : Table) (is_open : Bool) (entry : Record) (v : View S R)
+    → view_of old random before is_open ≡ v → IsSigner g (view_of old random before is_open) → key_in before.records ≡ Some before.key → v.is_open ≡ true
+    → can_follow (key_in v.records) v.records entry ≡ true → HasSizes entry
+    → IsAppended {A = Unit {0}} g old new entry (Ok tt) → Grows entry before after
+    → IsSigner g (view_of new random after is_open) × (key_in after.records ≡ Some after.key)
+signer_grown g old new random before after is_open entry v is signer keyed opened follows sized appended grows =
+    let was : is_open ≡ true = ap (λ w. w.is_open) is ∙ opened in
+    let can : can_follow (key_in before.records) before.records entry ≡ true = ap (λ w. can_follow (key_in w.records) w.records entry) is ∙ follows in
+    let tied = signer.tied was in (
+      record {
+        legal = subst IsLegal (sym grows.records) (legal_grows before.records entry signer.legal can);
+        sizes = subst AllHaveSizes (sym grows.records) (grown_sizes before.records entry signer.sizes sized);
+        tied = λ _. record {
+          running = appended.stored.1;
+          long = ap length appended.stored.0 ∙ length_one_more _ entry ∙ ap (λ n. n + 1) tied.long ∙ sym (length_one_more _ entry)
+              ∙ ap length (sym grows.records);
+          same = λ honest. appended.stored.0 ∙ ap (λ l. l ++ entry ∷ []) (tied.same (subst IsTrue appended.honest honest)) ∙ sym grows.records;
+        };
+        shut = λ closed. absurd (true≢false (sym was ∙ closed));
+      },
+      ap key_in grows.records ∙ key_stays before.records (entry ∷ []) (some_records before.records before.key keyed) ∙ keyed ∙ ap Some (sym grows.key),
+    )
+
+-- ---- a bottom tree
+
+pub levels_told : (records : List Record) (key : Key) (n : ℕ) → AllHaveSizes records → key_in records ≡ Some key → n ≡ levels_of key.secret → (1 ≤ n) × (n ≤ 8)
+levels_told records key n sizes keyed is = by_secret key.secret (key_has_sizes records key sizes keyed) is
+  where
+    by_secret : (secret : Secret) → SecretHasSizes secret → n ≡ levels_of secret → (1 ≤ n) × (n ≤ 8)
+    by_secret (Lms pair identifier seed) sized is = (omega (arith, is), omega (arith, is))
+    by_secret (Hss levels identifier seed) sized is = (omega (arith, is, sized.2.0), omega (arith, is, sized.2.1))
+    by_secret (Xmss tree secret_seed prf_key public_seed) sized is = (omega (arith, is), omega (arith, is))

@@ -1,0 +1,191 @@
+-- The chain of trees above a binding, and a binding under XMSS: which digest it signs, with which leaf and which types of trees.
+use Rattle.std.proofs.Common.{◌≡◌, ◌∙◌, refl, sym, ap, subst, ℕ, zero, suc, ◌+◌, ◌-◌, ◌^◌, ◌<◌, ◌≤◌, List, [], ◌∷◌, ◌++◌, length, take, map}
+use Rattle.std.proofs.Common.{Option, Some, arith}
+use Rattle.std.specs.Prelude.{slice_get, slice_index_or, unwrap_or}
+use Rattle.std.proofs.Math.Seq.{take-length}
+use Rattle.std.proofs.lemmas.List.{map-append}
+use Rattle.std.proofs.lemmas.Option.{same_Some, slice_get_within}
+use Rattle.typecodes.specs.declared.types.LmsPair.{LmsPair}
+use Rattle.typecodes.specs.Types.{height_of, xmss_height_of}
+use Rattle.lmots.specs.Key.{message_digest_of}
+use Rattle.lms.specs.declared.secret.LmsSecret.{LmsSecret}
+use Rattle.hss.specs.Secret.{Signing}
+use Rattle.xmss.specs.declared.secret.XmssSecret.{XmssSecret}
+use Rattle.xmss.specs.Secret.{digest_in as xmss_digest_in}
+use Rattle.xmss.specs.Writing.{signature_bytes as xmss_signature_bytes, textbook as xmss_textbook}
+use Rattle.state_file.specs.Laws.{IsCurrent, IsLegal, bottom_of, leaves_at, levels_of}
+use Rattle.state_file.specs.declared.record.Bound.{Bound}
+use Rattle.state_file.specs.declared.record.Key.{Key}
+use Rattle.state_file.specs.declared.record.Record.{Record}
+use Rattle.state_file.specs.declared.record.Record.TheVariants.{Key as KeyRecord, Extend as ExtendRecord, Bound as BoundRecord, Retire, Moved}
+use Rattle.state_file.specs.declared.record.Secret.{Secret}
+use Rattle.state_file.specs.declared.record.Secret.TheVariants.{Lms, Hss, Xmss}
+use Rattle.sign_core.specs.declared.links.Link.{Link}
+use Rattle.sign_core.specs.Records.{current, key_in}
+use Rattle.sign_core.specs.Links.{IsTreeAt, signings_of}
+use Rattle.sign_core.specs.Signing.{IsXmssKey, pairs_of}
+use Rattle.sign_core.specs.Textbook.{Trees, damaged_in, digest_at, digest_by, digest_under, lms_secret, secret_at, secret_by, signature_at, signature_by}
+use Rattle.sign_core.specs.Textbook.{signing_by, signings_above, tree_before, trees_of}
+use Rattle.sign_core.proofs.Keys.{key_stands, legal_key}
+use Rattle.sign_core.proofs.LinkParts.{current_stands, leaves_of_level, pair_at, parent_of}
+use Rattle.sign_core.proofs.TreeSteps.{before_current}
+
+-- ---- keys
+
+-- records have one key
+pub same_key : (records : List Record) (a b : Key) → key_in records ≡ Some a → key_in records ≡ Some b → a ≡ b
+same_key records a b is_a is_b = same_Some a b (sym is_a ∙ is_b)
+
+-- and begin with it
+pub key_and_rest : (records : List Record) (key : Key) → key_in records ≡ Some key → (rest : List Record) × (records ≡ KeyRecord key ∷ rest)
+key_and_rest [] key is = absurd (cc)
+key_and_rest (KeyRecord first ∷ rest) key is = (rest, ap (λ k. KeyRecord k ∷ rest) (same_Some first key is))
+key_and_rest (ExtendRecord extend ∷ rest) key is = absurd (cc)
+key_and_rest (BoundRecord bound ∷ rest) key is = absurd (cc)
+key_and_rest (Retire upto ∷ rest) key is = absurd (cc)
+key_and_rest (Moved ∷ rest) key is = absurd (cc)
+
+-- so the chain of the key's tree is that of its record
+pub key_chain : (records : List Record) (key : Key) (P : Option ℕ → Type 0) → key_in records ≡ Some key
+    → ((rest : List Record) → P (damaged_in key 0 (KeyRecord key ∷ rest) 0)) → P (damaged_in key 0 records 0)
+key_chain records key P keyed each =
+    let (rest, whole) = key_and_rest records key keyed in
+    subst P (ap (λ l. damaged_in key 0 l 0) (sym whole)) (each rest)
+
+-- the leaf of a binding is one of the bottom level's
+pub leaf_inside : (records : List Record) (key : Key) (k : ℕ) (bound : Bound) → IsLegal records → key_in records ≡ Some key
+    → slice_get records k ≡ Some (BoundRecord bound) → bound.leaf < leaves_at key.secret (bottom_of key.secret)
+leaf_inside records key k bound legal keyed at =
+    let (has_tree, inside, randomizer) = legal.fits k (BoundRecord bound) at in
+    subst (λ (own : Key). bound.leaf < leaves_at own.secret (bottom_of own.secret)) (legal_key records key legal keyed) inside
+
+-- ---- the trees of a key
+
+-- a key with LMS trees has a level, and a type for each
+pub levels_typed : (secret : Secret) (trees : Trees) → trees_of secret ≡ Some trees → (1 ≤ levels_of secret) × (length trees.pairs ≡ levels_of secret)
+levels_typed (Lms pair identifier seed) trees these = (omega arith, ap (λ (t : Trees). length t.pairs) (sym (same_Some _ trees these)))
+levels_typed (Hss [] identifier seed) trees these = absurd (cc)
+levels_typed (Hss (pair ∷ rest) identifier seed) trees these = (omega arith, ap (λ (t : Trees). length t.pairs) (sym (same_Some _ trees these)))
+levels_typed (Xmss tree secret_seed prf_key public_seed) trees these = absurd (cc)
+
+-- the types down to the bottom level are all
+pub all_pairs : (secret : Secret) (trees : Trees) → trees_of secret ≡ Some trees → take (bottom_of secret + 1) trees.pairs ≡ trees.pairs
+all_pairs secret trees these =
+    let (some, typed) = levels_typed secret trees these in
+    let count : bottom_of secret + 1 ≡ length trees.pairs = omega (arith, some, typed) in
+    ap (λ n. take n trees.pairs) count ∙ take-length trees.pairs
+
+-- ---- the tree of a binding
+
+-- The tree that was current before a binding stands at the bottom level, and the binding's leaf is one of its leaves.
+pub bound_tree : (records : List Record) (key : Key) (trees : Trees) (k : ℕ) (bound : Bound) → IsLegal records → key_in records ≡ Some key
+    → trees_of key.secret ≡ Some trees → slice_get records k ≡ Some (BoundRecord bound)
+    → IsTreeAt records (bottom_of key.secret) (tree_before (bottom_of key.secret) records k)
+    × (bound.leaf < 2 ^ height_of (secret_at trees records (tree_before (bottom_of key.secret) records k)).pair.tree)
+bound_tree records key trees k bound legal keyed these at =
+    let first = key_stands records key keyed in
+    let bottom = bottom_of key.secret in
+    let ((tree, is_current), inside, randomizer) = legal.fits k (BoundRecord bound) at in
+    let here : IsCurrent records k bottom tree =
+    subst (λ (own : Key). IsCurrent records k (bottom_of own.secret) tree) (legal_key records key legal keyed) is_current in
+    let within : k < length records = slice_get_within records k (BoundRecord bound) at in
+    let before : current bottom (take k records) ≡ Some tree = before_current records k bottom tree (omega (arith, within)) here in
+    let tree_is : tree ≡ tree_before bottom records k = sym (ap (λ o. unwrap_or o 0) before) in
+    let there : IsTreeAt records bottom (tree_before bottom records k) = subst (IsTreeAt records bottom) tree_is (current_stands records k bottom tree here) in
+    let (some, typed) = levels_typed key.secret trees these in
+    let few : bottom < levels_of key.secret = omega (arith, some) in (
+      there,
+      subst (λ n. bound.leaf < n)
+          (leaves_of_level key.secret trees bottom these few ∙ ap (λ p. 2 ^ height_of p.tree) (sym (pair_at key trees records bottom _ first these there)))
+          (leaf_inside records key k bound legal keyed at),
+    )
+
+-- the digest that a leaf of the tree before place k signs
+pub digest_told : (records : List Record) (key : Key) (trees : Trees) (k leaf : ℕ) (randomizer text : List ℕ) → key_in records ≡ Some key
+    → trees_of key.secret ≡ Some trees
+    → digest_at key records k leaf randomizer text
+    ≡ message_digest_of (secret_at trees records (tree_before (bottom_of key.secret) records k)).identifier leaf randomizer text
+digest_told records key trees k leaf randomizer text keyed these = by_secret key.secret these (key_stands records key keyed)
+  where
+    by_secret : (secret : Secret) → trees_of secret ≡ Some trees → slice_get records 0 ≡ Some (KeyRecord key)
+        → digest_by secret key.root records k leaf randomizer text
+        ≡ message_digest_of (secret_at trees records (tree_before (bottom_of secret) records k)).identifier leaf randomizer text
+    by_secret (Lms pair identifier seed) these first =
+        let digest : LmsSecret → List ℕ = λ s. message_digest_of s.identifier leaf randomizer text in
+        let top : trees.top ≡ lms_secret pair identifier seed = ap (λ (t : Trees). t.top) (sym (same_Some _ trees these)) in
+        sym (ap (λ r. digest (secret_by trees r)) first ∙ ap digest top)
+    by_secret (Hss levels identifier seed) these first =
+        ap (λ t. digest_under t records (tree_before (length levels - 1) records k) leaf randomizer text) these
+    by_secret (Xmss tree secret_seed prf_key public_seed) these first = absurd (cc)
+
+-- ---- the types of a chain's trees
+
+pair_of : Signing → LmsPair
+pair_of signing = signing.secret.pair
+
+take_one_more : {A : Type 0} (xs : List A) (k : ℕ) (other : A) → k < length xs → take k xs ++ slice_index_or xs k other ∷ [] ≡ take (suc k) xs
+take_one_more [] k other within = absurd (omega (arith, within))
+take_one_more (x ∷ xs) zero other within = refl
+take_one_more (x ∷ xs) (suc k) other within = ap (λ l. x ∷ l) (take_one_more xs k other (omega (arith, within)))
+
+-- what signs the trees of a chain has the types of the levels
+signings_pairs : (records : List Record) (key : Key) (trees : Trees) (level place : ℕ) → IsLegal records → key_in records ≡ Some key
+    → trees_of key.secret ≡ Some trees → IsTreeAt records level place → level < length trees.pairs
+    → map pair_of (signings_above trees level records place) ≡ take level trees.pairs
+unfolding pair_of
+signings_pairs records key trees zero place legal keyed these at few = refl
+signings_pairs records key trees (suc level) place legal keyed these (extend, stands, of_level) few =
+    let parent = tree_before level records place in
+    let (there, inside) = parent_of key trees records level place extend legal keyed these stands of_level in
+    let above = signings_above trees level records parent in
+    let pair = (secret_at trees records parent).pair in
+    map-append pair_of above (signing_by trees records parent (slice_get records place))
+    ∙ ap (λ r. map pair_of above ++ map pair_of (signing_by trees records parent r)) stands
+    ∙ ap (λ l. l ++ pair ∷ []) (signings_pairs records key trees level parent legal keyed these there (omega (arith, few)))
+    ∙ ap (λ p. take level trees.pairs ++ p ∷ []) (pair_at key trees records level parent (key_stands records key keyed) these there)
+    ∙ take_one_more trees.pairs level trees.top.pair (omega (arith, few))
+
+pairs_told : (links : List Link) → pairs_of links ≡ map pair_of (signings_of links)
+unfolding pair_of
+pairs_told [] = refl
+pairs_told (link ∷ links) = ap (λ l. link.secret.pair ∷ l) (pairs_told links)
+
+-- links that sign as a chain of trees does, down to the bottom, have the types of the levels
+pub links_pairs : (records : List Record) (key : Key) (trees other : Trees) (level place : ℕ) (links : List Link) (last : Signing) → IsLegal records
+    → key_in records ≡ Some key → trees_of key.secret ≡ Some trees → trees_of key.secret ≡ Some other → IsTreeAt records (bottom_of key.secret) place
+    → level ≡ bottom_of key.secret → signings_of links ≡ signings_above trees level records place ++ last ∷ [] → last.secret ≡ secret_at trees records place
+    → pairs_of links ≡ other.pairs
+unfolding pair_of
+links_pairs records key trees other level place links last legal keyed these others at level_is signs secret =
+    let bottom = bottom_of key.secret in
+    let (some, typed) = levels_typed key.secret trees these in
+    let few : bottom < length trees.pairs = omega (arith, some, typed) in
+    let count : suc bottom ≡ bottom + 1 = omega arith in
+    pairs_told links ∙ ap (map pair_of) signs ∙ ap (λ n. map pair_of (signings_above trees n records place ++ last ∷ [])) level_is
+    ∙ map-append pair_of (signings_above trees bottom records place) (last ∷ [])
+    ∙ ap (λ l. l ++ last.secret.pair ∷ []) (signings_pairs records key trees bottom place legal keyed these at few)
+    ∙ ap (λ (s : LmsSecret). take bottom trees.pairs ++ s.pair ∷ []) secret
+    ∙ ap (λ p. take bottom trees.pairs ++ p ∷ []) (pair_at key trees records bottom place (key_stands records key keyed) these at)
+    ∙ take_one_more trees.pairs bottom trees.top.pair few ∙ ap (λ n. take n trees.pairs) count ∙ all_pairs key.secret trees these
+    ∙ ap (λ (t : Trees). t.pairs) (same_Some trees other (sym these ∙ others))
+
+-- ---- XMSS
+
+-- the leaf of a binding is one of the tree's
+pub xmss_leaf_inside : (records : List Record) (key : Key) (secret : XmssSecret) (k : ℕ) (bound : Bound) → IsLegal records → key_in records ≡ Some key
+    → IsXmssKey secret key → slice_get records k ≡ Some (BoundRecord bound) → bound.leaf < 2 ^ xmss_height_of secret.tree
+xmss_leaf_inside records key secret k bound legal keyed is at =
+    subst (λ s. bound.leaf < leaves_at s (bottom_of s)) is (leaf_inside records key k bound legal keyed at)
+
+pub xmss_digest_told : (records : List Record) (key : Key) (secret : XmssSecret) (k leaf : ℕ) (randomizer text : List ℕ) → IsXmssKey secret key
+    → digest_at key records k leaf randomizer text ≡ xmss_digest_in secret key.root leaf text
+xmss_digest_told records key secret k leaf randomizer text is = ap (λ s. digest_by s key.root records k leaf randomizer text) is
+
+pub xmss_signed : (records : List Record) (key : Key) (secret : XmssSecret) (k : ℕ) (bound : Bound) → IsXmssKey secret key
+    → signature_at key records k bound ≡ xmss_signature_bytes (xmss_textbook secret bound.leaf bound.digest)
+xmss_signed records key secret k bound is = ap (λ s. signature_by s records k bound) is
+
+-- the chain of a key of XMSS is its tree alone
+pub xmss_damaged : (records : List Record) (key : Key) (secret : XmssSecret) (k : ℕ) → IsXmssKey secret key
+    → damaged_in key (bottom_of key.secret) records (tree_before (bottom_of key.secret) records k) ≡ damaged_in key 0 records 0
+xmss_damaged records key secret k is = ap (λ s. damaged_in key (bottom_of s) records (tree_before (bottom_of s) records k)) is

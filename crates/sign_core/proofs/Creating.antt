@@ -1,0 +1,300 @@
+-- What each end of a create is: a step of the world.
+use Rattle.std.proofs.Common.{◌≡◌, ◌⊎◌, ℕ, ◌+◌, ◌≤◌, Bool, true, false, List, [], ◌∷◌, ◌++◌, length, Some, None, Result, Ok, Err, refl, sym, ap, ◌∙◌}
+use Rattle.std.proofs.Common.{subst, arith, append-nil, inl, inr, IsTrue}
+use Rattle.std.proofs.lemmas.Bool.Decides.{nat_tests}
+use Rattle.std.specs.Prelude.{Option, nat_le, if◌then◌else◌}
+use Rattle.std.specs.List.{concat}
+use Rattle.typecodes.specs.declared.spec.Spec.{Spec}
+use Rattle.typecodes.specs.Spec.{IsSpec}
+use Rattle.state_file.specs.declared.record.Record.{Record}
+use Rattle.state_file.specs.declared.record.Record.TheVariants.{Key as KeyRecord}
+use Rattle.state_file.specs.declared.record.Secret.{Secret}
+use Rattle.state_file.specs.declared.store.Store as store
+use Rattle.state_file.specs.Disk.{Counts, LeavesOnly}
+use Rattle.state_file.proofs.Moments.{combined}
+use Rattle.sign_core.specs.declared.key.AnyPublic.{AnyPublic}
+use Rattle.sign_core.specs.declared.fault.SignFault.{SignFault}
+use Rattle.sign_core.specs.declared.fault.SignFault.TheVariants.{RandomRepeated, MessageRead, Moved, RetireRange, NoKey, Illegal, DeviceFailed, NoMemoryToOpen}
+use Rattle.sign_core.specs.declared.fault.SignFault.TheVariants.{Changed, Exhausted, RandomFailed, StoreFailed, Stopped, Damaged, OutOfMemory, LedgerFull}
+use Rattle.sign_core.specs.declared.fault.SignFault.TheVariants.{Unreadable, KeyThere}
+use Rattle.sign_core.specs.declared.source.Source as source
+use Rattle.sign_core.specs.Source.{Provides}
+use Rattle.sign_core.specs.Once.{IsBeginning}
+use Rattle.sign_core.specs.Signer.{DrawsSecret, IsAppended, IsMade, KeepsStore, LeavesOld, LeavesSource, LoadFails, LooksForKey, MakesKey}
+use Rattle.sign_core.specs.Signer.{is_store_failed, is_random_failed, is_out_of_memory}
+use Rattle.sign_core.specs.World.{Creation, Fate, Outcome, acked, answered, appended, begun, closed_on, created, cut, cut_new, cut_old, drawing}
+use Rattle.sign_core.specs.World.{new_key, no_memory, open_on, published, refused, secret_from}
+use Rattle.sign_core.specs.Textbook.{public_in}
+use Rattle.sign_core.proofs.Adding.{moments_kept, moments_left}
+use Rattle.sign_core.proofs.Drawing.{provides_none}
+use Rattle.sign_core.proofs.Sizes.{spec_public}
+
+-- ---- refused before the append
+
+-- the store keeps its list
+keeps_old : {S A : Type 0} (g : store.Ghosts S) (old new : S) (bytes : List ℕ) (fault : SignFault) → g.list new ≡ g.list old → LeavesOld g old new
+    → Counts {A = A} is_store_failed (g.failures old) (g.failures new) (Err fault) → g.honest new ≡ g.honest old → g.most new ≡ g.most old
+    → KeepsStore g old new (g.list old) (drawing bytes (refused {A = A} (closed_on (g.list old)) fault))
+keeps_old g old new bytes fault same leaves failures honest most = record {
+  list = record { more = []; list = same ∙ sym (append-nil _); records = sym (append-nil _) };
+  moments = moments_kept g old new (g.list old) [] _ leaves (λ _. refl) refl;
+  failures = failures;
+  honest = honest;
+  most = most;
+}
+
+-- a source that is as it was, and one that is drawn from where no record stands
+untouched : {R : Type 0} (failed : Option SignFault) (list : List Record) (random : R) → LeavesSource failed list random random
+untouched (Some fault) list random = refl
+untouched None [] random = tt
+untouched None (first ∷ rest) random = refl
+
+drawn_from : {R : Type 0} (list : List Record) (before after : R) → length list ≡ 0 → LeavesSource None list before after
+drawn_from [] before after none = tt
+drawn_from (first ∷ rest) before after none = absurd (omega (arith, none))
+
+-- a create that ends with its look at the store
+refused_first : {S R : Type 0} (g : store.Ghosts S) (r : source.Ghosts R) (spec : Spec) (old new : S) (random : R) (fault : SignFault)
+    (failed : Option SignFault) → LooksForKey {A = Unit {0}} g old new (Err fault) → LoadFails failed (g.list old) (g.stopped old) (g.honest old)
+    → created (closed_on (g.list old)) spec (record { failed_load = failed; fields = []; has_room = true; fate = acked })
+    ≡ refused (closed_on (g.list old)) fault
+    → Counts {A = AnyPublic} is_store_failed (g.failures old) (g.failures new) (Err fault)
+    → Counts {A = AnyPublic} is_random_failed (r.failures random) (r.failures random) (Err fault)
+    → MakesKey g r spec old new random random (IsMade (Err fault))
+refused_first g r spec old new random fault failed is load step failures unfailed = record {
+  chance = record { failed_load = failed; fields = []; has_room = true; fate = acked };
+  outcome = refused (closed_on (g.list old)) fault;
+  step = step;
+  answer = refl;
+  store = keeps_old g old new [] fault is.list is.moments failures is.honest is.most;
+  load = load;
+  possible = tt;
+  source = provides_none (r.upcoming random);
+  leaves = untouched failed (g.list old) random;
+  failures = unfailed;
+  room = refl;
+  refusals = is.refusals;
+}
+
+there_step : (list : List Record) (spec : Spec) → 1 ≤ length list
+    → created (closed_on list) spec (record { failed_load = None; fields = []; has_room = true; fate = acked }) ≡ refused (closed_on list) KeyThere
+there_step list spec some =
+    let chance : Creation = record { failed_load = None; fields = []; has_room = true; fate = acked } in
+    let state = closed_on list in
+    let there : nat_le 1 (length list) ≡ true = grind (arith, nat_tests) in
+    ap (λ (is : Bool). if is then refused {A = AnyPublic} state KeyThere else drawing [] (begun state chance (secret_from spec []))) there
+
+pub looked : {S R : Type 0} (g : store.Ghosts S) (r : source.Ghosts R) (spec : Spec) (old new : S) (random : R) (fault : SignFault)
+    → LooksForKey {A = Unit {0}} g old new (Err fault) → MakesKey g r spec old new random random (IsMade (Err fault))
+looked g r spec old new random KeyThere is =
+    refused_first g r spec old new random KeyThere None is is.finds.0 (there_step (g.list old) spec is.finds.1) is.finds.2 refl
+looked g r spec old new random Stopped is = refused_first g r spec old new random Stopped (Some Stopped) is is.finds.0 refl is.finds.1 refl
+looked g r spec old new random (Unreadable slot) is =
+    refused_first g r spec old new random (Unreadable slot) (Some (Unreadable slot)) is (is.finds.0, is.finds.1, is.finds.2, is.finds.3) refl is.finds.4 refl
+looked g r spec old new random StoreFailed is =
+    refused_first g r spec old new random StoreFailed (Some StoreFailed) is is.finds.0 refl is.finds.1 refl
+looked g r spec old new random OutOfMemory is =
+    refused_first g r spec old new random OutOfMemory (Some OutOfMemory) is is.finds.0 refl is.finds.1 refl
+looked g r spec old new random Changed is = absurd is.finds
+looked g r spec old new random Exhausted is = absurd is.finds
+looked g r spec old new random RandomFailed is = absurd is.finds
+looked g r spec old new random LedgerFull is = absurd is.finds
+looked g r spec old new random RandomRepeated is = absurd is.finds
+looked g r spec old new random MessageRead is = absurd is.finds
+looked g r spec old new random Moved is = absurd is.finds
+looked g r spec old new random RetireRange is = absurd is.finds
+looked g r spec old new random NoKey is = absurd is.finds
+looked g r spec old new random DeviceFailed is = absurd is.finds
+looked g r spec old new random NoMemoryToOpen is = absurd is.finds
+looked g r spec old new random (Damaged k) is = absurd is.finds
+looked g r spec old new random (Illegal k) is = absurd is.finds
+
+-- a create where no record stands
+empty_step : (list : List Record) (spec : Spec) (fields : List (List ℕ)) (fate : Fate) (secret : Option Secret) → length list ≡ 0
+    → secret_from spec fields ≡ secret
+    → created (closed_on list) spec (record { failed_load = None; fields = fields; has_room = true; fate = fate })
+    ≡ drawing (concat fields) (begun (closed_on list) (record { failed_load = None; fields = fields; has_room = true; fate = fate }) secret)
+empty_step [] spec fields fate secret none is =
+    ap (λ s. drawing (concat fields) (begun (closed_on []) (record { failed_load = None; fields = fields; has_room = true; fate = fate }) s)) is
+empty_step (first ∷ rest) spec fields fate secret none is = absurd (omega (arith, none))
+
+-- a create where the source fails
+undrawn_random : {S R : Type 0} (g : store.Ghosts S) (r : source.Ghosts R) (spec : Spec) (old mid : S) (before after : R)
+    → LooksForKey {A = Unit {0}} g old mid (Ok tt) → DrawsSecret r spec before after (Err RandomFailed)
+    → MakesKey g r spec old mid before after (IsMade (Err RandomFailed))
+undrawn_random g r spec old mid before after is draws = record {
+  chance = record { failed_load = None; fields = draws.fields; has_room = true; fate = acked };
+  outcome = drawing (concat draws.fields) (refused (closed_on (g.list old)) RandomFailed);
+  step = empty_step (g.list old) spec draws.fields acked None is.finds.1 draws.drawn;
+  answer = refl;
+  store = keeps_old g old mid (concat draws.fields) RandomFailed is.list is.moments is.finds.3 is.honest is.most;
+  load = is.finds.0;
+  possible = draws.possible;
+  source = subst (λ bytes. Provides (r.upcoming before) bytes (r.upcoming after)) (sym (append-nil (concat draws.fields))) draws.source;
+  leaves = drawn_from (g.list old) before after is.finds.1;
+  failures = draws.failures;
+  room = refl;
+  refusals = is.refusals;
+}
+
+pub undrawn : {S R : Type 0} (g : store.Ghosts S) (r : source.Ghosts R) (spec : Spec) (old mid : S) (before after : R) (fault : SignFault)
+    → LooksForKey {A = Unit {0}} g old mid (Ok tt) → DrawsSecret r spec before after (Err fault)
+    → MakesKey g r spec old mid before after (IsMade (Err fault))
+undrawn g r spec old mid before after RandomFailed is draws = undrawn_random g r spec old mid before after is draws
+undrawn g r spec old mid before after Changed is draws = absurd draws.drawn
+undrawn g r spec old mid before after Exhausted is draws = absurd draws.drawn
+undrawn g r spec old mid before after StoreFailed is draws = absurd draws.drawn
+undrawn g r spec old mid before after OutOfMemory is draws = absurd draws.drawn
+undrawn g r spec old mid before after LedgerFull is draws = absurd draws.drawn
+undrawn g r spec old mid before after Stopped is draws = absurd draws.drawn
+undrawn g r spec old mid before after KeyThere is draws = absurd draws.drawn
+undrawn g r spec old mid before after RandomRepeated is draws = absurd draws.drawn
+undrawn g r spec old mid before after MessageRead is draws = absurd draws.drawn
+undrawn g r spec old mid before after Moved is draws = absurd draws.drawn
+undrawn g r spec old mid before after RetireRange is draws = absurd draws.drawn
+undrawn g r spec old mid before after NoKey is draws = absurd draws.drawn
+undrawn g r spec old mid before after DeviceFailed is draws = absurd draws.drawn
+undrawn g r spec old mid before after NoMemoryToOpen is draws = absurd draws.drawn
+undrawn g r spec old mid before after (Damaged k) is draws = absurd draws.drawn
+undrawn g r spec old mid before after (Unreadable k) is draws = absurd draws.drawn
+undrawn g r spec old mid before after (Illegal k) is draws = absurd draws.drawn
+
+-- ---- the append
+
+-- What the look at the store and the append of a Key have done to it: a stop left the old list, or the Key as well.
+pub record HasAppended {S A : Type 0} (g : store.Ghosts S) (old mid new : S) (entry : Record) (answer : Result A SignFault) : Type 0 where
+  pub looked : LooksForKey {A = Unit {0}} g old mid (Ok tt)
+  pub appended : IsAppended g mid new entry answer
+
+honest_mid : {S A : Type 0} {g : store.Ghosts S} {old mid new : S} {entry : Record} {answer : Result A SignFault} → HasAppended g old mid new entry answer
+    → IsTrue (g.honest old) → IsTrue (g.honest mid)
+honest_mid has honest = subst IsTrue (sym has.looked.honest) honest
+
+-- the moments of both
+both_moments : {S A : Type 0} (g : store.Ghosts S) (old mid new : S) (entry : Record) (answer : Result A SignFault) (all : List Record)
+    → HasAppended g old mid new entry answer → all ≡ g.list old ++ entry ∷ []
+    → IsTrue (g.honest old) → g.stopped old ≡ false → LeavesOnly g.moment g.left_since old new (IsBeginning (length (g.list old)) all)
+both_moments g old mid new entry answer all has is honest running =
+    combined g.moment g.left_since old mid new _ (moments_kept g old mid (g.list old) (entry ∷ []) all has.looked.moments (λ _. refl) is honest running)
+    (moments_left g mid new entry (g.list old) all has.appended.moments (λ _. has.looked.list) is (honest_mid has honest) has.looked.finds.2)
+
+old_moments : {S A : Type 0} (g : store.Ghosts S) (old mid new : S) (entry : Record) (answer : Result A SignFault)
+    → HasAppended g old mid new entry answer → LeavesOld g mid new → (all : List Record) → all ≡ g.list old ++ []
+    → IsTrue (g.honest old) → g.stopped old ≡ false → LeavesOnly g.moment g.left_since old new (IsBeginning (length (g.list old)) all)
+old_moments g old mid new entry answer has leaves all is honest running =
+    combined g.moment g.left_since old mid new _ (moments_kept g old mid (g.list old) [] all has.looked.moments (λ _. refl) is honest running)
+    (moments_kept g mid new (g.list old) [] all leaves (λ _. has.looked.list) is (honest_mid has honest) has.looked.finds.2)
+
+-- a key whose append has this fate, with the public key that it has where it is acknowledged
+made_by_fate : {S R : Type 0} (g : store.Ghosts S) (r : source.Ghosts R) (spec : Spec) (old mid new : S) (before after : R) (secret : Secret) (fate : Fate)
+    (outcome : Outcome AnyPublic) (answer : Result (Unit {0}) SignFault) (IsAnswer : Outcome AnyPublic → Type 0)
+    → HasAppended g old mid new (KeyRecord (new_key secret)) answer → (draws : DrawsSecret r spec before after (Ok secret))
+    → appended (closed_on (g.list old)) (KeyRecord (new_key secret)) fate (λ records. published records (public_in (new_key secret))) ≡ outcome
+    → outcome.drawn ≡ [] → IsAnswer (drawing (concat draws.fields) outcome) → KeepsStore g old new (g.list old) (drawing (concat draws.fields) outcome)
+    → Counts is_random_failed (r.failures before) (r.failures after) outcome.answer
+    → Counts is_out_of_memory (g.refusals old) (g.refusals new) outcome.answer
+    → MakesKey g r spec old new before after IsAnswer
+made_by_fate g r spec old mid new before after secret fate outcome answer IsAnswer has draws step undrawn is keeps failures refusals = record {
+  chance = record { failed_load = None; fields = draws.fields; has_room = true; fate = fate };
+  outcome = drawing (concat draws.fields) outcome;
+  step = empty_step (g.list old) spec draws.fields fate (Some secret) has.looked.finds.1 draws.drawn ∙ ap (drawing (concat draws.fields)) step;
+  answer = is;
+  store = keeps;
+  load = has.looked.finds.0;
+  possible = draws.possible;
+  source = subst (λ bytes. Provides (r.upcoming before) bytes (r.upcoming after))
+      (sym (ap (λ bytes. concat draws.fields ++ bytes) undrawn ∙ append-nil (concat draws.fields))) draws.source;
+  leaves = drawn_from (g.list old) before after has.looked.finds.1;
+  failures = failures;
+  room = refl;
+  refusals = refusals;
+}
+
+alone : (list : List Record) (entry : Record) → length list ≡ 0 → list ++ entry ∷ [] ≡ entry ∷ []
+alone [] entry none = refl
+alone (first ∷ rest) entry none = absurd (omega (arith, none))
+
+pub made : {S R : Type 0} (g : store.Ghosts S) (r : source.Ghosts R) (spec : Spec) (old mid new : S) (before after : R) (secret : Secret) → IsSpec spec
+    → DrawsSecret r spec before after (Ok secret) → HasAppended {A = Unit {0}} g old mid new (KeyRecord (new_key secret)) (Ok tt)
+    → MakesKey g r spec old new before after (IsMade (Ok (new_key secret)))
+made g r spec old mid new before after secret can draws has =
+    let entry = KeyRecord (new_key secret) in
+    let list = g.list old ++ entry ∷ [] in
+    let (public, is) = spec_public spec draws.fields secret can draws.drawn in
+    let loaded = has.looked in
+    let stored = has.appended in
+    made_by_fate g r spec old mid new before after secret acked (answered (open_on list) public) (Ok tt) (IsMade (Ok (new_key secret))) has draws
+    (ap (published list) is) refl (public, refl, is, alone (g.list old) entry loaded.finds.1)
+    (record {
+      list = record { more = entry ∷ []; list = stored.stored.0 ∙ ap (λ l. l ++ entry ∷ []) loaded.list; records = refl };
+      moments = both_moments g old mid new entry (Ok tt) _ has (append-nil _);
+      failures = stored.stored.2 ∙ loaded.finds.3;
+      honest = stored.honest ∙ loaded.honest;
+      most = stored.most ∙ loaded.most;
+    }) draws.failures (stored.refusals ∙ loaded.refusals)
+
+made_cut : {S R : Type 0} (g : store.Ghosts S) (r : source.Ghosts R) (spec : Spec) (old mid new : S) (before after : R) (secret : Secret)
+    → (draws : DrawsSecret r spec before after (Ok secret)) → (has : HasAppended {A = Unit {0}} g old mid new (KeyRecord (new_key secret)) (Err StoreFailed))
+    → (g.list new ≡ g.list mid) ⊎ (g.list new ≡ g.list mid ++ KeyRecord (new_key secret) ∷ [])
+    → MakesKey g r spec old new before after (IsMade (Err StoreFailed))
+made_cut g r spec old mid new before after secret draws has (inl same) =
+    let entry = KeyRecord (new_key secret) in
+    let loaded = has.looked in
+    let stored = has.appended in
+    made_by_fate g r spec old mid new before after secret cut_old (cut (g.list old) entry (g.list old)) (Err StoreFailed) (IsMade (Err StoreFailed)) has draws
+    refl refl refl
+    (record {
+      list = record { more = []; list = same ∙ loaded.list ∙ sym (append-nil _); records = sym (append-nil _) };
+      moments = both_moments g old mid new entry (Err StoreFailed) _ has refl;
+      failures = stored.stored.2 ∙ ap (λ n. n + 1) loaded.finds.3;
+      honest = stored.honest ∙ loaded.honest;
+      most = stored.most ∙ loaded.most;
+    }) draws.failures (stored.refusals ∙ loaded.refusals)
+made_cut g r spec old mid new before after secret draws has (inr more) =
+    let entry = KeyRecord (new_key secret) in
+    let loaded = has.looked in
+    let stored = has.appended in
+    made_by_fate g r spec old mid new before after secret cut_new (cut (g.list old) entry (g.list old ++ entry ∷ [])) (Err StoreFailed)
+    (IsMade (Err StoreFailed)) has draws refl refl refl
+    (record {
+      list = record { more = entry ∷ []; list = more ∙ ap (λ l. l ++ entry ∷ []) loaded.list; records = refl };
+      moments = both_moments g old mid new entry (Err StoreFailed) _ has refl;
+      failures = stored.stored.2 ∙ ap (λ n. n + 1) loaded.finds.3;
+      honest = stored.honest ∙ loaded.honest;
+      most = stored.most ∙ loaded.most;
+    }) draws.failures (stored.refusals ∙ loaded.refusals)
+
+pub unmade : {S R : Type 0} (g : store.Ghosts S) (r : source.Ghosts R) (spec : Spec) (old mid new : S) (before after : R) (secret : Secret) (fault : SignFault)
+    → DrawsSecret r spec before after (Ok secret) → HasAppended {A = Unit {0}} g old mid new (KeyRecord (new_key secret)) (Err fault)
+    → MakesKey g r spec old new before after (IsMade (Err fault))
+unmade g r spec old mid new before after secret StoreFailed draws has =
+    made_cut g r spec old mid new before after secret draws has has.appended.stored.0
+unmade g r spec old mid new before after secret OutOfMemory draws has =
+    let entry = KeyRecord (new_key secret) in
+    let loaded = has.looked in
+    let stored = has.appended in
+    made_by_fate g r spec old mid new before after secret no_memory (refused (closed_on (g.list old)) OutOfMemory) (Err OutOfMemory)
+    (IsMade (Err OutOfMemory)) has draws refl refl refl
+    (record {
+      list = record { more = []; list = stored.stored.0 ∙ loaded.list ∙ sym (append-nil _); records = sym (append-nil _) };
+      moments = old_moments g old mid new entry (Err OutOfMemory) has (stored.refused refl) _ refl;
+      failures = stored.stored.2 ∙ loaded.finds.3;
+      honest = stored.honest ∙ loaded.honest;
+      most = stored.most ∙ loaded.most;
+    }) draws.failures (stored.refusals ∙ ap (λ n. n + 1) loaded.refusals)
+unmade g r spec old mid new before after secret Changed draws has = absurd has.appended.stored
+unmade g r spec old mid new before after secret Exhausted draws has = absurd has.appended.stored
+unmade g r spec old mid new before after secret LedgerFull draws has = absurd has.appended.stored
+unmade g r spec old mid new before after secret Stopped draws has = absurd has.appended.stored
+unmade g r spec old mid new before after secret KeyThere draws has = absurd has.appended.stored
+unmade g r spec old mid new before after secret RandomRepeated draws has = absurd has.appended.stored
+unmade g r spec old mid new before after secret MessageRead draws has = absurd has.appended.stored
+unmade g r spec old mid new before after secret Moved draws has = absurd has.appended.stored
+unmade g r spec old mid new before after secret RetireRange draws has = absurd has.appended.stored
+unmade g r spec old mid new before after secret NoKey draws has = absurd has.appended.stored
+unmade g r spec old mid new before after secret DeviceFailed draws has = absurd has.appended.stored
+unmade g r spec old mid new before after secret NoMemoryToOpen draws has = absurd has.appended.stored
+unmade g r spec old mid new before after secret (Damaged k) draws has = absurd has.appended.stored
+unmade g r spec old mid new before after secret (Unreadable k) draws has = absurd has.appended.stored
+unmade g r spec old mid new before after secret (Illegal k) draws has = absurd has.appended.stored
+unmade g r spec old mid new before after secret RandomFailed draws has = absurd has.appended.stored

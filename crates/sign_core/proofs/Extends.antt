@@ -1,0 +1,264 @@
+-- What each end of an extend is: one new tree, by some draw.
+use Rattle.std.proofs.Common.{◌≡◌, ◌∙◌, ℕ, ◌+◌, ◌<◌, true, false, List, [], ◌∷◌, ◌++◌, length, take, Some, Result, Ok, Err, refl, sym, ap, subst, append-nil, arith, IsTrue}
+use Rattle.std.specs.Prelude.{if◌then◌else◌}
+use Rattle.std.specs.List.{concat}
+use Rattle.std.proofs.Math.Seq.{take-length}
+use Rattle.state_file.proofs.Moments.{started}
+use Rattle.state_file.specs.Disk.{Counts}
+use Rattle.state_file.specs.declared.record.Key.{Key}
+use Rattle.state_file.specs.declared.record.Record.{Record}
+use Rattle.state_file.specs.declared.store.Store as store
+use Rattle.sign_core.specs.declared.fault.SignFault.{SignFault}
+use Rattle.sign_core.specs.declared.fault.SignFault.TheVariants.{Changed, DeviceFailed, Exhausted, Illegal, KeyThere, LedgerFull, MessageRead, Moved}
+use Rattle.sign_core.specs.declared.fault.SignFault.TheVariants.{NoKey, NoMemoryToOpen, OutOfMemory, RandomFailed, RandomRepeated, RetireRange}
+use Rattle.sign_core.specs.declared.fault.SignFault.TheVariants.{Damaged, Stopped, StoreFailed, Unreadable}
+use Rattle.sign_core.specs.declared.source.Source as source
+use Rattle.sign_core.specs.declared.signer.signing.TreeSeeds.{TreeSeeds}
+use Rattle.sign_core.specs.Signing.{answered_with}
+use Rattle.sign_core.specs.Source.{Provides}
+use Rattle.sign_core.specs.Records.{has_identifier}
+use Rattle.sign_core.specs.Once.{IsBeginning}
+use Rattle.sign_core.specs.Signer.{Adds, Ends, IsTied, View, added, is_out_of_memory, is_random_failed, is_store_failed, state_of}
+use Rattle.sign_core.specs.Signing.{DrawsTree, Extends}
+use Rattle.sign_core.specs.World.{Fate, Outcome, acked, answered, appended, cut_new, cut_old, drawing, extended, no_memory}
+use Rattle.sign_core.specs.World.{open_on, refused}
+use Rattle.sign_core.specs.Textbook.{Trees, trees_of}
+use Rattle.sign_core.proofs.Fulfilled.{drawing_twice, extends_by, next_extend, whole_draw}
+
+-- the signer after it drew: only its source has changed
+abbrev pub after_draw : {S R : Type 0} → View S R → R → View S R
+after_draw view random = record view { random = random }
+
+-- the records are a beginning of themselves
+all_left : (records left : List Record) → left ≡ records → IsBeginning (length records) (records ++ []) left
+all_left records left is = record {
+  count = length records;
+  enough = omega arith;
+  beginning = is ∙ sym (ap (take (length records)) (append-nil records) ∙ take-length records);
+}
+
+-- ---- draws that are refused
+
+-- the source failed
+draw_fails_by : (key : Key) (level : ℕ) (trees : Trees) (records : List Record) (fields : List (List ℕ)) → length fields < 3
+    → ((first : List ℕ) (rest : List (List ℕ)) → fields ≡ first ∷ rest → has_identifier records first ≡ false) → (next : List Record → Outcome (List ℕ))
+    → extended (open_on records) key level (Some trees) (record { fields = fields; fate = acked }) next
+    ≡ drawing (concat fields) (refused (open_on records) RandomFailed)
+draw_fails_by key level trees records [] few fresh next = refl
+draw_fails_by key level trees records (identifier ∷ []) few fresh next =
+    ap (λ b. drawing identifier (if b then refused (open_on records) RandomRepeated else drawing [] (refused (open_on records) RandomFailed)))
+    (fresh identifier [] refl)
+    ∙ drawing_twice identifier [] (refused (open_on records) RandomFailed)
+draw_fails_by key level trees records (identifier ∷ seed ∷ []) few fresh next =
+    ap (λ b. drawing identifier (if b then refused (open_on records) RandomRepeated else drawing (seed ++ []) (refused (open_on records) RandomFailed)))
+    (fresh identifier (seed ∷ []) refl)
+    ∙ drawing_twice identifier (seed ++ []) (refused (open_on records) RandomFailed)
+draw_fails_by key level trees records (identifier ∷ seed ∷ randomizer ∷ rest) few fresh next = absurd (omega (arith, few))
+
+-- I is one of the records'
+draw_repeats : (key : Key) (level : ℕ) (trees : Trees) (records : List Record) (identifier : List ℕ) → has_identifier records identifier ≡ true
+    → (next : List Record → Outcome (List ℕ))
+    → extended (open_on records) key level (Some trees) (record { fields = identifier ∷ []; fate = acked }) next
+    ≡ drawing identifier (refused (open_on records) RandomRepeated)
+draw_repeats key level trees records identifier there next =
+    ap (λ b. drawing identifier (if b then refused (open_on records) RandomRepeated else drawing [] (refused (open_on records) RandomFailed))) there
+
+-- a signer that is open over a store that runs, of which a stop leaves its records
+pub record Rests {S R : Type 0} (g : store.Ghosts S) (view : View S R) : Type 0 where
+  pub is_open : view.is_open ≡ true
+  pub tied : IsTied g view.store view.records
+  pub leaves : (left : List Record) → IsTrue (g.honest view.store) → g.stopped view.store ≡ false → g.left_since view.store (g.moment view.store) left
+      → left ≡ g.list view.store
+
+module _ {S R : Type 0} (g : store.Ghosts S) (r : source.Ghosts R) (level : ℕ) (key : Key) (trees : Trees) (is_trees : trees_of key.secret ≡ Some trees) where
+  -- what leaves all but the source
+  rests_ends : (view : View S R) (random : R) (bytes : List ℕ) (fault : SignFault) (answer : Result (List ℕ) SignFault) → Rests g view
+      → is_store_failed fault ≡ false → Err fault ≡ answer
+      → Ends g view (after_draw view random) (drawing bytes (refused (open_on view.records) fault)) answer
+  rests_ends view random bytes fault answer rests other is = record {
+    answer_is = is;
+    records = refl;
+    is_open = rests.is_open;
+    store = record {
+      list = record { more = []; list = sym (append-nil _); records = sym (append-nil _) };
+      moments = λ honest running. started g.moment g.left_since view.store _
+          (λ left since. all_left view.records left (rests.leaves left honest running since ∙ rests.tied.same honest));
+      failures = sym (ap (λ b. if b then g.failures view.store + 1 else g.failures view.store) other);
+      honest = refl;
+      most = refl;
+    };
+  }
+
+  fails_along : (before after : ℕ) (fault : SignFault) (answer : Result (List ℕ) SignFault) → Err fault ≡ answer
+      → after ≡ (if is_random_failed fault then before + 1 else before) → Counts is_random_failed before after answer
+  fails_along before after fault answer is counts = subst (λ (a : Result (List ℕ) SignFault). Counts is_random_failed before after a) is counts
+
+  -- The draws are refused: the answer is their fault, and all but the source is as it was.
+  pub undrawn : (view : View S R) (random : R) (fault : SignFault) (answer : Result (List ℕ) SignFault) → Rests g view → Err fault ≡ answer
+      → DrawsTree view.records (r.failures view.random) (r.failures random) (r.upcoming view.random) (r.upcoming random) (Err fault)
+      → Extends g r level view (after_draw view random) answer key
+  undrawn view random RandomFailed answer rests is (fields, failed, gave, sized, few, fresh) = record {
+    draw = record { fields = fields; fate = acked };
+    outcome = drawing (concat fields) (refused (open_on view.records) RandomFailed);
+    step = ap (λ t. extended (open_on view.records) key level t (record { fields = fields; fate = acked }) (λ records. answered (open_on records) [])) is_trees
+        ∙ draw_fails_by key level trees view.records fields few fresh (λ records. answered (open_on records) []);
+    possible = sized;
+    ends = rests_ends view random (concat fields) RandomFailed answer rests refl is;
+    source = subst (λ (bytes : List ℕ). Provides (r.upcoming view.random) bytes (r.upcoming random)) (sym (append-nil (concat fields))) gave;
+    failures = fails_along (r.failures view.random) (r.failures random) RandomFailed answer is failed;
+    refusals = subst (λ (a : Result (List ℕ) SignFault). Counts is_out_of_memory (g.refusals view.store) (g.refusals view.store) a) is refl;
+    spare = omega arith;
+  }
+  undrawn view random RandomRepeated answer rests is (identifier, kept, gave, sized, there) = record {
+    draw = record { fields = identifier ∷ []; fate = acked };
+    outcome = drawing identifier (refused (open_on view.records) RandomRepeated);
+    step = ap (λ t. extended (open_on view.records) key level t (record { fields = identifier ∷ []; fate = acked })
+        (λ records. answered (open_on records) [])) is_trees
+        ∙ draw_repeats key level trees view.records identifier there (λ records. answered (open_on records) []);
+    possible = sized;
+    ends = rests_ends view random identifier RandomRepeated answer rests refl is;
+    source = subst (λ (bytes : List ℕ). Provides (r.upcoming view.random) bytes (r.upcoming random)) (sym (append-nil identifier)) gave;
+    failures = fails_along (r.failures view.random) (r.failures random) RandomRepeated answer is kept;
+    refusals = subst (λ (a : Result (List ℕ) SignFault). Counts is_out_of_memory (g.refusals view.store) (g.refusals view.store) a) is refl;
+    spare = omega arith;
+  }
+  undrawn view random Changed answer rests is draws = absurd draws
+  undrawn view random Exhausted answer rests is draws = absurd draws
+  undrawn view random StoreFailed answer rests is draws = absurd draws
+  undrawn view random Stopped answer rests is draws = absurd draws
+  undrawn view random (Damaged k) answer rests is draws = absurd draws
+  undrawn view random OutOfMemory answer rests is draws = absurd draws
+  undrawn view random LedgerFull answer rests is draws = absurd draws
+  undrawn view random (Unreadable k) answer rests is draws = absurd draws
+  undrawn view random KeyThere answer rests is draws = absurd draws
+  undrawn view random MessageRead answer rests is draws = absurd draws
+  undrawn view random Moved answer rests is draws = absurd draws
+  undrawn view random RetireRange answer rests is draws = absurd draws
+  undrawn view random NoKey answer rests is draws = absurd draws
+  undrawn view random (Illegal k) answer rests is draws = absurd draws
+  undrawn view random DeviceFailed answer rests is draws = absurd draws
+  undrawn view random NoMemoryToOpen answer rests is draws = absurd draws
+
+-- ---- draws that are whole
+
+-- what an append comes to after some draws
+abbrev comes_to : List Record → Record → (bytes : List ℕ) → Fate → Outcome (List ℕ)
+comes_to records entry bytes fate = drawing bytes (appended (open_on records) entry fate (λ all. answered (open_on all) []))
+
+-- a call that appends a record, and one that draws first, end alike
+ends_drawn : {S R : Type 0} (g : store.Ghosts S) (view new : View S R) (random : R) (entry : Record) (bytes : List ℕ) (fate : Fate)
+    (answer : Result (Unit {0}) SignFault) → Ends g (after_draw view random) new (added (open_on view.records) entry fate) answer
+    → Ends g view new (comes_to view.records entry bytes fate) (answered_with answer [])
+ends_drawn g view new random entry bytes acked answer ends = record {
+  answer_is = ap (λ a. answered_with a []) ends.answer_is;
+  records = ends.records;
+  is_open = ends.is_open;
+  store = record {
+    list = ends.store.list;
+    moments = ends.store.moments;
+    failures = ends.store.failures;
+    honest = ends.store.honest;
+    most = ends.store.most;
+  };
+}
+ends_drawn g view new random entry bytes cut_old answer ends = record {
+  answer_is = ap (λ a. answered_with a []) ends.answer_is;
+  records = ends.records;
+  is_open = ends.is_open;
+  store = record {
+    list = ends.store.list;
+    moments = ends.store.moments;
+    failures = ends.store.failures;
+    honest = ends.store.honest;
+    most = ends.store.most;
+  };
+}
+ends_drawn g view new random entry bytes cut_new answer ends = record {
+  answer_is = ap (λ a. answered_with a []) ends.answer_is;
+  records = ends.records;
+  is_open = ends.is_open;
+  store = record {
+    list = ends.store.list;
+    moments = ends.store.moments;
+    failures = ends.store.failures;
+    honest = ends.store.honest;
+    most = ends.store.most;
+  };
+}
+ends_drawn g view new random entry bytes no_memory answer ends = record {
+  answer_is = ap (λ a. answered_with a []) ends.answer_is;
+  records = ends.records;
+  is_open = ends.is_open;
+  store = record {
+    list = ends.store.list;
+    moments = ends.store.moments;
+    failures = ends.store.failures;
+    honest = ends.store.honest;
+    most = ends.store.most;
+  };
+}
+
+-- an append draws nothing, and its answer isn't that the source failed
+nothing_more : (records : List Record) (entry : Record) (bytes : List ℕ) (fate : Fate) → (comes_to records entry bytes fate).drawn ≡ bytes
+nothing_more records entry bytes acked = append-nil bytes
+nothing_more records entry bytes cut_old = append-nil bytes
+nothing_more records entry bytes cut_new = append-nil bytes
+nothing_more records entry bytes no_memory = append-nil bytes
+
+none_failed : (records : List Record) (entry : Record) (bytes : List ℕ) (fate : Fate) (before after : ℕ) → after ≡ before
+    → Counts is_random_failed before after (comes_to records entry bytes fate).answer
+none_failed records entry bytes acked before after same = same
+none_failed records entry bytes cut_old before after same = same
+none_failed records entry bytes cut_new before after same = same
+none_failed records entry bytes no_memory before after same = same
+
+refusals_answered : (before after : ℕ) (answer : Result (Unit {0}) SignFault) → Counts is_out_of_memory before after answer
+    → Counts is_out_of_memory before after (answered_with {B = List ℕ} answer [])
+refusals_answered before after (Ok done) counts = counts
+refusals_answered before after (Err fault) counts = counts
+
+-- The record of the draws is appended: the answer is that of the append.
+pub drawn : {S R : Type 0} (g : store.Ghosts S) (r : source.Ghosts R) (level : ℕ) (key : Key) (trees : Trees) (view new : View S R) (random : R)
+    (seeds : TreeSeeds) (entry : Record) (answer : Result (Unit {0}) SignFault) → trees_of key.secret ≡ Some trees → view.is_open ≡ true
+    → DrawsTree view.records (r.failures view.random) (r.failures random) (r.upcoming view.random) (r.upcoming random) (Ok seeds)
+    → entry ≡ next_extend key trees view.records level seeds.identifier seeds.seed seeds.randomizer
+    → Adds g (after_draw view random) new entry answer
+    → Extends g r level view new (answered_with answer []) key
+drawn {S = S} {R = R} g r level key trees view new random seeds entry answer is_trees was (kept, gave, sized, fresh) is adds =
+    let bytes : List ℕ = seeds.identifier ++ (seeds.seed ++ seeds.randomizer) in
+    let from : state_of (after_draw view random) ≡ open_on view.records = λ i. record { records = view.records; is_open = was i } in
+    let ends : Ends g view new (comes_to view.records entry bytes adds.fate) (answered_with answer []) =
+    ends_drawn g view new random entry bytes adds.fate answer
+    (subst (λ s. Ends g (after_draw view random) new (added s entry adds.fate) answer) from adds.ends) in
+    let gives : Provides (r.upcoming view.random) bytes (r.upcoming new.random) =
+    subst (λ (s : R). Provides (r.upcoming view.random) bytes (r.upcoming s)) (sym adds.random) gave in
+    let none : r.failures new.random ≡ r.failures view.random = ap r.failures adds.random ∙ kept in record {
+      draw = whole_draw seeds.identifier seeds.seed seeds.randomizer adds.fate;
+      outcome = comes_to view.records entry bytes adds.fate;
+      step = extends_by key level (trees_of key.secret) trees is_trees view.records seeds.identifier seeds.seed seeds.randomizer adds.fate fresh
+          (λ records. answered (open_on records) [])
+          ∙ drawing_twice seeds.identifier (seeds.seed ++ seeds.randomizer) _
+          ∙ ap (λ e. comes_to view.records e bytes adds.fate) (sym is);
+      possible = sized;
+      ends = ends;
+      source = subst (λ (b : List ℕ). Provides (r.upcoming view.random) b (r.upcoming new.random))
+          (sym (nothing_more view.records entry bytes adds.fate)) gives;
+      failures = subst (λ (a : Result (List ℕ) SignFault). Counts is_random_failed (r.failures view.random) (r.failures new.random) a) ends.answer_is
+          (none_failed view.records entry bytes adds.fate (r.failures view.random) (r.failures new.random) none);
+      refusals = refusals_answered (g.refusals view.store) (g.refusals new.store) answer adds.refusals;
+      spare = adds.spare;
+    }
+
+err≢ok : {A : Type 0} (fault : SignFault) (a : A) → Err fault ≡ Ok a → ⊥
+err≢ok fault a same = cc
+
+-- What is added is appended to the records, where the answer is Ok.
+pub added_records : {S R : Type 0} (g : store.Ghosts S) (view new : View S R) (entry : Record) (answer : Result (Unit {0}) SignFault) (done : Unit {0})
+    → answer ≡ Ok done → Adds g view new entry answer → new.records ≡ view.records ++ entry ∷ []
+added_records g view new entry answer done is adds = by_fate adds.fate adds.ends
+  where
+    by_fate : (fate : Fate) → Ends g view new (added (state_of view) entry fate) answer → new.records ≡ view.records ++ entry ∷ []
+    by_fate acked ends = ends.records
+    by_fate cut_old ends = absurd (err≢ok StoreFailed done (ends.answer_is ∙ is))
+    by_fate cut_new ends = absurd (err≢ok StoreFailed done (ends.answer_is ∙ is))
+    by_fate no_memory ends = absurd (err≢ok OutOfMemory done (ends.answer_is ∙ is))

@@ -1,0 +1,73 @@
+-- What the wanted records of a request come to, one after the other.
+use Rattle.std.proofs.Common.{◌≡◌, ◌∙◌, ℕ, suc, ◌-◌, false, List, [], ◌∷◌, ◌++◌, Option, Some, refl, sym, ap, append_assoc}
+use Rattle.std.specs.Prelude.{slice_index_or, if◌then◌else◌}
+use Rattle.state_file.specs.Laws.{bottom_of}
+use Rattle.state_file.specs.declared.record.Key.{Key}
+use Rattle.state_file.specs.declared.record.Record.{Record}
+use Rattle.sign_core.specs.declared.fault.SignFault.TheVariants.{RandomRepeated}
+use Rattle.sign_core.specs.Records.{has_identifier, next_at}
+use Rattle.sign_core.specs.Textbook.{Trees, lms_secret, trees_of}
+use Rattle.sign_core.specs.World.{Chance, Draw, Fate, Outcome, acked}
+use Rattle.sign_core.specs.World.{appended, drawing, extend_record, extended, extended_with, fulfilled, open_on, refused}
+
+-- bytes that are drawn one after the other
+pub drawing_twice : {A : Type 0} (a b : List ℕ) (outcome : Outcome A) → drawing a (drawing b outcome) ≡ drawing (a ++ b) outcome
+drawing_twice a b outcome = ap (λ bytes. record outcome { drawn = bytes }) (sym (append_assoc a b outcome.drawn))
+
+-- The new trees so far, each with a draw of which nothing failed: what is wanted comes to what is wanted after them.
+abbrev pub ComesTo : Key → (name : List ℕ) → (below : ℕ) → (records : List Record) → (done : List Draw) → (drawn : List ℕ) → (below' : ℕ) → (records' : List Record) → Type 0
+ComesTo key name below records done drawn below' records' = (chance : Chance) (rest : List Draw)
+    → fulfilled key name chance below (done ++ rest) records ≡ drawing drawn (fulfilled key name chance below' rest records')
+
+-- at the beginning
+pub comes_at_first : (key : Key) (name : List ℕ) (below : ℕ) (records : List Record) → ComesTo key name below records [] [] below records
+comes_at_first key name below records chance rest = refl
+
+-- the fields of a draw of which none is missing
+abbrev pub whole_draw : (identifier seed randomizer : List ℕ) → Fate → Draw
+whole_draw identifier seed randomizer fate = record { fields = identifier ∷ seed ∷ randomizer ∷ []; fate = fate }
+
+-- the record of a new tree of this level
+abbrev pub next_extend : Key → Trees → List Record → (level : ℕ) → (identifier seed randomizer : List ℕ) → Record
+next_extend key trees records level identifier seed randomizer =
+    extend_record trees records level (lms_secret (slice_index_or trees.pairs level trees.top.pair) identifier seed) randomizer
+    (next_at key.secret records (level - 1))
+
+-- one new tree: I is none of the records, and the append has this fate
+pub extends_by : (key : Key) (level : ℕ) (found : Option Trees) (trees : Trees) → found ≡ Some trees → (records : List Record) (identifier seed randomizer : List ℕ) (fate : Fate)
+    → has_identifier records identifier ≡ false → (next : List Record → Outcome (List ℕ))
+    → extended (open_on records) key level found (whole_draw identifier seed randomizer fate) next
+    ≡ drawing identifier (drawing (seed ++ randomizer) (appended (open_on records) (next_extend key trees records level identifier seed randomizer) fate next))
+extends_by key level found trees is_trees records identifier seed randomizer fate fresh next =
+    ap (λ t. extended (open_on records) key level t (whole_draw identifier seed randomizer fate) next) is_trees
+    ∙ ap (λ b. drawing identifier (if b then refused (open_on records) RandomRepeated
+    else extended_with (open_on records) trees level (next_at key.secret records (level - 1)) identifier (seed ∷ randomizer ∷ []) fate next)) fresh
+
+-- three draws are one
+drawing_thrice : {A : Type 0} (a b c : List ℕ) (outcome : Outcome A) → drawing a (drawing b (drawing c outcome)) ≡ drawing (a ++ (b ++ c)) outcome
+drawing_thrice a b c outcome = ap (drawing a) (drawing_twice b c outcome) ∙ drawing_twice a (b ++ c) outcome
+
+-- One more new tree, acknowledged.
+pub comes_to_next : (key : Key) (name : List ℕ) (below : ℕ) (records : List Record) (done : List Draw) (drawn : List ℕ) (n : ℕ) (records' : List Record)
+    → ComesTo key name below records done drawn (suc n) records'
+    → (trees : Trees) → trees_of key.secret ≡ Some trees
+    → (identifier seed randomizer : List ℕ) → has_identifier records' identifier ≡ false
+    → ComesTo key name below records (done ++ whole_draw identifier seed randomizer acked ∷ []) (drawn ++ (identifier ++ (seed ++ randomizer))) n
+    (records' ++ next_extend key trees records' (bottom_of key.secret - n) identifier seed randomizer ∷ [])
+comes_to_next key name below records done drawn n records' before trees is_trees identifier seed randomizer fresh chance rest =
+    let draw = whole_draw identifier seed randomizer acked in
+    ap (λ draws. fulfilled key name chance below draws records) (append_assoc done (draw ∷ []) rest)
+    ∙ before chance (draw ∷ rest)
+    ∙ ap (drawing drawn) (extends_by key (bottom_of key.secret - n) (trees_of key.secret) trees is_trees records' identifier seed randomizer acked fresh
+    (fulfilled key name chance n rest))
+    ∙ drawing_thrice drawn identifier (seed ++ randomizer) _
+
+-- ---- ends
+
+-- What comes after so many new trees ends the request: with these draws in all and this outcome.
+pub ends_after : (key : Key) (name : List ℕ) (below : ℕ) (records : List Record) (done : List Draw) (drawn : List ℕ) (n : ℕ) (records' : List Record)
+    → ComesTo key name below records done drawn n records' → (chance : Chance) (rest : List Draw) → chance.trees ≡ done ++ rest
+    → (outcome : Outcome (List ℕ)) → fulfilled key name chance n rest records' ≡ outcome
+    → fulfilled key name chance below chance.trees records ≡ drawing drawn outcome
+ends_after key name below records done drawn n records' comes chance rest are outcome is =
+    ap (λ draws. fulfilled key name chance below draws records) are ∙ comes chance rest ∙ ap (drawing drawn) is

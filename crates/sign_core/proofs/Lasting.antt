@@ -1,0 +1,198 @@
+-- No event takes a record or a signature away.
+use Rattle.std.proofs.Common.{◌≡◌, ◌∙◌, refl, sym, ap, ℕ, zero, suc, ◌+◌, ◌-◌, Bool, true, false, List, [], ◌∷◌, ◌++◌, length, Option, Some, None}
+use Rattle.std.proofs.Common.{append-nil, append_assoc}
+use Rattle.std.specs.Prelude.{if◌then◌else◌, nat_le, nat_lt, not}
+use Rattle.typecodes.specs.declared.spec.Spec.{Spec}
+use Rattle.state_file.specs.Laws.{bottom_of}
+use Rattle.state_file.specs.declared.record.Bound.{Bound}
+use Rattle.state_file.specs.declared.record.Key.{Key}
+use Rattle.state_file.specs.declared.record.Record.{Record}
+use Rattle.state_file.specs.declared.record.Record.TheVariants.{Key as KeyRecord, Retire}
+use Rattle.state_file.specs.declared.record.Secret.{Secret}
+use Rattle.sign_core.specs.declared.key.AnyPublic.{AnyPublic}
+use Rattle.sign_core.specs.declared.fault.SignFault.{SignFault}
+use Rattle.sign_core.specs.Records.{are_same, binding_in, deepest, first_illegal, has_identifier, has_moved, key_in, leaves_of_current, next_at}
+use Rattle.sign_core.specs.Records.{wanted_count}
+use Rattle.sign_core.specs.Textbook.{Trees, damaged_in, digest_at, public_in, tree_before, trees_of}
+use Rattle.sign_core.specs.World.{Chance, Creation, Draw, Event, Fate, Opening, Outcome, State, World, acked, after, appended, begun, bound_anew}
+use Rattle.sign_core.specs.World.{bound_sound, bound_with}
+use Rattle.sign_core.specs.World.{create, created, created_after, cut_new, cut_old, extended, extended_by, extended_with, first_draw, fulfilled}
+use Rattle.sign_core.specs.World.{later_draws}
+use Rattle.sign_core.specs.World.{new_key, no_memory, open_on, opened, opened_by, opened_on, published, randomizer_from, reopen, repeated}
+use Rattle.sign_core.specs.World.{repeated_sound, request}
+use Rattle.sign_core.specs.World.{requested_of, requested_under, retire, retired, retired_under, run, secret_from, stop}
+use Rattle.sign_core.specs.Once.{Extends}
+
+-- the records begin with these
+abbrev Grown : {A : Type 0} → List Record → Outcome A → Type 0
+Grown records outcome = (more : List Record) × (outcome.state.records ≡ records ++ more)
+
+unchanged : (records : List Record) → (more : List Record) × (records ≡ records ++ more)
+unchanged records = ([], sym (append-nil records))
+
+-- what grew by one record and then by more
+grown_more : {A : Type 0} (records : List Record) (entry : Record) (outcome : Outcome A) → Grown (records ++ entry ∷ []) outcome → Grown records outcome
+grown_more records entry outcome (more, are) = (entry ∷ more, are ∙ append_assoc records (entry ∷ []) more)
+
+-- an append, and what comes after it
+grown_append : {A : Type 0} (state : State) (entry : Record) (fate : Fate) (next : List Record → Outcome A)
+    → ((records : List Record) → Grown records (next records)) → Grown state.records (appended state entry fate next)
+grown_append state entry acked next later = grown_more state.records entry (next (state.records ++ entry ∷ [])) (later (state.records ++ entry ∷ []))
+grown_append state entry cut_old next later = unchanged state.records
+grown_append state entry cut_new next later = (entry ∷ [], refl)
+grown_append state entry no_memory next later = unchanged state.records
+
+-- a choice
+grown_choice : {A : Type 0} (records : List Record) (test : Bool) (x y : Outcome A) → Grown records x → Grown records y → Grown records (if test then x else y)
+grown_choice records true x y first second = first
+grown_choice records false x y first second = second
+
+-- ---- create and open
+
+grown_published : (records : List Record) (public : Option AnyPublic) → Grown records (published records public)
+grown_published records (Some public) = unchanged records
+grown_published records None = unchanged records
+
+grown_begun : (state : State) (chance : Creation) (secret : Option Secret) → Grown state.records (begun state chance secret)
+grown_begun state chance None = unchanged state.records
+grown_begun state chance (Some secret) = grown_choice state.records chance.has_room _ _
+    (grown_append state (KeyRecord (new_key secret)) chance.fate _ (λ records. grown_published records (public_in (new_key secret))))
+    (unchanged state.records)
+
+grown_created : (failed : Option SignFault) (state : State) (spec : Spec) (chance : Creation) → Grown state.records (created_after failed state spec chance)
+grown_created (Some fault) state spec chance = unchanged state.records
+grown_created None state spec chance = grown_choice state.records (nat_le 1 (length state.records)) _ _ (unchanged state.records)
+    (grown_begun state chance (secret_from spec chance.fields))
+
+grown_opened_on : (records : List Record) (found : Option Key) → Grown records (opened_on records found)
+grown_opened_on records None = unchanged records
+grown_opened_on records (Some key) = grown_published records (public_in key)
+
+grown_opened : (state : State) (chance : Opening) (illegal : Option ℕ) → Grown state.records (opened_by state chance illegal)
+grown_opened state None None = grown_opened_on state.records (key_in state.records)
+grown_opened state None (Some k) = unchanged state.records
+grown_opened state (Some (slot, fault)) None = unchanged state.records
+grown_opened state (Some (slot, fault)) (Some k) = unchanged state.records
+
+-- ---- requests
+
+grown_bound : (state : State) (key : Key) (name : List ℕ) (randomizer given : Option (List ℕ)) (fate : Fate)
+    → Grown state.records (bound_with state key name randomizer given fate)
+grown_bound state key name None given fate = unchanged state.records
+grown_bound state key name (Some randomizer) None fate = unchanged state.records
+grown_bound state key name (Some randomizer) (Some message) fate = grown_append state _ fate _ (λ records. unchanged records)
+
+grown_with : (state : State) (trees : Trees) (level leaf : ℕ) (identifier : List ℕ) (fields : List (List ℕ)) (fate : Fate)
+    (next : List Record → Outcome (List ℕ))
+    → ((records : List Record) → Grown records (next records)) → Grown state.records (extended_with state trees level leaf identifier fields fate next)
+grown_with state trees level leaf identifier [] fate next later = unchanged state.records
+grown_with state trees level leaf identifier (seed ∷ []) fate next later = unchanged state.records
+grown_with state trees level leaf identifier (seed ∷ randomizer ∷ []) fate next later = grown_append state _ fate next later
+grown_with state trees level leaf identifier (seed ∷ randomizer ∷ more ∷ rest) fate next later = unchanged state.records
+
+grown_by : (state : State) (trees : Trees) (level leaf : ℕ) (fields : List (List ℕ)) (fate : Fate) (next : List Record → Outcome (List ℕ))
+    → ((records : List Record) → Grown records (next records)) → Grown state.records (extended_by state trees level leaf fields fate next)
+grown_by state trees level leaf [] fate next later = unchanged state.records
+grown_by state trees level leaf (identifier ∷ fields) fate next later = grown_choice state.records (has_identifier state.records identifier) _ _
+    (unchanged state.records) (grown_with state trees level leaf identifier fields fate next later)
+
+grown_extended : (state : State) (key : Key) (level : ℕ) (trees : Option Trees) (draw : Draw) (next : List Record → Outcome (List ℕ))
+    → ((records : List Record) → Grown records (next records)) → Grown state.records (extended state key level trees draw next)
+grown_extended state key level None draw next later = unchanged state.records
+grown_extended state key level (Some trees) draw next later =
+    grown_by state trees level (next_at key.secret state.records (level - 1)) draw.fields draw.fate next later
+
+grown_fulfilled : (key : Key) (name : List ℕ) (chance : Chance) (below : ℕ) (draws : List Draw) (records : List Record)
+    → Grown records (fulfilled key name chance below draws records)
+grown_fulfilled key name chance zero draws records =
+    grown_bound (open_on records) key name (randomizer_from key.secret chance.bound.fields) chance.given chance.bound.fate
+grown_fulfilled key name chance (suc below) draws records =
+    grown_extended (open_on records) key (bottom_of key.secret - below) (trees_of key.secret) (first_draw draws) _
+    (grown_fulfilled key name chance below (later_draws draws))
+
+grown_sound : (state : State) (key : Key) (name : List ℕ) (chance : Chance) (level : ℕ) (damaged : Option ℕ)
+    → Grown state.records (bound_sound state key name chance level damaged)
+grown_sound state key name chance level (Some slot) = unchanged state.records
+grown_sound state key name chance level None = grown_fulfilled key name chance (bottom_of key.secret - level) chance.trees state.records
+
+grown_anew : (limit : ℕ) (state : State) (key : Key) (name : List ℕ) (chance : Chance) (level : Option ℕ)
+    → Grown state.records (bound_anew limit state key name chance level)
+grown_anew limit state key name chance None = unchanged state.records
+grown_anew limit state key name chance (Some level) =
+    grown_choice state.records (nat_lt limit (length state.records + wanted_count key.secret level)) _ _ (unchanged state.records)
+    (grown_choice state.records (not chance.has_room) _ _ (unchanged state.records)
+    (grown_sound state key name chance level (damaged_in key level state.records (tree_before level state.records (length state.records)))))
+
+grown_repeated_sound : (state : State) (key : Key) (k : ℕ) (bound : Bound) (damaged : Option ℕ) → Grown state.records (repeated_sound state key k bound damaged)
+grown_repeated_sound state key k bound (Some slot) = unchanged state.records
+grown_repeated_sound state key k bound None = unchanged state.records
+
+grown_repeated : (state : State) (key : Key) (k : ℕ) (bound : Bound) (chance : Chance) (given : Option (List ℕ))
+    → Grown state.records (repeated state key k bound chance given)
+grown_repeated state key k bound chance None = unchanged state.records
+grown_repeated state key k bound chance (Some message) =
+    grown_choice state.records (not (are_same (digest_at key state.records k bound.leaf bound.randomizer message) bound.digest)) _ _ (unchanged state.records)
+    (grown_choice state.records (not chance.has_room) _ _ (unchanged state.records) (grown_repeated_sound state key k bound _))
+
+grown_of : (limit : ℕ) (state : State) (key : Key) (name : List ℕ) (chance : Chance) (found : Option (ℕ × Bound))
+    → Grown state.records (requested_of limit state key name chance found)
+grown_of limit state key name chance (Some (k, bound)) = grown_repeated state key k bound chance chance.given
+grown_of limit state key name chance None = grown_anew limit state key name chance (deepest key.secret state.records)
+
+grown_under : (limit : ℕ) (state : State) (name : List ℕ) (chance : Chance) (found : Option Key)
+    → Grown state.records (requested_under limit state name chance found)
+grown_under limit state name chance None = unchanged state.records
+grown_under limit state name chance (Some key) = grown_choice state.records (not state.is_open) _ _ (unchanged state.records)
+    (grown_choice state.records (has_moved state.records) _ _ (unchanged state.records)
+    (grown_of limit state key name chance (binding_in state.records name)))
+
+-- ---- retire
+
+grown_retired : (limit : ℕ) (state : State) (upto : ℕ) (fate : Fate) (found : Option Key) → Grown state.records (retired_under limit state upto fate found)
+grown_retired limit state upto fate None = unchanged state.records
+grown_retired limit state upto fate (Some key) = grown_choice state.records (not state.is_open) _ _ (unchanged state.records)
+    (grown_choice state.records (has_moved state.records) _ _ (unchanged state.records)
+    (grown_choice state.records (nat_lt (leaves_of_current key.secret state.records (bottom_of key.secret)) upto) _ _ (unchanged state.records)
+    (grown_choice state.records (nat_le upto (next_at key.secret state.records (bottom_of key.secret))) _ _ (unchanged state.records)
+    (grown_choice state.records (nat_lt limit (length state.records + 1)) _ _ (unchanged state.records)
+    (grown_append state (Retire upto) fate _ (λ records. unchanged records))))))
+
+-- ---- runs
+
+-- where nothing is handed out
+only_grown : {A : Type 0} (world : World) (outcome : Outcome A) → Grown world.state.records outcome
+    → Extends world (record { state = outcome.state; handed = world.handed })
+only_grown world outcome (more, are) = record { records = more; handed = []; records_are = are; handed_are = sym (append-nil world.handed) }
+
+extends_after : (limit : ℕ) (world : World) (event : Event) → Extends world (after limit world event)
+extends_after limit world (create spec chance) =
+    only_grown world (created world.state spec chance) (grown_created chance.failed_load world.state spec chance)
+extends_after limit world (reopen chance) =
+    only_grown world (opened world.state chance) (grown_opened world.state chance (first_illegal world.state.records))
+extends_after limit world (request name chance) =
+    let (more, are) = grown_under limit world.state name chance (key_in world.state.records) in
+    record { records = more; handed = _; records_are = are; handed_are = refl }
+extends_after limit world (retire upto fate) =
+    only_grown world (retired limit world.state upto fate) (grown_retired limit world.state upto fate (key_in world.state.records))
+extends_after limit world stop =
+    record { records = []; handed = []; records_are = sym (append-nil world.state.records); handed_are = sym (append-nil world.handed) }
+
+-- one after the other
+extends_on : (first second third : World) → Extends first second → Extends second third → Extends first third
+extends_on first second third a b = record {
+  records = a.records ++ b.records;
+  handed = a.handed ++ b.handed;
+  records_are = b.records_are ∙ ap (λ l. l ++ b.records) a.records_are ∙ append_assoc first.state.records a.records b.records;
+  handed_are = b.handed_are ∙ ap (λ l. l ++ b.handed) a.handed_are ∙ append_assoc first.handed a.handed b.handed;
+}
+
+pub extends_along : (limit : ℕ) (world : World) (events : List Event) → Extends world (run limit world events)
+extends_along limit world [] = record {
+  records = [];
+  handed = [];
+  records_are = sym (append-nil world.state.records);
+  handed_are = sym (append-nil world.handed);
+}
+extends_along limit world (event ∷ events) =
+    extends_on world (after limit world event) (run limit world (event ∷ events)) (extends_after limit world event)
+    (extends_along limit (after limit world event) events)

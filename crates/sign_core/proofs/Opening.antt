@@ -1,0 +1,403 @@
+-- What each end of an opening is: a step of the world.
+use Rattle.std.proofs.Common.{◌≡◌, ℕ, zero, suc, ◌+◌, ◌<◌, ◌≤◌, Bool, true, false, List, [], ◌∷◌, ◌++◌, length, Some, None, Ok, Err, refl, sym}
+use Rattle.std.proofs.Common.{ap, ◌∙◌, subst, arith, inl, inr, IsTrue, true≢false, take, drop}
+use Rattle.std.proofs.lemmas.Bool.Decides.{nat_tests}
+use Rattle.std.proofs.lemmas.List.{take-append-drop, take_all}
+use Rattle.std.specs.Option.{ok_or, option_or}
+use Rattle.std.specs.Prelude.{IfErr, Option, cond, nat_lt, slice_get, if◌then◌else◌}
+use Rattle.state_file.specs.declared.record.Key.{Key}
+use Rattle.state_file.specs.declared.record.Record.{Record}
+use Rattle.state_file.specs.declared.record.Record.TheVariants.{Key as KeyRecord, Extend as ExtendRecord, Bound as BoundRecord, Retire, Moved as MovedRecord}
+use Rattle.state_file.specs.declared.store.Store as store
+use Rattle.state_file.specs.Disk.{Counts}
+use Rattle.state_file.specs.Store.{IsRecordAt, is_key}
+use Rattle.state_file.proofs.Moments.{combined, started, weaker}
+use Rattle.sign_core.specs.declared.key.AnyPublic.{AnyPublic}
+use Rattle.sign_core.specs.declared.fault.SignFault.{SignFault}
+use Rattle.sign_core.specs.declared.fault.SignFault.TheVariants.{RandomRepeated, MessageRead, Moved, RetireRange, NoKey, Illegal, DeviceFailed, NoMemoryToOpen}
+use Rattle.sign_core.specs.declared.fault.SignFault.TheVariants.{Changed, Exhausted, RandomFailed, StoreFailed, Stopped, Damaged, OutOfMemory, LedgerFull}
+use Rattle.sign_core.specs.declared.fault.SignFault.TheVariants.{Unreadable, KeyThere}
+use Rattle.sign_core.specs.Records.{can_follow, first_illegal, illegal_from, key_in}
+use Rattle.sign_core.specs.Once.{public_of_key}
+use Rattle.sign_core.specs.Signer.{IsTakenUp, IsTied, LeavesOld, LoadsAll, LoadsRecord, RefusesToOpen, StopsOpening, TakesUp, is_device_failed}
+use Rattle.sign_core.specs.Ledger.{Table}
+use Rattle.sign_core.specs.World.{answered, closed_on, open_on, opened, opened_by, opened_on, published, refused}
+use Rattle.sign_core.specs.Textbook.{HasSizes, SecretHasSizes, public_in}
+use Rattle.sign_core.proofs.Adding.{length_one_more, some_records}
+use Rattle.sign_core.proofs.Follow.{key_stays}
+use Rattle.sign_core.proofs.Illegal.{first_illegal_appended, first_illegal_joined, illegal_after}
+use Rattle.sign_core.proofs.Lists.{take_with_next}
+use Rattle.sign_core.proofs.Sizes.{public_made}
+
+-- ---- what was loaded
+
+-- Calls that read a store and don't fail leave all of it as it was.
+pub record IsKept {S : Type 0} (g : store.Ghosts S) (old now : S) : Type 0 where
+  pub list : g.list now ≡ g.list old
+  pub moments : LeavesOld g old now
+  pub stopped : g.stopped now ≡ g.stopped old
+  pub failures : g.failures now ≡ g.failures old
+  pub refusals : g.refusals now ≡ g.refusals old
+  pub honest : g.honest now ≡ g.honest old
+  pub most : g.most now ≡ g.most old
+
+-- These are the first k records of a store, where it is honest.
+pub record Begins {S : Type 0} (g : store.Ghosts S) (old : S) (records : List Record) (k : ℕ) : Type 0 where
+  pub long : length records ≡ k
+  pub inside : k ≤ length (g.list old)
+  pub same : IsTrue (g.honest old) → records ≡ take k (g.list old)
+
+-- They were loaded, each could follow those before it, and nothing failed.
+pub record HasLoaded {S : Type 0} (g : store.Ghosts S) (old now : S) (records : List Record) (k : ℕ) : Type 0 where
+  pub kept : IsKept g old now
+  pub begins : Begins g old records k
+  pub legal : first_illegal records ≡ None
+  pub running : 0 < k → g.stopped old ≡ false
+
+-- What was taken up: these records, with their key's sizes.
+pub record IsLoadedTo {S : Type 0} (g : store.Ghosts S) (old now : S) (table : Table) (k : ℕ) : Type 0 where
+  pub loaded : HasLoaded g old now table.records k
+  pub some : 0 < k
+  pub keyed : key_in table.records ≡ Some table.key
+  pub sizes : SecretHasSizes table.key.secret
+
+-- before the first load
+pub none_loaded : {S : Type 0} (g : store.Ghosts S) (old : S)
+    → ((left : List Record) → IsTrue (g.honest old) → g.stopped old ≡ false → g.left_since old (g.moment old) left → left ≡ g.list old)
+    → HasLoaded g old old [] 0
+none_loaded g old only = record {
+  kept = record {
+    list = refl;
+    moments = λ honest running. started g.moment g.left_since old _ (λ left since. only left honest running since);
+    stopped = refl;
+    failures = refl;
+    refusals = refl;
+    honest = refl;
+    most = refl;
+  };
+  begins = record { long = refl; inside = omega arith; same = λ honest. refl };
+  legal = refl;
+  running = λ some. absurd (omega (arith, some));
+}
+
+-- the moments of one load more
+later_moments : {S : Type 0} (g : store.Ghosts S) (old now next : S) → IsKept g old now → LeavesOld g now next → LeavesOld g old next
+later_moments g old now next kept leaves honest running =
+    combined g.moment g.left_since old now next _ (kept.moments honest running)
+    (weaker g.moment g.left_since now next _ _ (λ left same. same ∙ kept.list) (leaves (subst IsTrue (sym kept.honest) honest) (kept.stopped ∙ running)))
+
+-- a load that finds a record, or the end
+kept_found : {S : Type 0} (g : store.Ghosts S) (old now next : S) (k : ℕ) (found : Option Record) → IsKept g old now → LoadsRecord g now next k (Ok found)
+    → g.stopped now ≡ false → g.stopped next ≡ false → g.failures next ≡ g.failures now → IsKept g old next
+kept_found g old now next k found kept loads was is failures = record {
+  list = loads.list ∙ kept.list;
+  moments = later_moments g old now next kept loads.moments;
+  stopped = is ∙ sym was ∙ kept.stopped;
+  failures = failures ∙ kept.failures;
+  refusals = loads.refusals ∙ kept.refusals;
+  honest = loads.honest ∙ kept.honest;
+  most = loads.most ∙ kept.most;
+}
+
+pub kept_some : {S : Type 0} (g : store.Ghosts S) (old now next : S) (k : ℕ) (entry : Record) → IsKept g old now
+    → LoadsRecord g now next k (Ok (Some entry)) → IsKept g old next
+kept_some g old now next k entry kept loads = kept_found g old now next k (Some entry) kept loads loads.loads.0 loads.loads.3 loads.loads.4
+
+pub kept_none : {S : Type 0} (g : store.Ghosts S) (old now next : S) (k : ℕ) → IsKept g old now → LoadsRecord g now next k (Ok None) → IsKept g old next
+kept_none g old now next k kept loads = kept_found g old now next k None kept loads loads.loads.0 loads.loads.2 loads.loads.3
+
+-- one record more
+record_at : (honest : Bool) (list : List Record) (k : ℕ) (entry : Record) → IsRecordAt honest list k entry → IsTrue honest → slice_get list k ≡ Some entry
+record_at true list k entry at is = at
+record_at false list k entry at is = absurd (true≢false (sym is))
+
+pub begins_more : {S : Type 0} (g : store.Ghosts S) (old now next : S) (records : List Record) (k : ℕ) (entry : Record) → IsKept g old now
+    → Begins g old records k → LoadsRecord g now next k (Ok (Some entry)) → Begins g old (records ++ entry ∷ []) (k + 1)
+begins_more g old now next records k entry kept begins loads = record {
+  long = length_one_more records entry ∙ ap (λ n. n + 1) begins.long;
+  inside = omega (arith, loads.loads.1, ap length kept.list);
+  same = λ honest.
+      let here : suc k ≡ k + 1 = omega arith in
+      let at = record_at _ _ k entry loads.loads.2 (subst IsTrue (sym kept.honest) honest) in
+      ap (λ l. l ++ entry ∷ []) (begins.same honest)
+      ∙ sym (take_with_next (g.list old) k entry (ap (λ l. slice_get l k) (sym kept.list) ∙ at)) ∙ ap (λ n. take n (g.list old)) here;
+}
+
+-- ---- the whole list that an opening goes over
+
+-- the records that were loaded, and the store's from there on
+abbrev pub whole : {S : Type 0} → store.Ghosts S → S → List Record → ℕ → List Record
+whole g old records k = records ++ drop k (g.list old)
+
+length_whole : (records list : List Record) (k : ℕ) → length records ≡ k → k ≤ length list → length (records ++ drop k list) ≡ length list
+length_whole [] list zero is inside = refl
+length_whole [] list (suc k) is inside = absurd (omega (arith, is))
+length_whole (first ∷ rest) list zero is inside = absurd (omega (arith, is))
+length_whole (first ∷ rest) [] (suc k) is inside = absurd (omega (arith, inside))
+length_whole (first ∷ rest) (other ∷ list) (suc k) is inside = omega (arith, length_whole rest list k (omega (arith, is)) (omega (arith, inside)))
+
+pub whole_long : {S : Type 0} (g : store.Ghosts S) (old : S) (records : List Record) (k : ℕ) → Begins g old records k
+    → length (whole g old records k) ≡ length (g.list old)
+whole_long g old records k begins = length_whole records (g.list old) k begins.long begins.inside
+
+pub whole_same : {S : Type 0} (g : store.Ghosts S) (old : S) (records : List Record) (k : ℕ) → Begins g old records k → IsTrue (g.honest old)
+    → whole g old records k ≡ g.list old
+whole_same g old records k begins honest = ap (λ l. l ++ drop k (g.list old)) (begins.same honest) ∙ take-append-drop k (g.list old)
+
+-- ---- refusals
+
+-- the first fault comes before any record that isn't legal
+stops : (all : List Record) (k : ℕ) (fault : SignFault) (illegal : Option ℕ) → ((j : ℕ) → illegal ≡ Some j → k ≤ j)
+    → opened_by (closed_on all) (Some (k, fault)) illegal ≡ refused (closed_on all) fault
+stops all k fault None later = refl
+stops all k fault (Some j) later =
+    let after = later j refl in
+    let not : nat_lt j k ≡ false = grind (arith, nat_tests) in
+    ap (λ (b : Bool). refused {A = AnyPublic} (closed_on all) (if b then Illegal j else fault)) not
+
+stopped_step : {S : Type 0} (g : store.Ghosts S) (old now : S) (records : List Record) (k : ℕ) (fault : SignFault) → HasLoaded g old now records k
+    → opened (closed_on (whole g old records k)) (Some (k, fault)) ≡ refused (closed_on (whole g old records k)) fault
+stopped_step g old now records k fault has =
+    stops (whole g old records k) k fault (first_illegal (whole g old records k))
+    (λ j is. omega (arith, has.begins.long, illegal_after records (drop k (g.list old)) j has.legal is))
+
+-- an opening that is stopped at a place by a fault
+pub stopped_at : {S : Type 0} (g : store.Ghosts S) (old now next : S) (records : List Record) (k : ℕ) (fault : SignFault) → HasLoaded g old now records k
+    → StopsOpening (Some (k, fault)) (g.list old) (g.stopped old) (g.honest old) → g.list next ≡ g.list old → LeavesOld g old next
+    → Counts {A = AnyPublic} is_device_failed (g.failures old) (g.failures next) (Err fault)
+    → RefusesToOpen {A = AnyPublic} (Err fault) (g.refusals old) (g.refusals next) → g.honest next ≡ g.honest old → g.most next ≡ g.most old
+    → LoadsAll g old next (IsTakenUp (Err fault))
+stopped_at g old now next records k fault has load list moments failures refusals honest most = record {
+  records = whole g old records k;
+  long = whole_long g old records k has.begins;
+  same = whole_same g old records k has.begins;
+  chance = Some (k, fault);
+  outcome = refused (closed_on (whole g old records k)) fault;
+  step = stopped_step g old now records k fault has;
+  answer = refl;
+  load = load;
+  list = list;
+  moments = moments;
+  failures = failures;
+  refusals = refusals;
+  honest = honest;
+  most = most;
+}
+
+-- the first load alone can find a store that has stopped
+first_place : {S : Type 0} (g : store.Ghosts S) (old now : S) (records : List Record) (k : ℕ) → HasLoaded g old now records k → g.stopped now ≡ true → k ≡ 0
+first_place g old now records zero has stopped = refl
+first_place g old now records (suc k) has stopped = absurd (true≢false (sym stopped ∙ has.kept.stopped ∙ has.running (omega arith)))
+
+-- a load that fails
+pub unloaded : {S : Type 0} (g : store.Ghosts S) (old now next : S) (records : List Record) (k : ℕ) (fault : SignFault) → HasLoaded g old now records k
+    → LoadsRecord g now next k (Err fault) → LoadsAll g old next (IsTakenUp (Err fault))
+unloaded g old now next records k Stopped has loads =
+    stopped_at g old now next records k Stopped has
+    (sym has.kept.stopped ∙ loads.loads.0, first_place g old now records k has loads.loads.0) (loads.list ∙ has.kept.list)
+    (later_moments g old now next has.kept loads.moments) (loads.loads.1 ∙ has.kept.failures) (loads.refusals ∙ has.kept.refusals)
+    (loads.honest ∙ has.kept.honest) (loads.most ∙ has.kept.most)
+unloaded g old now next records k (Unreadable slot) has loads =
+    stopped_at g old now next records k (Unreadable slot) has
+    (sym has.kept.stopped ∙ loads.loads.0, sym has.kept.honest ∙ loads.loads.1, loads.loads.2, omega (arith, loads.loads.3, ap length has.kept.list))
+    (loads.list ∙ has.kept.list)
+    (later_moments g old now next has.kept loads.moments) (loads.loads.4 ∙ has.kept.failures) (loads.refusals ∙ has.kept.refusals)
+    (loads.honest ∙ has.kept.honest) (loads.most ∙ has.kept.most)
+unloaded g old now next records k DeviceFailed has loads =
+    stopped_at g old now next records k DeviceFailed has (sym has.kept.stopped ∙ loads.loads.0, has.begins.inside) (loads.list ∙ has.kept.list)
+    (later_moments g old now next has.kept loads.moments) (loads.loads.1 ∙ ap (λ n. n + 1) has.kept.failures) (loads.refusals ∙ has.kept.refusals)
+    (loads.honest ∙ has.kept.honest) (loads.most ∙ has.kept.most)
+unloaded g old now next records k NoMemoryToOpen has loads =
+    stopped_at g old now next records k NoMemoryToOpen has (sym has.kept.stopped ∙ loads.loads.0, has.begins.inside) (loads.list ∙ has.kept.list)
+    (later_moments g old now next has.kept loads.moments) (loads.loads.1 ∙ has.kept.failures)
+    (inr (loads.refusals ∙ ap (λ n. n + 1) has.kept.refusals)) (loads.honest ∙ has.kept.honest) (loads.most ∙ has.kept.most)
+unloaded g old now next records k Changed has loads = absurd loads.loads
+unloaded g old now next records k Exhausted has loads = absurd loads.loads
+unloaded g old now next records k RandomFailed has loads = absurd loads.loads
+unloaded g old now next records k StoreFailed has loads = absurd loads.loads
+unloaded g old now next records k OutOfMemory has loads = absurd loads.loads
+unloaded g old now next records k LedgerFull has loads = absurd loads.loads
+unloaded g old now next records k KeyThere has loads = absurd loads.loads
+unloaded g old now next records k RandomRepeated has loads = absurd loads.loads
+unloaded g old now next records k MessageRead has loads = absurd loads.loads
+unloaded g old now next records k Moved has loads = absurd loads.loads
+unloaded g old now next records k RetireRange has loads = absurd loads.loads
+unloaded g old now next records k NoKey has loads = absurd loads.loads
+unloaded g old now next records k (Damaged slot) has loads = absurd loads.loads
+unloaded g old now next records k (Illegal slot) has loads = absurd loads.loads
+
+-- a record that was loaded, and can't follow
+illegal_step : (records more : List Record) (entry : Record) (k : ℕ) → length records ≡ k → first_illegal records ≡ None
+    → can_follow (key_in records) records entry ≡ false
+    → opened (closed_on ((records ++ entry ∷ []) ++ more)) None ≡ refused (closed_on ((records ++ entry ∷ []) ++ more)) (Illegal k)
+illegal_step records more entry k long legal not =
+    let all = (records ++ entry ∷ []) ++ more in
+    let here : first_illegal (records ++ entry ∷ []) ≡ Some k =
+    first_illegal_appended records entry ∙ (λ i. option_or (legal i) (cond (not i) None (Some (long i)))) in
+    ap (opened_by (closed_on all) None) (first_illegal_joined (records ++ entry ∷ []) more
+    ∙ ap (λ o. option_or o (illegal_from all (length (records ++ entry ∷ [])) more)) here)
+
+pub illegal_at : {S : Type 0} (g : store.Ghosts S) (old now next : S) (records : List Record) (k : ℕ) (entry : Record) → HasLoaded g old now records k
+    → LoadsRecord g now next k (Ok (Some entry)) → can_follow (key_in records) records entry ≡ false → LoadsAll g old next (IsTakenUp (Err (Illegal k)))
+illegal_at g old now next records k entry has loads not =
+    let begins = begins_more g old now next records k entry has.kept has.begins loads in
+    let kept = kept_some g old now next k entry has.kept loads in record {
+      records = whole g old (records ++ entry ∷ []) (k + 1);
+      long = whole_long g old (records ++ entry ∷ []) (k + 1) begins;
+      same = whole_same g old (records ++ entry ∷ []) (k + 1) begins;
+      chance = None;
+      outcome = refused (closed_on (whole g old (records ++ entry ∷ []) (k + 1))) (Illegal k);
+      step = illegal_step records (drop (k + 1) (g.list old)) entry k has.begins.long has.legal not;
+      answer = refl;
+      load = sym has.kept.stopped ∙ loads.loads.0;
+      list = kept.list;
+      moments = kept.moments;
+      failures = kept.failures;
+      refusals = kept.refusals;
+      honest = kept.honest;
+      most = kept.most;
+    }
+
+-- ---- records that are taken up
+
+key_follows : (table : Table) (entry : Record) (b : Bool) → key_in table.records ≡ Some table.key → can_follow (Some table.key) table.records entry ≡ b
+    → can_follow (key_in table.records) table.records entry ≡ b
+key_follows table entry b keyed is = ap (λ key. can_follow key table.records entry) keyed ∙ is
+
+-- a record that isn't taken up
+pub untaken : {S : Type 0} (g : store.Ghosts S) (old now next : S) (table left : Table) (k : ℕ) (entry : Record) (fault : SignFault)
+    → IsLoadedTo g old now table k → LoadsRecord g now next k (Ok (Some entry)) → TakesUp {A = Unit {0}} table left entry (Err fault)
+    → LoadsAll g old next (IsTakenUp (Err fault))
+untaken g old now next table left k entry (Illegal slot) is loads takes =
+    let same : k ≡ slot = sym is.loaded.begins.long ∙ sym takes.1 in
+    subst (λ n. LoadsAll g old next (IsTakenUp (Err (Illegal n)))) same
+    (illegal_at g old now next table.records k entry is.loaded loads (key_follows table entry false is.keyed takes.0))
+untaken g old now next table left k entry NoMemoryToOpen is loads takes =
+    let kept = kept_some g old now next k entry is.loaded.kept loads in
+    stopped_at g old now next table.records k NoMemoryToOpen is.loaded (is.loaded.running is.some, is.loaded.begins.inside) kept.list kept.moments
+    kept.failures (inl kept.refusals) kept.honest kept.most
+untaken g old now next table left k entry Changed is loads takes = absurd takes
+untaken g old now next table left k entry Exhausted is loads takes = absurd takes
+untaken g old now next table left k entry RandomFailed is loads takes = absurd takes
+untaken g old now next table left k entry StoreFailed is loads takes = absurd takes
+untaken g old now next table left k entry OutOfMemory is loads takes = absurd takes
+untaken g old now next table left k entry LedgerFull is loads takes = absurd takes
+untaken g old now next table left k entry Stopped is loads takes = absurd takes
+untaken g old now next table left k entry DeviceFailed is loads takes = absurd takes
+untaken g old now next table left k entry KeyThere is loads takes = absurd takes
+untaken g old now next table left k entry RandomRepeated is loads takes = absurd takes
+untaken g old now next table left k entry MessageRead is loads takes = absurd takes
+untaken g old now next table left k entry Moved is loads takes = absurd takes
+untaken g old now next table left k entry RetireRange is loads takes = absurd takes
+untaken g old now next table left k entry NoKey is loads takes = absurd takes
+untaken g old now next table left k entry (Damaged slot) is loads takes = absurd takes
+untaken g old now next table left k entry (Unreadable slot) is loads takes = absurd takes
+
+pub taken : {S : Type 0} (g : store.Ghosts S) (old now next : S) (table after : Table) (k : ℕ) (entry : Record) → IsLoadedTo g old now table k
+    → LoadsRecord g now next k (Ok (Some entry)) → TakesUp {A = Unit {0}} table after entry (Ok tt) → IsLoadedTo g old next after (k + 1)
+taken g old now next table after k entry is loads takes =
+    let follows = key_follows table entry true is.keyed takes.0 in record {
+      loaded = subst (λ l. HasLoaded g old next l (k + 1)) (sym takes.2) (record {
+        kept = kept_some g old now next k entry is.loaded.kept loads;
+        begins = begins_more g old now next table.records k entry is.loaded.kept is.loaded.begins loads;
+        legal = first_illegal_appended table.records entry
+            ∙ (λ i. option_or (is.loaded.legal i) (cond (follows i) None (Some (length table.records))));
+        running = λ _. is.loaded.running is.some;
+      });
+      some = omega arith;
+      keyed = ap key_in takes.2 ∙ key_stays table.records (entry ∷ []) (some_records table.records table.key is.keyed) ∙ is.keyed ∙ ap Some (sym takes.1);
+      sizes = subst (λ key. SecretHasSizes key.secret) (sym takes.1) is.sizes;
+    }
+
+-- the key
+pub key_taken : {S : Type 0} (g : store.Ghosts S) (old next : S) (table : Table) (key : Key)
+    → ((left : List Record) → IsTrue (g.honest old) → g.stopped old ≡ false → g.left_since old (g.moment old) left → left ≡ g.list old)
+    → LoadsRecord g old next 0 (Ok (Some (KeyRecord key))) → HasSizes (KeyRecord key) → table.key ≡ key → table.records ≡ KeyRecord key ∷ []
+    → IsLoadedTo g old next table 1
+key_taken g old next table key only loads sizes same records =
+    let start = none_loaded g old only in record {
+      loaded = subst (λ l. HasLoaded g old next l 1) (sym records) (record {
+        kept = kept_some g old old next 0 (KeyRecord key) start.kept loads;
+        begins = begins_more g old old next [] 0 (KeyRecord key) start.kept start.begins loads;
+        legal = refl;
+        running = λ _. loads.loads.0;
+      });
+      some = omega arith;
+      keyed = ap key_in records ∙ ap Some (sym same);
+      sizes = subst (λ k. SecretHasSizes k.secret) (sym same) sizes.0;
+    }
+
+-- ---- the end
+
+published_step : (records : List Record) (key : Key) (public : AnyPublic) → first_illegal records ≡ None → key_in records ≡ Some key
+    → public_in key ≡ Some public → opened (closed_on records) None ≡ answered (open_on records) public
+published_step records key public legal keyed is =
+    ap (opened_by (closed_on records) None) legal ∙ ap (opened_on records) keyed ∙ ap (published records) is
+
+pub all_taken : {S : Type 0} (g : store.Ghosts S) (old now : S) (table : Table) (k : ℕ) → IsLoadedTo g old now table k → length (g.list old) ≤ k
+    → LoadsAll g old now (IsTakenUp (Ok table))
+all_taken g old now table k is end =
+    let (public, made) = public_made table.key.secret table.key.root is.sizes in
+    let begins = is.loaded.begins in
+    let kept = is.loaded.kept in record {
+      records = table.records;
+      long = omega (arith, begins.long, begins.inside, end);
+      same = λ honest. begins.same honest ∙ take_all k (g.list old) end;
+      chance = None;
+      outcome = answered (open_on table.records) public;
+      step = published_step table.records table.key public is.loaded.legal is.keyed made;
+      answer = (public, refl, ap public_of_key is.keyed ∙ made, refl);
+      load = is.loaded.running is.some;
+      list = kept.list;
+      moments = kept.moments;
+      failures = kept.failures;
+      refusals = kept.refusals;
+      honest = kept.honest;
+      most = kept.most;
+    }
+
+pub all_tied : {S : Type 0} (g : store.Ghosts S) (old now : S) (table : Table) (k : ℕ) → IsLoadedTo g old now table k → length (g.list old) ≤ k
+    → IsTied g now table.records
+all_tied g old now table k is end =
+    let begins = is.loaded.begins in
+    let kept = is.loaded.kept in record {
+      running = kept.stopped ∙ is.loaded.running is.some;
+      long = omega (arith, ap length kept.list, begins.long, begins.inside, end);
+      same = λ honest. kept.list ∙ sym (begins.same (subst IsTrue kept.honest honest) ∙ take_all k (g.list old) end);
+    }
+
+-- the end of the list was found
+pub end_found : {S : Type 0} (g : store.Ghosts S) (old now next : S) (table : Table) (k : ℕ) → IsLoadedTo g old now table k
+    → LoadsRecord g now next k (Ok None) → IsLoadedTo g old next table k × (length (g.list old) ≤ k)
+end_found g old now next table k is loads = (
+  record {
+    loaded = record {
+      kept = kept_none g old now next k is.loaded.kept loads;
+      begins = is.loaded.begins;
+      legal = is.loaded.legal;
+      running = is.loaded.running;
+    };
+    some = is.some;
+    keyed = is.keyed;
+    sizes = is.sizes;
+  },
+  omega (arith, loads.loads.1, ap length is.loaded.kept.list),
+)
+
+-- ---- record 0
+
+-- what isn't a Key can't come first
+not_first : (entry : Record) → is_key entry ≡ false → can_follow (key_in []) [] entry ≡ false
+not_first (KeyRecord key) not = absurd (true≢false not)
+not_first (ExtendRecord extend) not = refl
+not_first (BoundRecord bound) not = refl
+not_first (Retire upto) not = refl
+not_first MovedRecord not = refl
+
+pub key_refused : {S : Type 0} (g : store.Ghosts S) (old next : S) (entry : Record) (found : Option Key)
+    → ((left : List Record) → IsTrue (g.honest old) → g.stopped old ≡ false → g.left_since old (g.moment old) left → left ≡ g.list old)
+    → LoadsRecord g old next 0 (Ok (Some entry)) → (found ≡ None → is_key entry ≡ false)
+    → IfErr (ok_or found (Illegal 0)) (λ fault. LoadsAll g old next (IsTakenUp (Err fault)))
+key_refused g old next entry (Some key) only loads other = tt
+key_refused g old next entry None only loads other =
+    illegal_at g old old next [] 0 entry (none_loaded g old only) loads (not_first entry (other refl))

@@ -1,0 +1,323 @@
+-- What each end of a repeat is: a step of the world, on a name that is bound.
+use Rattle.std.proofs.Common.{◌≡◌, ◌∙◌, refl, sym, ap, ap₂, subst, ℕ, ◌<◌, Bool, true, false, List, [], ◌∷◌, ◌++◌}
+use Rattle.std.proofs.Common.{Option, Some, None, Result, Ok, Err, MatchResult, IfErr, OnOk, IsErrAnd, true≢false, ◌^◌}
+use Rattle.std.specs.Prelude.{not, option_map, slice_get, if◌then◌else◌}
+use Rattle.std.specs.Cmp.Lexicographic.{bytes_decides}
+use Rattle.std.proofs.lemmas.Option.{same_Some}
+use Rattle.typecodes.specs.declared.message.Message as message
+use Rattle.typecodes.specs.Types.{height_of, xmss_height_of}
+use Rattle.lmots.specs.Key.{message_digest_of}
+use Rattle.hss.specs.Secret.{Signing}
+use Rattle.xmss.specs.declared.secret.XmssSecret.{XmssSecret}
+use Rattle.xmss.specs.Secret.{digest_in as xmss_digest_in}
+use Rattle.xmss.specs.Writing.{signature_bytes as xmss_signature_bytes, textbook as xmss_textbook}
+use Rattle.typecodes.specs.Message.{CantBeRead, ReadWhole}
+use Rattle.state_file.specs.Laws.{IsLegal, bottom_of}
+use Rattle.state_file.specs.declared.record.Bound.{Bound}
+use Rattle.state_file.specs.declared.record.Key.{Key}
+use Rattle.state_file.specs.declared.record.Record.{Record}
+use Rattle.state_file.specs.declared.record.Record.TheVariants.{Key as KeyRecord, Bound as BoundRecord}
+use Rattle.state_file.specs.declared.record.Secret.{Secret}
+use Rattle.sign_core.specs.declared.fault.SignFault.{SignFault}
+use Rattle.sign_core.specs.declared.fault.SignFault.TheVariants.{Changed, Damaged, MessageRead, OutOfMemory}
+use Rattle.sign_core.specs.declared.ledger.Binding.{Binding}
+use Rattle.sign_core.specs.declared.links.Link.{Link}
+use Rattle.sign_core.specs.Links.{AreMade, IsTreeAt, signing_with, signings_of}
+use Rattle.sign_core.specs.Records.{are_same, binding_in, key_in}
+use Rattle.sign_core.specs.Signer.{View, signature_size, state_of}
+use Rattle.sign_core.specs.Signing.{IsBindingOf, IsXmssKey, Repeats, WritesChain, repeat_chance}
+use Rattle.sign_core.specs.Ledger.{kept_of}
+use Rattle.sign_core.specs.World.{Outcome, State, refused, repeated_sound, requested_of}
+use Rattle.sign_core.specs.Textbook.{Trees, damaged_in, digest_at, secret_at, signature_at, signings_above, tree_before, trees_of}
+use Rattle.sign_core.proofs.Bindings.{binding_stands}
+use Rattle.sign_core.proofs.ChainParts.{bound_tree, digest_told, key_chain, xmss_damaged, xmss_digest_told, xmss_leaf_inside, xmss_signed}
+
+-- ---- what is kept of a name
+
+-- A name's binding, with the record that it is kept of.
+pub record IsFound (key : Key) (records : List Record) (name : List ℕ) (binding : Binding) : Type 0 where
+  pub place : ℕ
+  pub bound : Bound
+  pub found : binding_in records name ≡ Some (place, bound)
+  pub stands : slice_get records place ≡ Some (BoundRecord bound)
+  pub is : kept_of key.secret records (place, bound) ≡ binding
+
+found_in : (secret : Secret) (records : List Record) (binding : Binding) (found : Option (ℕ × Bound)) → option_map (kept_of secret records) found ≡ Some binding
+    → (place : ℕ) × (bound : Bound) × (found ≡ Some (place, bound)) × (kept_of secret records (place, bound) ≡ binding)
+found_in secret records binding None is = absurd (cc)
+found_in secret records binding (Some (place, bound)) is = (place, bound, refl, same_Some (kept_of secret records (place, bound)) binding is)
+
+pub is_found : (key : Key) (records : List Record) (name : List ℕ) (binding : Binding) → IsBindingOf records binding key name → IsFound key records name binding
+is_found key records name binding is =
+    let (place, bound, found, kept) = found_in key.secret records binding (binding_in records name) is in
+    record { place = place; bound = bound; found = found; stands = (binding_stands records name place bound found).0; is = kept }
+
+-- ---- the ends of a repeat
+
+-- a repeat whose message was read, by what is found
+abbrev judged : State → Key → (k : ℕ) → Bound → (same has_room : Bool) → (damaged : Option ℕ) → Outcome (List ℕ)
+judged state key k bound same has_room damaged =
+    if not same then refused state Changed
+    else (if not has_room then refused state OutOfMemory else repeated_sound state key k bound damaged)
+
+module _ {S R M : Type 0} (m : message.Ghosts M) (view : View S R) (before after : M) (capacity : ℕ) (key : Key) (name : List ℕ) (binding : Binding)
+    (found : IsFound key view.records name binding) where
+  -- the message can't be read
+  pub unread : CantBeRead m.transition before after → Repeats m view before after capacity (Err MessageRead) key name
+  unread fails = record {
+    has_room = true;
+    given = None;
+    step = λ limit. ap (λ f. (requested_of limit (state_of view) key name (repeat_chance true None) f).answer) found.found;
+    message = fails;
+    room = λ lacking. absurd (true≢false lacking);
+  }
+
+  -- the message was read, and the leaf signs this digest for it
+  abbrev IsDigest : (text digest : List ℕ) → Type 0
+  IsDigest text digest = digest_at key view.records found.place found.bound.leaf found.bound.randomizer text ≡ digest
+
+  step_judged : (limit : ℕ) (has_room : Bool) (text digest : List ℕ) (same : Bool) (damaged : Option ℕ) → IsDigest text digest
+      → are_same digest binding.digest ≡ same
+      → damaged_in key (bottom_of key.secret) view.records (tree_before (bottom_of key.secret) view.records found.place) ≡ damaged
+      → (requested_of limit (state_of view) key name (repeat_chance has_room (Some text)) (binding_in view.records name)).answer
+      ≡ (judged (state_of view) key found.place found.bound same has_room damaged).answer
+  step_judged limit has_room text digest same damaged is compared chain =
+      ap (λ f. (requested_of limit (state_of view) key name (repeat_chance has_room (Some text)) f).answer) found.found
+      ∙ ap₂ (λ b d. (judged (state_of view) key found.place found.bound b has_room d).answer)
+      (ap₂ are_same is (ap (λ (kept : Binding). kept.digest) found.is) ∙ compared) chain
+
+  not_same : (same : Bool) → not same ≡ true → same ≡ false
+  not_same true is = absurd (true≢false (sym is))
+  not_same false is = refl
+
+  is_same : (same : Bool) → not same ≡ false → same ≡ true
+  is_same true is = refl
+  is_same false is = absurd (true≢false is)
+
+  -- it has another digest than the recorded one
+  pub changed : (text digest : List ℕ) → ReadWhole m.transition m.remaining text before after → IsDigest text digest
+      → not (are_same digest binding.digest) ≡ true → Repeats m view before after capacity (Err Changed) key name
+  changed text digest whole is differs = record {
+    has_room = true;
+    given = Some text;
+    step = λ limit. step_judged limit true text digest false _ is (not_same _ differs) refl;
+    message = whole;
+    room = λ lacking. absurd (true≢false lacking);
+  }
+
+  -- there is no memory for the signature
+  pub lacks_room : (text digest : List ℕ) → ReadWhole m.transition m.remaining text before after → IsDigest text digest
+      → not (are_same digest binding.digest) ≡ false → capacity < signature_size key.secret
+      → Repeats m view before after capacity (Err OutOfMemory) key name
+  lacks_room text digest whole is same lacking = record {
+    has_room = false;
+    given = Some text;
+    step = λ limit. step_judged limit false text digest true _ is (is_same _ same) refl;
+    message = whole;
+    room = λ _. lacking;
+  }
+
+  -- a record of the chain isn't sound
+  pub damaged : (text digest : List ℕ) (slot : ℕ) → ReadWhole m.transition m.remaining text before after → IsDigest text digest
+      → not (are_same digest binding.digest) ≡ false
+      → damaged_in key (bottom_of key.secret) view.records (tree_before (bottom_of key.secret) view.records found.place) ≡ Some slot
+      → Repeats m view before after capacity (Err (Damaged slot)) key name
+  damaged text digest slot whole is same chain = record {
+    has_room = true;
+    given = Some text;
+    step = λ limit. step_judged limit true text digest true _ is (is_same _ same) chain;
+    message = whole;
+    room = λ lacking. absurd (true≢false lacking);
+  }
+
+  -- the recorded signature
+  pub signed : (text digest bytes : List ℕ) → ReadWhole m.transition m.remaining text before after → IsDigest text digest
+      → not (are_same digest binding.digest) ≡ false
+      → damaged_in key (bottom_of key.secret) view.records (tree_before (bottom_of key.secret) view.records found.place) ≡ None
+      → bytes ≡ signature_at key view.records found.place found.bound
+      → Repeats m view before after capacity (Ok bytes) key name
+  signed text digest bytes whole is same chain made = record {
+    has_room = true;
+    given = Some text;
+    step = λ limit. step_judged limit true text digest true _ is (is_same _ same) chain ∙ ap Ok (sym made);
+    message = whole;
+    room = λ lacking. absurd (true≢false lacking);
+  }
+
+-- bytes that compare as the recorded digest are the binding's
+pub recorded_digest : (key : Key) (records : List Record) (name : List ℕ) (binding : Binding) (found : IsFound key records name binding) (digest : List ℕ)
+    → not (are_same digest binding.digest) ≡ false → digest ≡ found.bound.digest
+recorded_digest key records name binding found digest same =
+    (bytes_decides digest binding.digest).0 (told (are_same digest binding.digest) same) ∙ sym (ap (λ (kept : Binding). kept.digest) found.is)
+  where
+    told : (same : Bool) → not same ≡ false → same ≡ true
+    told true is = refl
+    told false is = absurd (true≢false is)
+
+pub same_size : (own key : Key) (capacity : ℕ) → own ≡ key → capacity < signature_size own.secret → capacity < signature_size key.secret
+same_size own key capacity is = subst (λ (k : Key). capacity < signature_size k.secret) is
+
+-- ---- what answers a place as a fault
+
+-- the fault that is answered is that of a place
+pub fault_of : {A : Type 0} (linked : Result A ℕ) (mapped : Result A SignFault) (fault : SignFault) (P : ℕ → Type 0)
+    → MatchResult linked (λ x. mapped ≡ Ok x) (λ k. IsErrAnd mapped (λ e. e ≡ Damaged k)) → mapped ≡ Err fault → IfErr linked P
+    → (k : ℕ) × (fault ≡ Damaged k) × P k
+fault_of (Ok x) mapped fault P cases was is = absurd (cc)
+fault_of (Err k) mapped fault P cases was is = (k, subst (λ r. IsErrAnd r (λ e. e ≡ Damaged k)) was cases, is)
+
+-- where none is answered, there was none
+pub linked_ok : {A : Type 0} (linked : Result A ℕ) (mapped : Result A SignFault) (x : A) (P : Type 0)
+    → MatchResult linked (λ y. mapped ≡ Ok y) (λ k. IsErrAnd mapped (λ e. e ≡ Damaged k)) → mapped ≡ Ok x → OnOk linked P → P
+linked_ok (Ok y) mapped x P cases was is = is
+linked_ok (Err k) mapped x P cases was is = absurd (subst (λ r. IsErrAnd r (λ e. e ≡ Damaged k)) was cases)
+
+-- ---- XMSS
+
+-- what was read is what the leaf signs
+pub xmss_read : (key own : Key) (records : List Record) (name : List ℕ) (binding : Binding) (found : IsFound key records name binding) (secret : XmssSecret)
+    (text digest : List ℕ) → IsXmssKey secret key → own ≡ key → digest ≡ xmss_digest_in secret own.root binding.leaf text
+    → digest_at key records found.place found.bound.leaf found.bound.randomizer text ≡ digest
+xmss_read key own records name binding found secret text digest of_key same is =
+    xmss_digest_told records key secret found.place found.bound.leaf found.bound.randomizer text of_key
+    ∙ ap₂ (λ (k : Key) leaf. xmss_digest_in secret k.root leaf text) (sym same) (ap (λ (kept : Binding). kept.leaf) found.is) ∙ sym is
+
+-- the leaf is one of the tree's
+pub bound_xmss_leaf : (key : Key) (records : List Record) (name : List ℕ) (binding : Binding) (secret : XmssSecret) → IsLegal records → key_in records ≡ Some key
+    → IsXmssKey secret key → IsBindingOf records binding key name → binding.leaf < 2 ^ xmss_height_of secret.tree
+bound_xmss_leaf key records name binding secret legal keyed of_key kept =
+    let found = is_found key records name binding kept in
+    subst (λ (b : Binding). b.leaf < 2 ^ xmss_height_of secret.tree) found.is
+    (xmss_leaf_inside records key secret found.place found.bound legal keyed of_key found.stands)
+
+-- the chain by the whole of the records
+xmss_chain : (records : List Record) (key : Key) (secret : XmssSecret) (k : ℕ) (P : Option ℕ → Type 0) → key_in records ≡ Some key → IsXmssKey secret key
+    → ((rest : List Record) → P (damaged_in key 0 (KeyRecord key ∷ rest) 0))
+    → P (damaged_in key (bottom_of key.secret) records (tree_before (bottom_of key.secret) records k))
+xmss_chain records key secret k P keyed of_key each =
+    subst P (sym (xmss_damaged records key secret k of_key)) (key_chain records key P keyed each)
+
+module _ {S R M : Type 0} (m : message.Ghosts M) (view : View S R) (before after : M) (capacity : ℕ) (key : Key) (name : List ℕ) (binding : Binding)
+    (found : IsFound key view.records name binding) (secret : XmssSecret) where
+  -- the key's record isn't sound
+  pub damaged_xmss : {A : Type 0} (text digest : List ℕ) (linked : Result A ℕ) (mapped : Result A SignFault) (fault : SignFault)
+      → ReadWhole m.transition m.remaining text before after → key_in view.records ≡ Some key → IsXmssKey secret key
+      → digest_at key view.records found.place found.bound.leaf found.bound.randomizer text ≡ digest
+      → not (are_same digest binding.digest) ≡ false
+      → MatchResult linked (λ x. mapped ≡ Ok x) (λ k. IsErrAnd mapped (λ e. e ≡ Damaged k)) → mapped ≡ Err fault
+      → ((rest : List Record) → IfErr linked (λ k. damaged_in key 0 (KeyRecord key ∷ rest) 0 ≡ Some k))
+      → Repeats m view before after capacity (Err fault) key name
+  damaged_xmss text digest linked mapped fault whole keyed of_key is same cases was chain =
+      let chain_of : Option ℕ → ℕ → Type 0 = λ d k. d ≡ Some k in
+      let (k, of_place, at) = fault_of linked mapped fault _ cases was
+      (xmss_chain view.records key secret found.place (λ d. IfErr linked (chain_of d)) keyed of_key chain) in
+      subst (λ f. Repeats m view before after capacity (Err f) key name) (sym of_place)
+      (damaged m view before after capacity key name binding found text digest k whole is same at)
+
+  -- the recorded signature, in the room that was made for it
+  pub signed_xmss : {A : Type 0} (text digest bytes into : List ℕ) (linked : Result A ℕ) (mapped : Result A SignFault) (x : A)
+      → ReadWhole m.transition m.remaining text before after → key_in view.records ≡ Some key → IsXmssKey secret key
+      → digest_at key view.records found.place found.bound.leaf found.bound.randomizer text ≡ digest
+      → not (are_same digest binding.digest) ≡ false
+      → MatchResult linked (λ y. mapped ≡ Ok y) (λ k. IsErrAnd mapped (λ e. e ≡ Damaged k)) → mapped ≡ Ok x
+      → ((rest : List Record) → OnOk linked (damaged_in key 0 (KeyRecord key ∷ rest) 0 ≡ None))
+      → into ≡ xmss_signature_bytes (xmss_textbook secret binding.leaf digest) → bytes ≡ into
+      → Repeats m view before after capacity (Ok bytes) key name
+  signed_xmss text digest bytes into linked mapped x whole keyed of_key is same cases was chain made placed =
+      let sound = linked_ok linked mapped x _ cases was
+      (xmss_chain view.records key secret found.place (λ d. OnOk linked (d ≡ None)) keyed of_key chain) in
+      signed m view before after capacity key name binding found text digest bytes whole is same sound
+      (placed ∙ made
+      ∙ ap₂ (λ leaf d. xmss_signature_bytes (xmss_textbook secret leaf d)) (sym (ap (λ (kept : Binding). kept.leaf) found.is))
+      (recorded_digest key view.records name binding found digest same)
+      ∙ sym (xmss_signed view.records key secret found.place found.bound of_key))
+
+-- ---- LMS and HSS
+
+-- the tree of a binding stands at the bottom, and the leaf is one of its leaves
+pub bound_chain : (key : Key) (trees : Trees) (records : List Record) (name : List ℕ) (binding : Binding) → IsLegal records → key_in records ≡ Some key
+    → trees_of key.secret ≡ Some trees → IsBindingOf records binding key name
+    → IsTreeAt records (bottom_of key.secret) binding.tree × (binding.leaf < 2 ^ height_of (secret_at trees records binding.tree).pair.tree)
+bound_chain key trees records name binding legal keyed these kept =
+    let found = is_found key records name binding kept in
+    let (at, inside) = bound_tree records key trees found.place found.bound legal keyed these found.stands in (
+      subst (λ (b : Binding). IsTreeAt records (bottom_of key.secret) b.tree) found.is at,
+      subst (λ (b : Binding). b.leaf < 2 ^ height_of (secret_at trees records b.tree).pair.tree) found.is inside,
+    )
+
+-- what was read is what the leaf signs
+pub chain_read : (key : Key) (records ledger : List Record) (name : List ℕ) (binding : Binding) (found : IsFound key records name binding) (trees : Trees)
+    (text digest : List ℕ) → key_in records ≡ Some key → trees_of key.secret ≡ Some trees → ledger ≡ records
+    → digest ≡ message_digest_of (secret_at trees ledger binding.tree).identifier binding.leaf binding.randomizer text
+    → digest_at key records found.place found.bound.leaf found.bound.randomizer text ≡ digest
+chain_read key records ledger name binding found trees text digest keyed these same is =
+    digest_told records key trees found.place found.bound.leaf found.bound.randomizer text keyed these
+    ∙ ap (λ (b : Binding). message_digest_of (secret_at trees records b.tree).identifier b.leaf b.randomizer text) found.is
+    ∙ ap (λ l. message_digest_of (secret_at trees l binding.tree).identifier binding.leaf binding.randomizer text) (sym same) ∙ sym is
+
+-- what new links sign with
+pub links_signs : {A : Type 0} (linked : Result A ℕ) (mapped : Result A SignFault) (x : A) (links items old : List Link) (rest : List Signing)
+    → MatchResult linked (λ y. mapped ≡ Ok y) (λ k. IsErrAnd mapped (λ e. e ≡ Damaged k)) → mapped ≡ Ok x
+    → OnOk linked (signings_of items ≡ signings_of old ++ rest) → links ≡ items → old ≡ [] → signings_of links ≡ rest
+links_signs linked mapped x links items old rest cases was signs same none =
+    ap signings_of same ∙ linked_ok linked mapped x _ cases was signs ∙ ap (λ l. signings_of l ++ rest) none
+
+-- no links are made
+pub none_made : AreMade []
+none_made i link at = absurd (cc)
+
+module _ {S R M : Type 0} (m : message.Ghosts M) (view : View S R) (before after : M) (capacity : ℕ) (key : Key) (name : List ℕ) (binding : Binding)
+    (found : IsFound key view.records name binding) (own : Key) (ledger : List Record) (level : ℕ) (own_is : own ≡ key) (same_records : ledger ≡ view.records)
+    (level_is : level ≡ bottom_of own.secret) where
+  -- the tree that is kept is the one before the binding
+  chain_same : damaged_in own level ledger binding.tree
+      ≡ damaged_in key (bottom_of key.secret) view.records (tree_before (bottom_of key.secret) view.records found.place)
+  chain_same =
+      ap (λ n. damaged_in own n ledger binding.tree) level_is
+      ∙ ap₂ (λ (k : Key) records. damaged_in k (bottom_of k.secret) records binding.tree) own_is same_records
+      ∙ ap (damaged_in key (bottom_of key.secret) view.records) (sym (ap (λ (kept : Binding). kept.tree) found.is))
+
+  -- a record of the chain isn't sound
+  pub damaged_chain : {A : Type 0} (text digest : List ℕ) (linked : Result A ℕ) (mapped : Result A SignFault) (fault : SignFault)
+      → ReadWhole m.transition m.remaining text before after
+      → digest_at key view.records found.place found.bound.leaf found.bound.randomizer text ≡ digest
+      → not (are_same digest binding.digest) ≡ false
+      → MatchResult linked (λ x. mapped ≡ Ok x) (λ k. IsErrAnd mapped (λ e. e ≡ Damaged k)) → mapped ≡ Err fault
+      → IfErr linked (λ k. damaged_in own level ledger binding.tree ≡ Some k)
+      → Repeats m view before after capacity (Err fault) key name
+  damaged_chain text digest linked mapped fault whole is same cases was chain =
+      let (k, of_place, at) = fault_of linked mapped fault _ cases was chain in
+      subst (λ f. Repeats m view before after capacity (Err f) key name) (sym of_place)
+      (damaged m view before after capacity key name binding found text digest k whole is same (sym chain_same ∙ at))
+
+  -- the recorded signature, in the room that was made for it
+  pub signed_chain : {A : Type 0} (trees : Trees) (text digest bytes into : List ℕ) (linked : Result A ℕ) (mapped : Result A SignFault) (x : A) (links : List Link)
+      → ReadWhole m.transition m.remaining text before after
+      → digest_at key view.records found.place found.bound.leaf found.bound.randomizer text ≡ digest
+      → not (are_same digest binding.digest) ≡ false
+      → MatchResult linked (λ y. mapped ≡ Ok y) (λ k. IsErrAnd mapped (λ e. e ≡ Damaged k)) → mapped ≡ Ok x
+      → OnOk linked (damaged_in own level ledger binding.tree ≡ None) → trees_of own.secret ≡ Some trees
+      → signings_of links ≡ signings_above trees level ledger binding.tree
+      ++ signing_with (secret_at trees ledger binding.tree) (record { leaf = binding.leaf; randomizer = binding.randomizer; digest = digest }) ∷ []
+      → WritesChain own.secret links into → bytes ≡ into → (k : Key) × (key_in view.records ≡ Some k)
+      → Repeats m view before after capacity (Ok bytes) key name
+  signed_chain trees text digest bytes into linked mapped x links whole is same cases was chain these signs writes placed first =
+      let k = found.place in
+      let bound = found.bound in
+      let bottom = bottom_of own.secret in
+      let sound = linked_ok linked mapped x _ cases was chain in
+      let kept_of_own : List Record → (tree leaf : ℕ) → (randomizer digest : List ℕ) → List Signing = λ records tree leaf randomizer d.
+      signings_above trees bottom records tree
+      ++ signing_with (secret_at trees records tree) (record { leaf = leaf; randomizer = randomizer; digest = d }) ∷ [] in
+      let tree_is : binding.tree ≡ tree_before bottom view.records k =
+      sym (ap (λ (kept : Binding). kept.tree) found.is) ∙ ap (λ (o : Key). tree_before (bottom_of o.secret) view.records k) (sym own_is) in
+      let all : signings_of links ≡ kept_of_own view.records (tree_before bottom view.records k) bound.leaf bound.randomizer bound.digest =
+      signs
+      ∙ ap (λ n. signings_above trees n ledger binding.tree
+      ++ signing_with (secret_at trees ledger binding.tree) (record { leaf = binding.leaf; randomizer = binding.randomizer; digest = digest }) ∷ []) level_is
+      ∙ ap (λ records. kept_of_own records binding.tree binding.leaf binding.randomizer digest) same_records
+      ∙ ap₂ (λ tree leaf. kept_of_own view.records tree leaf binding.randomizer digest) tree_is (sym (ap (λ (kept : Binding). kept.leaf) found.is))
+      ∙ ap₂ (λ randomizer d. kept_of_own view.records (tree_before bottom view.records k) bound.leaf randomizer d)
+      (sym (ap (λ (kept : Binding). kept.randomizer) found.is)) (recorded_digest key view.records name binding found digest same) in
+      signed m view before after capacity key name binding found text digest bytes whole is same (sym chain_same ∙ sound)
+      (placed ∙ writes trees view.records k bound first these all ∙ ap (λ (o : Key). signature_at o view.records k bound) own_is)

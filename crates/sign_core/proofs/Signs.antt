@@ -1,0 +1,387 @@
+-- What each end of a call of sign is: a step of the world.
+use Rattle.std.proofs.Common.{◌≡◌, ◌∙◌, ℕ, ◌+◌, ◌-◌, ◌≤◌, Bool, true, false, not, List, [], ◌++◌, length, Option, Some, None, Result, Ok, Err, refl}
+use Rattle.std.proofs.Common.{sym, ap, subst, arith, IsTrue, true≢false, append-nil}
+use Rattle.std.specs.Prelude.{take, nat_lt, if◌then◌else◌, option_map, MatchResult, IsErrAnd}
+use Rattle.std.specs.Option.{ok_or}
+use Rattle.std.proofs.Math.Seq.{take-length}
+use Rattle.std.proofs.lemmas.Bool.Decides.{nat_tests}
+use Rattle.std.proofs.lemmas.Option.{none-some}
+use Rattle.typecodes.specs.declared.message.Message as message
+use Rattle.state_file.specs.declared.record.Bound.{Bound}
+use Rattle.state_file.specs.declared.record.Key.{Key}
+use Rattle.state_file.specs.declared.record.Record.{Record}
+use Rattle.state_file.specs.declared.store.Store as store
+use Rattle.state_file.specs.Disk.{Counts}
+use Rattle.state_file.specs.Laws.{bottom_of, levels_of}
+use Rattle.state_file.proofs.Moments.{started}
+use Rattle.sign_core.specs.declared.fault.SignFault.{SignFault}
+use Rattle.sign_core.specs.declared.fault.SignFault.TheVariants.{RandomRepeated, MessageRead, Moved, RetireRange, NoKey, Illegal, DeviceFailed, NoMemoryToOpen}
+use Rattle.sign_core.specs.declared.fault.SignFault.TheVariants.{Changed, Exhausted, RandomFailed, StoreFailed, Stopped, Damaged, OutOfMemory, LedgerFull}
+use Rattle.sign_core.specs.declared.fault.SignFault.TheVariants.{Unreadable, KeyThere}
+use Rattle.sign_core.specs.declared.source.Source as source
+use Rattle.sign_core.specs.declared.ledger.Binding.{Binding}
+use Rattle.sign_core.specs.Source.{Provides}
+use Rattle.sign_core.specs.Records.{are_same, binding_in, deepest, has_moved, key_in, wanted_count}
+use Rattle.sign_core.specs.Once.{IsBeginning}
+use Rattle.sign_core.specs.Request.{HasPrepared, KeepsAll}
+use Rattle.sign_core.specs.Signer.{Hinders, IsRead, IsSigner, IsTied, KeepsStore, LacksMemory, RefusesMemory, Signs, View, is_out_of_memory}
+use Rattle.sign_core.specs.Signer.{is_random_failed, is_store_failed, signature_size, state_of, wanted_by}
+use Rattle.sign_core.specs.Signing.{Binds, Fulfils, IsBindingOf, IsReady, Repeats, repeat_chance}
+use Rattle.sign_core.specs.Ledger.{kept_of}
+use Rattle.sign_core.specs.World.{Chance, Outcome, State, bound_anew, bound_sound, reading, refused, repeated, repeated_sound, requested, requested_of, requested_under}
+use Rattle.sign_core.specs.Textbook.{damaged_in, digest_at, tree_before}
+
+-- ---- requests, by what hinders them
+
+asked : (limit : ℕ) → State → Key → (name : List ℕ) → Chance → (closed moved : Bool) → Option (ℕ × Bound) → Outcome (List ℕ)
+asked limit state key name chance closed moved found =
+    if closed then refused state Stopped
+    else (if moved then refused state Moved else requested_of limit state key name chance found)
+
+asked_is : (limit : ℕ) (state : State) (key : Key) (name : List ℕ) (chance : Chance) (closed moved : Bool) (found : Option (ℕ × Bound))
+    → key_in state.records ≡ Some key → not state.is_open ≡ closed → has_moved state.records ≡ moved → binding_in state.records name ≡ found
+    → requested limit state name chance ≡ asked limit state key name chance closed moved found
+unfolding asked
+asked_is limit state key name chance closed moved found keyed shut gone bound =
+    ap (requested_under limit state name chance) keyed ∙ (λ i. asked limit state key name chance (shut i) (gone i) (bound i))
+
+anew : (state : State) → Key → (name : List ℕ) → Chance → (level : ℕ) → (full lacking : Bool) → Outcome (List ℕ)
+anew state key name chance level full lacking =
+    if full then refused state LedgerFull
+    else (if lacking then refused state OutOfMemory
+    else bound_sound state key name chance level
+    (damaged_in key level state.records (tree_before level state.records (length state.records))))
+
+-- a name that isn't bound, of which this level is the deepest with a free leaf
+anew_is : (limit : ℕ) (state : State) (key : Key) (name : List ℕ) (chance : Chance) (level : ℕ) (full lacking : Bool) → key_in state.records ≡ Some key
+    → state.is_open ≡ true → has_moved state.records ≡ false → binding_in state.records name ≡ None → deepest key.secret state.records ≡ Some level
+    → nat_lt limit (length state.records + wanted_count key.secret level) ≡ full → not chance.has_room ≡ lacking
+    → requested limit state name chance ≡ anew state key name chance level full lacking
+unfolding asked anew
+anew_is limit state key name chance level full lacking keyed opened stays unbound at is_full is_lacking =
+    asked_is limit state key name chance false false None keyed (ap not opened) stays unbound
+    ∙ ap (bound_anew limit state key name chance) at
+    ∙ (λ i. anew state key name chance level (is_full i) (is_lacking i))
+
+-- ---- calls that leave all as it was
+
+-- an outcome that leaves the state
+abbrev pub kept : State → Result (List ℕ) SignFault → (is_read : Bool) → Outcome (List ℕ)
+kept state answer is_read =
+    record { state = state; answer = answer; acknowledged = state.records; failed = None; drawn = []; is_read = is_read }
+
+-- no failure and no refusal of others is counted with the answer
+pub record IsCalm (has_room : Bool) (answer : Result (List ℕ) SignFault) : Type 0 where
+  pub store : (n : ℕ) → Counts is_store_failed n n answer
+  pub random : (n : ℕ) → Counts is_random_failed n n answer
+  pub memory : (n : ℕ) → RefusesMemory has_room answer n n
+
+-- what a stop leaves of a store between two calls
+abbrev pub LeavesItsList : {S : Type 0} → store.Ghosts S → S → Type 0
+LeavesItsList g kept_in = (left : List Record) → IsTrue (g.honest kept_in) → g.stopped kept_in ≡ false
+    → g.left_since kept_in (g.moment kept_in) left → left ≡ g.list kept_in
+
+beginning_kept : (records left all : List Record) → left ≡ records → all ≡ records ++ [] → IsBeginning (length records) all left
+beginning_kept records left all is same = record {
+  count = length records;
+  enough = omega arith;
+  beginning = is ∙ sym (ap (take (length records)) (same ∙ append-nil records) ∙ take-length records);
+}
+
+tied_running : {S R : Type 0} (g : store.Ghosts S) (v : View S R) → IsSigner g v → g.stopped v.store ≡ false → (b : Bool) → v.is_open ≡ b
+    → IsTied g v.store v.records
+tied_running g v signer running true is = signer.tied is
+tied_running g v signer running false is = absurd (true≢false (sym (signer.shut is) ∙ running))
+
+provides_nothing : (known : Option (List ℕ)) → Provides known [] known
+provides_nothing None = refl
+provides_nothing (Some upcoming) = refl
+
+kept_store : {S R : Type 0} (g : store.Ghosts S) (v : View S R) (answer : Result (List ℕ) SignFault) (is_read : Bool) → IsSigner g v → LeavesItsList g v.store
+    → ((n : ℕ) → Counts is_store_failed n n answer) → KeepsStore g v.store v.store v.records (kept (state_of v) answer is_read)
+kept_store g v answer is_read signer only failures = record {
+  list = record { more = []; list = sym (append-nil _); records = sym (append-nil _) };
+  moments = λ honest running. started g.moment g.left_since v.store _ (λ left since. beginning_kept v.records left _ (only left honest running since
+      ∙ (tied_running g v signer running v.is_open refl).same honest) refl);
+  failures = failures _;
+  honest = refl;
+  most = refl;
+}
+
+calm_by : (has_room : Bool) (fault : SignFault) → is_store_failed fault ≡ false → is_random_failed fault ≡ false → is_out_of_memory fault ≡ false
+    → IsCalm has_room (Err fault)
+calm_by true fault store random memory = record {
+  store = λ n. sym (ap (λ b. if b then n + 1 else n) store);
+  random = λ n. sym (ap (λ b. if b then n + 1 else n) random);
+  memory = λ n. sym (ap (λ b. if b then n + 1 else n) memory);
+}
+calm_by false fault store random memory = record {
+  store = λ n. sym (ap (λ b. if b then n + 1 else n) store);
+  random = λ n. sym (ap (λ b. if b then n + 1 else n) random);
+  memory = λ n. refl;
+}
+
+-- a repeat leaves the state, and its answer is no failure
+repeated_by : (state : State) (key : Key) (k : ℕ) (bound : Bound) (other has_room : Bool) (damaged : Option ℕ)
+    → let outcome = reading (if other then refused state Changed
+    else (if not has_room then refused state OutOfMemory else repeated_sound state key k bound damaged)) in
+    (outcome ≡ kept state outcome.answer true) × IsCalm has_room outcome.answer
+repeated_by state key k bound true has_room damaged = (refl, calm_by has_room Changed refl refl refl)
+repeated_by state key k bound false false damaged = (refl, record { store = λ n. refl; random = λ n. refl; memory = λ n. refl })
+repeated_by state key k bound false true (Some slot) = (refl, calm_by true (Damaged slot) refl refl refl)
+repeated_by state key k bound false true None = (refl, record { store = λ n. refl; random = λ n. refl; memory = λ n. refl })
+
+repeated_kept : (state : State) (key : Key) (k : ℕ) (bound : Bound) (has_room : Bool) (given : Option (List ℕ))
+    → let outcome = repeated state key k bound (repeat_chance has_room given) given in
+    (outcome ≡ kept state outcome.answer true) × IsCalm has_room outcome.answer
+repeated_kept state key k bound has_room None = (refl, calm_by has_room MessageRead refl refl refl)
+repeated_kept state key k bound has_room (Some message) =
+    repeated_by state key k bound (not (are_same (digest_at key state.records k bound.leaf bound.randomizer message) bound.digest)) has_room
+    (damaged_in key (bottom_of key.secret) state.records (tree_before (bottom_of key.secret) state.records k))
+
+some_mapped : {A B : Type 0} (f : A → B) (found : Option A) (b : B) → option_map f found ≡ Some b → (a : A) × (found ≡ Some a)
+some_mapped f None b is = absurd (none-some _ is)
+some_mapped f (Some a) b is = (a, refl)
+
+module _ {S R M : Type 0} (g : store.Ghosts S) (r : source.Ghosts R) (m : message.Ghosts M) where
+  -- a call that leaves all but how much memory there is
+  pub left_signs : (old new : View S R) (name : List ℕ) (before after : M) (capacity : ℕ) (key : Key) (answer : Result (List ℕ) SignFault)
+      (has_room is_read : Bool) (given : Option (List ℕ)) → KeepsAll old new → IsSigner g old → LeavesItsList g old.store → key_in old.records ≡ Some key
+      → requested (g.most old.store) (state_of old) name (repeat_chance has_room given) ≡ kept (state_of old) answer is_read
+      → IsRead m is_read given before after
+      → (has_room ≡ false → LacksMemory key.secret (wanted_by key.secret (deepest key.secret old.records)) (binding_in old.records name) capacity old.spare)
+      → IsCalm has_room answer → Signs g r m old new name before after capacity answer
+  left_signs old new name before after capacity key answer has_room is_read given keeps signer only keyed step read room calm = record {
+    key = key;
+    keyed = keyed;
+    chance = repeat_chance has_room given;
+    outcome = kept (state_of old) answer is_read;
+    step = step;
+    ends = record {
+      answer_is = refl;
+      records = keeps.records;
+      is_open = keeps.is_open;
+      store = subst (λ s. KeepsStore g old.store s old.records (kept (state_of old) answer is_read)) (sym keeps.store)
+          (kept_store g old answer is_read signer only calm.store);
+    };
+    possible = record { trees = tt; bound = tt };
+    source = subst (λ s. Provides (r.upcoming old.random) [] (r.upcoming s)) (sym keeps.random) (provides_nothing (r.upcoming old.random));
+    failures = subst (λ s. Counts is_random_failed (r.failures old.random) (r.failures s) answer) (sym keeps.random) (calm.random (r.failures old.random));
+    message = read;
+    room = room;
+    refusals = subst (λ s. RefusesMemory has_room answer (g.refusals old.store) (g.refusals s)) (sym keeps.store) (calm.memory (g.refusals old.store));
+  }
+
+  same_view : (v : View S R) → KeepsAll v v
+  same_view v = record { store = refl; random = refl; records = refl; is_open = refl }
+
+  -- a call that is hindered at once
+  pub hindered_signs : (v : View S R) (name : List ℕ) (before : M) (capacity : ℕ) (key : Key) (fault : SignFault) → IsSigner g v → LeavesItsList g v.store
+      → key_in v.records ≡ Some key → Hinders v.is_open (has_moved v.records) fault → Signs g r m v v name before before capacity (Err fault)
+  unfolding asked
+  hindered_signs v name before capacity key Stopped signer only keyed why =
+      left_signs v v name before before capacity key (Err Stopped) true false None (same_view v) signer only keyed
+      (asked_is (g.most v.store) (state_of v) key name (repeat_chance true None) true (has_moved v.records) (binding_in v.records name) keyed (ap not why) refl refl)
+      refl (λ lacking. absurd (true≢false lacking)) (record { store = λ n. refl; random = λ n. refl; memory = λ n. refl })
+  hindered_signs v name before capacity key Moved signer only keyed why =
+      left_signs v v name before before capacity key (Err Moved) true false None (same_view v) signer only keyed
+      (asked_is (g.most v.store) (state_of v) key name (repeat_chance true None) false true (binding_in v.records name) keyed (ap not why.0) why.1 refl)
+      refl (λ lacking. absurd (true≢false lacking)) (record { store = λ n. refl; random = λ n. refl; memory = λ n. refl })
+  hindered_signs v name before capacity key Changed signer only keyed why = absurd why
+  hindered_signs v name before capacity key Exhausted signer only keyed why = absurd why
+  hindered_signs v name before capacity key RandomFailed signer only keyed why = absurd why
+  hindered_signs v name before capacity key StoreFailed signer only keyed why = absurd why
+  hindered_signs v name before capacity key OutOfMemory signer only keyed why = absurd why
+  hindered_signs v name before capacity key LedgerFull signer only keyed why = absurd why
+  hindered_signs v name before capacity key KeyThere signer only keyed why = absurd why
+  hindered_signs v name before capacity key RandomRepeated signer only keyed why = absurd why
+  hindered_signs v name before capacity key MessageRead signer only keyed why = absurd why
+  hindered_signs v name before capacity key RetireRange signer only keyed why = absurd why
+  hindered_signs v name before capacity key NoKey signer only keyed why = absurd why
+  hindered_signs v name before capacity key DeviceFailed signer only keyed why = absurd why
+  hindered_signs v name before capacity key NoMemoryToOpen signer only keyed why = absurd why
+  hindered_signs v name before capacity key (Damaged k) signer only keyed why = absurd why
+  hindered_signs v name before capacity key (Unreadable k) signer only keyed why = absurd why
+  hindered_signs v name before capacity key (Illegal k) signer only keyed why = absurd why
+
+  -- no leaf is free
+  pub exhausted_signs : (v : View S R) (name : List ℕ) (before : M) (capacity : ℕ) (key : Key) → IsSigner g v → LeavesItsList g v.store
+      → key_in v.records ≡ Some key → v.is_open ≡ true → has_moved v.records ≡ false → binding_in v.records name ≡ None → deepest key.secret v.records ≡ None
+      → Signs g r m v v name before before capacity (Err Exhausted)
+  unfolding asked
+  exhausted_signs v name before capacity key signer only keyed opened stays unbound none =
+      left_signs v v name before before capacity key (Err Exhausted) true false None (same_view v) signer only keyed
+      (asked_is (g.most v.store) (state_of v) key name (repeat_chance true None) false false None keyed (ap not opened) stays unbound
+      ∙ ap (bound_anew (g.most v.store) (state_of v) key name (repeat_chance true None)) none)
+      refl (λ lacking. absurd (true≢false lacking)) (record { store = λ n. refl; random = λ n. refl; memory = λ n. refl })
+
+  -- the store or memory has no room
+  pub unprepared_signs : (old new : View S R) (name : List ℕ) (before : M) (capacity room level : ℕ) (key : Key) (fault : SignFault) → IsSigner g old
+      → LeavesItsList g old.store → key_in old.records ≡ Some key → old.is_open ≡ true → has_moved old.records ≡ false → binding_in old.records name ≡ None
+      → deepest key.secret old.records ≡ Some level → KeepsAll old new
+      → HasPrepared {A = Unit {0}} (g.most old.store) (levels_of key.secret - level) (signature_size key.secret) old new capacity room (Err fault)
+      → Signs g r m old new name before before capacity (Err fault)
+  unfolding anew
+  unprepared_signs old new name before capacity room level key LedgerFull signer only keyed opened stays unbound at keeps why =
+      let full : nat_lt (g.most old.store) (length old.records + wanted_count key.secret level) ≡ true = grind (arith, nat_tests) in
+      left_signs old new name before before capacity key (Err LedgerFull) true false None keeps signer only keyed
+      (anew_is (g.most old.store) (state_of old) key name (repeat_chance true None) level true false keyed opened stays unbound at full refl)
+      refl (λ lacking. absurd (true≢false lacking)) (record { store = λ n. refl; random = λ n. refl; memory = λ n. refl })
+  unprepared_signs old new name before capacity room level key OutOfMemory signer only keyed opened stays unbound at keeps why =
+      let fits : length old.records + wanted_count key.secret level ≤ g.most old.store = why.0 in
+      let full : nat_lt (g.most old.store) (length old.records + wanted_count key.secret level) ≡ false = grind (arith, nat_tests) in
+      left_signs old new name before before capacity key (Err OutOfMemory) false false None keeps signer only keyed
+      (anew_is (g.most old.store) (state_of old) key name (repeat_chance false None) level false true keyed opened stays unbound at full refl)
+      refl
+      (λ _. subst (λ found. LacksMemory key.secret (wanted_by key.secret (deepest key.secret old.records)) found capacity old.spare) (sym unbound)
+      (subst (λ l. LacksMemory key.secret (wanted_by key.secret l) None capacity old.spare) (sym at) why.1))
+      (record { store = λ n. refl; random = λ n. refl; memory = λ n. refl })
+  unprepared_signs old new name before capacity room level key Changed signer only keyed opened stays unbound at keeps why = absurd why
+  unprepared_signs old new name before capacity room level key Exhausted signer only keyed opened stays unbound at keeps why = absurd why
+  unprepared_signs old new name before capacity room level key RandomFailed signer only keyed opened stays unbound at keeps why = absurd why
+  unprepared_signs old new name before capacity room level key StoreFailed signer only keyed opened stays unbound at keeps why = absurd why
+  unprepared_signs old new name before capacity room level key Stopped signer only keyed opened stays unbound at keeps why = absurd why
+  unprepared_signs old new name before capacity room level key Moved signer only keyed opened stays unbound at keeps why = absurd why
+  unprepared_signs old new name before capacity room level key KeyThere signer only keyed opened stays unbound at keeps why = absurd why
+  unprepared_signs old new name before capacity room level key RandomRepeated signer only keyed opened stays unbound at keeps why = absurd why
+  unprepared_signs old new name before capacity room level key MessageRead signer only keyed opened stays unbound at keeps why = absurd why
+  unprepared_signs old new name before capacity room level key RetireRange signer only keyed opened stays unbound at keeps why = absurd why
+  unprepared_signs old new name before capacity room level key NoKey signer only keyed opened stays unbound at keeps why = absurd why
+  unprepared_signs old new name before capacity room level key DeviceFailed signer only keyed opened stays unbound at keeps why = absurd why
+  unprepared_signs old new name before capacity room level key NoMemoryToOpen signer only keyed opened stays unbound at keeps why = absurd why
+  unprepared_signs old new name before capacity room level key (Damaged k) signer only keyed opened stays unbound at keeps why = absurd why
+  unprepared_signs old new name before capacity room level key (Unreadable k) signer only keyed opened stays unbound at keeps why = absurd why
+  unprepared_signs old new name before capacity room level key (Illegal k) signer only keyed opened stays unbound at keeps why = absurd why
+
+  -- ---- a name that is bound
+
+  pub repeats_signs : (v : View S R) (name : List ℕ) (before after : M) (capacity : ℕ) (key : Key) (binding : Binding)
+      (answer : Result (List ℕ) SignFault) → IsSigner g v → LeavesItsList g v.store → key_in v.records ≡ Some key → v.is_open ≡ true
+      → has_moved v.records ≡ false → IsBindingOf v.records binding key name → Repeats m v before after capacity answer key name
+      → Signs g r m v v name before after capacity answer
+  unfolding asked
+  repeats_signs v name before after capacity key binding answer signer only keyed opened stays is repeats =
+      let ((k, bound), found) = some_mapped (kept_of key.secret v.records) (binding_in v.records name) binding is in
+      let chance = repeat_chance repeats.has_room repeats.given in
+      let whole = repeated_kept (state_of v) key k bound repeats.has_room repeats.given in
+      let limit = g.most v.store in
+      let answer_is : (repeated (state_of v) key k bound chance repeats.given).answer ≡ answer =
+      sym (ap (λ f. (requested_of limit (state_of v) key name chance f).answer) found) ∙ repeats.step limit in
+      left_signs v v name before after capacity key answer repeats.has_room true repeats.given (same_view v) signer only keyed
+      (asked_is limit (state_of v) key name chance false false (Some (k, bound)) keyed (ap not opened) stays found
+      ∙ whole.0 ∙ ap (λ a. kept (state_of v) a true) answer_is)
+      repeats.message
+      (λ lacking. subst (λ f. LacksMemory key.secret (wanted_by key.secret (deepest key.secret v.records)) f capacity v.spare) (sym found) (repeats.room lacking))
+      (subst (IsCalm repeats.has_room) answer_is whole.1)
+
+  -- ---- a new name
+
+  same_but : (old mid : View S R) → KeepsAll old mid
+      → mid ≡ record { store = old.store; random = old.random; records = old.records; is_open = old.is_open; spare = mid.spare }
+  same_but old mid keeps = λ i. record {
+    store = keeps.store i;
+    random = keeps.random i;
+    records = keeps.records i;
+    is_open = keeps.is_open i;
+    spare = mid.spare;
+  }
+
+  pub binds_signs : (old mid new : View S R) (name : List ℕ) (before after : M) (capacity level : ℕ) (key : Key) (answer : Result (List ℕ) SignFault)
+      → key_in old.records ≡ Some key → old.is_open ≡ true → has_moved old.records ≡ false → binding_in old.records name ≡ None
+      → deepest key.secret old.records ≡ Some level → KeepsAll old mid → IsReady (g.most old.store) (levels_of key.secret - level) mid
+      → Binds g r m name level mid new before after answer key → Signs g r m old new name before after capacity answer
+  unfolding anew
+  binds_signs old mid new name before after capacity level key answer keyed opened stays unbound at keeps ready mid_binds =
+      let is = same_but old mid keeps in
+      let b = subst (λ v. Binds g r m name level v new before after answer key) is mid_binds in
+      let fits = (subst (IsReady (g.most old.store) (levels_of key.secret - level)) is ready).few in
+      let full : nat_lt (g.most old.store) (length old.records + wanted_count key.secret level) ≡ false = grind (arith, nat_tests) in
+      record {
+        key = key;
+        keyed = keyed;
+        chance = b.chance;
+        outcome = b.outcome;
+        step = anew_is (g.most old.store) (state_of old) key name b.chance level false false keyed opened stays unbound at full (ap not b.room) ∙ b.step;
+        ends = record {
+          answer_is = b.does.ends.answer_is;
+          records = b.does.ends.records;
+          is_open = b.does.ends.is_open;
+          store = b.does.ends.store;
+        };
+        possible = b.possible;
+        source = b.does.source;
+        failures = b.does.failures;
+        message = b.does.message;
+        room = λ lacking. absurd (true≢false (sym b.room ∙ lacking));
+        refusals = subst (λ h. RefusesMemory h answer (g.refusals old.store) (g.refusals new.store)) (sym b.room) b.does.refusals;
+      }
+
+  -- the standing chain isn't sound
+  pub damaged_binds : (v : View S R) (name : List ℕ) (before : M) (level : ℕ) (key : Key) (slot : ℕ) → IsSigner g v → LeavesItsList g v.store
+      → damaged_in key level v.records (tree_before level v.records (length v.records)) ≡ Some slot
+      → Binds g r m name level v v before before (Err (Damaged slot)) key
+  damaged_binds v name before level key slot signer only damaged = record {
+    chance = repeat_chance true None;
+    outcome = kept (state_of v) (Err (Damaged slot)) false;
+    step = ap (bound_sound (state_of v) key name (repeat_chance true None) level) damaged;
+    possible = record { trees = tt; bound = tt };
+    room = refl;
+    does = record {
+      ends = record {
+        answer_is = refl;
+        records = refl;
+        is_open = refl;
+        store = kept_store g v (Err (Damaged slot)) false signer only (λ n. refl);
+      };
+      more = [];
+      grown = sym (append-nil _);
+      source = provides_nothing (r.upcoming v.random);
+      failures = refl;
+      message = refl;
+      refusals = refl;
+    };
+  }
+
+  -- the standing chain is sound, and what is wanted from there is made
+  pub fulfils_binds : (old new : View S R) (name : List ℕ) (before after : M) (level : ℕ) (key : Key) (answer : Result (List ℕ) SignFault)
+      → damaged_in key level old.records (tree_before level old.records (length old.records)) ≡ None
+      → Fulfils g r m name (bottom_of key.secret - level) old new before after answer key → old.is_open ≡ true
+      → Binds g r m name level old new before after answer key
+  fulfils_binds old new name before after level key answer sound fulfils opened = record {
+    chance = record { has_room = true; trees = fulfils.trees; bound = fulfils.bound; given = fulfils.given };
+    outcome = fulfils.outcome;
+    step = ap (bound_sound (state_of old) key name (record { has_room = true; trees = fulfils.trees; bound = fulfils.bound; given = fulfils.given }) level)
+        sound ∙ fulfils.step fulfils.trees;
+    possible = record { trees = fulfils.trees_possible; bound = fulfils.bound_possible };
+    room = refl;
+    does = fulfils.does;
+  }
+
+-- ---- what a call answered
+
+value_or : {A E : Type 0} → A → Result A E → A
+value_or other (Ok x) = x
+value_or other (Err fault) = other
+
+-- a value that passed through a change of faults
+pub linked_value : {A : Type 0} (linked : Result A ℕ) (mapped : Result A SignFault) (x : A)
+    → MatchResult linked (λ y. mapped ≡ Ok y) (λ k. IsErrAnd mapped (λ e. e ≡ Damaged k)) → mapped ≡ Ok x → linked ≡ Ok x
+unfolding value_or
+linked_value (Ok y) mapped x cases was = ap Ok (ap (value_or y) (sym cases ∙ was))
+linked_value (Err k) mapped x cases was = absurd (subst (λ r. IsErrAnd r (λ e. e ≡ Damaged k)) was cases)
+
+fault_in : Result ℕ SignFault → SignFault
+fault_in (Ok level) = Exhausted
+fault_in (Err fault) = fault
+
+pub none_fault : (found : Option ℕ) (fault : SignFault) → ok_or found Exhausted ≡ Err fault → (found ≡ None) × (fault ≡ Exhausted)
+unfolding fault_in
+none_fault None fault is = (refl, sym (ap fault_in is))
+none_fault (Some level) fault is = absurd (cc)
+
+pub some_level : (found : Option ℕ) (level : ℕ) → ok_or found Exhausted ≡ Ok level → found ≡ Some level
+some_level None level is = absurd (cc)
+some_level (Some other) level is = ap_ok is
+  where
+    ap_ok : {a b : ℕ} → ◌≡◌ {A = Result ℕ SignFault} (Ok a) (Ok b) → Some a ≡ Some b
+    ap_ok same = cc

@@ -1,0 +1,80 @@
+use Rattle.std.proofs.Common.{rules, ◌≡◌, ◌∙◌, Some, Err, sym, ap, subst}
+use Rattle.std.specs.Prelude.{length, vec_capacity}
+use Rattle.std.proofs.lemmas.List.{take_at}
+use Rattle.sign_core.specs.Records.{key_in}
+use Rattle.sign_core.specs.Signer.{IsSigner}
+use Rattle.sign_core.specs.Signing.{Repeats}
+use Rattle.sign_core.specs.Signing.{answered_with}
+use Rattle.sign_core.proofs.ChainParts.{same_key}
+use Rattle.sign_core.proofs.Repeats.{bound_xmss_leaf, changed, damaged_xmss, is_found, lacks_room, same_size, signed_xmss, xmss_read}
+use Rattle.sign_core.proofs.signer.Signer.repeat_xmss.Goals as goal
+
+pub returns-then-ne : goal.returns-then-ne
+returns-then-ne g c key keyed name kept =
+    let v = c.args.self.now in
+    let (text, whole, is) = c.in_ok-digest.ensures.ok in
+    let found = is_found key v.records name c.args.binding.now kept in
+    let own : c.key.result.now ≡ key = same_key v.records c.key.result.now key (ap (λ w. key_in w.records) (sym c.self.view_is) ∙ c.key.ensures.first) keyed in
+    changed g.M.Message v c.args.message.now c.read_xmss_digest.new.message _ key name c.args.binding.now found text c.in_ok-digest.digest whole
+    (xmss_read key c.key.result.now v.records name c.args.binding.now found c.args.secret.now text c.in_ok-digest.digest (c.requires.key key keyed) own is)
+    (sym c.ne.ensures ∙ c.if-ne.true)
+
+pub returns-in_err-make_room : goal.returns-in_err-make_room
+returns-in_err-make_room g c key keyed name kept =
+    let v = c.args.self.now in
+    let (text, whole, is) = c.in_ok-digest.ensures.ok in
+    let found = is_found key v.records name c.args.binding.now kept in
+    let first : key_in v.records ≡ Some c.key.result.now = ap (λ w. key_in w.records) (sym c.self.view_is) ∙ c.key.ensures.first in
+    let own : c.key.result.now ≡ key = same_key v.records c.key.result.now key first keyed in
+    let other : c.key-2.result.now ≡ key = same_key v.records c.key-2.result.now key (ap (λ w. key_in w.records) (sym c.self.view_is) ∙ c.key-2.ensures.first) keyed in
+    let answer : c.from_residual-in_err-make_room.result ≡ Err c.in_err-make_room.field-0.0 = search rules in
+    subst (λ a. Repeats g.M.Message v c.args.message.now c.read_xmss_digest.new.message (vec_capacity c.args.out.now) (answered_with a c.make_room.new.out.items) key name)
+    (sym (answer ∙ ap Err c.in_err-make_room.ensures.refused))
+    (lacks_room g.M.Message v c.args.message.now c.read_xmss_digest.new.message _ key name c.args.binding.now found text c.in_ok-digest.digest whole
+    (xmss_read key c.key.result.now v.records name c.args.binding.now found c.args.secret.now text c.in_ok-digest.digest (c.requires.key key keyed) own is)
+    (sym c.ne.ensures ∙ c.if-ne.false)
+    (same_size c.key-2.result.now key _ other c.in_err-make_room.ensures.full))
+
+pub xmss_link-requires-clause-inside : goal.xmss_link-requires-clause-inside
+xmss_link-requires-clause-inside g c =
+    let v = c.args.self.now in
+    let first : key_in v.records ≡ Some c.key.result.now = ap (λ w. key_in w.records) (sym c.self.view_is) ∙ c.key.ensures.first in
+    bound_xmss_leaf c.key.result.now v.records _ c.args.binding.now c.args.secret.now (subst (IsSigner g.S.Store) c.self.view_is c.self.invariant.0).legal first
+    (c.requires.key c.key.result.now first) (c.requires.kept c.key.result.now first).1
+
+pub write_xmss-requires-clause-inside : goal.write_xmss-requires-clause-inside
+write_xmss-requires-clause-inside g c =
+    let v = c.args.self.now in
+    let first : key_in v.records ≡ Some c.key.result.now = ap (λ w. key_in w.records) (sym c.self.view_is) ∙ c.key.ensures.first in
+    bound_xmss_leaf c.key.result.now v.records _ c.args.binding.now c.args.secret.now (subst (IsSigner g.S.Store) c.self.view_is c.self.invariant.0).legal first
+    (c.requires.key c.key.result.now first) (c.requires.kept c.key.result.now first).1
+
+pub returns-in_err-map_err : goal.returns-in_err-map_err
+returns-in_err-map_err g c key keyed name kept =
+    let v = c.args.self.now in
+    let (text, whole, is) = c.in_ok-digest.ensures.ok in
+    let found = is_found key v.records name c.args.binding.now kept in
+    let first : key_in v.records ≡ Some c.key.result.now = ap (λ w. key_in w.records) (sym c.self.view_is) ∙ c.key.ensures.first in
+    let own : c.key.result.now ≡ key = same_key v.records c.key.result.now key first keyed in
+    let answer : c.from_residual-in_err-map_err.result ≡ Err c.in_err-map_err.field-0.0 = search rules in
+    subst (λ a. Repeats g.M.Message v c.args.message.now c.read_xmss_digest.new.message (vec_capacity c.args.out.now) (answered_with a c.make_room.new.out.items) key name) (sym answer)
+    (damaged_xmss g.M.Message v c.args.message.now c.read_xmss_digest.new.message _ key name c.args.binding.now found c.args.secret.now text
+    c.in_ok-digest.digest c.xmss_link.result c.map_err.result c.in_err-map_err.field-0.0 whole keyed (c.requires.key key keyed)
+    (xmss_read key c.key.result.now v.records name c.args.binding.now found c.args.secret.now text c.in_ok-digest.digest (c.requires.key key keyed) own is)
+    (sym c.ne.ensures ∙ c.if-ne.false) c.map_err.ensures.cases c.in_err-map_err.was
+    (λ rest. c.xmss_link.ensures.damaged key rest (c.requires.key key keyed) (ap (λ k. k.root) (sym own))))
+
+pub returns : goal.returns
+returns g c key keyed name kept =
+    let v = c.args.self.now in
+    let (text, whole, is) = c.in_ok-digest.ensures.ok in
+    let found = is_found key v.records name c.args.binding.now kept in
+    let first : key_in v.records ≡ Some c.key.result.now = ap (λ w. key_in w.records) (sym c.self.view_is) ∙ c.key.ensures.first in
+    let own : c.key.result.now ≡ key = same_key v.records c.key.result.now key first keyed in
+    let fits : length c.write_xmss.new.into ≡ c.make_room.new.out.len = search rules in
+    signed_xmss g.M.Message v c.args.message.now c.read_xmss_digest.new.message _ key name c.args.binding.now found c.args.secret.now text
+    c.in_ok-digest.digest _ c.write_xmss.new.into c.xmss_link.result c.map_err.result c.in_ok-map_err.field-0 whole keyed (c.requires.key key keyed)
+    (xmss_read key c.key.result.now v.records name c.args.binding.now found c.args.secret.now text c.in_ok-digest.digest (c.requires.key key keyed) own is)
+    (sym c.ne.ensures ∙ c.if-ne.false) c.map_err.ensures.cases c.in_ok-map_err.was
+    (λ rest. c.xmss_link.ensures.sound key rest (c.requires.key key keyed) (ap (λ k. k.root) (sym own)))
+    c.write_xmss.ensures (take_at c.write_xmss.new.into _ c.make_room.new.out.len fits)

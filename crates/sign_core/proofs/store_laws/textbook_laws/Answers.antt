@@ -1,5 +1,0 @@
-use Rattle.sign_core.proofs.StoreValid.{all_valid, checked, undamaged}
-use Rattle.sign_core.proofs.store_laws.textbook_laws.Goals as goal
-
-pub returns : goal.returns
-returns c = record { valid = all_valid; checked = checked; undamaged = undamaged }

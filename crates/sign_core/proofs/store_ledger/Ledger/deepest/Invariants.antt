@@ -1,5 +1,0 @@
-use Rattle.sign_core.proofs.StoreTableReading.{NoneFreeFrom}
-use Rattle.sign_core.proofs.store_ledger.Ledger.deepest.Given as goal
-
-abbrev pub invariant-loop-level : goal.invariant-loop-level
-invariant-loop-level l = NoneFreeFrom l.self.key.secret l.self.records l.level

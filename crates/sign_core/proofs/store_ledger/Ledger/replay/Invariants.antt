@@ -1,6 +1,0 @@
-use Rattle.std.proofs.Common.{◌+◌}
-use Rattle.sign_core.proofs.StoreReplay.{Holds}
-use Rattle.sign_core.proofs.store_ledger.Ledger.replay.Given as goal
-
-abbrev pub invariant-loop-entry : goal.invariant-loop-entry
-invariant-loop-entry l = Holds l.records (l.entry-index + 1) l.ledger

@@ -1,5 +1,0 @@
-use Rattle.std.proofs.Common.{◌-◌, length}
-use Rattle.sign_core.proofs.store_signer.StoreSigner.+fulfil.Given as goal
-
-abbrev pub decreases-fulfil : goal.decreases-fulfil
-decreases-fulfil g l = 8 - length l.above.now.items

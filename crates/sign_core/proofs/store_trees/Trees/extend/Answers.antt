@@ -1,8 +1,0 @@
-use Rattle.std.proofs.Common.{◌-◌, refl}
-use Rattle.sign_core.proofs.StoreKept.{follows_extend}
-use Rattle.sign_core.proofs.store_trees.Trees.extend.Goals as goal
-
-pub returns : goal.returns
-returns c =
-    follows_extend c.args.self.now.levels c.raise.new.self.levels c.make.new.self.levels c.args.level (c.args.level - 1) c.args.parent_leaf c.args.place
-    c.requires.below refl c.raise.ensures c.make.ensures

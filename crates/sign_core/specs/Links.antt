@@ -1,0 +1,53 @@
+-- The chains of LMS trees that a signer makes in memory, and what they sign.
+use Rattle.std.specs.Prelude.{◌≡◌, ℕ, zero, suc, List, take, map, slice_get, Some, ◌&&◌, Bool}
+use Rattle.typecodes.specs.Types.{height_of}
+use Rattle.lmots.specs.Key.{message_digest_of}
+use Rattle.lms.specs.declared.key.LmsPublic.{LmsPublic}
+use Rattle.lms.specs.declared.secret.LmsSecret.{LmsSecret}
+use Rattle.lms.specs.Secret.{path_in, root_in}
+use Rattle.lms.specs.Writing.{public_bytes}
+use Rattle.hss.specs.Secret.{Signing}
+use Rattle.state_file.specs.declared.record.Extend.{Extend}
+use Rattle.state_file.specs.declared.record.Record.{Record}
+use Rattle.state_file.specs.declared.record.Record.TheVariants.{Extend as ExtendRecord}
+use Rattle.sign_core.specs.declared.links.KeyTrees.{KeyTrees}
+use Rattle.sign_core.specs.declared.links.Link.{Link}
+use Rattle.sign_core.specs.declared.links.Signed.{Signed}
+use Rattle.sign_core.specs.Records.{are_same}
+use Rattle.sign_core.specs.Textbook.{Trees}
+
+-- the trees of a key
+abbrev pub trees_in : KeyTrees → Trees
+trees_in trees = record { top = trees.top; pairs = trees.pairs.now }
+
+-- A tree of a level stands at a place: the Key's, of level 0, or that of an Extend of the level.
+abbrev pub IsTreeAt : List Record → (level place : ℕ) → Type 0
+IsTreeAt records zero place = place ≡ 0
+IsTreeAt records (suc level) place =
+    (extend : Extend) × (slice_get records place ≡ Some (ExtendRecord extend)) × (extend.level ≡ suc level)
+
+-- what a leaf of a tree signs with
+abbrev pub signing_with : LmsSecret → Signed → Signing
+signing_with secret signed =
+    record { secret = secret; leaf = signed.leaf; randomizer = signed.randomizer; digest = signed.digest }
+
+abbrev pub signing_of_link : Link → Signing
+signing_of_link link = signing_with link.secret link.signed
+
+-- what the trees of a chain sign with
+abbrev pub signings_of : List Link → List Signing
+signings_of links = map signing_of_link links
+
+-- The root of a link is that of its tree, and its path that of its leaf.
+pub record IsMade (link : Link) : Type 0 where
+  pub root : link.root ≡ root_in link.secret
+  pub path : take (height_of link.secret.pair.tree) link.path ≡ path_in link.secret link.signed.leaf
+
+-- So it is of all links.
+abbrev pub AreMade : List Link → Type 0
+AreMade links = (i : ℕ) (link : Link) → slice_get links i ≡ Some link → IsMade link
+
+-- whether an Extend says the root of a public key, and the key's digest under the parent's I and leaf
+abbrev pub says_key : Extend → (parent : List ℕ) → LmsPublic → Bool
+says_key extend parent public = are_same extend.root public.root
+    && are_same extend.digest (message_digest_of parent extend.parent_leaf extend.randomizer (public_bytes public))

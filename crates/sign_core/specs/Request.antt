@@ -1,0 +1,42 @@
+-- What hinders a request, and what it makes room for.
+use Rattle.std.specs.Prelude.{◌≡◌, ◌⊎◌, ℕ, ◌+◌, ◌-◌, ◌<◌, ◌≤◌, length, Some, Result, Ok, Err}
+use Rattle.state_file.specs.declared.record.Key.{Key}
+use Rattle.state_file.specs.declared.record.Secret.{Secret}
+use Rattle.state_file.specs.declared.record.Secret.TheVariants.{Xmss}
+use Rattle.state_file.specs.Laws.{levels_of}
+use Rattle.sign_core.specs.declared.fault.SignFault.{SignFault}
+use Rattle.sign_core.specs.declared.fault.SignFault.TheVariants.{LedgerFull, OutOfMemory}
+use Rattle.sign_core.specs.declared.signer.request.Scheme.{Scheme}
+use Rattle.sign_core.specs.declared.signer.request.Scheme.TheVariants as scheme
+use Rattle.sign_core.specs.Links.{trees_in}
+use Rattle.sign_core.specs.Signer.{View, signature_size}
+use Rattle.sign_core.specs.Signing.{IsReady}
+use Rattle.sign_core.specs.Textbook.{trees_of}
+
+-- what signs under a key with this secret
+abbrev pub IsScheme : Secret → Scheme → Type 0
+IsScheme secret (scheme.Chain trees) = trees_of secret ≡ Some (trees_in trees)
+IsScheme secret (scheme.Xmss tree) = secret ≡ Xmss tree.tree tree.secret_seed tree.prf_key tree.public_seed
+
+-- a signer that changed at most in how much memory it has
+pub record KeepsAll {S R : Type 0} (old new : View S R) : Type 0 where
+  pub store : new.store ≡ old.store
+  pub random : new.random ≡ old.random
+  pub records : new.records ≡ old.records
+  pub is_open : new.is_open ≡ old.is_open
+
+-- Room is made for the records that a new name wants, of which this level is the deepest with a free leaf, and for its
+-- signature; or the store doesn't take as many records, or memory lacks.
+abbrev pub HasPrepared : {S R A : Type 0} (most : ℕ) (wanted size : ℕ) (old new : View S R) (capacity room : ℕ)
+    → Result A SignFault → Type 0
+HasPrepared most wanted size old new capacity room (Ok _) = IsReady most wanted new × (room ≡ size)
+HasPrepared most wanted size old new capacity room (Err LedgerFull) = most < length old.records + wanted
+HasPrepared most wanted size old new capacity room (Err OutOfMemory) =
+    (length old.records + wanted ≤ most) × ((capacity < size) ⊎ (old.spare < wanted))
+HasPrepared most wanted size old new capacity room (Err _) = ⊥
+
+pub record Prepares {S R A : Type 0} (most level : ℕ) (old new : View S R) (capacity room : ℕ)
+    (result : Result A SignFault) (key : Key) : Type 0 where
+  pub keeps : KeepsAll old new
+  pub spare : old.spare ≤ new.spare
+  pub does : HasPrepared most (levels_of key.secret - level) (signature_size key.secret) old new capacity room result

@@ -1,0 +1,108 @@
+//! Laws of records, of textbook signatures and of the world of one key. The functions do nothing: what their contracts
+//! say is proved of every list of records and of events.
+
+ghost use Rattle.std.specs.Prelude.{◌≡◌, ◌≢◌, ◌⊎◌, ◌↔◌, ℕ, ◌+◌, ◌<◌, ◌≤◌, List, [], Some, None, length, take};
+ghost use Rattle.std.specs.Prelude.{slice_get};
+ghost use Rattle.std.specs.Prelude.{true};
+ghost use Rattle.state_file.specs.declared.record.Bound.{Bound};
+ghost use Rattle.state_file.specs.declared.record.Key.{Key};
+ghost use Rattle.state_file.specs.declared.record.Record.{Record};
+ghost use Rattle.state_file.specs.declared.record.Record.TheVariants.{Bound as BoundRecord};
+ghost use Rattle.state_file.specs.declared.record.Secret.{Secret};
+ghost use Rattle.state_file.specs.Laws.{IsCurrent, IsLegal, bottom_of, identifier_of, levels_of};
+ghost use Rattle.sign_core.specs.declared.key.AnyPublic.{AnyPublic};
+ghost use Rattle.sign_core.specs.Records.{IsNext, binding_in, current, deepest, first_illegal, free_at};
+ghost use Rattle.sign_core.specs.Records.{has_identifier, key_in, next_in};
+ghost use Rattle.sign_core.specs.Once.{CutLaw, IsBoundTo, LastingLaw, OnceLaw, StopLaw, Verifies};
+ghost use Rattle.sign_core.specs.Textbook.{AllHaveSizes, AreSound, damaged_in, public_in, signature_at, tree_before};
+
+/// What holds of the records of a key, in the words of legal lists.
+///
+/// - The current tree of a level is that tree (`current`), and the next leaf of a tree is the least number above all
+///   leaves that records name or retire in it (`next`).
+/// - A list of a record or more is legal exactly where none of its records is illegal (`legal`), and the first illegal
+///   one is the first at which the list stops being legal (`first`).
+/// - The deepest level with a free leaf is that level (`deepest`), and where there is none no leaf is free
+///   (`exhausted`).
+/// - A name's binding is the first record that binds it (`bound`, `unbound`), and an I stands in the records exactly
+///   where one of them makes a tree with it (`identifier`).
+pub fn ledger_laws()
+    ensures current { (records : List Record) (level tree : ℕ) →
+        (current level records ≡ Some tree) ↔ IsCurrent records (length records) level tree }
+    ensures next { (secret : Secret) (records : List Record) (tree : ℕ) →
+        IsNext secret records tree (next_in secret records tree) }
+    ensures legal { (records : List Record) → 0 < length records →
+        (first_illegal records ≡ None) ↔ IsLegal records }
+    ensures first { (records : List Record) (k : ℕ) → first_illegal records ≡ Some k →
+        (k < length records) × ((k ≡ 0) ⊎ IsLegal (take k records)) × (IsLegal (take (k + 1) records) → ⊥) }
+    ensures deepest { (secret : Secret) (records : List Record) (level : ℕ) → deepest secret records ≡ Some level →
+        (level < levels_of secret) × (0 < free_at secret records level)
+        × ((below : ℕ) → level < below → below < levels_of secret → free_at secret records below ≡ 0) }
+    ensures exhausted { (secret : Secret) (records : List Record) → deepest secret records ≡ None →
+        (level : ℕ) → level < levels_of secret → free_at secret records level ≡ 0 }
+    ensures bound { (records : List Record) (name : List ℕ) (k : ℕ) (bound : Bound) →
+        binding_in records name ≡ Some (k, bound) →
+        (slice_get records k ≡ Some (BoundRecord bound)) × (bound.name ≡ name) }
+    ensures unbound { (records : List Record) (name : List ℕ) (k : ℕ) (bound : Bound) →
+        binding_in records name ≡ None → slice_get records k ≡ Some (BoundRecord bound) → bound.name ≢ name }
+    ensures identifier { (records : List Record) (identifier : List ℕ) →
+        (has_identifier records identifier ≡ true)
+        ↔ ((k : ℕ) × (entry : Record) × (slice_get records k ≡ Some entry) × (identifier_of entry ≡ Some identifier)) }
+{}
+
+/// What holds of textbook signatures: over sound records that of a binding is valid for each message that has its
+/// digest (`valid`), and so it is over any legal ones where the chain of its trees is sound (`checked`); and sound
+/// records have no damaged chain (`undamaged`).
+pub fn textbook_laws()
+    ensures valid { (records : List Record) (key : Key) (name message : List ℕ) (k : ℕ) (bound : Bound)
+        (public : AnyPublic) →
+        AreSound records → AllHaveSizes records → IsBoundTo records key name message k bound →
+        public_in key ≡ Some public → Verifies public message (signature_at key records k bound) }
+    ensures checked { (records : List Record) (key : Key) (name message : List ℕ) (k : ℕ) (bound : Bound)
+        (public : AnyPublic) → IsLegal records → AllHaveSizes records → IsBoundTo records key name message k bound →
+        damaged_in key (bottom_of key.secret) records (tree_before (bottom_of key.secret) records k) ≡ None →
+        public_in key ≡ Some public → Verifies public message (signature_at key records k bound) }
+    ensures undamaged { (records : List Record) (key : Key) (level tree : ℕ) → AreSound records →
+        key_in records ≡ Some key → damaged_in key level records tree ≡ None }
+{}
+
+/// No leaf of a key signs twice.
+///
+/// The law is about every run that begins with no records: any creates, openings, requests, retirings and stops, as many
+/// as there are and in any order. A request may come again, as after an answer that was lost, or come with another
+/// message under the same name. In each event a load, the random source, memory, the message or the store may fail. An
+/// append that is cut leaves the old records, or the new one as well, and closes the signer until it is opened again.
+/// Whatever has come, these hold after it:
+///
+/// - No leaf at any level signs two digests, and none of the bottom level signs under two names. Which leaves a
+///   signature uses, and for which digests, is read off the bytes that were handed out, the message and the public key.
+/// - One name has one signature.
+/// - Every signature that was handed out is the one that the records say, and it is valid for its message under the key.
+/// - Of an open signer, a request for a bound name and another digest is refused as changed, and one for the bound
+///   digest gets the recorded signature, unless memory is refused or the message can't be read. Neither changes anything.
+/// - A request for a new name gets the next leaf, if one is left, the store isn't full and nothing fails.
+/// - The recorded root is that of the recorded secret, so no request is answered that a record is damaged.
+///
+/// The clauses stand in `specs/Once.antt`, the events in `specs/World.antt`. The law speaks of digests: two messages of
+/// one digest are one to it.
+pub fn once_law()
+    ensures once { OnceLaw }
+{}
+
+/// No event takes a record or a signature away, or puts another in its place.
+pub fn lasting_law()
+    ensures lasting { LastingLaw }
+{}
+
+/// Where an append is cut off, the event with the other outcome is one that can come as well, and leaves the other
+/// list.
+pub fn cut_law()
+    ensures cut { CutLaw }
+{}
+
+/// What a stop at any moment of an event leaves is what events leave that can come: one whose append is cut off
+/// there, or none
+/// and a stop.
+pub fn stop_law()
+    ensures stops { StopLaw }
+{}

@@ -1,0 +1,328 @@
+//! Signing over a store: a name that is bound has its signature again, and a new one has the wanted records made.
+
+ghost use Rattle.std.specs.Prelude.{◌≡◌, ◌<◌, ◌+◌, ◌-◌, [], ℕ, List, None, Some, length, vec_capacity};
+ghost use Rattle.std.specs.Prelude.{IfErr, IfOk, OnErr, OnOk};
+ghost use Rattle.typecodes.specs.Message.{CantBeRead, ReadWhole};
+ghost use Rattle.lmots.specs.Key.{message_digest_of};
+ghost use Rattle.xmss.specs.Secret.{digest_in as xmss_digest_in};
+ghost use Rattle.state_file.specs.Laws.{bottom_of, levels_of};
+ghost use Rattle.sign_core.specs.Signing.{answered_with};
+ghost use Rattle.sign_core.specs.Records.{binding_in, free_at};
+ghost use Rattle.sign_core.specs.Links.{trees_in};
+ghost use Rattle.sign_core.specs.Signing.{Binds, DrawsTree, Extends, Fulfils, IsBindingOf, IsReady, IsXmssKey};
+ghost use Rattle.sign_core.specs.Signing.{Repeats};
+ghost use Rattle.sign_core.specs.Signing.{StandsIn, UnderKey};
+ghost use Rattle.sign_core.specs.Signer.{signature_size};
+ghost use Rattle.sign_core.specs.Textbook.{trees_of};
+
+use crate::fault::SignFault;
+use crate::ledger::{Binding, Ledger};
+use crate::links::{KeyTrees, Link, Signed};
+use crate::roots::xmss_link;
+use crate::signer::Signer;
+use crate::source::{Source, draw};
+use crate::writing::{signature_len, write_chain, write_xmss};
+use arrayvec::ArrayVec;
+use lmots::LmOts;
+use lms::LmsSecret;
+use state_file::{Bound, Extend, Record, Secret, Store};
+use typecodes::{Message, Name};
+use xmss::{XmssSecret, message_digest_from};
+
+/// What a new tree draws: I and SEED, and C for the leaf that signs it.
+#[derive(Clone, Copy)]
+pub(crate) struct TreeSeeds {
+    pub(crate) identifier: [u8; 16],
+    pub(crate) seed: [u8; 32],
+    pub(crate) randomizer: [u8; 32],
+}
+
+// Draws what a new tree wants: I, which is compared with those of the records, and then SEED and C.
+fn draw_tree<R: Source>(random: &mut R, ledger: &Ledger) -> Result<TreeSeeds, SignFault>
+    ensures { DrawsTree ledger.now.records (R.failures random.old) (R.failures random.new)
+        (R.upcoming random.old) (R.upcoming random.new) result }
+{
+    let identifier = draw::<R, 16>(random)?;
+    if ledger.has_identifier(&identifier) {
+        return Err(SignFault::RandomRepeated);
+    }
+    let seed = draw::<R, 32>(random)?;
+    let randomizer = draw::<R, 32>(random)?;
+    Ok(TreeSeeds {
+        identifier,
+        seed,
+        randomizer,
+    })
+}
+
+// Q of the message that a reader gives, by a leaf's one-time key and C.
+fn read_digest<M: Message>(
+    one_time: &LmOts,
+    randomizer: &[u8; 32],
+    message: &mut M,
+) -> Result<[u8; 32], SignFault>
+    ensures ok { IfOk result (λ digest. (text : List ℕ)
+        × ReadWhole M.transition M.remaining text message.old message.new
+        × (digest ≡ message_digest_of one_time.now.identifier one_time.now.leaf randomizer.now text)) }
+    ensures err { IfErr result (λ fault. (fault ≡ SignFault.MessageRead)
+        × CantBeRead M.transition message.old message.new) }
+{
+    one_time
+        .message_digest_from(randomizer, message)
+        .map_err(|_| SignFault::MessageRead)
+}
+
+// M' of the message that a reader gives, by a leaf of an XMSS key with this root.
+fn read_xmss_digest<M: Message>(
+    secret: &XmssSecret,
+    root: &[u8; 32],
+    leaf: u32,
+    message: &mut M,
+) -> Result<[u8; 32], SignFault>
+    ensures ok { IfOk result (λ digest. (text : List ℕ)
+        × ReadWhole M.transition M.remaining text message.old message.new
+        × (digest ≡ xmss_digest_in secret.now root.now leaf text)) }
+    ensures err { IfErr result (λ fault. (fault ≡ SignFault.MessageRead)
+        × CantBeRead M.transition message.old message.new) }
+{
+    message_digest_from(&secret.randomizer(leaf), root, leaf, message).map_err(
+        |_| SignFault::MessageRead,
+    )
+}
+
+// Makes room for a signature of the key.
+pub(super) fn make_room(secret: &Secret, out: &mut Vec<u8>) -> Result<(), SignFault>
+    ensures room { OnOk result (length out.new.items ≡ signature_size secret.now) }
+    ensures refused { IfErr result (λ fault. fault ≡ SignFault.OutOfMemory) }
+    // Memory is requested only where there is no room for it yet.
+    ensures full { OnErr result (vec_capacity out.old < signature_size secret.now) }
+{
+    out.resize(signature_len(secret) as usize, 0)
+        .map_err(|_| SignFault::OutOfMemory)
+}
+
+impl<S: Store, R: Source> Signer<S, R> {
+    // Begins a tree of the next level below a standing chain, and records it: the chain's last tree signs it by its
+    // next leaf. The answer is the new tree, which is to sign by its first leaf.
+    fn extend(
+        &mut self,
+        trees: &KeyTrees<'_>,
+        above: &mut ArrayVec<Link, 8>,
+        last: Link,
+    ) -> Result<Link, SignFault>
+        requires ready { IsReady (S.most self.old.store) 1 self.old }
+        requires stands { UnderKey self.old.records
+            (StandsIn (trees_in trees.now) self.old.records above.old.items last) }
+        requires below { UnderKey self.old.records (λ key. length above.old.items + 1 < levels_of key.secret) }
+        ensures step { UnderKey self.old.records
+            (Extends S.Store R.Source (length above.old.items + 1) self.old self.new (answered_with result [])) }
+        ensures stands { IfOk result (λ made.
+            UnderKey self.new.records (StandsIn (trees_in trees.now) self.new.records above.new.items made)) }
+        ensures count { OnOk result (length above.new.items ≡ length above.old.items + 1) }
+    {
+        let TreeSeeds {
+            identifier,
+            seed,
+            randomizer,
+        } = draw_tree(&mut self.random, &self.ledger)?;
+        let level = above.len() as u8 + 1;
+        let secret = LmsSecret {
+            pair: trees.pair(level),
+            identifier,
+            seed,
+        };
+        let made = Link::new(secret, Signed::unset(0));
+        let root = made.root;
+        let leaf = last.signed.leaf;
+        let digest = last.digest_of(&randomizer, &made.public());
+        self.add(Record::Extend(Extend {
+            level,
+            parent_leaf: leaf,
+            identifier,
+            seed,
+            randomizer,
+            digest,
+            root,
+        }))?;
+        above.push(last.signing(Signed {
+            leaf,
+            randomizer,
+            digest,
+        }));
+        Ok(made)
+    }
+
+    // Makes the wanted records of a new name below a standing chain, one after the other: an Extend for each level that
+    // has no tree, and the Bound. Then it writes the signature.
+    pub(super) fn fulfil<M: Message>(
+        &mut self,
+        trees: &KeyTrees<'_>,
+        name: &Name,
+        message: &mut M,
+        above: &mut ArrayVec<Link, 8>,
+        last: Link,
+        out: &mut Vec<u8>,
+    ) -> Result<(), SignFault>
+        requires ready { UnderKey self.old.records (λ key.
+            IsReady (S.most self.old.store) (levels_of key.secret - length above.old.items) self.old) }
+        requires stands { UnderKey self.old.records
+            (StandsIn (trees_in trees.now) self.old.records above.old.items last) }
+        requires unbound { binding_in self.old.records name.now ≡ None }
+        requires room { UnderKey self.old.records (λ key. length out.old.items ≡ signature_size key.secret) }
+        ensures { UnderKey self.old.records (λ key. Fulfils S.Store R.Source M.Message name.now
+            (bottom_of key.secret - length above.old.items) self.old self.new message.old message.new
+            (answered_with result out.new.items) key) }
+    {
+        if above.len() + 1 >= usize::from(self.ledger.key().secret.levels()) {
+            return self.bind_under(trees, name, message, above, last, out);
+        }
+        let made = self.extend(trees, above, last)?;
+        // A signer that recorded an Extend is open, and so its store runs.
+        prove!(self.is_open);
+        self.fulfil(trees, name, message, above, made, out)
+    }
+
+    // Binds a name to the next leaf of the bottom tree of a standing chain, and writes the signature.
+    fn bind_under<M: Message>(
+        &mut self,
+        trees: &KeyTrees<'_>,
+        name: &Name,
+        message: &mut M,
+        above: &mut ArrayVec<Link, 8>,
+        last: Link,
+        out: &mut Vec<u8>,
+    ) -> Result<(), SignFault>
+        requires ready { IsReady (S.most self.old.store) 1 self.old }
+        requires stands { UnderKey self.old.records
+            (StandsIn (trees_in trees.now) self.old.records above.old.items last) }
+        requires bottom { UnderKey self.old.records (λ key. length above.old.items ≡ bottom_of key.secret) }
+        requires unbound { binding_in self.old.records name.now ≡ None }
+        requires room { UnderKey self.old.records (λ key. length out.old.items ≡ signature_size key.secret) }
+        ensures { UnderKey self.old.records (Fulfils S.Store R.Source M.Message name.now 0 self.old self.new
+            message.old message.new (answered_with result out.new.items)) }
+    {
+        let randomizer = draw::<R, 32>(&mut self.random)?;
+        let leaf = last.signed.leaf;
+        let identifier = last.secret.identifier;
+        let one_time = LmOts { identifier, leaf };
+        let digest = read_digest(&one_time, &randomizer, message)?;
+        self.add(Record::Bound(Bound {
+            name: name.copied(),
+            leaf,
+            randomizer,
+            digest,
+        }))?;
+        above.push(last.signing(Signed {
+            leaf,
+            randomizer,
+            digest,
+        }));
+        write_chain(&self.ledger.key().secret, above, out);
+        Ok(())
+    }
+
+    // Binds a name to the next leaf of an XMSS key, whose root is checked first, and writes the signature.
+    pub(super) fn bind_xmss<M: Message>(
+        &mut self,
+        secret: &XmssSecret,
+        name: &Name,
+        message: &mut M,
+        out: &mut Vec<u8>,
+    ) -> Result<(), SignFault>
+        requires ready { IsReady (S.most self.old.store) 1 self.old }
+        requires key { UnderKey self.old.records (IsXmssKey secret.now) }
+        requires free { UnderKey self.old.records (λ key. 0 < free_at key.secret self.old.records 0) }
+        requires unbound { binding_in self.old.records name.now ≡ None }
+        requires room { UnderKey self.old.records (λ key. length out.old.items ≡ signature_size key.secret) }
+        ensures { UnderKey self.old.records (Binds S.Store R.Source M.Message name.now 0 self.old self.new
+            message.old message.new (answered_with result out.new.items)) }
+    {
+        let root = self.ledger.key().root;
+        let (leaf, _) = self.bottom();
+        let mut nodes = [[0; 32]; 20];
+        let path = &mut nodes[..usize::from(secret.tree.height())];
+        xmss_link(*secret, &root, leaf, path).map_err(SignFault::Damaged)?;
+        let digest = read_xmss_digest(secret, &root, leaf, message)?;
+        self.add(Record::Bound(Bound {
+            name: name.copied(),
+            leaf,
+            randomizer: [0; 32],
+            digest,
+        }))?;
+        write_xmss(secret, leaf, &digest, path, out);
+        Ok(())
+    }
+
+    // The signature of a name that is bound under a key of LMS or HSS, where the message has the recorded digest.
+    pub(super) fn repeat_chain<M: Message>(
+        &self,
+        trees: &KeyTrees<'_>,
+        binding: &Binding,
+        message: &mut M,
+        out: &mut Vec<u8>,
+    ) -> Result<(), SignFault>
+        requires trees { UnderKey self.now.records (λ key. trees_of key.secret ≡ Some (trees_in trees.now)) }
+        requires kept { UnderKey self.now.records (λ key. (name : List ℕ)
+            × IsBindingOf self.now.records binding.now key name) }
+        ensures { UnderKey self.now.records (λ key. (name : List ℕ) →
+            IsBindingOf self.now.records binding.now key name →
+            Repeats M.Message self.now message.old message.new (vec_capacity out.old)
+            (answered_with result out.new.items) key name) }
+    {
+        let Binding {
+            leaf,
+            randomizer,
+            tree,
+            ..
+        } = *binding;
+        let secret = &self.ledger.key().secret;
+        let identifier = trees.secret_at(&self.ledger, tree).identifier;
+        let one_time = LmOts { identifier, leaf };
+        let digest = read_digest(&one_time, &randomizer, message)?;
+        if digest != binding.digest {
+            return Err(SignFault::Changed);
+        }
+        make_room(secret, out)?;
+        let signed = Signed {
+            leaf,
+            randomizer,
+            digest,
+        };
+        let mut links = ArrayVec::new();
+        trees
+            .push_chain(&self.ledger, secret.levels() - 1, tree, signed, &mut links)
+            .map_err(SignFault::Damaged)?;
+        write_chain(secret, &links, out);
+        Ok(())
+    }
+
+    // The same under a key of XMSS.
+    pub(super) fn repeat_xmss<M: Message>(
+        &self,
+        secret: &XmssSecret,
+        binding: &Binding,
+        message: &mut M,
+        out: &mut Vec<u8>,
+    ) -> Result<(), SignFault>
+        requires key { UnderKey self.now.records (IsXmssKey secret.now) }
+        requires kept { UnderKey self.now.records (λ key. (name : List ℕ)
+            × IsBindingOf self.now.records binding.now key name) }
+        ensures { UnderKey self.now.records (λ key. (name : List ℕ) →
+            IsBindingOf self.now.records binding.now key name →
+            Repeats M.Message self.now message.old message.new (vec_capacity out.old)
+            (answered_with result out.new.items) key name) }
+    {
+        let leaf = binding.leaf;
+        let root = self.ledger.key().root;
+        let digest = read_xmss_digest(secret, &root, leaf, message)?;
+        if digest != binding.digest {
+            return Err(SignFault::Changed);
+        }
+        make_room(&self.ledger.key().secret, out)?;
+        let mut nodes = [[0; 32]; 20];
+        let path = &mut nodes[..usize::from(secret.tree.height())];
+        xmss_link(*secret, &root, leaf, path).map_err(SignFault::Damaged)?;
+        write_xmss(secret, leaf, &digest, path, out);
+        Ok(())
+    }
+}

@@ -1,0 +1,104 @@
+//! The current trees of a key's levels, kept in memory.
+
+ghost use Rattle.std.specs.Prelude.{◌≡◌, ◌<◌, ◌+◌, ◌^◌, [], ◌∷◌};
+ghost use Rattle.state_file.specs.declared.record.Key.{Key};
+ghost use Rattle.state_file.specs.declared.record.Record.TheVariants.{Key as KeyRecord};
+ghost use Rattle.state_file.specs.declared.record.Secret.{Secret};
+
+/// A current tree: the place of the record that makes it, and its next leaf.
+#[derive(Clone, Copy)]
+pub(crate) struct Tree {
+    pub(crate) place: u32,
+    pub(crate) next: u32,
+}
+
+/// The current trees of the levels, from the top down.
+#[derive(Clone, Copy)]
+pub(crate) struct Trees {
+    levels: [Option<Tree>; 8],
+}
+
+impl Trees {
+    ghost use Rattle.sign_core.specs.Trees.{AreAbove, IsMade, IsRaised, kept_at};
+    ghost use Rattle.sign_core.specs.Trees.{FollowsBound, FollowsExtend, FollowsRetire, HasTrees};
+
+    /// Those of a Key alone: its own tree, with no leaf used.
+    pub(crate) fn of_key() -> Self
+        ensures { (secret : Secret) (key : Key) → HasTrees secret (KeyRecord key ∷ []) result.levels }
+    {
+        let mut levels = [None; 8];
+        levels[0] = Some(Tree { place: 0, next: 0 });
+        Trees { levels }
+    }
+
+    /// The tree of a level, if it has one.
+    pub(crate) fn get(&self, level: usize) -> Option<Tree>
+        requires { level < 8 }
+        ensures { result ≡ kept_at self.now.levels level }
+    {
+        let levels = &self.levels[..];
+        levels[level]
+    }
+
+    // The trees of the levels above one.
+    fn above(&self, level: usize) -> [Option<Tree>; 8]
+        requires { level < 8 }
+        ensures { AreAbove self.now.levels level result }
+    {
+        let mut levels = [None; 8];
+        for higher in 0..level {
+            levels[higher] = self.levels[higher];
+        }
+        levels
+    }
+
+    // A new tree of a level, made by the record at a place.
+    fn make(&mut self, level: usize, place: u32)
+        requires { level < 8 }
+        ensures { IsMade self.old.levels level place self.new.levels }
+    {
+        let mut levels = self.above(level);
+        levels[level] = Some(Tree { place, next: 0 });
+        self.levels = levels;
+    }
+
+    // Raises the next leaf of a level's tree, if it is below a number.
+    fn raise(&mut self, level: usize, next: u32)
+        requires { level < 8 }
+        ensures { IsRaised self.old.levels level next self.new.levels }
+    {
+        if let Some(tree) = self.levels[level] {
+            self.levels[level] = Some(Tree {
+                place: tree.place,
+                next: tree.next.max(next),
+            });
+        }
+    }
+    /// Takes up an Extend, which names a leaf of the level above and makes a tree of its own.
+    pub(crate) fn extend(&mut self, level: usize, parent_leaf: u32, place: u32)
+        requires below { 0 < level }
+        requires few { level < 8 }
+        requires leaf { parent_leaf + 1 < 2 ^ 32 }
+        ensures { FollowsExtend self.old.levels level parent_leaf place self.new.levels }
+    {
+        self.raise(level - 1, parent_leaf + 1);
+        self.make(level, place);
+    }
+
+    /// Takes up a Bound, which names a leaf of the bottom tree.
+    pub(crate) fn bind(&mut self, bottom: usize, leaf: u32)
+        requires few { bottom < 8 }
+        requires leaf { leaf + 1 < 2 ^ 32 }
+        ensures { FollowsBound self.old.levels bottom leaf self.new.levels }
+    {
+        self.raise(bottom, leaf + 1);
+    }
+
+    /// Takes up a Retire of the bottom tree's leaves below a number.
+    pub(crate) fn retire(&mut self, bottom: usize, upto: u32)
+        requires few { bottom < 8 }
+        ensures { FollowsRetire self.old.levels bottom upto self.new.levels }
+    {
+        self.raise(bottom, upto);
+    }
+}

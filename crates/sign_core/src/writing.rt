@@ -1,0 +1,138 @@
+//! Signatures of a key: how many bytes they have, and their bytes.
+
+ghost use Rattle.std.specs.Prelude.{◌≡◌, ◌<◌, ◌≤◌, ◌∷◌, [], ◌++◌, List, Some, length};
+ghost use Rattle.hss.specs.Secret.{Signing};
+ghost use Rattle.hss.specs.Signature.{signature_size as hss_signature_size};
+ghost use Rattle.hss.specs.Writing.{signature_bytes as hss_signature_bytes, textbook as hss_textbook};
+ghost use Rattle.sign_core.specs.Links.{AreMade, signings_of};
+ghost use Rattle.sign_core.specs.Signer.{signature_size};
+ghost use Rattle.sign_core.specs.Signing.{WritesChain, pairs_of};
+ghost use Rattle.sign_core.specs.Writing.{types_of};
+ghost use Rattle.sign_core.specs.Textbook.{Trees, trees_of};
+ghost use Rattle.std.specs.Prelude.{◌^◌, map};
+ghost use Rattle.typecodes.specs.Types.{height_of, lms_signature_len_of, xmss_height_of, xmss_signature_len_of};
+ghost use Rattle.lms.specs.Secret.{path_in as lms_path_in};
+ghost use Rattle.lms.specs.Writing.{signature_bytes as lms_signature_bytes, textbook as lms_textbook};
+ghost use Rattle.xmss.specs.Secret.{path_in as xmss_path_in};
+ghost use Rattle.xmss.specs.Writing.{signature_bytes as xmss_signature_bytes, textbook as xmss_textbook};
+ghost use Rattle.hss.specs.Secret.{signing_of};
+ghost use Rattle.hss.specs.Writing.{FromSecrets, pairs_of as level_pairs_of};
+
+use crate::links::Link;
+use hss::Level;
+use lms::LmsSecret;
+use state_file::Secret;
+use xmss::XmssSecret;
+
+/// How many bytes a key's signatures have.
+pub(crate) fn signature_len(secret: &Secret) -> u32
+    ensures { result ≡ signature_size secret.now }
+{
+    match secret {
+        Secret::Lms { pair, .. } => pair.signature_len(),
+        Secret::Hss { levels, .. } => hss::signature_len(levels.as_slice()),
+        Secret::Xmss { tree, .. } => tree.signature_len(),
+    }
+}
+
+/// Writes the textbook signature of the digest Q by a leaf of an LMS tree, with the leaf's path.
+pub(crate) fn write_lms(
+    secret: &LmsSecret,
+    leaf: u32,
+    randomizer: &[u8; 32],
+    digest: &[u8; 32],
+    path: &[[u8; 32]],
+    into: &mut [u8],
+)
+    requires inside { leaf < 2 ^ height_of secret.now.pair.tree }
+    requires path { path.now ≡ lms_path_in secret.now leaf }
+    requires nodes { length path.now ≡ height_of secret.now.pair.tree }
+    requires room { length into.old ≡ lms_signature_len_of secret.now.pair }
+    ensures { into.new ≡ lms_signature_bytes (lms_textbook secret.now leaf randomizer.now digest.now) }
+{
+    lms::write_signature(secret, leaf, randomizer, digest, path, into);
+}
+
+/// Writes the textbook signature of the digest M' by a leaf of an XMSS tree, with the leaf's path.
+pub(crate) fn write_xmss(
+    secret: &XmssSecret,
+    leaf: u32,
+    digest: &[u8; 32],
+    path: &[[u8; 32]],
+    into: &mut [u8],
+)
+    requires inside { leaf < 2 ^ xmss_height_of secret.now.tree }
+    requires path { path.now ≡ xmss_path_in secret.now leaf }
+    requires nodes { length path.now ≡ xmss_height_of secret.now.tree }
+    requires room { length into.old ≡ xmss_signature_len_of secret.now.tree }
+    ensures { into.new ≡ xmss_signature_bytes (xmss_textbook secret.now leaf digest.now) }
+{
+    xmss::write_signature(secret, leaf, digest, path, into);
+}
+
+/// Writes the textbook signature of levels, from the top down, whose roots and paths are those of their secrets.
+pub(crate) fn write_hss(above: &[Level<'_>], bottom: &Level<'_>, into: &mut [u8])
+    requires few { length above.now ≤ 7 }
+    requires made { FromSecrets above.now bottom.now }
+    requires room { length into.old ≡ hss_signature_size (level_pairs_of above.now bottom.now) }
+    ensures { into.new ≡ hss_signature_bytes (hss_textbook (map signing_of above.now) (signing_of bottom.now)) }
+{
+    hss::write_signature(above, bottom, into);
+}
+
+/// Writes the signature of a key whose chain of trees is this, from the top down, over the whole of `into`. A key of
+/// XMSS has no chain.
+pub(crate) fn write_chain(secret: &Secret, links: &[Link], into: &mut [u8])
+    requires few { length links.now ≤ 8 }
+    requires made { AreMade links.now }
+    requires trees { (trees : Trees) × (trees_of secret.now ≡ Some trees) }
+    requires pairs { (trees : Trees) → trees_of secret.now ≡ Some trees → pairs_of links.now ≡ trees.pairs }
+    requires room { length into.old ≡ signature_size secret.now }
+    ensures { WritesChain secret.now links.now into.new }
+{
+    match secret {
+        Secret::Lms { .. } => links[0].write(into),
+        Secret::Hss { .. } => write_hss_links(links, into),
+        Secret::Xmss { .. } => {}
+    }
+}
+
+// Writes the textbook signature of the chain of an HSS key, 1 to 8 levels, from the top down.
+fn write_hss_links(links: &[Link], into: &mut [u8])
+    requires some { 0 < length links.now }
+    requires few { length links.now ≤ 8 }
+    requires made { AreMade links.now }
+    requires room { length into.old ≡ hss_signature_size (types_of (signings_of links.now)) }
+    ensures { (above : List Signing) (bottom : Signing) → signings_of links.now ≡ above ++ bottom ∷ []
+        → into.new ≡ hss_signature_bytes (hss_textbook above bottom) }
+{
+    let levels = LinkLevels::of(links);
+    let places = &levels.places[..];
+    let last = links.len() - 1;
+    write_hss(&places[..last], &places[last], into);
+}
+
+/// The levels of a signature that the links of a chain make. The places after theirs are of no meaning.
+#[derive(Clone, Copy)]
+struct LinkLevels<'a> {
+    places: [Level<'a>; 8],
+}
+
+impl<'a> LinkLevels<'a> {
+    ghost use Rattle.sign_core.specs.Writing.{AreLevelsOf};
+
+    // Those of 1 to 8 links, in their order.
+    fn of(links: &'a [Link]) -> Self
+        requires some { 0 < length links.now }
+        requires few { length links.now ≤ 8 }
+        requires made { AreMade links.now }
+        ensures { AreLevelsOf links.now result.places }
+    {
+        let first = links[0].level();
+        let mut places = [first; 8];
+        for (i, link) in links.iter().enumerate() {
+            places[i] = link.level();
+        }
+        LinkLevels { places }
+    }
+}
