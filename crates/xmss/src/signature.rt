@@ -1,11 +1,11 @@
 //! Signatures, as views of their bytes.
 
-ghost use Rattle.std.specs.Prelude.{◌≡◌, ◌+◌, ◌*◌, ◌<◌, ◌^◌, IfOk, OnErr, OnOk, Ok};
+ghost use Rattle.std.specs.Prelude.{◌≡◌, ◌+◌, ◌*◌, ◌<◌, ◌^◌, IfOk, Ok};
 ghost use Rattle.std.specs.Prelude.{[], length, take, drop, slice_index_or};
 ghost use Rattle.byteorder.specs.Endian.{big_number};
 ghost use Rattle.typecodes.specs.Layout.{Spells};
 ghost use Rattle.typecodes.specs.Fields.{values_in};
-ghost use Rattle.typecodes.specs.Cursor.{Gives, Reads, read};
+ghost use Rattle.typecodes.specs.Cursor.{Gives, Passes, Reads, read};
 ghost use Rattle.typecodes.specs.Types.{wots_chains, xmss_height_of, xmss_signature_len_of};
 ghost use Rattle.xmss.specs.Signature as spec;
 ghost use Rattle.xmss.specs.Signature.{chains_in, signature, signature_with};
@@ -115,9 +115,7 @@ fn leaf_index(cursor: &mut Cursor<'_>, tree: XmssType) -> Result<u32, ReadFault>
         (read (spec.leaf_index (xmss_height_of tree)) cursor.old.bytes.now cursor.old.place) }
     ensures inside { IfOk result (λ index. index < 2 ^ xmss_height_of tree) }
     ensures range { IfOk result (λ index. index ≡ big_number 4 (take 4 (drop cursor.old.place cursor.old.bytes.now))) }
-    ensures len { OnOk result (cursor.new.place ≡ cursor.old.place + 4) }
-    ensures bytes { cursor.new.bytes ≡ cursor.old.bytes }
-    ensures err { OnErr result (cursor.new.place ≡ cursor.old.place) }
+    ensures passes { Passes 4 result cursor.old cursor.new }
 {
     let mut rest = *cursor;
     let index = rest.number()?;
