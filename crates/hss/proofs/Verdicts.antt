@@ -1,5 +1,5 @@
 -- The key, the message and the bytes determine what verification answers.
-use Rattle.std.proofs.Common.{◌≡◌, ℕ, ◌+◌, ◌<◌, inl, inr, arith, length, List, Result, Ok, Err, refl, sym, ap, subst, ◌∙◌}
+use Rattle.std.proofs.Common.{◌≡◌, ℕ, ◌+◌, inl, inr, arith, length, List, Result, Ok, Err, refl, sym, ap, subst, ◌∙◌}
 use Rattle.std.specs.Prelude.{◌≢◌, ◌⊎◌, IsOk}
 use Rattle.std.proofs.lemmas.Bool.{cases_order}
 use Rattle.typecodes.specs.declared.refusal.Refusal.{Refusal}

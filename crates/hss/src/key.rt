@@ -1,7 +1,7 @@
 //! Public keys.
 
-ghost use Rattle.std.specs.Prelude.{◌≡◌, ◌+◌, ◌<◌, ◌≤◌, ◌^◌, IfOk, OnOk};
-ghost use Rattle.typecodes.specs.Cursor.{Gives, Reads, read};
+ghost use Rattle.std.specs.Prelude.{◌+◌, ◌<◌, ◌≤◌, ◌^◌, IfOk};
+ghost use Rattle.typecodes.specs.Cursor.{Gives, Passes, Reads, read};
 
 use lms::LmsPublic;
 use typecodes::{Cause, Cursor, LevelCount, ReadFault};
@@ -33,7 +33,7 @@ impl HssPublic {
         Ok(HssPublic { levels, top })
     }
 
-    // L at a cursor, a field of 4 bytes, 1 to 8.
+    // L at a cursor, a field of 4 bytes, 1 to 8. A fault leaves the cursor where it is.
     #[tactic(auto, using(crate::proofs::Numbers::numbers), unfolding(crate::specs::Key::level_number))]
     fn level_count_at(cursor: &mut Cursor<'_>) -> Result<LevelCount, ReadFault>
         requires { cursor.old.place + 4 < 2 ^ 32 }
@@ -41,17 +41,19 @@ impl HssPublic {
             (read (level_number 1 8) cursor.old.bytes.now cursor.old.place) }
         ensures least { IfOk result (λ n. 1 ≤ n) }
         ensures most { IfOk result (λ n. n ≤ 8) }
-        ensures len { OnOk result (cursor.new.place ≡ cursor.old.place + 4) }
-        ensures bytes { cursor.new.bytes ≡ cursor.old.bytes }
+        ensures passes { Passes 4 result cursor.old cursor.new }
     {
         let fault = ReadFault {
             place: cursor.place,
             cause: Cause::LevelCount,
         };
-        let number = cursor.number()?;
+        let mut rest = *cursor;
+        let number = rest.number()?;
         if number > 8 {
             return Err(fault);
         }
-        LevelCount::new(number as u8).ok_or(fault)
+        let levels = LevelCount::new(number as u8).ok_or(fault)?;
+        *cursor = rest;
+        Ok(levels)
     }
 }

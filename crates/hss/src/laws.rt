@@ -3,8 +3,7 @@
 
 ghost use Rattle.std.specs.Prelude.{◌≡◌, ◌⊎◌, ◌≢◌, List, [], ◌∷◌, ◌++◌, ℕ, ◌+◌, ◌≤◌, length, Result, Err, IsOk};
 ghost use Rattle.typecodes.specs.declared.refusal.Refusal.{Refusal};
-ghost use Rattle.typecodes.specs.Layout.{Spells};
-ghost use Rattle.typecodes.specs.Unambiguous.{IsUnambiguous};
+ghost use Rattle.typecodes.specs.Layout.{IsUnambiguous, Spells};
 ghost use Rattle.hss.specs.declared.key.HssPublic.{HssPublic};
 ghost use Rattle.lmots.specs.Hashes.{u32str};
 ghost use Rattle.lms.specs.Signature.{signature as lms_signature};

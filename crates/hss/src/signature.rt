@@ -1,10 +1,10 @@
 //! Signatures, as views of their bytes.
 
-ghost use Rattle.std.specs.Prelude.{◌≡◌, ◌+◌, ◌*◌, ◌<◌, ◌≤◌, ◌↔◌, ◌^◌, Ok, OnOk, IfOk, IfSome, IsSome};
-ghost use Rattle.std.specs.Prelude.{length, map, take, drop};
+ghost use Rattle.std.specs.Prelude.{◌≡◌, ◌+◌, ◌*◌, ◌<◌, ◌≤◌, ◌↔◌, ◌^◌, Ok, IfOk, IfSome, IsSome};
+ghost use Rattle.std.specs.Prelude.{length, take, drop};
 ghost use Rattle.byteorder.specs.Endian.{big_number};
 ghost use Rattle.typecodes.specs.Layout.{Spells};
-ghost use Rattle.typecodes.specs.Cursor.{Gives, Reads, read};
+ghost use Rattle.typecodes.specs.Cursor.{Gives, Passes, Reads, read};
 ghost use Rattle.typecodes.specs.Types.{lms_signature_len_of};
 ghost use Rattle.lms.specs.declared.key.LmsPublic.{LmsPublic};
 ghost use Rattle.lms.specs.Key.{public_key as lms_public_key};
@@ -107,23 +107,23 @@ impl<'a> HssSigView<'a> {
     }
 }
 
-// L - 1 at a cursor, a field of 4 bytes, 0 to 7.
+// L - 1 at a cursor, a field of 4 bytes, 0 to 7. A fault leaves the cursor where it is.
 #[tactic(auto, using(crate::proofs::Numbers::numbers), unfolding(crate::specs::Key::level_number))]
 fn number_above(cursor: &mut Cursor<'_>) -> Result<u8, ReadFault>
     requires { cursor.old.place + 4 < 2 ^ 32 }
     ensures read { Gives (λ n. (n, cursor.new.place)) result
         (read (level_number 0 7) cursor.old.bytes.now cursor.old.place) }
     ensures most { IfOk result (λ n. n ≤ 7) }
-    ensures len { OnOk result (cursor.new.place ≡ cursor.old.place + 4) }
-    ensures bytes { cursor.new.bytes ≡ cursor.old.bytes }
+    ensures passes { Passes 4 result cursor.old cursor.new }
 {
-    let place = cursor.place;
-    let number = cursor.number()?;
+    let mut rest = *cursor;
+    let number = rest.number()?;
     if number > 7 {
         return Err(ReadFault {
-            place,
+            place: cursor.place,
             cause: Cause::LevelCount,
         });
     }
+    *cursor = rest;
     Ok(number as u8)
 }

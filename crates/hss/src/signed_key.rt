@@ -1,8 +1,8 @@
 //! The signature of a level above the bottom with the key that it signs, as a view of their bytes.
 
-ghost use Rattle.std.specs.Prelude.{◌≡◌, ◌≢◌, ◌+◌, ◌<◌, ◌≤◌, ◌^◌, Ok, Err, IfOk, OnErr, OnOk, drop, length, take};
+ghost use Rattle.std.specs.Prelude.{◌≡◌, ◌≢◌, ◌+◌, ◌<◌, ◌≤◌, ◌^◌, Ok, Err, IfOk, OnOk, drop, length, take};
 ghost use Rattle.lms.specs.Key.{public_key as lms_public_key};
-ghost use Rattle.typecodes.specs.Cursor.{Gives, read};
+ghost use Rattle.typecodes.specs.Cursor.{Gives, Keeps, read};
 ghost use Rattle.lms.specs.Writing.{public_bytes};
 ghost use Rattle.lms.specs.Verification.{LevelVerdict};
 ghost use Rattle.lms.specs.View.{signature_of as lms_signature_of};
@@ -34,9 +34,8 @@ impl<'a> SignedKeyView<'a> {
         ensures read { Gives (λ view. (signed_key_of view, cursor.new.place)) result
             (read signed_key cursor.old.bytes.now cursor.old.place) }
         ensures most { OnOk result (cursor.new.place ≤ cursor.old.place + 9380) }
-        ensures bytes { cursor.new.bytes ≡ cursor.old.bytes }
+        ensures keeps { Keeps result cursor.old cursor.new }
         ensures part { IfOk result (λ view. BeginsAt cursor.old.place cursor.old.bytes.now view) }
-        ensures err { OnErr result (cursor.new.place ≡ cursor.old.place) }
     {
         let mut rest = *cursor;
         let signature = LmsSigView::from_cursor(&mut rest)?;

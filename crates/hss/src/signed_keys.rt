@@ -1,7 +1,7 @@
 //! The signed keys of a signature, as views of their bytes.
 
 ghost use Rattle.std.specs.Prelude.{◌≡◌, ◌+◌, ◌*◌, ◌<◌, ◌≤◌, ◌^◌, IfOk, OnOk};
-ghost use Rattle.typecodes.specs.Cursor.{Gives, read};
+ghost use Rattle.typecodes.specs.Cursor.{Gives, Keeps, read};
 ghost use Rattle.hss.specs.SignedKey.{AreFirst, StandInTurn, signed_in, signed_keys, slot};
 
 use crate::signed_key::SignedKeyView;
@@ -19,7 +19,7 @@ pub(crate) struct SignedKeys<'a> {
 
 impl<'a> SignedKeys<'a> {
     /// So many signatures and keys at a cursor, each at most 9380 bytes. The caller keeps their end below
-    /// `2^31`.
+    /// `2^31`. A fault leaves the cursor where it is.
     pub(crate) fn from_cursor(cursor: &mut Cursor<'a>, count: u8) -> Result<Self, ReadFault>
         requires few { count ≤ 7 }
         requires room { cursor.old.place + 9380 * count < 2 ^ 31 }
@@ -28,12 +28,14 @@ impl<'a> SignedKeys<'a> {
         ensures count { IfOk result (λ keys. keys.count ≡ count) }
         ensures stand { IfOk result (λ keys. StandInTurn cursor.old.place cursor.old.bytes.now keys.slots) }
         ensures most { OnOk result (cursor.new.place ≤ cursor.old.place + 9380 * count) }
-        ensures bytes { cursor.new.bytes ≡ cursor.old.bytes }
+        ensures keeps { Keeps result cursor.old cursor.new }
     {
+        let mut rest = *cursor;
         let mut slots = [None; 7];
         for i in 0..count {
-            slots[usize::from(i)] = Some(SignedKeyView::from_cursor(cursor)?);
+            slots[usize::from(i)] = Some(SignedKeyView::from_cursor(&mut rest)?);
         }
+        *cursor = rest;
         Ok(SignedKeys { count, slots })
     }
 

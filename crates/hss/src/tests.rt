@@ -15,7 +15,7 @@ use std::io;
 use std::io::Read;
 use std::process::Abort;
 use std::test::Fail;
-use typecodes::{Cause, LevelCount, LmsPair, LmsType, OtsType, ReadFault, Refusal};
+use typecodes::{Cause, LevelCount, Levels, LmsPair, LmsType, OtsType, ReadFault, Refusal};
 
 const PAIR: LmsPair = LmsPair {
     tree: LmsType::H5,
@@ -380,20 +380,19 @@ fn parts_are_shown(rt: HostRuntime) -> Result<(), Fail> {
     Ok(())
 }
 
+// The bytes of signatures of these levels, if they are 1 to 8.
+fn len_of(pairs: &[LmsPair]) -> Option<u32> {
+    Levels::new(pairs).map(|levels| signature_len(&levels))
+}
+
 #[test]
 fn signatures_have_lengths(rt: HostRuntime) {
     let pair = |tree, ots| LmsPair { tree, ots };
-    assert_eq!(rt; signature_len(&[PAIR]), 1296);
-    assert_eq!(rt; signature_len(&[PAIR; 2]), 2644);
-    assert_eq!(rt; signature_len(&[pair(LmsType::H5, OtsType::W4); 2]), 4756);
-    assert_eq!(rt;
-        signature_len(&[PAIR, pair(LmsType::H5, OtsType::W4)]),
-        3700
-    );
-    assert_eq!(rt;
-        signature_len(&[pair(LmsType::H25, OtsType::W1); 8]),
-        74_988
-    );
+    assert_eq!(rt; len_of(&[PAIR]), Some(1296));
+    assert_eq!(rt; len_of(&[PAIR; 2]), Some(2644));
+    assert_eq!(rt; len_of(&[pair(LmsType::H5, OtsType::W4); 2]), Some(4756));
+    assert_eq!(rt; len_of(&[PAIR, pair(LmsType::H5, OtsType::W4)]), Some(3700));
+    assert_eq!(rt; len_of(&[pair(LmsType::H25, OtsType::W1); 8]), Some(74_988));
 }
 
 // Eight levels of H5/W8, each with its place in the list as its leaf.

@@ -17,15 +17,13 @@ ghost use Rattle.hss.specs.Writing.{textbook};
 use crate::key::HssPublic;
 use crate::secret::Level;
 use lms::LmsPublic;
-use typecodes::LmsPair;
+use typecodes::Levels;
 
-/// How many bytes the signatures of levels of these types have, from the top down: 2644 for two of
-/// H5/W8. The caller gives 1 to 8 levels.
-pub fn signature_len(pairs: &[LmsPair]) -> u32
-    requires some { 1 ≤ length pairs.now }
-    requires most { length pairs.now ≤ 8 }
-    ensures { result ≡ signature_size pairs.now }
+/// How many bytes the signatures of levels of these types have: 2644 for two of H5/W8.
+pub fn signature_len(levels: &Levels) -> u32
+    ensures { result ≡ signature_size levels.now }
 {
+    let pairs = levels.as_slice();
     let mut len = 4 + 56 * (pairs.len() as u32 - 1);
     for pair in pairs {
         len += pair.signature_len();

@@ -1,7 +1,7 @@
 //! Public keys.
 
-ghost use Rattle.std.specs.Prelude.{◌≡◌, ◌+◌, ◌<◌, ◌^◌, OnErr, OnOk};
-ghost use Rattle.typecodes.specs.Cursor.{Gives, Reads, read};
+ghost use Rattle.std.specs.Prelude.{◌+◌, ◌<◌, ◌^◌};
+ghost use Rattle.typecodes.specs.Cursor.{Gives, Passes, Reads, read};
 
 use typecodes::{Cursor, LmsPair, ReadFault};
 
@@ -26,9 +26,7 @@ impl LmsPublic {
         requires { cursor.old.place + 56 < 2 ^ 32 }
         ensures read { Gives (λ key. (key, cursor.new.place)) result
             (read public_key cursor.old.bytes.now cursor.old.place) }
-        ensures len { OnOk result (cursor.new.place ≡ cursor.old.place + 56) }
-        ensures bytes { cursor.new.bytes ≡ cursor.old.bytes }
-        ensures err { OnErr result (cursor.new.place ≡ cursor.old.place) }
+        ensures passes { Passes 56 result cursor.old cursor.new }
     {
         let mut rest = *cursor;
         let tree = rest.lms_type()?;

@@ -2,12 +2,11 @@
 //!
 //! Its model is `specs/Key.antt` and `specs/Signature.antt`, how keys and signatures are spelled, and
 //! `specs/Verification.antt`, which signatures are valid. Its contract for the crates above: `verify` is
-//! Ok exactly on the spellings of valid signatures, and else reports the first refusal, a message that can't be read
-//! aside;
-//! `LmsSigView::verify` does the same for a signature that was read, as that of a level of HSS; what
-//! `write_signature` writes is the textbook signature of `specs/Writing.antt`, which is valid. That keys
-//! and signatures are spelled in one way, and that `verify` has one answer, that one aside, stands on
-//! `spelling_laws` and `verdict_laws`.
+//! Ok exactly on the spellings of valid signatures, and else reports the first refusal, a message that
+//! can't be read aside; `LmsSigView::verify` does the same for a signature that was read, as that of a
+//! level of HSS; what `write_signature` writes is the textbook signature of `specs/Writing.antt`, which
+//! is valid. That keys and signatures are spelled in one way, and that `verify` has one answer, an
+//! unread message aside, stands on `spelling_laws` and `verdict_laws`.
 //!
 //! ```rust
 //! use lms::{LmsPublic, verify};

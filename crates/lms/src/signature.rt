@@ -1,11 +1,11 @@
 //! Signatures, as views of their bytes.
 
-ghost use Rattle.std.specs.Prelude.{◌≡◌, ◌+◌, ◌-◌, ◌*◌, ◌<◌, ◌^◌, IfOk, OnErr, Ok};
+ghost use Rattle.std.specs.Prelude.{◌≡◌, ◌+◌, ◌-◌, ◌*◌, ◌<◌, ◌^◌, IfOk, Ok};
 ghost use Rattle.std.specs.Prelude.{[], length, take, drop, slice_index_or};
 ghost use Rattle.byteorder.specs.Endian.{big_number};
 ghost use Rattle.typecodes.specs.Layout.{Spells};
 ghost use Rattle.typecodes.specs.Fields.{values_in};
-ghost use Rattle.typecodes.specs.Cursor.{Gives, Reads, read};
+ghost use Rattle.typecodes.specs.Cursor.{Gives, Keeps, Reads, read};
 ghost use Rattle.typecodes.specs.Types.{chains_of, height_of, lms_signature_len_of, signature_len_of};
 ghost use Rattle.lms.specs.Signature.{signature, signature_with};
 
@@ -45,10 +45,9 @@ impl<'a> LmsSigView<'a> {
         ensures read { Gives (λ view. (signature_of view, cursor.new.place)) result
             (read signature cursor.old.bytes.now cursor.old.place) }
         ensures len { IfOk result (λ view. cursor.new.place ≡ cursor.old.place + lms_signature_len_of (pair_of view)) }
-        ensures bytes { cursor.new.bytes ≡ cursor.old.bytes }
+        ensures keeps { Keeps result cursor.old cursor.new }
         ensures part { IfOk result (λ view. bytes_of view
             ≡ take (cursor.new.place - cursor.old.place) (drop cursor.old.place cursor.old.bytes.now)) }
-        ensures err { OnErr result (cursor.new.place ≡ cursor.old.place) }
     {
         let (all, start) = (cursor.bytes, cursor.place);
         let mut rest = *cursor;

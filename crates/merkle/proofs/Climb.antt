@@ -41,9 +41,9 @@ pub climb_step : (join : Joins) (q : ℕ) (leaf : List ℕ) (path : List (List �
     → index ≡ q / 2 ^ k
     → above ≡ (if index % 2 == 1 then join k (index / 2) (at path k) node else join k (index / 2) node (at path k))
     → above ≡ climbed join q leaf path (k + 1)
-climb_step join q leaf path k index node above climbed_to index_over joined =
+climb_step join q leaf path k index node above climbed_to index_over above_is =
     let halved : index / 2 ≡ q / 2 ^ (k + 1) = ap (λ i. i / 2) index_over ∙ half_of q k in
-    joined
+    above_is
     ∙ ap (λ i. if index % 2 == 1 then join k i (at path k) node else join k i node (at path k)) halved
     ∙ ap (λ i. if i % 2 == 1 then join k (q / 2 ^ (k + 1)) (at path k) node else join k (q / 2 ^ (k + 1)) node (at path k)) index_over
     ∙ ap (parent join q path k) climbed_to

@@ -57,14 +57,14 @@ climbed_along leaf join h q zero below =
 climbed_along leaf join h q (suc k) below =
     let i = q / 2 ^ k in
     let path = path_of leaf join h q in
-    let joined : node leaf join (k + 1) (i / 2)
+    let above_is : node leaf join (k + 1) (i / 2)
     ≡ (if i % 2 == 1
     then join k (i / 2) (at path k) (node leaf join k i)
     else join k (i / 2) (node leaf join k i) (at path k))
     = rw path_of_at (node_over leaf join k i) in
     ap (climbed join q (leaf q) path) (sym (add-one k))
     ∙ sym (climb_step join q (leaf q) path k i (node leaf join k i) (node leaf join (k + 1) (i / 2))
-    (sym (climbed_along leaf join h q k (omega arith))) refl joined)
+    (sym (climbed_along leaf join h q k (omega arith))) refl above_is)
     ∙ ap (node leaf join (k + 1)) (half_of q k)
     ∙ ap (λ h. node leaf join h (q / 2 ^ h)) (add-one k)
 

@@ -30,7 +30,7 @@ pub(crate) fn signature_len(secret: &Secret) -> u32
 {
     match secret {
         Secret::Lms { pair, .. } => pair.signature_len(),
-        Secret::Hss { levels, .. } => hss::signature_len(levels.as_slice()),
+        Secret::Hss { levels, .. } => hss::signature_len(levels),
         Secret::Xmss { tree, .. } => tree.signature_len(),
     }
 }

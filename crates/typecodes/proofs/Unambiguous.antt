@@ -1,7 +1,5 @@
 -- A layout whose values are spelled in one way is unambiguous.
-use Rattle.std.proofs.Common.{◌≡◌, ℕ, List}
-use Rattle.typecodes.specs.Layout.{Layout, OneSpelling}
-use Rattle.typecodes.specs.Unambiguous.{IsUnambiguous}
+use Rattle.typecodes.specs.Layout.{IsUnambiguous, Layout, OneSpelling}
 use Rattle.typecodes.proofs.Spelling.{no_longer, one_value}
 
 pub unambiguous : {V : Type 0} (layout : Layout V) → OneSpelling layout → IsUnambiguous layout

@@ -1,7 +1,8 @@
 -- Reading by a layout, as a cursor does it: along the whole bytes, from a place on.
 use Rattle.std.specs.Prelude.{◌≡◌, ◌==◌, ℕ, ◌+◌, ◌-◌, List, ◌++◌, length, take, drop, Result, Ok, Err}
-use Rattle.std.specs.Prelude.{nat_le, if◌then◌else◌}
+use Rattle.std.specs.Prelude.{nat_le, if◌then◌else◌, OnErr, OnOk}
 use Rattle.typecodes.specs.declared.fault.Cause.TheVariants.{Truncated, Trailing}
+use Rattle.typecodes.specs.declared.cursor.Cursor.{Cursor}
 use Rattle.typecodes.specs.declared.fault.ReadFault.{ReadFault}
 use Rattle.typecodes.specs.Fault.{fault_at}
 use Rattle.typecodes.specs.Layout.{Layout, done, refuse, field, Spells, HasFault}
@@ -40,6 +41,17 @@ StandsAt layout v bytes place next =
 abbrev pub Gives : {V X : Type 0} → (X → V) → Result X ReadFault → Result V ReadFault → Type 0
 Gives view (Ok x) reading = reading ≡ Ok (view x)
 Gives view (Err fault) reading = reading ≡ Err fault
+
+-- What a reader does to its cursor: the bytes stay, and at a fault the place does.
+pub record Keeps {X E : Type 0} (result : Result X E) (old new : Cursor) : Type 0 where
+  pub bytes : new.bytes ≡ old.bytes
+  pub err : OnErr result (new.place ≡ old.place)
+
+-- What a reader of n bytes does to it: it passes them, or stays at a fault.
+pub record Passes {X E : Type 0} (n : ℕ) (result : Result X E) (old new : Cursor) : Type 0 where
+  pub len : OnOk result (new.place ≡ old.place + n)
+  pub bytes : new.bytes ≡ old.bytes
+  pub err : OnErr result (new.place ≡ old.place)
 
 -- What a reader of a layout answers for the bytes: the value that they spell, or their first fault.
 abbrev pub Reads : {V X : Type 0} → Layout V → (X → V) → List ℕ → Result X ReadFault → Type 0

@@ -58,6 +58,12 @@ abbrev pub OneSpelling : {V : Type 0} → Layout V → Type 0
 OneSpelling {V = V} layout =
     (v : V) (a b : List ℕ) → AreBytes a → AreBytes b → Spells layout v a → Spells layout v b → a ≡ b
 
+-- No value has two spellings, no bytes spell two values, and no spelling begins another.
+pub record IsUnambiguous {V : Type 0} (layout : Layout V) : Type 0 where
+  pub one_spelling : OneSpelling layout
+  pub one_value : (v w : V) (bytes : List ℕ) → Spells layout v bytes → Spells layout w bytes → v ≡ w
+  pub no_longer : (v w : V) (a b : List ℕ) → Spells layout v a → Spells layout w (a ++ b) → b ≡ []
+
 -- Every value that the layout spells shows x: `of` the value is x.
 abbrev pub Shows : {V X : Type 0} → Layout V → (V → X) → X → Type 0
 Shows {V = V} layout of x = (v : V) (bytes : List ℕ) → Spells layout v bytes → of v ≡ x

@@ -8,5 +8,4 @@ pub mod Cursor
 pub mod Name
 pub mod Levels
 pub mod Spec
-pub mod Unambiguous
 pub mod Message

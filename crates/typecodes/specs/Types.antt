@@ -82,6 +82,11 @@ lms_signature_len_of pair = 8 + signature_len_of pair.ots + 32 * height_of pair.
 
 -- ---- XMSS, w = 16
 
+-- len = len_1 + len_2 = 64 + 3: the chains of a one-time key of WOTS+, one for each digit of a digest and of its
+-- checksum (RFC 8391 3.1.1)
+abbrev pub wots_chains : ℕ
+wots_chains = 67
+
 -- XMSS-SHA2_10_256, XMSS-SHA2_16_256, XMSS-SHA2_20_256
 abbrev pub xmss_code : XmssType → ℕ
 xmss_code xmss.H10 = 1
@@ -101,6 +106,6 @@ xmss_types = xmss.H10 ∷ xmss.H16 ∷ xmss.H20 ∷ []
 abbrev pub xmss_of_code : ℕ → Option XmssType
 xmss_of_code c = named xmss_code xmss_types c
 
--- a leaf's index, a randomizer, a value for each of 67 chains, and a node of each height below the root
+-- a leaf's index, a randomizer, a value for each chain, and a node of each height below the root
 abbrev pub xmss_signature_len_of : XmssType → ℕ
-xmss_signature_len_of t = 4 + 32 + 32 * 67 + 32 * xmss_height_of t
+xmss_signature_len_of t = 4 + 32 + 32 * wots_chains + 32 * xmss_height_of t

@@ -1,6 +1,6 @@
 //! A cursor over the bytes of a layout.
 
-ghost use Rattle.std.specs.Prelude.{◌≡◌, ◌<◌, ◌≤◌, ◌+◌, ◌*◌, ◌/◌, ◌^◌, length, IfOk, OnOk, OnErr, MatchResult};
+ghost use Rattle.std.specs.Prelude.{◌≡◌, ◌<◌, ◌≤◌, ◌+◌, ◌*◌, ◌/◌, ◌^◌, length, IfOk, MatchResult};
 
 use crate::fault::{Cause, ReadFault};
 use crate::types::{LmsType, OtsType, XmssType};
@@ -19,7 +19,7 @@ pub struct Cursor<'a> {
 impl<'a> Cursor<'a> {
     ghost use Rattle.std.specs.Simd.{first_chunks};
     ghost use Rattle.typecodes.specs.Fields.{number, block, values, ots_type, lms_type, xmss_type};
-    ghost use Rattle.typecodes.specs.Cursor.{read, Gives};
+    ghost use Rattle.typecodes.specs.Cursor.{read, Gives, Passes};
     ghost use Rattle.typecodes.specs.Fault.{fault_at};
 
     /// A cursor before the first field.
@@ -35,9 +35,7 @@ impl<'a> Cursor<'a> {
         requires { self.old.place + n < 2 ^ 32 }
         ensures read { Gives (λ taken. (taken.now, self.new.place)) result
             (read (block n) self.old.bytes.now self.old.place) }
-        ensures len { OnOk result (self.new.place ≡ self.old.place + n) }
-        ensures bytes { self.new.bytes ≡ self.old.bytes }
-        ensures err { OnErr result (self.new.place ≡ self.old.place) }
+        ensures passes { Passes n result self.old self.new }
     {
         let end = self.place + n;
         if end as usize > self.bytes.len() {
@@ -53,9 +51,7 @@ impl<'a> Cursor<'a> {
         requires { self.old.place + N < 2 ^ 32 }
         ensures read { Gives (λ taken. (taken.now, self.new.place)) result
             (read (block N) self.old.bytes.now self.old.place) }
-        ensures len { OnOk result (self.new.place ≡ self.old.place + N) }
-        ensures bytes { self.new.bytes ≡ self.old.bytes }
-        ensures err { OnErr result (self.new.place ≡ self.old.place) }
+        ensures passes { Passes N result self.old self.new }
     {
         let fault = self.fault(Cause::Truncated);
         let taken = self.block(N as u32)?;
@@ -66,9 +62,7 @@ impl<'a> Cursor<'a> {
     pub fn number(&mut self) -> Result<u32, ReadFault>
         requires { self.old.place + 4 < 2 ^ 32 }
         ensures read { Gives (λ n. (n, self.new.place)) result (read number self.old.bytes.now self.old.place) }
-        ensures len { OnOk result (self.new.place ≡ self.old.place + 4) }
-        ensures bytes { self.new.bytes ≡ self.old.bytes }
-        ensures err { OnErr result (self.new.place ≡ self.old.place) }
+        ensures passes { Passes 4 result self.old self.new }
     {
         let bytes = self.block(4)?;
         Ok(BigEndian::read_u32(bytes))
@@ -80,9 +74,7 @@ impl<'a> Cursor<'a> {
     pub fn ots_type(&mut self) -> Result<OtsType, ReadFault>
         requires { self.old.place + 4 < 2 ^ 32 }
         ensures read { Gives (λ t. (t, self.new.place)) result (read ots_type self.old.bytes.now self.old.place) }
-        ensures len { OnOk result (self.new.place ≡ self.old.place + 4) }
-        ensures bytes { self.new.bytes ≡ self.old.bytes }
-        ensures err { OnErr result (self.new.place ≡ self.old.place) }
+        ensures passes { Passes 4 result self.old self.new }
     {
         let mut after = *self;
         let code = after.number()?;
@@ -97,9 +89,7 @@ impl<'a> Cursor<'a> {
     pub fn lms_type(&mut self) -> Result<LmsType, ReadFault>
         requires { self.old.place + 4 < 2 ^ 32 }
         ensures read { Gives (λ t. (t, self.new.place)) result (read lms_type self.old.bytes.now self.old.place) }
-        ensures len { OnOk result (self.new.place ≡ self.old.place + 4) }
-        ensures bytes { self.new.bytes ≡ self.old.bytes }
-        ensures err { OnErr result (self.new.place ≡ self.old.place) }
+        ensures passes { Passes 4 result self.old self.new }
     {
         let mut after = *self;
         let code = after.number()?;
@@ -114,9 +104,7 @@ impl<'a> Cursor<'a> {
     pub fn xmss_type(&mut self) -> Result<XmssType, ReadFault>
         requires { self.old.place + 4 < 2 ^ 32 }
         ensures read { Gives (λ t. (t, self.new.place)) result (read xmss_type self.old.bytes.now self.old.place) }
-        ensures len { OnOk result (self.new.place ≡ self.old.place + 4) }
-        ensures bytes { self.new.bytes ≡ self.old.bytes }
-        ensures err { OnErr result (self.new.place ≡ self.old.place) }
+        ensures passes { Passes 4 result self.old self.new }
     {
         let mut after = *self;
         let code = after.number()?;
@@ -131,9 +119,7 @@ impl<'a> Cursor<'a> {
         ensures read { Gives (λ taken. (taken.now, self.new.place)) result
             (read (values count) self.old.bytes.now self.old.place) }
         ensures count { IfOk result (λ taken. length taken.now ≡ count) }
-        ensures len { OnOk result (self.new.place ≡ self.old.place + 32 * count) }
-        ensures bytes { self.new.bytes ≡ self.old.bytes }
-        ensures err { OnErr result (self.new.place ≡ self.old.place) }
+        ensures passes { Passes (32 * count) result self.old self.new }
     {
         let taken = self.values_bytes(count)?;
         Ok(taken.as_chunks().0)
@@ -145,9 +131,7 @@ impl<'a> Cursor<'a> {
         ensures read { Gives (λ taken. (first_chunks 32 (length taken.now / 32) taken.now, self.new.place)) result
             (read (values count) self.old.bytes.now self.old.place) }
         ensures count { IfOk result (λ taken. length taken.now / 32 ≡ count) }
-        ensures len { OnOk result (self.new.place ≡ self.old.place + 32 * count) }
-        ensures bytes { self.new.bytes ≡ self.old.bytes }
-        ensures err { OnErr result (self.new.place ≡ self.old.place) }
+        ensures passes { Passes (32 * count) result self.old self.new }
     {
         let whole = (self.bytes.len() - self.place as usize) / 32;
         if whole < count as usize {

@@ -44,5 +44,5 @@ pub use crate::message::{Message, MessageFailed, PIECE, PIECES, read_piece};
 pub use crate::name::{BadName, Name};
 pub use crate::refusal::Refusal;
 pub use crate::spec::{BadSpec, Spec};
-pub use crate::types::{LmsPair, LmsType, OtsType, XmssType};
+pub use crate::types::{LmsPair, LmsType, OtsType, WOTS_CHAINS, XmssType};
 pub use crate::writing::put;

@@ -163,7 +163,10 @@ impl LmsPair {
     }
 }
 
-/// A type of XMSS, by the height of its tree. Each has chains of 15 steps, 67 of them in a leaf.
+/// len: the chains of a one-time key of WOTS+, for n = 32 and w = 16 (RFC 8391 3.1.1).
+pub const WOTS_CHAINS: usize = 67;
+
+/// A type of XMSS, by the height of its tree. Each has `WOTS_CHAINS` chains of 15 steps in a leaf.
 #[derive(Clone, Copy, Debug, PartialEq, Eq)]
 pub enum XmssType {
     /// XMSS-SHA2_10_256, 1,024 leaves.
@@ -213,12 +216,12 @@ impl XmssType {
         }
     }
 
-    /// The bytes of a signature: its leaf's index, the randomizer, a value for each of 67 chains and
-    /// the nodes of the path.
+    /// The bytes of a signature: its leaf's index, the randomizer, a value for each chain and the nodes
+    /// of the path.
     pub fn signature_len(self) -> u32
         ensures { result ≡ xmss_signature_len_of self }
     {
-        4 + 32 + 32 * 67 + 32 * u32::from(self.height())
+        4 + 32 + 32 * WOTS_CHAINS as u32 + 32 * u32::from(self.height())
     }
 }
 

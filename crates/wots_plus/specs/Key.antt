@@ -1,7 +1,8 @@
 -- A leaf's one-time key: its chains, its L-tree and what a signature carries of it (RFC 8391 3.1 and 4.1.5).
--- w is 16, so digits have 4 bits and chains 15 steps, and there are 67 of them (3.1.1).
+-- w is 16, so digits have 4 bits and chains 15 steps; there are len = `wots_chains` of them (3.1.1).
 use Rattle.std.specs.Prelude.{ℕ, List, map, slice_index}
 use Rattle.std.specs.List.{range_with_len}
+use Rattle.typecodes.specs.Types.{wots_chains}
 use Rattle.winternitz.specs.Chain.{Steps, walk, AreEnds, ends_of}
 use Rattle.winternitz.specs.Digest.{digits_of}
 use Rattle.wots_plus.specs.Address.{one_time}
@@ -23,13 +24,13 @@ chain_value seed leaf secret i n = walk (step_of seed leaf) i 0 n (private_value
 -- the ends of all chains of a key whose private values are made of a secret: each value walked from
 -- the first step to the last (3.1.4)
 abbrev pub ends_of_secret : List ℕ → ℕ → List ℕ → List (List ℕ)
-ends_of_secret seed leaf secret = map (λ i. chain_value seed leaf secret i 15) (range_with_len 0 67)
+ends_of_secret seed leaf secret = map (λ i. chain_value seed leaf secret i 15) (range_with_len 0 wots_chains)
 
 -- the values of the signature of a digest: each private value walked from the first step to the
 -- chain's digit (3.1.5)
 abbrev pub signed_values : List ℕ → ℕ → List ℕ → List ℕ → List (List ℕ)
 signed_values seed leaf secret digest =
-    map (λ i. chain_value seed leaf secret i (slice_index (digits_of 4 digest) i)) (range_with_len 0 67)
+    map (λ i. chain_value seed leaf secret i (slice_index (digits_of 4 digest) i)) (range_with_len 0 wots_chains)
 
 -- The values of a signature of a digest climb to these ends: each is walked from its chain's digit to the
 -- end of the chain (3.1.6).

@@ -3,6 +3,7 @@
 ghost use Rattle.std.specs.Prelude.{◌≡◌, ℕ, ◌*◌, List, length};
 ghost use Rattle.std.specs.List.{concat};
 ghost use Rattle.typecodes.specs.Fields.{values_in};
+ghost use Rattle.typecodes.specs.Types.{wots_chains};
 ghost use Rattle.wots_plus.specs.Address.{one_time};
 ghost use Rattle.wots_plus.specs.Key as spec;
 ghost use Rattle.wots_plus.specs.Key.{ClimbTo, ends_of_secret, ends_of_signature, signed_values, step_of};
@@ -10,6 +11,7 @@ ghost use Rattle.wots_plus.specs.Key.{ClimbTo, ends_of_secret, ends_of_signature
 use crate::address::Address;
 use crate::hashes::{Prf, hash_f, keyed, xor};
 use sha2::{Digest, Sha256};
+use typecodes::WOTS_CHAINS;
 use winternitz::{Step, climb, digits};
 
 /// A leaf's one-time key, by the public SEED of its tree and its number.
@@ -66,13 +68,13 @@ impl Wots<'_> {
 
     /// Writes the values of a digest's signature, one after the other: each chain climbed from its
     /// private value to its digit of the digest (RFC 8391 3.1.5). The caller gives 32 bytes for each
-    /// of the 67 chains.
+    /// chain.
     pub fn sign_digest(&self, secret: &[u8; 32], digest: &[u8; 32], into: &mut [u8])
-        requires { length into.old ≡ 32 * 67 }
+        requires { length into.old ≡ 32 * wots_chains }
         ensures value { into.new ≡ concat (signed_values self.now.seed.now.key self.now.leaf secret.now digest.now) }
         // They climb to the ends of the key's chains.
         ensures climbs { ClimbTo self.now.seed.now.key self.now.leaf digest.now
-            (values_in 67 into.new) (ends_of_secret self.now.seed.now.key self.now.leaf secret.now) }
+            (values_in wots_chains into.new) (ends_of_secret self.now.seed.now.key self.now.leaf secret.now) }
     {
         let digits = digits(WIDTH, digest);
         for (chain, digit) in digits.iter().enumerate() {
@@ -84,9 +86,9 @@ impl Wots<'_> {
 
     /// The public hash to which the values of a signature lead: the root of the L-tree over the ends
     /// of the chains, each climbed from its digit of the digest (RFC 8391 3.1.6 and 4.1.10). The caller
-    /// gives 67 values.
+    /// gives a value for each chain.
     pub fn hash_from_signature(&self, digest: &[u8; 32], values: &[[u8; 32]]) -> [u8; 32]
-        requires { length values.now ≡ 67 }
+        requires { length values.now ≡ wots_chains }
         ensures value { result ≡ spec.public_hash self.now.seed.now.key self.now.leaf
             (ends_of_signature self.now.seed.now.key self.now.leaf digest.now values.now) }
         // The same of any list of ends, and that there is one.
@@ -102,11 +104,11 @@ impl Wots<'_> {
     }
 
     // The ends of the chains that a signature's values are climbed to.
-    fn ends_from_signature(&self, digest: &[u8; 32], values: &[[u8; 32]]) -> [[u8; 32]; CHAINS]
-        requires { length values.now ≡ 67 }
+    fn ends_from_signature(&self, digest: &[u8; 32], values: &[[u8; 32]]) -> [[u8; 32]; WOTS_CHAINS]
+        requires { length values.now ≡ wots_chains }
         ensures { result ≡ ends_of_signature self.now.seed.now.key self.now.leaf digest.now values.now }
     {
-        let mut ends = [[0; 32]; CHAINS];
+        let mut ends = [[0; 32]; WOTS_CHAINS];
         for (chain, digit) in digits(WIDTH, digest).iter().enumerate() {
             ends[chain] = climb(self, chain as u16, *digit, STEPS, &values[chain]);
         }
@@ -114,20 +116,17 @@ impl Wots<'_> {
     }
 
     // The ends of the chains of a secret's key.
-    fn ends_from_secret(&self, secret: &[u8; 32]) -> [[u8; 32]; CHAINS]
+    fn ends_from_secret(&self, secret: &[u8; 32]) -> [[u8; 32]; WOTS_CHAINS]
         ensures { result ≡ ends_of_secret self.now.seed.now.key self.now.leaf secret.now }
     {
-        let mut ends = [[0; 32]; CHAINS];
-        for chain in 0..CHAINS as u16 {
+        let mut ends = [[0; 32]; WOTS_CHAINS];
+        for chain in 0..WOTS_CHAINS as u16 {
             let start = self.private_value(secret, chain);
             ends[usize::from(chain)] = climb(self, chain, 0, STEPS, &start);
         }
         ends
     }
 }
-
-// The chains of a key, for n = 32 and w = 16: len in RFC 8391 3.1.1.
-const CHAINS: usize = 67;
 
 // The bits of a digit, for w = 16.
 const WIDTH: u8 = 4;

@@ -1,6 +1,7 @@
 //! The L-tree of a leaf.
 
 ghost use Rattle.std.specs.Prelude.{◌≡◌, ℕ, ◌<◌, ◌≤◌, ◌+◌, ◌/◌, List, length, take};
+ghost use Rattle.typecodes.specs.Types.{wots_chains};
 ghost use Rattle.wots_plus.specs.LTree.{IsLTreeRoot, next_height, l_tree_join, l_tree_root};
 
 use crate::address::Address;
@@ -9,10 +10,10 @@ use crate::key::Wots;
 
 impl Wots<'_> {
     /// The root of the leaf's L-tree over values, which it overwrites (RFC 8391 4.1.5). The caller
-    /// gives at least one value and at most 67.
+    /// gives at least one value, and at most as many as a key has chains.
     pub fn l_tree(&self, values: &mut [[u8; 32]]) -> [u8; 32]
         requires some { 0 < length values.old }
-        requires few { length values.old ≤ 67 }
+        requires few { length values.old ≤ wots_chains }
         ensures value { result ≡ l_tree_root (l_tree_join self.now.seed.now.key self.now.leaf) values.old }
         // The values, replaced height by height, leave it alone in the end, and nothing else.
         ensures root { IsLTreeRoot (l_tree_join self.now.seed.now.key self.now.leaf) values.old result }
@@ -30,7 +31,7 @@ impl Wots<'_> {
 
     // Replaces the values of a height by those of the next, at the front, and counts these.
     fn join_neighbours(&self, height: u32, values: &mut [[u8; 32]]) -> usize
-        requires { length values.old ≤ 67 }
+        requires { length values.old ≤ wots_chains }
         ensures count { result ≡ (length values.old + 1) / 2 }
         ensures values { take result values.new
             ≡ next_height (l_tree_join self.now.seed.now.key self.now.leaf height) 0 values.old }

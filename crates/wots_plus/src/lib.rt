@@ -10,12 +10,13 @@
 //! nodes of the hash tree above.
 //!
 //! ```rust
+//! use typecodes::WOTS_CHAINS;
 //! use wots_plus::{Prf, Wots};
 //!
 //! // the key of leaf 5 of the tree with this public seed
 //! let seed = Prf::new(public_seed);
 //! let key = Wots { seed: &seed, leaf: 5 };
-//! let mut values = [0; 32 * 67];
+//! let mut values = [0; 32 * WOTS_CHAINS];
 //! key.sign_digest(&secret, &digest, &mut values);
 //! let hash = key.hash_from_signature(&digest, values.as_chunks().0);
 //! assert_eq!(rt; hash, key.public_hash(&secret));

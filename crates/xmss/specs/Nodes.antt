@@ -5,10 +5,10 @@ use Rattle.wots_plus.specs.Address.{hash_tree}
 use Rattle.wots_plus.specs.Hashes.{rand_hash}
 use Rattle.wots_plus.specs.Key.{public_hash}
 
--- leaf i, of the ends of its one-time key's chains: the root of the L-tree over them, under the OTS
--- address and the L-tree address i (4.1.6)
+-- the leaf of an index, of the ends of its one-time key's chains: the root of the L-tree over them, under the OTS
+-- address and the L-tree address with this index (4.1.6)
 abbrev pub leaf_of : List ℕ → ℕ → List (List ℕ) → List ℕ
-leaf_of seed i ends = public_hash seed i ends
+leaf_of seed index ends = public_hash seed index ends
 
 -- RAND_HASH of two nodes of height k under a hash tree address with that height and the index j of
 -- the node above them (4.1.6)

@@ -13,7 +13,8 @@ use Rattle.xmss.specs.Nodes.{join_of, leaf_of}
 
 -- the leaves of a secret's tree: each of the ends of all chains, walked from their private values
 abbrev pub leaves_of : XmssSecret → Leaves
-leaves_of secret i = leaf_of secret.public_seed i (ends_of_secret secret.public_seed i secret.secret_seed)
+leaves_of secret index =
+    leaf_of secret.public_seed index (ends_of_secret secret.public_seed index secret.secret_seed)
 
 -- and the nodes above them
 abbrev pub joins_of : XmssSecret → Joins
@@ -27,17 +28,18 @@ root_in secret = root_of (leaves_of secret) (joins_of secret) (xmss_height_of se
 abbrev pub public_of : XmssSecret → XmssPublic
 public_of secret = record { tree = secret.tree; root = root_in secret; seed = secret.public_seed }
 
--- the authentication path of leaf i
+-- the authentication path of a leaf
 abbrev pub path_in : XmssSecret → ℕ → List (List ℕ)
-path_in secret i = path_of (leaves_of secret) (joins_of secret) (xmss_height_of secret.tree) i
+path_in secret index = path_of (leaves_of secret) (joins_of secret) (xmss_height_of secret.tree) index
 
 -- r = PRF(SK_PRF, toByte(idx, 32)) (4.1.9)
 abbrev pub randomizer_of : List ℕ → ℕ → List ℕ
 randomizer_of prf_key index = prf prf_key (index_bytes index)
 
--- the digest M' of a message that leaf i signs
+-- the digest M' of a message that a leaf signs
 abbrev pub digest_in : XmssSecret → List ℕ → ℕ → List ℕ → List ℕ
-digest_in secret root i message = message_digest_of (randomizer_of secret.prf_key i) root i message
+digest_in secret root index message =
+    message_digest_of (randomizer_of secret.prf_key index) root index message
 
 -- the secret that a tree's leaves are made from
 abbrev pub secret_of : XmssTree → XmssSecret

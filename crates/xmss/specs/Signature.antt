@@ -2,7 +2,7 @@
 use Rattle.std.specs.Prelude.{ℕ, ◌^◌, List, nat_lt, if◌then◌else◌}
 use Rattle.typecodes.specs.declared.fault.Cause.TheVariants.{LeafOutOfRange}
 use Rattle.typecodes.specs.declared.types.XmssType.{XmssType}
-use Rattle.typecodes.specs.Types.{xmss_height_of}
+use Rattle.typecodes.specs.Types.{wots_chains, xmss_height_of}
 use Rattle.typecodes.specs.Layout.{Layout, done, refuse, ◌>>=◌}
 use Rattle.typecodes.specs.Fields.{number, block, values, values_in}
 
@@ -18,9 +18,9 @@ abbrev pub signature_with : ℕ → List ℕ → List (List ℕ) → List (List 
 signature_with index randomizer chains path =
     record { index = index; randomizer = randomizer; chains = chains; path = path }
 
--- the values of all chains in the bytes: each of 32 bytes, 67 of them (3.1.1)
+-- the values of all chains in the bytes, each of 32 bytes (3.1.1)
 unfoldable pub chains_in : List ℕ → List (List ℕ)
-chains_in bytes = values_in 67 bytes
+chains_in bytes = values_in wots_chains bytes
 
 -- the index of a leaf of a tree of height h: any other is a fault, where it stands
 unfoldable pub leaf_index : ℕ → Layout ℕ
@@ -28,11 +28,11 @@ leaf_index h = do
   index ← number
   if nat_lt index (2 ^ h) then done index else refuse 4 LeafOutOfRange
 
--- A signature of a type (4.1.8), which has no code of the type: idx, r, 67 values and the path.
+-- A signature of a type (4.1.8), which has no code of the type: idx, r, a value for each chain and the path.
 unfoldable pub signature : XmssType → Layout Signature
 signature tree = do
   index ← leaf_index (xmss_height_of tree)
   randomizer ← block 32
-  chains ← values 67
+  chains ← values wots_chains
   path ← values (xmss_height_of tree)
   done (signature_with index randomizer chains path)

@@ -6,7 +6,7 @@ use Rattle.typecodes.specs.declared.refusal.Refusal.TheVariants.{Unreadable, Typ
 use Rattle.typecodes.specs.declared.refusal.Refusal.TheVariants.{RootMismatch, MessageRead}
 use Rattle.typecodes.specs.Layout.{Spells, HasFault}
 use Rattle.typecodes.specs.Message.{CantBeRead, ReadWhole, Transition}
-use Rattle.typecodes.specs.Types.{xmss_height_of}
+use Rattle.typecodes.specs.Types.{wots_chains, xmss_height_of}
 use Rattle.merkle.specs.Ascent.{IsAscent, at}
 use Rattle.wots_plus.specs.Key.{ClimbTo}
 use Rattle.xmss.specs.declared.key.XmssPublic.{XmssPublic}
@@ -27,7 +27,7 @@ pub record LeadsTo (key : XmssPublic) (digest : List ℕ) (s : Signature) (node 
 -- The signature has a value for each chain (3.1.1); its index is one of a leaf of the key's tree, and the path is
 -- as long as the tree is high; and as that of a digest it leads to the key's root.
 pub record IsValidFor (key : XmssPublic) (digest : List ℕ) (s : Signature) : Type 0 where
-  pub chains : length s.chains ≡ 67
+  pub chains : length s.chains ≡ wots_chains
   pub leaf : s.index < 2 ^ xmss_height_of key.tree
   pub height : length s.path ≡ xmss_height_of key.tree
   pub leads : LeadsTo key digest s key.root

@@ -9,18 +9,18 @@ use Rattle.xmss.specs.declared.secret.XmssSecret.{XmssSecret}
 use Rattle.xmss.specs.Secret.{path_in, randomizer_of}
 use Rattle.xmss.specs.Signature.{Signature}
 
--- the signature of the digest M' by leaf i, with a path
+-- the signature of the digest M' by a leaf, with a path
 abbrev pub signed : XmssSecret → ℕ → List ℕ → List (List ℕ) → Signature
-signed secret i digest path = record {
-  index = i;
-  randomizer = randomizer_of secret.prf_key i;
-  chains = signed_values secret.public_seed i secret.secret_seed digest;
+signed secret index digest path = record {
+  index = index;
+  randomizer = randomizer_of secret.prf_key index;
+  chains = signed_values secret.public_seed index secret.secret_seed digest;
   path = path;
 }
 
--- The textbook signature: that with the path of leaf i.
+-- The textbook signature: that with the path of the leaf.
 abbrev pub textbook : XmssSecret → ℕ → List ℕ → Signature
-textbook secret i digest = signed secret i digest (path_in secret i)
+textbook secret index digest = signed secret index digest (path_in secret index)
 
 -- the bytes of a signature (4.1.8)
 abbrev pub signature_bytes : Signature → List ℕ

@@ -2,8 +2,7 @@
 //! every key and every signature.
 
 ghost use Rattle.std.specs.Prelude.{◌≡◌, ◌≢◌, ◌⊎◌, List, ℕ, Result, Err, IsOk};
-ghost use Rattle.typecodes.specs.Layout.{Spells};
-ghost use Rattle.typecodes.specs.Unambiguous.{IsUnambiguous};
+ghost use Rattle.typecodes.specs.Layout.{IsUnambiguous, Spells};
 ghost use Rattle.typecodes.specs.declared.refusal.Refusal.{Refusal};
 ghost use Rattle.typecodes.specs.declared.types.XmssType.{XmssType};
 ghost use Rattle.xmss.specs.declared.key.XmssPublic.{XmssPublic};

@@ -1,16 +1,16 @@
 //! Signatures, as views of their bytes.
 
-ghost use Rattle.std.specs.Prelude.{◌≡◌, ◌+◌, ◌*◌, ◌<◌, ◌^◌, IfOk, OnErr, OnOk, Ok};
+ghost use Rattle.std.specs.Prelude.{◌≡◌, ◌+◌, ◌*◌, ◌<◌, ◌^◌, IfOk, Ok};
 ghost use Rattle.std.specs.Prelude.{[], length, take, drop, slice_index_or};
 ghost use Rattle.byteorder.specs.Endian.{big_number};
 ghost use Rattle.typecodes.specs.Layout.{Spells};
 ghost use Rattle.typecodes.specs.Fields.{values_in};
-ghost use Rattle.typecodes.specs.Cursor.{Gives, Reads, read};
-ghost use Rattle.typecodes.specs.Types.{xmss_height_of, xmss_signature_len_of};
+ghost use Rattle.typecodes.specs.Cursor.{Gives, Passes, Reads, read};
+ghost use Rattle.typecodes.specs.Types.{wots_chains, xmss_height_of, xmss_signature_len_of};
 ghost use Rattle.xmss.specs.Signature as spec;
 ghost use Rattle.xmss.specs.Signature.{chains_in, signature, signature_with};
 
-use typecodes::{Cause, Cursor, ReadFault, XmssType};
+use typecodes::{Cause, Cursor, ReadFault, WOTS_CHAINS, XmssType};
 
 /// A signature of one tree (RFC 8391 4.1.8), as a view of the bytes that spell it.
 #[derive(Clone, Copy, Debug)]
@@ -22,7 +22,7 @@ pub struct XmssSigView<'a> {
     pub(crate) path: &'a [[u8; 32]],
     pub(crate) bytes: &'a [u8],
     ghost inside: { index < 2 ^ xmss_height_of tree },
-    ghost chain_count: { length chains.now ≡ 67 },
+    ghost chain_count: { length chains.now ≡ wots_chains },
     ghost path_length: { length path.now ≡ xmss_height_of tree },
     ghost spelled: { read (signature tree) bytes.now 0
         ≡ Ok (signature_with index randomizer.now chains.now path.now, length bytes.now) },
@@ -48,7 +48,7 @@ impl<'a> XmssSigView<'a> {
         let mut cursor = Cursor::new(bytes);
         let index = leaf_index(&mut cursor, tree)?;
         let randomizer = cursor.array()?;
-        let chains = cursor.values(67)?;
+        let chains = cursor.values(WOTS_CHAINS as u32)?;
         let path = cursor.values(u32::from(tree.height()))?;
         cursor.end()?;
         Ok(XmssSigView {
@@ -78,9 +78,9 @@ impl<'a> XmssSigView<'a> {
         self.randomizer
     }
 
-    /// The value of chain i, 32 bytes. The caller keeps i below 67.
+    /// The value of chain i, 32 bytes. The caller keeps i below the number of chains.
     pub fn chain(&self, i: u16) -> &'a [u8; 32]
-        requires { i < 67 }
+        requires { i < wots_chains }
         ensures value { result.now ≡ slice_index_or (signature_of self.now).chains i [] }
         ensures range { result.now ≡ take 32 (drop (36 + 32 * i) (bytes_of self.now)) }
     {
@@ -115,9 +115,7 @@ fn leaf_index(cursor: &mut Cursor<'_>, tree: XmssType) -> Result<u32, ReadFault>
         (read (spec.leaf_index (xmss_height_of tree)) cursor.old.bytes.now cursor.old.place) }
     ensures inside { IfOk result (λ index. index < 2 ^ xmss_height_of tree) }
     ensures range { IfOk result (λ index. index ≡ big_number 4 (take 4 (drop cursor.old.place cursor.old.bytes.now))) }
-    ensures len { OnOk result (cursor.new.place ≡ cursor.old.place + 4) }
-    ensures bytes { cursor.new.bytes ≡ cursor.old.bytes }
-    ensures err { OnErr result (cursor.new.place ≡ cursor.old.place) }
+    ensures passes { Passes 4 result cursor.old cursor.new }
 {
     let mut rest = *cursor;
     let index = rest.number()?;

@@ -11,7 +11,7 @@ ghost use Rattle.xmss.specs.Verification.{IsValid};
 
 use crate::key::XmssPublic;
 use crate::secret::XmssSecret;
-use typecodes::put;
+use typecodes::{WOTS_CHAINS, put};
 use wots_plus::{Prf, Wots};
 
 /// Writes a public key, 68 bytes (RFC 8391 4.1.7).
@@ -50,7 +50,7 @@ pub fn write_signature(
 {
     let place = put(into, 0, &leaf.to_be_bytes());
     let place = put(into, place, &secret.randomizer(leaf));
-    let end = place + 32 * 67;
+    let end = place + 32 * WOTS_CHAINS;
     let seed = Prf::new(secret.public_seed);
     let key = Wots { seed: &seed, leaf };
     key.sign_digest(&secret.secret_seed, digest, &mut into[place..end]);

@@ -13,10 +13,10 @@ use Rattle.hss.proofs.signature.HssSigView.read.Goals as goal
 
 -- where they begin
 bytes_are : (c : After-end) → c.number_above.new.cursor.bytes.now ≡ c.args.bytes.now
-bytes_are c = ap (λ b. b.now) (c.in_ok-above.ensures.bytes ∙ c.new-cursor.ensures.bytes)
+bytes_are c = ap (λ b. b.now) (c.in_ok-above.ensures.passes.bytes ∙ c.new-cursor.ensures.bytes)
 
 four_is : (c : After-end) → c.number_above.new.cursor.place ≡ 4
-four_is c = omega (arith, c.in_ok-above.ensures.len, c.new-cursor.ensures.place)
+four_is c = omega (arith, c.in_ok-above.ensures.passes.len, c.new-cursor.ensures.place)
 
 -- the signed keys that were read
 keys : (c : After-end) → read (signed_keys c.in_ok-above.above) c.args.bytes.now 4 ≡ Ok (signed_in c.in_ok-signed.signed.slots, c.from_cursor.new.cursor.place)

@@ -12,7 +12,7 @@ returns-clause-part c =
     let cursor = c.args.cursor.now in
     let size = lms_signature_len_of (pair_of c.in_ok-signature.signature) in
     let long : c.from_cursor.new.cursor.place - cursor.place ≡ size = omega (arith, c.in_ok-signature.ensures.len) in
-    let bytes : c.from_cursor-2.new.cursor.bytes.now ≡ cursor.bytes.now = ap (λ b. b.now) (c.from_cursor-2.ensures.bytes ∙ c.from_cursor.ensures.bytes) in
+    let bytes : c.from_cursor-2.new.cursor.bytes.now ≡ cursor.bytes.now = ap (λ b. b.now) (c.from_cursor-2.ensures.passes.bytes ∙ c.from_cursor.ensures.keeps.bytes) in
     let next : c.from_cursor.new.cursor.place ≡ cursor.place + size = omega (arith, c.in_ok-signature.ensures.len) in (
       c.in_ok-signature.ensures.part ∙ ap (λ n. take n (drop cursor.place cursor.bytes.now)) long,
       c.bytes_of_key-key_bytes.ensures.range

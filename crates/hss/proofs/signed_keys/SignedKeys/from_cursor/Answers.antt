@@ -29,23 +29,23 @@ loop-i-preserved c =
     let same = ap (λ b. b.now) c.loop-i.invariant.bytes in
     let within : i < length slots = omega (arith, c.loop-i.invariant.size) in
     let empty = c.loop-i.invariant.first.1 in
-    let found : read signed_key bytes c.loop-i.cursor.place ≡ Ok (signed_key_of view, c.from_cursor.new.cursor.place) =
-    ap (λ b. read signed_key b c.loop-i.cursor.place) (sym same) ∙ c.in_ok-from_cursor.ensures.read in
-    let at : c.loop-i.cursor.place ≡ place + taken_by (signed_in (take i slots)) =
-    (keys-end i bytes place c.loop-i.cursor.place (signed_in slots) c.args.cursor.now.within c.loop-i.invariant.read).1
+    let found : read signed_key bytes c.loop-i.rest.place ≡ Ok (signed_key_of view, c.from_cursor.new.cursor.place) =
+    ap (λ b. read signed_key b c.loop-i.rest.place) (sym same) ∙ c.in_ok-from_cursor.ensures.read in
+    let at : c.loop-i.rest.place ≡ place + taken_by (signed_in (take i slots)) =
+    (keys-end i bytes place c.loop-i.rest.place (signed_in slots) c.args.cursor.now.within c.loop-i.invariant.read).1
     ∙ ap (λ keys. place + taken_by keys) (shown-front i slots c.loop-i.invariant.first) in
     let here : BeginsAt (place + taken_by (signed_in (take i slots))) bytes view =
-    subst (λ at. BeginsAt at bytes view) at (subst (λ b. BeginsAt c.loop-i.cursor.place b view) same c.in_ok-from_cursor.ensures.part) in
+    subst (λ at. BeginsAt at bytes view) at (subst (λ b. BeginsAt c.loop-i.rest.place b view) same c.in_ok-from_cursor.ensures.part) in
     let shows : signed_in slots ++ signed_key_of view ∷ [] ≡ signed_in (set slots c.from.result (Some view)) =
     sym (set-shows slots i view within empty) ∙ ap (λ k. signed_in (set slots k (Some view))) (sym c.from.ensures) in
     record {
-      read = keys-next i bytes place c.loop-i.cursor.place c.from_cursor.new.cursor.place (signed_in slots) (signed_key_of view) c.loop-i.invariant.read found
+      read = keys-next i bytes place c.loop-i.rest.place c.from_cursor.new.cursor.place (signed_in slots) (signed_key_of view) c.loop-i.invariant.read found
           ∙ ap (λ keys. Ok (keys, c.from_cursor.new.cursor.place)) shows;
       first = subst (λ k. AreFirst (i + 1) (set slots k (Some view))) (sym c.from.ensures) (set-first slots i view within empty c.loop-i.invariant.first);
       stand = subst (λ k. StandInTurn place bytes (set slots k (Some view))) (sym c.from.ensures) (set-stand slots i view within empty place bytes c.loop-i.invariant.stand here);
       size = length-set slots c.from.result (Some view) ∙ c.loop-i.invariant.size;
       most = omega (arith, c.in_ok-from_cursor.ensures.most, c.loop-i.invariant.most);
-      bytes = c.in_ok-from_cursor.ensures.bytes ∙ c.loop-i.invariant.bytes;
+      bytes = c.in_ok-from_cursor.ensures.keeps.bytes ∙ c.loop-i.invariant.bytes;
     }
 
 -- the next one has a fault
@@ -54,7 +54,7 @@ returns-in_err-from_cursor-clause-read c =
     let bytes = c.args.cursor.now.bytes.now in
     let place = c.args.cursor.now.place in
     let same = ap (λ b. b.now) c.loop-i.invariant.bytes in
-    let faulty : read signed_key bytes c.loop-i.cursor.place ≡ Err c.in_err-from_cursor.field-0.0 =
-    ap (λ b. read signed_key b c.loop-i.cursor.place) (sym same) ∙ c.in_err-from_cursor.ensures.read in
-    let all = keys-faulty c.loop-i.i c.args.count bytes place c.loop-i.cursor.place (signed_in c.loop-i.slots) _ c.loop-i-test.true c.loop-i.invariant.read faulty in
+    let faulty : read signed_key bytes c.loop-i.rest.place ≡ Err c.in_err-from_cursor.field-0.0 =
+    ap (λ b. read signed_key b c.loop-i.rest.place) (sym same) ∙ c.in_err-from_cursor.ensures.read in
+    let all = keys-faulty c.loop-i.i c.args.count bytes place c.loop-i.rest.place (signed_in c.loop-i.slots) _ c.loop-i-test.true c.loop-i.invariant.read faulty in
     search rules

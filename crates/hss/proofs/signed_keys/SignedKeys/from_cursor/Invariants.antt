@@ -6,10 +6,10 @@ use Rattle.hss.proofs.signed_keys.SignedKeys.from_cursor.Given as goal
 -- the first slots show what was read so far
 abbrev pub invariant-loop-i : goal.invariant-loop-i
 invariant-loop-i l = record {
-  read : read (signed_keys l.i) l.fn.cursor.bytes.now l.fn.cursor.place ≡ Ok (signed_in l.slots, l.cursor.place);
+  read : read (signed_keys l.i) l.fn.cursor.bytes.now l.fn.cursor.place ≡ Ok (signed_in l.slots, l.rest.place);
   first : AreFirst l.i l.slots;
   stand : StandInTurn l.fn.cursor.place l.fn.cursor.bytes.now l.slots;
   size : length l.slots ≡ 7;
-  most : l.cursor.place ≤ l.fn.cursor.place + 9380 * l.i;
-  bytes : l.cursor.bytes ≡ l.fn.cursor.bytes;
+  most : l.rest.place ≤ l.fn.cursor.place + 9380 * l.i;
+  bytes : l.rest.bytes ≡ l.fn.cursor.bytes;
 }
