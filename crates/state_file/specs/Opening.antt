@@ -10,7 +10,6 @@ use Rattle.state_file.specs.declared.file.opening.OpenFault.TheVariants.{NoKey, 
 use Rattle.state_file.specs.declared.file.opening.OpenFault.TheVariants.{Damaged, DeviceFailed}
 use Rattle.state_file.specs.declared.record.Record.{Record}
 use Rattle.state_file.specs.declared.record.Version.{Version}
-use Rattle.state_file.specs.declared.record.Key.{Key}
 
 -- ---- what opening finds
 
