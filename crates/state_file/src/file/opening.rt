@@ -1,9 +1,9 @@
 //! What stands in a file: its slots are read one after the other, up to the first whose gate is closed.
 
-ghost use Rattle.std.specs.Prelude.{◌≡◌, ◌+◌, ◌*◌, ◌-◌, ◌^◌, ◌<◌, ◌≤◌, ◌==◌, ◌∷◌, [], ◌++◌, IsTrue, IfOk, IfErr};
+ghost use Rattle.std.specs.Prelude.{◌≡◌, ◌+◌, ◌*◌, ◌-◌, ◌<◌, ◌≤◌, ◌==◌, ◌∷◌, [], ◌++◌, IsTrue, IfOk, IfErr};
 ghost use Rattle.std.specs.Prelude.{OnOk, MatchOption, length, replicate, slice_index};
 ghost use Rattle.typecodes.specs.Layout.{Spells};
-ghost use Rattle.state_file.specs.File.{MayHaveKey, fields_at, open_value, previous_tag, tag_at, tag_of};
+ghost use Rattle.state_file.specs.File.{MayHaveKey, fields_at, most_records, open_value, previous_tag, tag_at, tag_of};
 ghost use Rattle.state_file.specs.Slot.{slot_record};
 ghost use Rattle.state_file.specs.declared.record.Record.{Record as Entry};
 ghost use Rattle.state_file.specs.Disk.{settled, MayLeave, Counts, is_failure};
@@ -171,7 +171,7 @@ fn read_slot<D: Disk>(
 ) -> Result<Slot, OpenFault>
     requires len { IsTrue (D.honest disk.old) → len ≡ length (D.state disk.old).content }
     requires previous { IsTrue (D.honest disk.old) → previous.now ≡ previous_tag (D.state disk.old).content k }
-    ensures few { OnOk result (k < 2 ^ 31) }
+    ensures few { OnOk result (k < most_records) }
     ensures slot { IsTrue (D.honest disk.old) →
         IfOk result (λ slot. HasSlot (D.state disk.old).content k slot.entry slot.tag) }
     ensures fault { IsTrue (D.honest disk.old) → IfErr result (ReportsSlot (D.state disk.old).content k) }
@@ -262,7 +262,7 @@ impl Found {
 
     // One record more.
     fn push(&mut self, slot: &Slot)
-        requires { self.old.count < 2 ^ 31 }
+        requires { self.old.count < most_records }
         ensures count { self.new.count ≡ self.old.count + 1 }
         ensures tag { self.new.tag ≡ slot.now.tag }
         ensures records { self.new.records ≡ self.old.records ++ slot.now.entry ∷ [] }
@@ -278,7 +278,7 @@ fn read_slots<D: Disk>(disk: &mut D, len: u64) -> Result<Found, OpenFault>
     requires len { IsTrue (D.honest disk.old) → len ≡ length (D.state disk.old).content }
     requires key { IsTrue (D.honest disk.old) → StartsWithKey (D.state disk.old).content }
     ensures counted { IfOk result (λ found. found.count ≡ length found.records) }
-    ensures few { IfOk result (λ found. found.count ≤ 2 ^ 31) }
+    ensures few { IfOk result (λ found. found.count ≤ most_records) }
     ensures found { IsTrue (D.honest disk.old) →
         IfOk result (λ found. IsFound (D.state disk.old).content found.records found.tag) }
     ensures fault { IsTrue (D.honest disk.old) → IfErr result (Reports (D.state disk.old).content) }
@@ -299,7 +299,7 @@ fn read_slots<D: Disk>(disk: &mut D, len: u64) -> Result<Found, OpenFault>
 /// leave.
 pub(crate) fn find_records<D: Disk>(disk: &mut D) -> Result<Found, OpenFault>
     ensures counted { IfOk result (λ found. found.count ≡ length found.records) }
-    ensures few { IfOk result (λ found. found.count ≤ 2 ^ 31) }
+    ensures few { IfOk result (λ found. found.count ≤ most_records) }
     ensures found { IsTrue (D.honest disk.old) →
         IfOk result (λ found. IsFound (D.state disk.old).content found.records found.tag) }
     ensures fault { IsTrue (D.honest disk.old) → IfErr result (Reports (D.state disk.old).content) }

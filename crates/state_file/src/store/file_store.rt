@@ -1,11 +1,11 @@
 //! A store over a disk.
 
-ghost use Rattle.std.specs.Prelude.{◌≡◌, ◌≢◌, ◌⊎◌, ◌≤◌, ◌<◌, ◌+◌, ◌^◌, ◌∷◌, ℕ, List, [], ◌++◌, true, false, IsTrue};
+ghost use Rattle.std.specs.Prelude.{◌≡◌, ◌≢◌, ◌⊎◌, ◌≤◌, ◌<◌, ◌+◌, ◌∷◌, ℕ, List, [], ◌++◌, true, false, IsTrue};
 ghost use Rattle.std.specs.Prelude.{IfOk, IfErr, OnOk, OnErr, MatchResult, length, max, replicate};
 ghost use Rattle.typecodes.specs.Layout.{Spells};
 ghost use Rattle.state_file.specs.Disk.{Elapses, LeavesOnly};
 ghost use Rattle.state_file.specs.Disk.{DiskState, settled, ChangesOnly, MayLeave, Counts};
-ghost use Rattle.state_file.specs.File.{SpellsRecords, fields_at, tag_at, tag_of};
+ghost use Rattle.state_file.specs.File.{SpellsRecords, fields_at, most_records, tag_at, tag_of};
 ghost use Rattle.state_file.specs.File.{StandsFor, LeftLists, IsSyncedFile, IsSyncedFile-prop};
 ghost use Rattle.state_file.specs.Gates.{AddsSlot, slot_and_gate};
 ghost use Rattle.state_file.specs.Format.{is_failed_format, Formats, LeftByFormat};
@@ -39,7 +39,7 @@ pub struct FileStore<D: Disk> {
     // the slots that load has reported as unreadable
     unreadable: SlotList,
     ghost counted: { count ≡ length records },
-    ghost few: { length records ≤ 2 ^ 31 },
+    ghost few: { length records ≤ most_records },
     ghost kept: { IsTrue (D.honest disk) → stopped ≡ false →
         IsSyncedFile records tag (D.state disk) } by { Prim.hlevel IsSyncedFile-prop },
 }
@@ -181,7 +181,7 @@ impl<D: Disk + Drop> Store for FileStore<D> {
 
     ghost honest = { λ store. D.honest (disk_of store) };
 
-    ghost most = { λ _. 2 ^ 31 };
+    ghost most = { λ _. most_records };
 
     ghost moment = { λ store. D.moment (disk_of store) };
 
@@ -261,7 +261,7 @@ impl<D: Disk + Drop> Store for FileStore<D> {
         ensures bytes { IsTrue (D.honest (disk_of self.old)) → has_stopped self.old ≡ false →
             LeavesOnly D.moment D.left_since (disk_of self.old) (disk_of self.new)
             (ChangesOnly (slot_and_gate (length (records_of self.old)) ∷ []) (D.state (disk_of self.old)).content) }
-        ensures answer { Appends (2 ^ 31) (records_of self.old) (has_stopped self.old) new.now (records_of self.new)
+        ensures answer { Appends most_records (records_of self.old) (has_stopped self.old) new.now (records_of self.new)
             (has_stopped self.new) (D.failures (disk_of self.old)) (D.failures (disk_of self.new)) result }
         ensures refusals { Counts is_out_of_memory 0 0 result }
         ensures memory { result ≢ Err StoreFault.OutOfMemory }
