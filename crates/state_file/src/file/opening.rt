@@ -6,8 +6,8 @@ ghost use Rattle.typecodes.specs.Layout.{Spells};
 ghost use Rattle.state_file.specs.File.{MayHaveKey, fields_at, most_records, open_value, previous_tag, tag_at, tag_of};
 ghost use Rattle.state_file.specs.Slot.{slot_record};
 ghost use Rattle.state_file.specs.declared.record.Record.{Record as Entry};
-ghost use Rattle.state_file.specs.Disk.{settled, MayLeave, Counts, is_failure};
-ghost use Rattle.state_file.specs.Disk.{LeavesOnly};
+ghost use Rattle.state_file.specs.Disk.{settled, MayLeave, LeavesOnly, is_failure};
+ghost use Rattle.state_file.specs.DiskCalls.{CountsFailures};
 ghost use Rattle.state_file.specs.Opening.{is_failed_opening, HasEntry, HasSlot, IsFound, KeepsContent, OnlyReads};
 ghost use Rattle.state_file.specs.Opening.{StartsWithKey, Reports, ReportsSlot};
 
@@ -79,9 +79,7 @@ fn read_gate<D: Disk>(disk: &mut D, k: u32) -> Result<bool, DiskFault>
     ensures gate { IsTrue (D.honest disk.old) →
         IfOk result (λ opened. opened ≡ (slice_index (D.state disk.old).content (256 * k) == open_value)) }
     ensures reads { IsTrue (D.honest disk.old) → OnlyReads D.state D.moment D.left_since disk.old disk.new }
-    ensures failures { Counts is_failure (D.failures disk.old) (D.failures disk.new) result }
-    ensures past_ends { IsTrue (D.honest disk.old) → D.past_ends disk.new ≡ D.past_ends disk.old }
-    ensures honest { D.honest disk.new ≡ D.honest disk.old }
+    ensures counts { CountsFailures D.Disk is_failure disk.old disk.new result }
 {
     let mut gate = [0];
     read_within(disk, SLOT * u64::from(k), &mut gate)?;
@@ -94,9 +92,7 @@ fn read_fields<D: Disk>(disk: &mut D, k: u32) -> Result<[u8; 223], DiskFault>
     ensures fields { IsTrue (D.honest disk.old) →
         IfOk result (λ fields. fields ≡ fields_at (D.state disk.old).content k) }
     ensures reads { IsTrue (D.honest disk.old) → OnlyReads D.state D.moment D.left_since disk.old disk.new }
-    ensures failures { Counts is_failure (D.failures disk.old) (D.failures disk.new) result }
-    ensures past_ends { IsTrue (D.honest disk.old) → D.past_ends disk.new ≡ D.past_ends disk.old }
-    ensures honest { D.honest disk.new ≡ D.honest disk.old }
+    ensures counts { CountsFailures D.Disk is_failure disk.old disk.new result }
 {
     let mut fields = [0; 223];
     read_within(disk, SLOT * u64::from(k) + 1, &mut fields)?;
@@ -108,9 +104,7 @@ pub(crate) fn read_tag<D: Disk>(disk: &mut D, k: u32) -> Result<[u8; 32], DiskFa
     requires { IsTrue (D.honest disk.old) → 256 * k + 256 ≤ length (D.state disk.old).content }
     ensures tag { IsTrue (D.honest disk.old) → IfOk result (λ tag. tag ≡ tag_at (D.state disk.old).content k) }
     ensures reads { IsTrue (D.honest disk.old) → OnlyReads D.state D.moment D.left_since disk.old disk.new }
-    ensures failures { Counts is_failure (D.failures disk.old) (D.failures disk.new) result }
-    ensures past_ends { IsTrue (D.honest disk.old) → D.past_ends disk.new ≡ D.past_ends disk.old }
-    ensures honest { D.honest disk.new ≡ D.honest disk.old }
+    ensures counts { CountsFailures D.Disk is_failure disk.old disk.new result }
 {
     let mut tag = [0; 32];
     read_within(disk, SLOT * u64::from(k) + 224, &mut tag)?;
@@ -124,9 +118,7 @@ fn read_body<D: Disk>(disk: &mut D, k: u32) -> Result<Body, DiskFault>
         IfOk result (λ body. body.fields ≡ fields_at (D.state disk.old).content k) }
     ensures tag { IsTrue (D.honest disk.old) → IfOk result (λ body. body.tag ≡ tag_at (D.state disk.old).content k) }
     ensures reads { IsTrue (D.honest disk.old) → OnlyReads D.state D.moment D.left_since disk.old disk.new }
-    ensures failures { Counts is_failure (D.failures disk.old) (D.failures disk.new) result }
-    ensures past_ends { IsTrue (D.honest disk.old) → D.past_ends disk.new ≡ D.past_ends disk.old }
-    ensures honest { D.honest disk.new ≡ D.honest disk.old }
+    ensures counts { CountsFailures D.Disk is_failure disk.old disk.new result }
 {
     let fields = read_fields(disk, k)?;
     let tag = read_tag(disk, k)?;
@@ -138,9 +130,7 @@ fn read_previous_tag<D: Disk>(disk: &mut D, k: u32) -> Result<[u8; 32], DiskFaul
     requires { IsTrue (D.honest disk.old) → 256 * k ≤ length (D.state disk.old).content }
     ensures tag { IsTrue (D.honest disk.old) → IfOk result (λ tag. tag ≡ previous_tag (D.state disk.old).content k) }
     ensures reads { IsTrue (D.honest disk.old) → OnlyReads D.state D.moment D.left_since disk.old disk.new }
-    ensures failures { Counts is_failure (D.failures disk.old) (D.failures disk.new) result }
-    ensures past_ends { IsTrue (D.honest disk.old) → D.past_ends disk.new ≡ D.past_ends disk.old }
-    ensures honest { D.honest disk.new ≡ D.honest disk.old }
+    ensures counts { CountsFailures D.Disk is_failure disk.old disk.new result }
 {
     match k.checked_sub(1) {
         None => Ok([0; 32]),
@@ -153,9 +143,7 @@ pub(crate) fn read_entry<D: Disk>(disk: &mut D, k: u32) -> Result<Option<Record>
     requires { IsTrue (D.honest disk.old) → 256 * k + 256 ≤ length (D.state disk.old).content }
     ensures entry { IsTrue (D.honest disk.old) → IfOk result (HasEntry (D.state disk.old).content k) }
     ensures reads { IsTrue (D.honest disk.old) → OnlyReads D.state D.moment D.left_since disk.old disk.new }
-    ensures failures { Counts is_failure (D.failures disk.old) (D.failures disk.new) result }
-    ensures past_ends { IsTrue (D.honest disk.old) → D.past_ends disk.new ≡ D.past_ends disk.old }
-    ensures honest { D.honest disk.new ≡ D.honest disk.old }
+    ensures counts { CountsFailures D.Disk is_failure disk.old disk.new result }
 {
     let previous = read_previous_tag(disk, k)?;
     let body = read_body(disk, k)?;
@@ -176,9 +164,7 @@ fn read_slot<D: Disk>(
         IfOk result (λ slot. HasSlot (D.state disk.old).content k slot.entry slot.tag) }
     ensures fault { IsTrue (D.honest disk.old) → IfErr result (ReportsSlot (D.state disk.old).content k) }
     ensures reads { IsTrue (D.honest disk.old) → OnlyReads D.state D.moment D.left_since disk.old disk.new }
-    ensures failures { Counts is_failed_opening (D.failures disk.old) (D.failures disk.new) result }
-    ensures past_ends { IsTrue (D.honest disk.old) → D.past_ends disk.new ≡ D.past_ends disk.old }
-    ensures honest { D.honest disk.new ≡ D.honest disk.old }
+    ensures counts { CountsFailures D.Disk is_failed_opening disk.old disk.new result }
 {
     if k >= MOST || SLOT * (u64::from(k) + 1) >= len {
         return Err(OpenFault::Damaged(k));
@@ -215,9 +201,7 @@ fn read_first_fields<D: Disk>(disk: &mut D, len: u64) -> Result<[u8; 223], OpenF
         IfOk result (λ fields. fields ≡ fields_at (D.state disk.old).content 0) }
     ensures fault { IsTrue (D.honest disk.old) → IfErr result (Reports (D.state disk.old).content) }
     ensures reads { IsTrue (D.honest disk.old) → OnlyReads D.state D.moment D.left_since disk.old disk.new }
-    ensures failures { Counts is_failed_opening (D.failures disk.old) (D.failures disk.new) result }
-    ensures past_ends { IsTrue (D.honest disk.old) → D.past_ends disk.new ≡ D.past_ends disk.old }
-    ensures honest { D.honest disk.new ≡ D.honest disk.old }
+    ensures counts { CountsFailures D.Disk is_failed_opening disk.old disk.new result }
 {
     if len < SLOT + 1 {
         return Err(OpenFault::NoKey);
@@ -234,9 +218,7 @@ fn check_key<D: Disk>(disk: &mut D, len: u64) -> Result<(), OpenFault>
     ensures key { IsTrue (D.honest disk.old) → OnOk result (StartsWithKey (D.state disk.old).content) }
     ensures fault { IsTrue (D.honest disk.old) → IfErr result (Reports (D.state disk.old).content) }
     ensures reads { IsTrue (D.honest disk.old) → OnlyReads D.state D.moment D.left_since disk.old disk.new }
-    ensures failures { Counts is_failed_opening (D.failures disk.old) (D.failures disk.new) result }
-    ensures past_ends { IsTrue (D.honest disk.old) → D.past_ends disk.new ≡ D.past_ends disk.old }
-    ensures honest { D.honest disk.new ≡ D.honest disk.old }
+    ensures counts { CountsFailures D.Disk is_failed_opening disk.old disk.new result }
 {
     let fields = read_first_fields(disk, len)?;
     if !begins_key(&fields) {
@@ -283,9 +265,7 @@ fn read_slots<D: Disk>(disk: &mut D, len: u64) -> Result<Found, OpenFault>
         IfOk result (λ found. IsFound (D.state disk.old).content found.records found.tag) }
     ensures fault { IsTrue (D.honest disk.old) → IfErr result (Reports (D.state disk.old).content) }
     ensures reads { IsTrue (D.honest disk.old) → OnlyReads D.state D.moment D.left_since disk.old disk.new }
-    ensures failures { Counts is_failed_opening (D.failures disk.old) (D.failures disk.new) result }
-    ensures past_ends { IsTrue (D.honest disk.old) → D.past_ends disk.new ≡ D.past_ends disk.old }
-    ensures honest { D.honest disk.new ≡ D.honest disk.old }
+    ensures counts { CountsFailures D.Disk is_failed_opening disk.old disk.new result }
 {
     let mut found = Found::none();
     while read_gate(disk, found.count)? {
@@ -308,9 +288,7 @@ pub(crate) fn find_records<D: Disk>(disk: &mut D) -> Result<Found, OpenFault>
         IfErr result (KeepsContent (D.state disk.old).content (D.state disk.new)) }
     ensures any_moment { IsTrue (D.honest disk.old) →
         LeavesOnly D.moment D.left_since disk.old disk.new (MayLeave (D.state disk.old)) }
-    ensures failures { Counts is_failed_opening (D.failures disk.old) (D.failures disk.new) result }
-    ensures past_ends { IsTrue (D.honest disk.old) → D.past_ends disk.new ≡ D.past_ends disk.old }
-    ensures honest { D.honest disk.new ≡ D.honest disk.old }
+    ensures counts { CountsFailures D.Disk is_failed_opening disk.old disk.new result }
 {
     let len = settle(disk)?;
     check_key(disk, len)?;

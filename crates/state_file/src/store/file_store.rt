@@ -6,6 +6,7 @@ ghost use Rattle.typecodes.specs.Layout.{Spells};
 ghost use Rattle.state_file.specs.Disk.{Elapses, LeavesOnly};
 ghost use Rattle.state_file.specs.Disk.{DiskState, settled, ChangesOnly, MayLeave, Counts};
 ghost use Rattle.state_file.specs.File.{SpellsRecords, fields_at, most_records, tag_at, tag_of};
+ghost use Rattle.state_file.specs.DiskCalls.{CountsFailures};
 ghost use Rattle.state_file.specs.File.{StandsFor, LeftLists, IsSyncedFile, IsSyncedFile-prop};
 ghost use Rattle.state_file.specs.Gates.{AddsSlot, slot_and_gate};
 ghost use Rattle.state_file.specs.Format.{is_failed_format, Formats, LeftByFormat};
@@ -74,10 +75,7 @@ impl<D: Disk + Drop> FileStore<D> {
             OnOk result (length (D.state (disk_after result)).content ≡ max (length (D.state disk).content) 1) }
         ensures any_moment { IsTrue (D.honest disk) →
             LeavesOnly D.moment D.left_since disk (disk_after result) (LeftByFormat (D.state disk)) }
-        ensures failures { Counts is_failed_format (D.failures disk)
-            (D.failures (disk_after result)) (outcome_of result) }
-        ensures past_ends { IsTrue (D.honest disk) → D.past_ends (disk_after result) ≡ D.past_ends disk }
-        ensures honest { D.honest (disk_after result) ≡ D.honest disk }
+        ensures counts { CountsFailures D.Disk is_failed_format disk (disk_after result) (outcome_of result) }
     {
         let mut disk = disk;
         match format(&mut disk) {
@@ -107,10 +105,7 @@ impl<D: Disk + Drop> FileStore<D> {
             LeavesOnly D.moment D.left_since disk (disk_after result) (MayLeave (D.state disk)) }
         ensures settled { IsTrue (D.honest disk) →
             Settles (D.state disk).content (D.state (disk_after result)) (outcome_of result) }
-        ensures failures { Counts is_failed_opening (D.failures disk)
-            (D.failures (disk_after result)) (outcome_of result) }
-        ensures past_ends { IsTrue (D.honest disk) → D.past_ends (disk_after result) ≡ D.past_ends disk }
-        ensures honest { D.honest (disk_after result) ≡ D.honest disk }
+        ensures counts { CountsFailures D.Disk is_failed_opening disk (disk_after result) (outcome_of result) }
     {
         let mut disk = disk;
         match find_records(&mut disk) {
