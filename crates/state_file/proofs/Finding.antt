@@ -6,7 +6,8 @@ use Rattle.typecodes.specs.Layout.{Spells}
 use Rattle.state_file.specs.File.{Begins, Holds, IsClosed, IsDamagedAt, IsOpen, IsWhole, SpellsRecords, fields_at, most_records, previous_tag, tag_at, tag_of, IsFileOf, IsSyncedFile}
 use Rattle.state_file.specs.Disk.{DiskState, MayLeave, settled, Elapses, LeavesOnly}
 use Rattle.state_file.specs.FileStore.{closed_gate, fields_length, opened_by}
-use Rattle.state_file.specs.Opening.{HasEntry, HasSlot, IsFound, OnlyReads, StartsWithKey, Reports, ReportsSlot}
+use Rattle.state_file.specs.DiskCalls.{OnlyReads}
+use Rattle.state_file.specs.Opening.{HasEntry, HasSlot, IsFound, StartsWithKey, Reports, ReportsSlot}
 use Rattle.state_file.specs.Slot.{slot_record}
 use Rattle.state_file.specs.Store.{begins_with_key}
 use Rattle.state_file.specs.declared.file.opening.OpenFault.{OpenFault}

@@ -5,9 +5,8 @@ ghost use Rattle.std.specs.Prelude.{length, slice_range, IfOk, OnOk};
 ghost use Rattle.state_file.specs.File.{open_value};
 ghost use Rattle.state_file.specs.Disk.{settled, range_of, ChangesOnly, IsSynced, LeavesOnly, MayLeave};
 ghost use Rattle.state_file.specs.Disk.{is_failure};
-ghost use Rattle.state_file.specs.DiskCalls.{CountsFailures, CountsFailuresUnread};
+ghost use Rattle.state_file.specs.DiskCalls.{CountsFailuresUnread, ReadsDisk};
 ghost use Rattle.state_file.specs.Gates.{AddsSlot, IsClosedAfter, IsAtRest, slot_and_gate};
-ghost use Rattle.state_file.specs.Opening.{OnlyReads};
 
 use crate::disk::{Disk, DiskFault};
 use crate::slot::{CLOSED, OPEN};
@@ -21,8 +20,7 @@ pub(crate) fn read_within<D: Disk>(disk: &mut D, at: u64, into: &mut [u8]) -> Re
     requires some { 0 < length into.old }
     ensures bytes { IsTrue (D.honest disk.old) →
         OnOk result (into.new ≡ slice_range (D.state disk.old).content at (at + length into.old)) }
-    ensures reads { IsTrue (D.honest disk.old) → OnlyReads D.state D.moment D.left_since disk.old disk.new }
-    ensures counts { CountsFailures D.Disk is_failure disk.old disk.new result }
+    ensures reads { ReadsDisk D.Disk is_failure disk.old disk.new result }
 {
     disk.read_at(at, into)
 }

@@ -7,8 +7,8 @@ ghost use Rattle.state_file.specs.File.{MayHaveKey, fields_at, most_records, ope
 ghost use Rattle.state_file.specs.Slot.{slot_record};
 ghost use Rattle.state_file.specs.declared.record.Record.{Record as Entry};
 ghost use Rattle.state_file.specs.Disk.{settled, MayLeave, LeavesOnly, is_failure};
-ghost use Rattle.state_file.specs.DiskCalls.{CountsFailures};
-ghost use Rattle.state_file.specs.Opening.{is_failed_opening, HasEntry, HasSlot, IsFound, KeepsContent, OnlyReads};
+ghost use Rattle.state_file.specs.DiskCalls.{CountsFailures, ReadsDisk};
+ghost use Rattle.state_file.specs.Opening.{is_failed_opening, HasEntry, HasSlot, IsFound, KeepsContent};
 ghost use Rattle.state_file.specs.Opening.{StartsWithKey, Reports, ReportsSlot};
 
 use crate::disk::{Disk, DiskFault};
@@ -78,8 +78,7 @@ fn read_gate<D: Disk>(disk: &mut D, k: u32) -> Result<bool, DiskFault>
     requires { IsTrue (D.honest disk.old) → 256 * k < length (D.state disk.old).content }
     ensures gate { IsTrue (D.honest disk.old) →
         IfOk result (λ opened. opened ≡ (slice_index (D.state disk.old).content (256 * k) == open_value)) }
-    ensures reads { IsTrue (D.honest disk.old) → OnlyReads D.state D.moment D.left_since disk.old disk.new }
-    ensures counts { CountsFailures D.Disk is_failure disk.old disk.new result }
+    ensures reads { ReadsDisk D.Disk is_failure disk.old disk.new result }
 {
     let mut gate = [0];
     read_within(disk, SLOT * u64::from(k), &mut gate)?;
@@ -91,8 +90,7 @@ fn read_fields<D: Disk>(disk: &mut D, k: u32) -> Result<[u8; 223], DiskFault>
     requires { IsTrue (D.honest disk.old) → 256 * k + 224 ≤ length (D.state disk.old).content }
     ensures fields { IsTrue (D.honest disk.old) →
         IfOk result (λ fields. fields ≡ fields_at (D.state disk.old).content k) }
-    ensures reads { IsTrue (D.honest disk.old) → OnlyReads D.state D.moment D.left_since disk.old disk.new }
-    ensures counts { CountsFailures D.Disk is_failure disk.old disk.new result }
+    ensures reads { ReadsDisk D.Disk is_failure disk.old disk.new result }
 {
     let mut fields = [0; 223];
     read_within(disk, SLOT * u64::from(k) + 1, &mut fields)?;
@@ -103,8 +101,7 @@ fn read_fields<D: Disk>(disk: &mut D, k: u32) -> Result<[u8; 223], DiskFault>
 pub(crate) fn read_tag<D: Disk>(disk: &mut D, k: u32) -> Result<[u8; 32], DiskFault>
     requires { IsTrue (D.honest disk.old) → 256 * k + 256 ≤ length (D.state disk.old).content }
     ensures tag { IsTrue (D.honest disk.old) → IfOk result (λ tag. tag ≡ tag_at (D.state disk.old).content k) }
-    ensures reads { IsTrue (D.honest disk.old) → OnlyReads D.state D.moment D.left_since disk.old disk.new }
-    ensures counts { CountsFailures D.Disk is_failure disk.old disk.new result }
+    ensures reads { ReadsDisk D.Disk is_failure disk.old disk.new result }
 {
     let mut tag = [0; 32];
     read_within(disk, SLOT * u64::from(k) + 224, &mut tag)?;
@@ -117,8 +114,7 @@ fn read_body<D: Disk>(disk: &mut D, k: u32) -> Result<Body, DiskFault>
     ensures fields { IsTrue (D.honest disk.old) →
         IfOk result (λ body. body.fields ≡ fields_at (D.state disk.old).content k) }
     ensures tag { IsTrue (D.honest disk.old) → IfOk result (λ body. body.tag ≡ tag_at (D.state disk.old).content k) }
-    ensures reads { IsTrue (D.honest disk.old) → OnlyReads D.state D.moment D.left_since disk.old disk.new }
-    ensures counts { CountsFailures D.Disk is_failure disk.old disk.new result }
+    ensures reads { ReadsDisk D.Disk is_failure disk.old disk.new result }
 {
     let fields = read_fields(disk, k)?;
     let tag = read_tag(disk, k)?;
@@ -129,8 +125,7 @@ fn read_body<D: Disk>(disk: &mut D, k: u32) -> Result<Body, DiskFault>
 fn read_previous_tag<D: Disk>(disk: &mut D, k: u32) -> Result<[u8; 32], DiskFault>
     requires { IsTrue (D.honest disk.old) → 256 * k ≤ length (D.state disk.old).content }
     ensures tag { IsTrue (D.honest disk.old) → IfOk result (λ tag. tag ≡ previous_tag (D.state disk.old).content k) }
-    ensures reads { IsTrue (D.honest disk.old) → OnlyReads D.state D.moment D.left_since disk.old disk.new }
-    ensures counts { CountsFailures D.Disk is_failure disk.old disk.new result }
+    ensures reads { ReadsDisk D.Disk is_failure disk.old disk.new result }
 {
     match k.checked_sub(1) {
         None => Ok([0; 32]),
@@ -142,8 +137,7 @@ fn read_previous_tag<D: Disk>(disk: &mut D, k: u32) -> Result<[u8; 32], DiskFaul
 pub(crate) fn read_entry<D: Disk>(disk: &mut D, k: u32) -> Result<Option<Record>, DiskFault>
     requires { IsTrue (D.honest disk.old) → 256 * k + 256 ≤ length (D.state disk.old).content }
     ensures entry { IsTrue (D.honest disk.old) → IfOk result (HasEntry (D.state disk.old).content k) }
-    ensures reads { IsTrue (D.honest disk.old) → OnlyReads D.state D.moment D.left_since disk.old disk.new }
-    ensures counts { CountsFailures D.Disk is_failure disk.old disk.new result }
+    ensures reads { ReadsDisk D.Disk is_failure disk.old disk.new result }
 {
     let previous = read_previous_tag(disk, k)?;
     let body = read_body(disk, k)?;
@@ -163,8 +157,7 @@ fn read_slot<D: Disk>(
     ensures slot { IsTrue (D.honest disk.old) →
         IfOk result (λ slot. HasSlot (D.state disk.old).content k slot.entry slot.tag) }
     ensures fault { IsTrue (D.honest disk.old) → IfErr result (ReportsSlot (D.state disk.old).content k) }
-    ensures reads { IsTrue (D.honest disk.old) → OnlyReads D.state D.moment D.left_since disk.old disk.new }
-    ensures counts { CountsFailures D.Disk is_failed_opening disk.old disk.new result }
+    ensures reads { ReadsDisk D.Disk is_failed_opening disk.old disk.new result }
 {
     if k >= MOST || SLOT * (u64::from(k) + 1) >= len {
         return Err(OpenFault::Damaged(k));
@@ -200,8 +193,7 @@ fn read_first_fields<D: Disk>(disk: &mut D, len: u64) -> Result<[u8; 223], OpenF
     ensures fields { IsTrue (D.honest disk.old) →
         IfOk result (λ fields. fields ≡ fields_at (D.state disk.old).content 0) }
     ensures fault { IsTrue (D.honest disk.old) → IfErr result (Reports (D.state disk.old).content) }
-    ensures reads { IsTrue (D.honest disk.old) → OnlyReads D.state D.moment D.left_since disk.old disk.new }
-    ensures counts { CountsFailures D.Disk is_failed_opening disk.old disk.new result }
+    ensures reads { ReadsDisk D.Disk is_failed_opening disk.old disk.new result }
 {
     if len < SLOT + 1 {
         return Err(OpenFault::NoKey);
@@ -217,8 +209,7 @@ fn check_key<D: Disk>(disk: &mut D, len: u64) -> Result<(), OpenFault>
     requires len { IsTrue (D.honest disk.old) → len ≡ length (D.state disk.old).content }
     ensures key { IsTrue (D.honest disk.old) → OnOk result (StartsWithKey (D.state disk.old).content) }
     ensures fault { IsTrue (D.honest disk.old) → IfErr result (Reports (D.state disk.old).content) }
-    ensures reads { IsTrue (D.honest disk.old) → OnlyReads D.state D.moment D.left_since disk.old disk.new }
-    ensures counts { CountsFailures D.Disk is_failed_opening disk.old disk.new result }
+    ensures reads { ReadsDisk D.Disk is_failed_opening disk.old disk.new result }
 {
     let fields = read_first_fields(disk, len)?;
     if !begins_key(&fields) {
@@ -264,8 +255,7 @@ fn read_slots<D: Disk>(disk: &mut D, len: u64) -> Result<Found, OpenFault>
     ensures found { IsTrue (D.honest disk.old) →
         IfOk result (λ found. IsFound (D.state disk.old).content found.records found.tag) }
     ensures fault { IsTrue (D.honest disk.old) → IfErr result (Reports (D.state disk.old).content) }
-    ensures reads { IsTrue (D.honest disk.old) → OnlyReads D.state D.moment D.left_since disk.old disk.new }
-    ensures counts { CountsFailures D.Disk is_failed_opening disk.old disk.new result }
+    ensures reads { ReadsDisk D.Disk is_failed_opening disk.old disk.new result }
 {
     let mut found = Found::none();
     while read_gate(disk, found.count)? {

@@ -2,7 +2,7 @@
 use Rattle.std.proofs.Common.{◌≡◌, ◌-◌, ◌≤◌, length}
 use Rattle.std.specs.Prelude.{IsTrue}
 use Rattle.state_file.specs.File.{most_records}
-use Rattle.state_file.specs.Opening.{OnlyReads}
+use Rattle.state_file.specs.DiskCalls.{OnlyReads}
 use Rattle.state_file.proofs.Finding.{BeginsFound}
 use Rattle.state_file.proofs.file.opening.read_slots.Given as goal
 
