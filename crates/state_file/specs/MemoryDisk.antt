@@ -1,7 +1,7 @@
 -- A disk in memory: what callers see of it, and what its calls do.
 use Rattle.std.specs.Prelude.{◌≡◌, ℕ, zero, suc, ◌-◌, List, ◌∷◌, length, take, Option, Some, None, Result, Ok}
 use Rattle.std.specs.Prelude.{Err, ◌/◌, ◌↔◌, Bool, true}
-use Rattle.state_file.specs.Disk.{range_of, DiskState, settled}
+use Rattle.state_file.specs.Disk.{range_of, Counts, DiskState, TimePasses, is_failure, settled}
 use Rattle.state_file.specs.declared.disk.DiskFault.{DiskFault}
 use Rattle.state_file.specs.declared.disk.DiskFault.TheVariants.{Failed, OutOfMemory}
 use Rattle.state_file.specs.declared.disk.memory_disk.Fate.{Fate}
@@ -106,6 +106,12 @@ failures_in disk = disk.failures
 -- how many of these were reads past the end
 abbrev pub past_ends_in : MemoryDisk → ℕ
 past_ends_in disk = disk.past_ends
+
+-- What every call does: time goes on, a refusal is counted, and the stop and the failure are a call nearer.
+pub record CallComes {A : Type 0} (old new : MemoryDisk) (answer : Result A DiskFault) : Type 0 where
+  pub time : TimePasses state_in moment_in left_in old new
+  pub failures : Counts is_failure (failures_in old) (failures_in new) answer
+  pub plan : PlanAfterCall old new
 
 -- It keeps the promises of a disk.
 abbrev pub is_honest : MemoryDisk → Bool
