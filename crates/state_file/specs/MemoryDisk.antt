@@ -117,8 +117,11 @@ pub record CallComes {A : Type 0} (old new : MemoryDisk) (answer : Result A Disk
 abbrev pub is_honest : MemoryDisk → Bool
 is_honest disk = true
 
--- No call came in between: reads give the same, it is the same moment, and a stop since one leaves the same.
+-- No call came in between: reads give the same, it is the same moment, a stop since one leaves the same, and no more
+-- calls are refused.
 pub record SameMoment (old new : MemoryDisk) : Type 0 where
   pub state : state_in new ≡ state_in old
   pub moment : moment_in new ≡ moment_in old
   pub left : (t : ℕ) (c : List ℕ) → left_in new t c ↔ left_in old t c
+  pub failures : failures_in new ≡ failures_in old
+  pub past_ends : past_ends_in new ≡ past_ends_in old

@@ -48,6 +48,14 @@ is_out_of_memory DeviceFailed = false
 is_out_of_memory OutOfMemory = true
 is_out_of_memory Full = false
 
+-- An answer 45 counts as a failure of the device, and no other does.
+abbrev pub is_device_failure : StoreFault → Bool
+is_device_failure Stopped = false
+is_device_failure (Damaged k) = false
+is_device_failure DeviceFailed = true
+is_device_failure OutOfMemory = false
+is_device_failure Full = false
+
 -- the slot that an answer 43 names
 abbrev pub unreadable_slot : StoreFault → List ℕ
 unreadable_slot Stopped = []

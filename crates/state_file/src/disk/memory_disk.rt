@@ -121,8 +121,6 @@ impl MemoryDisk {
         ensures fail { fail_in self.new ≡ calls_before n }
         ensures stop { stop_in self.new ≡ stop_in self.old }
         ensures moment { SameMoment self.old self.new }
-        ensures failures { failures_in self.new ≡ failures_in self.old }
-        ensures past_ends { past_ends_in self.new ≡ past_ends_in self.old }
     {
         self.plan.fail = n.checked_sub(1);
     }
@@ -133,8 +131,6 @@ impl MemoryDisk {
         ensures stop { stop_in self.new ≡ calls_before n }
         ensures fail { fail_in self.new ≡ fail_in self.old }
         ensures moment { SameMoment self.old self.new }
-        ensures failures { failures_in self.new ≡ failures_in self.old }
-        ensures past_ends { past_ends_in self.new ≡ past_ends_in self.old }
     {
         self.plan.stop = n.checked_sub(1);
     }

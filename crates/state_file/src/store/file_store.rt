@@ -14,7 +14,7 @@ ghost use Rattle.state_file.specs.Opening.{is_failed_opening, Settles, Reports};
 ghost use Rattle.std.proofs.Common.{inl};
 ghost use Rattle.state_file.specs.Slot.{slot_record};
 ghost use Rattle.state_file.specs.Store.{Appends, CanFollow, Collects, Loads, ReadsTag, is_out_of_memory};
-ghost use Rattle.state_file.specs.Store.{unreadable_slot};
+ghost use Rattle.state_file.specs.Store.{is_device_failure, unreadable_slot};
 
 #[cfg(test)]
 mod tests;
@@ -141,9 +141,7 @@ impl<D: Disk + Drop> FileStore<D> {
             OnlyReads D.state D.moment D.left_since (disk_of self.old) (disk_of self.new) }
         ensures any_moment { IsTrue (D.honest (disk_of self.old)) → has_stopped self.old ≡ false →
             LeavesOnly D.moment D.left_since (disk_of self.old) (disk_of self.new) (StandsFor (records_of self.old)) }
-        ensures past_ends { IsTrue (D.honest (disk_of self.old)) →
-            D.past_ends (disk_of self.new) ≡ D.past_ends (disk_of self.old) }
-        ensures honest { D.honest (disk_of self.new) ≡ D.honest (disk_of self.old) }
+        ensures counts { CountsFailures D.Disk is_device_failure (disk_of self.old) (disk_of self.new) result }
         ensures stays { has_stopped self.old ≡ true → self.new ≡ self.old }
     {
         if self.stopped {
@@ -210,9 +208,7 @@ impl<D: Disk + Drop> Store for FileStore<D> {
             LeavesOnly (λ store. D.moment (disk_of store)) (λ store. LeftLists (D.left_since (disk_of store)))
             self.old self.new (λ left. left ≡ records_of self.old) }
         ensures stays { has_stopped self.old ≡ true → self.new ≡ self.old }
-        ensures past_ends { IsTrue (D.honest (disk_of self.old)) →
-            D.past_ends (disk_of self.new) ≡ D.past_ends (disk_of self.old) }
-        ensures honest { D.honest (disk_of self.new) ≡ D.honest (disk_of self.old) }
+        ensures counts { CountsFailures D.Disk is_device_failure (disk_of self.old) (disk_of self.new) result }
     {
         if self.stopped {
             return Err(StoreFault::Stopped);
@@ -266,9 +262,7 @@ impl<D: Disk + Drop> Store for FileStore<D> {
             OnOk result
             (AddsSlot (length (records_of self.old)) (D.state (disk_of self.old)).content
             (D.state (disk_of self.new))) }
-        ensures past_ends { IsTrue (D.honest (disk_of self.old)) →
-            D.past_ends (disk_of self.new) ≡ D.past_ends (disk_of self.old) }
-        ensures honest { D.honest (disk_of self.new) ≡ D.honest (disk_of self.old) }
+        ensures counts { CountsFailures D.Disk is_device_failure (disk_of self.old) (disk_of self.new) result }
     {
         if self.stopped {
             return Err(StoreFault::Stopped);
