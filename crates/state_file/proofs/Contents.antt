@@ -12,6 +12,7 @@ use Rattle.state_file.specs.declared.record.Record.TheVariants.{Key as KeyRecord
 use Rattle.state_file.specs.declared.record.Version.{Version}
 use Rattle.state_file.specs.File.{Begins, HasNoKey, Holds, IsClosed, IsDamagedAt, IsOpen, IsWhole, MayHaveKey, SpellsRecords, begins_key, fields_at, most_records, open_value, previous_tag, tag_at, tag_of, version_of, StandsFor}
 use Rattle.state_file.specs.Opening.{Opening, OpensAs, damaged, no_key, no_key_file, spelled, unknown_version}
+use Rattle.state_file.specs.FileStore.{open_byte}
 use Rattle.state_file.specs.Laws.{CanSign}
 use Rattle.state_file.specs.Slot.{slot_record}
 use Rattle.state_file.proofs.Shown.{key-begins, key-first}
@@ -20,7 +21,7 @@ use Rattle.state_file.proofs.Shown.{key-begins, key-first}
 
 -- a gate is open or closed, not both
 pub not_both : (content : List ℕ) (k : ℕ) → IsOpen content k → IsClosed content k → ⊥
-not_both content k opened shut = shut.1 (get_or_from_slice_get content (256 * k) open_value 0 opened)
+not_both content k opened shut = shut.1 (open_byte content k opened)
 
 -- and one of them where the content reaches so far
 pub open_or_closed : (content : List ℕ) (k : ℕ) → 256 * k < length content → IsOpen content k ⊎ IsClosed content k

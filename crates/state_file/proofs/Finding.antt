@@ -1,12 +1,13 @@
 -- Finding the records of a file, slot after slot.
 use Rattle.std.proofs.Common.{◌≡◌, ℕ, ◌+◌, ◌*◌, ◌<◌, Bool, true, false, List, [], ◌∷◌, ◌++◌, length, replicate, slice_index, Option, Some, None, Result, Err, refl, sym, ap, ◌∙◌, subst, arith, eqb-true, add-one, true≢false}
 use Rattle.std.specs.Prelude.{◌==◌, IfErr, slice_get}
-use Rattle.std.proofs.lemmas.Option.{slice_get-get_or, slice_get_within, get_or_from_slice_get}
+use Rattle.std.proofs.lemmas.Option.{slice_get-get_or, slice_get_within}
 use Rattle.typecodes.specs.Layout.{Spells}
 use Rattle.state_file.specs.File.{Begins, Holds, IsClosed, IsDamagedAt, IsOpen, IsWhole, SpellsRecords, fields_at, most_records, previous_tag, tag_at, tag_of, IsFileOf, IsSyncedFile}
 use Rattle.state_file.specs.Disk.{DiskState, MayLeave, settled, Elapses, LeavesOnly}
-use Rattle.state_file.specs.FileStore.{closed_gate, fields_length}
-use Rattle.state_file.specs.Opening.{HasEntry, HasSlot, IsFound, OnlyReads, StartsWithKey, Reports, ReportsSlot}
+use Rattle.state_file.specs.FileStore.{closed_gate, fields_length, opened_by}
+use Rattle.state_file.specs.DiskCalls.{OnlyReads}
+use Rattle.state_file.specs.Opening.{HasEntry, HasSlot, IsFound, StartsWithKey, Reports, ReportsSlot}
 use Rattle.state_file.specs.Slot.{slot_record}
 use Rattle.state_file.specs.Store.{begins_with_key}
 use Rattle.state_file.specs.declared.file.opening.OpenFault.{OpenFault}
@@ -56,7 +57,7 @@ module _ {D : Type 0} (state : D → DiskState) (moment : D → ℕ) (left_since
 -- ---- gates
 
 pub gate_open : (content : List ℕ) (k : ℕ) → 256 * k < length content → slice_index content (256 * k) == 165 ≡ true → IsOpen content k
-gate_open content k within is = slice_get-get_or content (256 * k) 0 within ∙ ap Some (eqb-true (slice_index content (256 * k)) 165 is)
+gate_open content k within is = opened_by content k within (eqb-true (slice_index content (256 * k)) 165 is)
 
 pub gate_shut : (content : List ℕ) (k : ℕ) → 256 * k < length content → slice_index content (256 * k) == 165 ≡ false → IsClosed content k
 gate_shut content k within other = closed_gate content k within (λ is_open. true≢false (let clash : true ≡ false = cc in clash))
@@ -152,7 +153,7 @@ spelled_file records content is =
     record {
       few = is.few;
       first = let (rest, same) = the_first records (KeyRecord is.first.0) is.first.1 in ap begins_with_key same;
-      opened = λ k below. get_or_from_slice_get content (256 * k) 165 0 (is.opened k below);
+      opened = is.opened;
       closed = is.closed;
       spelled = λ k entry there.
           let below : k < length records = slice_get_within records k entry there in

@@ -8,7 +8,7 @@ use Rattle.state_file.specs.declared.record.Record.{Record}
 use Rattle.state_file.proofs.Moments.{weaker}
 use Rattle.state_file.proofs.Ranges.{changes_nothing}
 use Rattle.state_file.specs.FileStore.{synced_left}
-use Rattle.state_file.specs.Opening.{OnlyReads}
+use Rattle.state_file.specs.DiskCalls.{OnlyReads}
 
 module _ {S D : Type 0} (disk_of : S → D) (moment : D → ℕ) (left_since : D → ℕ → List ℕ → Type 0) where
   abbrev pub store_moment : S → ℕ

@@ -143,7 +143,7 @@ StandsFor (entry ∷ entries) content = SpellsRecords content (entry ∷ entries
 pub record IsFileOf (records : List Record) (content : List ℕ) : Type 0 where
   pub few : length records ≤ most_records
   pub first : begins_with_key records ≡ true
-  pub opened : (k : ℕ) → k < length records → slice_index content (256 * k) ≡ open_value
+  pub opened : (k : ℕ) → k < length records → IsOpen content k
   pub closed : IsClosed content (length records)
   pub spelled : (k : ℕ) (entry : Record) → slice_get records k ≡ Some entry
       → read slot_record (fields_at content k) 0 ≡ Ok (entry, 223)

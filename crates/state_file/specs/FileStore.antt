@@ -1,6 +1,6 @@
 -- A store over a disk: what callers see of it, and what its promise rests on.
 use Rattle.std.specs.Prelude.{Bool, List, Result, Ok, Err, ◌≡◌, ◌≢◌, ◌⊎◌, ℕ, ◌+◌, ◌*◌, ◌<◌, ◌≤◌, true, [], ◌∷◌}
-use Rattle.std.specs.Prelude.{length, drop, slice_index, slice_get, Some}
+use Rattle.std.specs.Prelude.{length, drop, slice_index, Some}
 use Rattle.state_file.specs.declared.store.file_store.FileStore.{FileStore}
 use Rattle.state_file.specs.declared.record.Record.{Record}
 use Rattle.state_file.specs.declared.refused.Refused.{Refused}
@@ -10,7 +10,7 @@ use Rattle.std.proofs.lemmas.List.{same_lists, get_or_default}
 use Rattle.std.proofs.lemmas.Option.{slice_get-get_or, slice_get_within, get_or_from_slice_get}
 use Rattle.typecodes.proofs.Spelling.{one_value}
 use Rattle.typecodes.proofs.Steps.{ends-spelled}
-use Rattle.state_file.specs.File.{HasNoKey, IsClosed, SpellsRecords, fields_at, open_value, StandsFor, IsFileOf}
+use Rattle.state_file.specs.File.{HasNoKey, IsClosed, IsOpen, SpellsRecords, fields_at, open_value, StandsFor, IsFileOf}
 use Rattle.state_file.specs.File.{IsSyncedFile}
 use Rattle.state_file.specs.Disk.{DiskState, MayLeave, settled}
 use Rattle.state_file.specs.Slot.{slot_record}
@@ -30,6 +30,10 @@ records_of store = store.records
 abbrev pub has_stopped : {D : Type 0} {bound : _} → FileStore D bound → Bool
 has_stopped store = store.stopped
 
+-- the slots that load has reported as unreadable, the last one first
+abbrev pub unreadable_of : {D : Type 0} {bound : _} → FileStore D bound → List ℕ
+unreadable_of store = store.unreadable
+
 -- the disk afterwards: the store's, or the one that a refusal hands back
 abbrev pub disk_after : {D F : Type 0} {bound : _} → Result (FileStore D bound) (Refused D F) → D
 disk_after (Ok store) = store.disk
@@ -45,6 +49,15 @@ outcome_of (Err refused) = Err refused.fault
 pub fields_length : (content : List ℕ) (k : ℕ) → 256 * (k + 1) ≤ length content → length (fields_at content k) ≡ 223
 fields_length content k fits =
     length-take-le 223 (drop (256 * k + 1) content) (omega (arith, length-drop (256 * k + 1) content))
+
+-- the byte of an open gate
+pub open_byte : (content : List ℕ) (k : ℕ) → IsOpen content k → slice_index content (256 * k) ≡ open_value
+open_byte content k is_open = get_or_from_slice_get content (256 * k) open_value 0 is_open
+
+-- a gate that has this byte is open
+pub opened_by : (content : List ℕ) (k : ℕ) → 256 * k < length content → slice_index content (256 * k) ≡ open_value
+    → IsOpen content k
+opened_by content k within is = slice_get-get_or content (256 * k) 0 within ∙ ap Some is
 
 pub closed_gate : (content : List ℕ) (k : ℕ) → 256 * k < length content → slice_index content (256 * k) ≢ open_value
     → IsClosed content k
@@ -62,8 +75,7 @@ pub file_stands : (records : List Record) (content : List ℕ) → IsFileOf reco
 file_stands [] content file = inr file.closed
 file_stands (entry ∷ entries) content file = record {
   few = file.few;
-  opened = λ k below. slice_get-get_or content (256 * k) 0 (omega (arith, file.closed.0))
-      ∙ ap Some (file.opened k below);
+  opened = file.opened;
   closed = file.closed;
   first = the_key entry file.first;
   holds = λ k one is.
@@ -81,8 +93,8 @@ pub kept_stands : (records : List Record) (tag : List ℕ) (state : DiskState) �
 kept_stands records tag state kept = file_stands records state.content kept.file
 
 -- a content stands for one list
-open_or_shut : (content : List ℕ) (k : ℕ) → slice_get content (256 * k) ≡ Some open_value → IsClosed content k → ⊥
-open_or_shut content k is_open shut = shut.1 (get_or_from_slice_get content (256 * k) open_value 0 is_open)
+open_or_shut : (content : List ℕ) (k : ℕ) → IsOpen content k → IsClosed content k → ⊥
+open_or_shut content k is_open shut = shut.1 (open_byte content k is_open)
 
 spells_one : (a b : List Record) (content : List ℕ) → SpellsRecords content a → SpellsRecords content b → a ≡ b
 spells_one a b content first second =

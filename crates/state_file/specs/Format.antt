@@ -1,7 +1,7 @@
 -- What preparing a place does.
-use Rattle.std.specs.Prelude.{◌≡◌, ◌⊎◌, ℕ, ◌<◌, ◌≤◌, List, [], ◌∷◌, length, slice_index, slice_range, Result, Ok}
+use Rattle.std.specs.Prelude.{◌≡◌, ◌⊎◌, ℕ, ◌<◌, ◌≤◌, List, [], ◌∷◌, length, slice_range, Result, Ok}
 use Rattle.std.specs.Prelude.{Err, Bool, true, false}
-use Rattle.state_file.specs.File.{IsClosed, open_value}
+use Rattle.state_file.specs.File.{IsClosed, IsOpen}
 use Rattle.state_file.specs.Disk.{DiskState, MayLeave, settled, ChangesOnly, range_of}
 use Rattle.state_file.specs.Gates.{IsAtRest}
 use Rattle.state_file.specs.declared.file.format.FormatFault.{FormatFault}
@@ -17,7 +17,7 @@ Prepares content new =
 
 -- when each refusal comes, by what a read gave, and what it leaves
 abbrev pub RefusesFormat : (content : List ℕ) (new : DiskState) → FormatFault → Type 0
-RefusesFormat content new KeyThere = (257 ≤ length content) × (slice_index content 0 ≡ open_value)
+RefusesFormat content new KeyThere = (257 ≤ length content) × IsOpen content 0
     × (new ≡ settled content)
 RefusesFormat content new NotKeyFile = (257 < length content) × IsClosed content 0 × (new ≡ settled content)
 RefusesFormat content new DeviceFailed = Unit {0}

@@ -1,4 +1,5 @@
 pub mod Disk
+pub mod DiskCalls
 pub mod Fields
 pub mod File
 pub mod FileStore

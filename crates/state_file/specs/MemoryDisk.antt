@@ -1,7 +1,7 @@
 -- A disk in memory: what callers see of it, and what its calls do.
 use Rattle.std.specs.Prelude.{◌≡◌, ℕ, zero, suc, ◌-◌, List, ◌∷◌, length, take, Option, Some, None, Result, Ok}
 use Rattle.std.specs.Prelude.{Err, ◌/◌, ◌↔◌, Bool, true}
-use Rattle.state_file.specs.Disk.{range_of, DiskState, settled}
+use Rattle.state_file.specs.Disk.{range_of, Counts, DiskState, TimePasses, is_failure, settled}
 use Rattle.state_file.specs.declared.disk.DiskFault.{DiskFault}
 use Rattle.state_file.specs.declared.disk.DiskFault.TheVariants.{Failed, OutOfMemory}
 use Rattle.state_file.specs.declared.disk.memory_disk.Fate.{Fate}
@@ -107,12 +107,21 @@ failures_in disk = disk.failures
 abbrev pub past_ends_in : MemoryDisk → ℕ
 past_ends_in disk = disk.past_ends
 
+-- What every call does: time goes on, a refusal is counted, and the stop and the failure are a call nearer.
+pub record CallComes {A : Type 0} (old new : MemoryDisk) (answer : Result A DiskFault) : Type 0 where
+  pub time : TimePasses state_in moment_in left_in old new
+  pub failures : Counts is_failure (failures_in old) (failures_in new) answer
+  pub plan : PlanAfterCall old new
+
 -- It keeps the promises of a disk.
 abbrev pub is_honest : MemoryDisk → Bool
 is_honest disk = true
 
--- No call came in between: reads give the same, it is the same moment, and a stop since one leaves the same.
+-- No call came in between: reads give the same, it is the same moment, a stop since one leaves the same, and no more
+-- calls are refused.
 pub record SameMoment (old new : MemoryDisk) : Type 0 where
   pub state : state_in new ≡ state_in old
   pub moment : moment_in new ≡ moment_in old
   pub left : (t : ℕ) (c : List ℕ) → left_in new t c ↔ left_in old t c
+  pub failures : failures_in new ≡ failures_in old
+  pub past_ends : past_ends_in new ≡ past_ends_in old

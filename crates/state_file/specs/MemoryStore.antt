@@ -34,6 +34,12 @@ failures_of store = store.failures
 abbrev pub refusals_of : MemoryStore → ℕ
 refusals_of store = store.refusals
 
+-- It has the same records, takes as many, and was refused memory as often.
+pub record KeepsRecords (old new : MemoryStore) : Type 0 where
+  pub records : records_of new ≡ records_of old
+  pub limit : limit_of new ≡ limit_of old
+  pub refusals : refusals_of new ≡ refusals_of old
+
 -- there is room for one record more in the memory that it has
 abbrev pub HasRoom : MemoryStore → Type 0
 HasRoom store = vec_len store.records < vec_capacity store.records

@@ -4,13 +4,12 @@ use Rattle.std.specs.Prelude.{Result, Ok, Err}
 use Rattle.state_file.specs.File.{Holds, IsWhole, MayHaveKey, SpellsRecords, begins_key, fields_at, most_records}
 use Rattle.state_file.specs.File.{previous_tag, tag_at, version_of, HasNoKey, HasUnknownVersion, IsDamagedAt}
 use Rattle.state_file.specs.File.{IsNoKeyFile}
-use Rattle.state_file.specs.Disk.{DiskState, MayLeave, settled, LeavesOnly}
+use Rattle.state_file.specs.Disk.{DiskState, settled}
 use Rattle.state_file.specs.declared.file.opening.OpenFault.{OpenFault}
 use Rattle.state_file.specs.declared.file.opening.OpenFault.TheVariants.{NoKey, NotKeyFile, Version as VersionFault}
 use Rattle.state_file.specs.declared.file.opening.OpenFault.TheVariants.{Damaged, DeviceFailed}
 use Rattle.state_file.specs.declared.record.Record.{Record}
 use Rattle.state_file.specs.declared.record.Version.{Version}
-use Rattle.state_file.specs.declared.record.Key.{Key}
 
 -- ---- what opening finds
 
@@ -60,12 +59,6 @@ is_failed_opening NotKeyFile = false
 is_failed_opening VersionFault = false
 is_failed_opening (Damaged k) = false
 is_failed_opening DeviceFailed = true
-
--- calls that only read
-pub record OnlyReads {D : Type 0} (state : D → DiskState) (moment : D → ℕ) (left_since : D → ℕ → List ℕ
-    → Type 0) (old new : D) : Type 0 where
-  pub stays : state new ≡ state old
-  pub leaves : LeavesOnly moment left_since old new (MayLeave (state old))
 
 -- The first slot is that of a Key of a known version.
 pub record StartsWithKey (content : List ℕ) : Type 0 where

@@ -121,8 +121,6 @@ impl MemoryDisk {
         ensures fail { fail_in self.new ≡ calls_before n }
         ensures stop { stop_in self.new ≡ stop_in self.old }
         ensures moment { SameMoment self.old self.new }
-        ensures failures { failures_in self.new ≡ failures_in self.old }
-        ensures past_ends { past_ends_in self.new ≡ past_ends_in self.old }
     {
         self.plan.fail = n.checked_sub(1);
     }
@@ -133,8 +131,6 @@ impl MemoryDisk {
         ensures stop { stop_in self.new ≡ calls_before n }
         ensures fail { fail_in self.new ≡ fail_in self.old }
         ensures moment { SameMoment self.old self.new }
-        ensures failures { failures_in self.new ≡ failures_in self.old }
-        ensures past_ends { past_ends_in self.new ≡ past_ends_in self.old }
     {
         self.plan.stop = n.checked_sub(1);
     }
@@ -159,7 +155,7 @@ impl MemoryDisk {
 }
 
 impl Disk for MemoryDisk {
-    ghost use Rattle.state_file.specs.MemoryDisk.{PlanAfterCall, SyncsInMemory, WritesInMemory, answer_of};
+    ghost use Rattle.state_file.specs.MemoryDisk.{CallComes, SyncsInMemory, WritesInMemory, answer_of};
     ghost use Rattle.state_file.specs.MemoryDisk.{is_honest, left_in, moment_in, state_in};
     ghost use Rattle.state_file.specs.MemoryDisk.{failures_in, next_fate, past_ends_in};
 
@@ -185,11 +181,8 @@ impl Disk for MemoryDisk {
         ensures value { result ≡ answer_of (next_fate self.old) (Ok (length (state_in self.old).content)) }
         ensures length { IsTrue (is_honest self.old) → IfOk result (λ n. n ≡ length (state_in self.old).content) }
         ensures stays { IsTrue (is_honest self.old) → state_in self.new ≡ state_in self.old }
-        ensures time { IsTrue (is_honest self.old) → TimePasses state_in moment_in left_in self.old self.new }
-        ensures failures { Counts is_failure (failures_in self.old) (failures_in self.new) result }
         ensures past_ends { past_ends_in self.new ≡ past_ends_in self.old }
-        ensures honest { is_honest self.new ≡ is_honest self.old }
-        ensures plan { PlanAfterCall self.old self.new }
+        ensures call { CallComes self.old self.new result }
     {
         self.plan.admit(&mut self.failures)?;
         Ok(self.content.len() as u64)
@@ -207,10 +200,7 @@ impl Disk for MemoryDisk {
             length (state_in self.old).content < at + length into.old }
         ensures past_ends { Counts is_past_end (past_ends_in self.old) (past_ends_in self.new) result }
         ensures stays { IsTrue (is_honest self.old) → state_in self.new ≡ state_in self.old }
-        ensures time { IsTrue (is_honest self.old) → TimePasses state_in moment_in left_in self.old self.new }
-        ensures failures { Counts is_failure (failures_in self.old) (failures_in self.new) result }
-        ensures honest { is_honest self.new ≡ is_honest self.old }
-        ensures plan { PlanAfterCall self.old self.new }
+        ensures call { CallComes self.old self.new result }
     {
         self.plan.admit(&mut self.failures)?;
         match part(&self.content, at, into.len()) {
@@ -230,11 +220,8 @@ impl Disk for MemoryDisk {
             result }
         ensures written { IsTrue (is_honest self.old) →
             Writes at bytes.now (state_in self.old) (state_in self.new) result }
-        ensures time { IsTrue (is_honest self.old) → TimePasses state_in moment_in left_in self.old self.new }
-        ensures failures { Counts is_failure (failures_in self.old) (failures_in self.new) result }
         ensures past_ends { past_ends_in self.new ≡ past_ends_in self.old }
-        ensures honest { is_honest self.new ≡ is_honest self.old }
-        ensures plan { PlanAfterCall self.old self.new }
+        ensures call { CallComes self.old self.new result }
     {
         match self.plan.next() {
             Fate::Runs => match write(&mut self.content, &mut self.log, at, bytes, bytes.len()) {
@@ -258,11 +245,8 @@ impl Disk for MemoryDisk {
     fn sync(&mut self) -> Result<(), DiskFault>
         ensures flushes { SyncsInMemory (state_in self.old) (state_in self.new) (next_fate self.old) result }
         ensures synced { IsTrue (is_honest self.old) → Syncs (state_in self.old) (state_in self.new) result }
-        ensures time { IsTrue (is_honest self.old) → TimePasses state_in moment_in left_in self.old self.new }
-        ensures failures { Counts is_failure (failures_in self.old) (failures_in self.new) result }
         ensures past_ends { past_ends_in self.new ≡ past_ends_in self.old }
-        ensures honest { is_honest self.new ≡ is_honest self.old }
-        ensures plan { PlanAfterCall self.old self.new }
+        ensures call { CallComes self.old self.new result }
     {
         self.plan.admit(&mut self.failures)?;
         match keep(self.alloc, &self.content, &mut self.log) {

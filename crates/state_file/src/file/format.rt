@@ -1,7 +1,8 @@
 //! Preparing a place for the records of a key.
 
 ghost use Rattle.std.specs.Prelude.{◌≡◌, IsTrue, OnErr};
-ghost use Rattle.state_file.specs.Disk.{Counts, LeavesOnly};
+ghost use Rattle.state_file.specs.Disk.{LeavesOnly};
+ghost use Rattle.state_file.specs.DiskCalls.{CountsFailures};
 ghost use Rattle.state_file.specs.Format.{Formats, LeftByFormat, is_failed_format};
 
 use crate::disk::{Disk, DiskFault};
@@ -39,9 +40,7 @@ pub(crate) fn format<D: Disk>(disk: &mut D) -> Result<(), FormatFault>
     ensures answer { IsTrue (D.honest disk.old) → Formats (D.state disk.old).content (D.state disk.new) result }
     ensures any_moment { IsTrue (D.honest disk.old) →
         LeavesOnly D.moment D.left_since disk.old disk.new (LeftByFormat (D.state disk.old)) }
-    ensures failures { Counts is_failed_format (D.failures disk.old) (D.failures disk.new) result }
-    ensures past_ends { IsTrue (D.honest disk.old) → D.past_ends disk.new ≡ D.past_ends disk.old }
-    ensures honest { D.honest disk.new ≡ D.honest disk.old }
+    ensures counts { CountsFailures D.Disk is_failed_format disk.old disk.new result }
 {
     let len = settle(disk)?;
     if len < SLOT + 1 {

@@ -4,9 +4,9 @@ ghost use Rattle.std.specs.Prelude.{◌≡◌, ◌⊎◌, ◌+◌, ◌*◌, ◌<
 ghost use Rattle.std.specs.Prelude.{length, slice_range, IfOk, OnOk};
 ghost use Rattle.state_file.specs.File.{open_value};
 ghost use Rattle.state_file.specs.Disk.{settled, range_of, ChangesOnly, IsSynced, LeavesOnly, MayLeave};
-ghost use Rattle.state_file.specs.Disk.{Counts, is_failure};
+ghost use Rattle.state_file.specs.Disk.{is_failure};
+ghost use Rattle.state_file.specs.DiskCalls.{CountsFailuresUnread, ReadsDisk};
 ghost use Rattle.state_file.specs.Gates.{AddsSlot, IsClosedAfter, IsAtRest, slot_and_gate};
-ghost use Rattle.state_file.specs.Opening.{OnlyReads};
 
 use crate::disk::{Disk, DiskFault};
 use crate::slot::{CLOSED, OPEN};
@@ -20,10 +20,7 @@ pub(crate) fn read_within<D: Disk>(disk: &mut D, at: u64, into: &mut [u8]) -> Re
     requires some { 0 < length into.old }
     ensures bytes { IsTrue (D.honest disk.old) →
         OnOk result (into.new ≡ slice_range (D.state disk.old).content at (at + length into.old)) }
-    ensures reads { IsTrue (D.honest disk.old) → OnlyReads D.state D.moment D.left_since disk.old disk.new }
-    ensures failures { Counts is_failure (D.failures disk.old) (D.failures disk.new) result }
-    ensures past_ends { IsTrue (D.honest disk.old) → D.past_ends disk.new ≡ D.past_ends disk.old }
-    ensures honest { D.honest disk.new ≡ D.honest disk.old }
+    ensures reads { ReadsDisk D.Disk is_failure disk.old disk.new result }
 {
     disk.read_at(at, into)
 }
@@ -39,9 +36,7 @@ pub(crate) fn write_synced<D: Disk>(disk: &mut D, at: u64, bytes: &[u8]) -> Resu
     ensures any_moment { IsTrue (D.honest disk.old) → IsSynced (D.state disk.old) →
         LeavesOnly D.moment D.left_since disk.old disk.new
         (ChangesOnly (range_of at bytes.now ∷ []) (D.state disk.old).content) }
-    ensures failures { Counts is_failure (D.failures disk.old) (D.failures disk.new) result }
-    ensures past_ends { D.past_ends disk.new ≡ D.past_ends disk.old }
-    ensures honest { D.honest disk.new ≡ D.honest disk.old }
+    ensures counts { CountsFailuresUnread D.Disk is_failure disk.old disk.new result }
 {
     disk.write_at(at, bytes)?;
     disk.sync()
@@ -69,9 +64,7 @@ pub(crate) fn add_slot<D: Disk>(
         length front ≡ 256 * slot →
         LeavesOnly D.moment D.left_since disk.old disk.new
         (λ c. IsClosedAfter front c ⊎ IsClosedAfter (front ++ open_value ∷ (fields.now ++ tag.now)) c) }
-    ensures failures { Counts is_failure (D.failures disk.old) (D.failures disk.new) result }
-    ensures past_ends { D.past_ends disk.new ≡ D.past_ends disk.old }
-    ensures honest { D.honest disk.new ≡ D.honest disk.old }
+    ensures counts { CountsFailuresUnread D.Disk is_failure disk.old disk.new result }
 {
     let gate = SLOT * u64::from(slot);
     write_synced(disk, gate + 1, &block(fields, tag))?;
@@ -104,9 +97,7 @@ pub(crate) fn settle<D: Disk>(disk: &mut D) -> Result<u64, DiskFault>
         (λ len. (D.state disk.new ≡ settled (D.state disk.old).content) × (len ≡ length (D.state disk.old).content)) }
     ensures any_moment { IsTrue (D.honest disk.old) →
         LeavesOnly D.moment D.left_since disk.old disk.new (MayLeave (D.state disk.old)) }
-    ensures failures { Counts is_failure (D.failures disk.old) (D.failures disk.new) result }
-    ensures past_ends { D.past_ends disk.new ≡ D.past_ends disk.old }
-    ensures honest { D.honest disk.new ≡ D.honest disk.old }
+    ensures counts { CountsFailuresUnread D.Disk is_failure disk.old disk.new result }
 {
     disk.sync()?;
     disk.len()

@@ -1,14 +1,14 @@
 //! What stands in a file: its slots are read one after the other, up to the first whose gate is closed.
 
-ghost use Rattle.std.specs.Prelude.{◌≡◌, ◌+◌, ◌*◌, ◌-◌, ◌^◌, ◌<◌, ◌≤◌, ◌==◌, ◌∷◌, [], ◌++◌, IsTrue, IfOk, IfErr};
+ghost use Rattle.std.specs.Prelude.{◌≡◌, ◌+◌, ◌*◌, ◌-◌, ◌<◌, ◌≤◌, ◌==◌, ◌∷◌, [], ◌++◌, IsTrue, IfOk, IfErr};
 ghost use Rattle.std.specs.Prelude.{OnOk, MatchOption, length, replicate, slice_index};
 ghost use Rattle.typecodes.specs.Layout.{Spells};
-ghost use Rattle.state_file.specs.File.{MayHaveKey, fields_at, open_value, previous_tag, tag_at, tag_of};
+ghost use Rattle.state_file.specs.File.{MayHaveKey, fields_at, most_records, open_value, previous_tag, tag_at, tag_of};
 ghost use Rattle.state_file.specs.Slot.{slot_record};
 ghost use Rattle.state_file.specs.declared.record.Record.{Record as Entry};
-ghost use Rattle.state_file.specs.Disk.{settled, MayLeave, Counts, is_failure};
-ghost use Rattle.state_file.specs.Disk.{LeavesOnly};
-ghost use Rattle.state_file.specs.Opening.{is_failed_opening, HasEntry, HasSlot, IsFound, KeepsContent, OnlyReads};
+ghost use Rattle.state_file.specs.Disk.{settled, MayLeave, LeavesOnly, is_failure};
+ghost use Rattle.state_file.specs.DiskCalls.{CountsFailures, ReadsDisk};
+ghost use Rattle.state_file.specs.Opening.{is_failed_opening, HasEntry, HasSlot, IsFound, KeepsContent};
 ghost use Rattle.state_file.specs.Opening.{StartsWithKey, Reports, ReportsSlot};
 
 use crate::disk::{Disk, DiskFault};
@@ -78,10 +78,7 @@ fn read_gate<D: Disk>(disk: &mut D, k: u32) -> Result<bool, DiskFault>
     requires { IsTrue (D.honest disk.old) → 256 * k < length (D.state disk.old).content }
     ensures gate { IsTrue (D.honest disk.old) →
         IfOk result (λ opened. opened ≡ (slice_index (D.state disk.old).content (256 * k) == open_value)) }
-    ensures reads { IsTrue (D.honest disk.old) → OnlyReads D.state D.moment D.left_since disk.old disk.new }
-    ensures failures { Counts is_failure (D.failures disk.old) (D.failures disk.new) result }
-    ensures past_ends { IsTrue (D.honest disk.old) → D.past_ends disk.new ≡ D.past_ends disk.old }
-    ensures honest { D.honest disk.new ≡ D.honest disk.old }
+    ensures reads { ReadsDisk D.Disk is_failure disk.old disk.new result }
 {
     let mut gate = [0];
     read_within(disk, SLOT * u64::from(k), &mut gate)?;
@@ -93,10 +90,7 @@ fn read_fields<D: Disk>(disk: &mut D, k: u32) -> Result<[u8; 223], DiskFault>
     requires { IsTrue (D.honest disk.old) → 256 * k + 224 ≤ length (D.state disk.old).content }
     ensures fields { IsTrue (D.honest disk.old) →
         IfOk result (λ fields. fields ≡ fields_at (D.state disk.old).content k) }
-    ensures reads { IsTrue (D.honest disk.old) → OnlyReads D.state D.moment D.left_since disk.old disk.new }
-    ensures failures { Counts is_failure (D.failures disk.old) (D.failures disk.new) result }
-    ensures past_ends { IsTrue (D.honest disk.old) → D.past_ends disk.new ≡ D.past_ends disk.old }
-    ensures honest { D.honest disk.new ≡ D.honest disk.old }
+    ensures reads { ReadsDisk D.Disk is_failure disk.old disk.new result }
 {
     let mut fields = [0; 223];
     read_within(disk, SLOT * u64::from(k) + 1, &mut fields)?;
@@ -107,10 +101,7 @@ fn read_fields<D: Disk>(disk: &mut D, k: u32) -> Result<[u8; 223], DiskFault>
 pub(crate) fn read_tag<D: Disk>(disk: &mut D, k: u32) -> Result<[u8; 32], DiskFault>
     requires { IsTrue (D.honest disk.old) → 256 * k + 256 ≤ length (D.state disk.old).content }
     ensures tag { IsTrue (D.honest disk.old) → IfOk result (λ tag. tag ≡ tag_at (D.state disk.old).content k) }
-    ensures reads { IsTrue (D.honest disk.old) → OnlyReads D.state D.moment D.left_since disk.old disk.new }
-    ensures failures { Counts is_failure (D.failures disk.old) (D.failures disk.new) result }
-    ensures past_ends { IsTrue (D.honest disk.old) → D.past_ends disk.new ≡ D.past_ends disk.old }
-    ensures honest { D.honest disk.new ≡ D.honest disk.old }
+    ensures reads { ReadsDisk D.Disk is_failure disk.old disk.new result }
 {
     let mut tag = [0; 32];
     read_within(disk, SLOT * u64::from(k) + 224, &mut tag)?;
@@ -123,10 +114,7 @@ fn read_body<D: Disk>(disk: &mut D, k: u32) -> Result<Body, DiskFault>
     ensures fields { IsTrue (D.honest disk.old) →
         IfOk result (λ body. body.fields ≡ fields_at (D.state disk.old).content k) }
     ensures tag { IsTrue (D.honest disk.old) → IfOk result (λ body. body.tag ≡ tag_at (D.state disk.old).content k) }
-    ensures reads { IsTrue (D.honest disk.old) → OnlyReads D.state D.moment D.left_since disk.old disk.new }
-    ensures failures { Counts is_failure (D.failures disk.old) (D.failures disk.new) result }
-    ensures past_ends { IsTrue (D.honest disk.old) → D.past_ends disk.new ≡ D.past_ends disk.old }
-    ensures honest { D.honest disk.new ≡ D.honest disk.old }
+    ensures reads { ReadsDisk D.Disk is_failure disk.old disk.new result }
 {
     let fields = read_fields(disk, k)?;
     let tag = read_tag(disk, k)?;
@@ -137,10 +125,7 @@ fn read_body<D: Disk>(disk: &mut D, k: u32) -> Result<Body, DiskFault>
 fn read_previous_tag<D: Disk>(disk: &mut D, k: u32) -> Result<[u8; 32], DiskFault>
     requires { IsTrue (D.honest disk.old) → 256 * k ≤ length (D.state disk.old).content }
     ensures tag { IsTrue (D.honest disk.old) → IfOk result (λ tag. tag ≡ previous_tag (D.state disk.old).content k) }
-    ensures reads { IsTrue (D.honest disk.old) → OnlyReads D.state D.moment D.left_since disk.old disk.new }
-    ensures failures { Counts is_failure (D.failures disk.old) (D.failures disk.new) result }
-    ensures past_ends { IsTrue (D.honest disk.old) → D.past_ends disk.new ≡ D.past_ends disk.old }
-    ensures honest { D.honest disk.new ≡ D.honest disk.old }
+    ensures reads { ReadsDisk D.Disk is_failure disk.old disk.new result }
 {
     match k.checked_sub(1) {
         None => Ok([0; 32]),
@@ -152,10 +137,7 @@ fn read_previous_tag<D: Disk>(disk: &mut D, k: u32) -> Result<[u8; 32], DiskFaul
 pub(crate) fn read_entry<D: Disk>(disk: &mut D, k: u32) -> Result<Option<Record>, DiskFault>
     requires { IsTrue (D.honest disk.old) → 256 * k + 256 ≤ length (D.state disk.old).content }
     ensures entry { IsTrue (D.honest disk.old) → IfOk result (HasEntry (D.state disk.old).content k) }
-    ensures reads { IsTrue (D.honest disk.old) → OnlyReads D.state D.moment D.left_since disk.old disk.new }
-    ensures failures { Counts is_failure (D.failures disk.old) (D.failures disk.new) result }
-    ensures past_ends { IsTrue (D.honest disk.old) → D.past_ends disk.new ≡ D.past_ends disk.old }
-    ensures honest { D.honest disk.new ≡ D.honest disk.old }
+    ensures reads { ReadsDisk D.Disk is_failure disk.old disk.new result }
 {
     let previous = read_previous_tag(disk, k)?;
     let body = read_body(disk, k)?;
@@ -171,14 +153,11 @@ fn read_slot<D: Disk>(
 ) -> Result<Slot, OpenFault>
     requires len { IsTrue (D.honest disk.old) → len ≡ length (D.state disk.old).content }
     requires previous { IsTrue (D.honest disk.old) → previous.now ≡ previous_tag (D.state disk.old).content k }
-    ensures few { OnOk result (k < 2 ^ 31) }
+    ensures few { OnOk result (k < most_records) }
     ensures slot { IsTrue (D.honest disk.old) →
         IfOk result (λ slot. HasSlot (D.state disk.old).content k slot.entry slot.tag) }
     ensures fault { IsTrue (D.honest disk.old) → IfErr result (ReportsSlot (D.state disk.old).content k) }
-    ensures reads { IsTrue (D.honest disk.old) → OnlyReads D.state D.moment D.left_since disk.old disk.new }
-    ensures failures { Counts is_failed_opening (D.failures disk.old) (D.failures disk.new) result }
-    ensures past_ends { IsTrue (D.honest disk.old) → D.past_ends disk.new ≡ D.past_ends disk.old }
-    ensures honest { D.honest disk.new ≡ D.honest disk.old }
+    ensures reads { ReadsDisk D.Disk is_failed_opening disk.old disk.new result }
 {
     if k >= MOST || SLOT * (u64::from(k) + 1) >= len {
         return Err(OpenFault::Damaged(k));
@@ -214,10 +193,7 @@ fn read_first_fields<D: Disk>(disk: &mut D, len: u64) -> Result<[u8; 223], OpenF
     ensures fields { IsTrue (D.honest disk.old) →
         IfOk result (λ fields. fields ≡ fields_at (D.state disk.old).content 0) }
     ensures fault { IsTrue (D.honest disk.old) → IfErr result (Reports (D.state disk.old).content) }
-    ensures reads { IsTrue (D.honest disk.old) → OnlyReads D.state D.moment D.left_since disk.old disk.new }
-    ensures failures { Counts is_failed_opening (D.failures disk.old) (D.failures disk.new) result }
-    ensures past_ends { IsTrue (D.honest disk.old) → D.past_ends disk.new ≡ D.past_ends disk.old }
-    ensures honest { D.honest disk.new ≡ D.honest disk.old }
+    ensures reads { ReadsDisk D.Disk is_failed_opening disk.old disk.new result }
 {
     if len < SLOT + 1 {
         return Err(OpenFault::NoKey);
@@ -233,10 +209,7 @@ fn check_key<D: Disk>(disk: &mut D, len: u64) -> Result<(), OpenFault>
     requires len { IsTrue (D.honest disk.old) → len ≡ length (D.state disk.old).content }
     ensures key { IsTrue (D.honest disk.old) → OnOk result (StartsWithKey (D.state disk.old).content) }
     ensures fault { IsTrue (D.honest disk.old) → IfErr result (Reports (D.state disk.old).content) }
-    ensures reads { IsTrue (D.honest disk.old) → OnlyReads D.state D.moment D.left_since disk.old disk.new }
-    ensures failures { Counts is_failed_opening (D.failures disk.old) (D.failures disk.new) result }
-    ensures past_ends { IsTrue (D.honest disk.old) → D.past_ends disk.new ≡ D.past_ends disk.old }
-    ensures honest { D.honest disk.new ≡ D.honest disk.old }
+    ensures reads { ReadsDisk D.Disk is_failed_opening disk.old disk.new result }
 {
     let fields = read_first_fields(disk, len)?;
     if !begins_key(&fields) {
@@ -262,7 +235,7 @@ impl Found {
 
     // One record more.
     fn push(&mut self, slot: &Slot)
-        requires { self.old.count < 2 ^ 31 }
+        requires { self.old.count < most_records }
         ensures count { self.new.count ≡ self.old.count + 1 }
         ensures tag { self.new.tag ≡ slot.now.tag }
         ensures records { self.new.records ≡ self.old.records ++ slot.now.entry ∷ [] }
@@ -278,14 +251,11 @@ fn read_slots<D: Disk>(disk: &mut D, len: u64) -> Result<Found, OpenFault>
     requires len { IsTrue (D.honest disk.old) → len ≡ length (D.state disk.old).content }
     requires key { IsTrue (D.honest disk.old) → StartsWithKey (D.state disk.old).content }
     ensures counted { IfOk result (λ found. found.count ≡ length found.records) }
-    ensures few { IfOk result (λ found. found.count ≤ 2 ^ 31) }
+    ensures few { IfOk result (λ found. found.count ≤ most_records) }
     ensures found { IsTrue (D.honest disk.old) →
         IfOk result (λ found. IsFound (D.state disk.old).content found.records found.tag) }
     ensures fault { IsTrue (D.honest disk.old) → IfErr result (Reports (D.state disk.old).content) }
-    ensures reads { IsTrue (D.honest disk.old) → OnlyReads D.state D.moment D.left_since disk.old disk.new }
-    ensures failures { Counts is_failed_opening (D.failures disk.old) (D.failures disk.new) result }
-    ensures past_ends { IsTrue (D.honest disk.old) → D.past_ends disk.new ≡ D.past_ends disk.old }
-    ensures honest { D.honest disk.new ≡ D.honest disk.old }
+    ensures reads { ReadsDisk D.Disk is_failed_opening disk.old disk.new result }
 {
     let mut found = Found::none();
     while read_gate(disk, found.count)? {
@@ -299,7 +269,7 @@ fn read_slots<D: Disk>(disk: &mut D, len: u64) -> Result<Found, OpenFault>
 /// leave.
 pub(crate) fn find_records<D: Disk>(disk: &mut D) -> Result<Found, OpenFault>
     ensures counted { IfOk result (λ found. found.count ≡ length found.records) }
-    ensures few { IfOk result (λ found. found.count ≤ 2 ^ 31) }
+    ensures few { IfOk result (λ found. found.count ≤ most_records) }
     ensures found { IsTrue (D.honest disk.old) →
         IfOk result (λ found. IsFound (D.state disk.old).content found.records found.tag) }
     ensures fault { IsTrue (D.honest disk.old) → IfErr result (Reports (D.state disk.old).content) }
@@ -308,9 +278,7 @@ pub(crate) fn find_records<D: Disk>(disk: &mut D) -> Result<Found, OpenFault>
         IfErr result (KeepsContent (D.state disk.old).content (D.state disk.new)) }
     ensures any_moment { IsTrue (D.honest disk.old) →
         LeavesOnly D.moment D.left_since disk.old disk.new (MayLeave (D.state disk.old)) }
-    ensures failures { Counts is_failed_opening (D.failures disk.old) (D.failures disk.new) result }
-    ensures past_ends { IsTrue (D.honest disk.old) → D.past_ends disk.new ≡ D.past_ends disk.old }
-    ensures honest { D.honest disk.new ≡ D.honest disk.old }
+    ensures counts { CountsFailures D.Disk is_failed_opening disk.old disk.new result }
 {
     let len = settle(disk)?;
     check_key(disk, len)?;

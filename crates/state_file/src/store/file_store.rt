@@ -1,18 +1,20 @@
 //! A store over a disk.
 
-ghost use Rattle.std.specs.Prelude.{◌≡◌, ◌≢◌, ◌⊎◌, ◌≤◌, ◌<◌, ◌+◌, ◌^◌, ◌∷◌, ℕ, List, [], ◌++◌, true, false, IsTrue};
+ghost use Rattle.std.specs.Prelude.{◌≡◌, ◌≢◌, ◌⊎◌, ◌≤◌, ◌<◌, ◌+◌, ◌∷◌, ℕ, List, [], ◌++◌, true, false, IsTrue};
 ghost use Rattle.std.specs.Prelude.{IfOk, IfErr, OnOk, OnErr, MatchResult, length, max, replicate};
 ghost use Rattle.typecodes.specs.Layout.{Spells};
 ghost use Rattle.state_file.specs.Disk.{Elapses, LeavesOnly};
 ghost use Rattle.state_file.specs.Disk.{DiskState, settled, ChangesOnly, MayLeave, Counts};
-ghost use Rattle.state_file.specs.File.{SpellsRecords, fields_at, tag_at, tag_of};
+ghost use Rattle.state_file.specs.File.{SpellsRecords, fields_at, most_records, tag_at, tag_of};
+ghost use Rattle.state_file.specs.DiskCalls.{CountsFailures, OnlyReads};
 ghost use Rattle.state_file.specs.File.{StandsFor, LeftLists, IsSyncedFile, IsSyncedFile-prop};
 ghost use Rattle.state_file.specs.Gates.{AddsSlot, slot_and_gate};
 ghost use Rattle.state_file.specs.Format.{is_failed_format, Formats, LeftByFormat};
-ghost use Rattle.state_file.specs.Opening.{is_failed_opening, OnlyReads, Settles, Reports};
+ghost use Rattle.state_file.specs.Opening.{is_failed_opening, Settles, Reports};
 ghost use Rattle.std.proofs.Common.{inl};
 ghost use Rattle.state_file.specs.Slot.{slot_record};
-ghost use Rattle.state_file.specs.Store.{Appends, CanFollow, Loads, ReadsTag, is_out_of_memory};
+ghost use Rattle.state_file.specs.Store.{Appends, CanFollow, Collects, Loads, ReadsTag, is_out_of_memory};
+ghost use Rattle.state_file.specs.Store.{is_device_failure, unreadable_slot};
 
 #[cfg(test)]
 mod tests;
@@ -24,7 +26,7 @@ use crate::file::{
 use crate::record::{Record, RecordList};
 use crate::refused::Refused;
 use crate::slot::{record_bytes, tag};
-use crate::store::{Store, StoreFault};
+use crate::store::{SlotList, Store, StoreFault};
 
 /// Records on a disk, each in a slot of 256 bytes.
 #[derive(Drop)]
@@ -35,14 +37,17 @@ pub struct FileStore<D: Disk> {
     tag: [u8; 32],
     stopped: bool,
     records: RecordList,
+    // the slots that load has reported as unreadable
+    unreadable: SlotList,
     ghost counted: { count ≡ length records },
-    ghost few: { length records ≤ 2 ^ 31 },
+    ghost few: { length records ≤ most_records },
     ghost kept: { IsTrue (D.honest disk) → stopped ≡ false →
         IsSyncedFile records tag (D.state disk) } by { Prim.hlevel IsSyncedFile-prop },
 }
 
 impl<D: Disk + Drop> FileStore<D> {
     ghost use Rattle.state_file.specs.FileStore.{disk_after, disk_of, has_stopped, records_of, outcome_of};
+    ghost use Rattle.state_file.specs.FileStore.{unreadable_of};
 
     /// How many records there are.
     pub fn count(&self) -> u32
@@ -63,16 +68,14 @@ impl<D: Disk + Drop> FileStore<D> {
     /// refusal hands the disk back.
     pub fn format(disk: D) -> Result<Self, Refused<D, FormatFault>>
         ensures records { IfOk result (λ store. (records_of store ≡ []) × (has_stopped store ≡ false)) }
+        ensures unreadable { IfOk result (λ store. unreadable_of store ≡ []) }
         ensures answer { IsTrue (D.honest disk) →
             Formats (D.state disk).content (D.state (disk_after result)) (outcome_of result) }
         ensures len { IsTrue (D.honest disk) →
             OnOk result (length (D.state (disk_after result)).content ≡ max (length (D.state disk).content) 1) }
         ensures any_moment { IsTrue (D.honest disk) →
             LeavesOnly D.moment D.left_since disk (disk_after result) (LeftByFormat (D.state disk)) }
-        ensures failures { Counts is_failed_format (D.failures disk)
-            (D.failures (disk_after result)) (outcome_of result) }
-        ensures past_ends { IsTrue (D.honest disk) → D.past_ends (disk_after result) ≡ D.past_ends disk }
-        ensures honest { D.honest (disk_after result) ≡ D.honest disk }
+        ensures counts { CountsFailures D.Disk is_failed_format disk (disk_after result) (outcome_of result) }
     {
         let mut disk = disk;
         match format(&mut disk) {
@@ -82,6 +85,7 @@ impl<D: Disk + Drop> FileStore<D> {
                 tag: [0; 32],
                 stopped: false,
                 records: RecordList::new(),
+                unreadable: SlotList::new(),
             }),
             Err(fault) => Err(Refused { fault, given: disk }),
         }
@@ -94,16 +98,14 @@ impl<D: Disk + Drop> FileStore<D> {
         ensures records { IsTrue (D.honest disk) →
             IfOk result (λ store. SpellsRecords (D.state disk).content (records_of store)) }
         ensures running { IfOk result (λ store. has_stopped store ≡ false) }
+        ensures unreadable { IfOk result (λ store. unreadable_of store ≡ []) }
         ensures fault { IsTrue (D.honest disk) →
             IfErr result (λ refused. Reports (D.state disk).content refused.fault) }
         ensures any_moment { IsTrue (D.honest disk) →
             LeavesOnly D.moment D.left_since disk (disk_after result) (MayLeave (D.state disk)) }
         ensures settled { IsTrue (D.honest disk) →
             Settles (D.state disk).content (D.state (disk_after result)) (outcome_of result) }
-        ensures failures { Counts is_failed_opening (D.failures disk)
-            (D.failures (disk_after result)) (outcome_of result) }
-        ensures past_ends { IsTrue (D.honest disk) → D.past_ends (disk_after result) ≡ D.past_ends disk }
-        ensures honest { D.honest (disk_after result) ≡ D.honest disk }
+        ensures counts { CountsFailures D.Disk is_failed_opening disk (disk_after result) (outcome_of result) }
     {
         let mut disk = disk;
         match find_records(&mut disk) {
@@ -115,6 +117,7 @@ impl<D: Disk + Drop> FileStore<D> {
                     tag,
                     stopped: false,
                     records: found.records,
+                    unreadable: SlotList::new(),
                 })
             }
             Err(fault) => Err(Refused { fault, given: disk }),
@@ -123,7 +126,7 @@ impl<D: Disk + Drop> FileStore<D> {
 }
 
 impl<D: Disk + Drop> FileStore<D> {
-    ghost use Rattle.state_file.specs.FileStore.{disk_of, has_stopped, records_of};
+    ghost use Rattle.state_file.specs.FileStore.{disk_of, has_stopped, records_of, unreadable_of};
 
     /// The tag of slot k, 32 bytes.
     pub fn tag_at(&mut self, k: u32) -> Result<[u8; 32], StoreFault>
@@ -133,13 +136,12 @@ impl<D: Disk + Drop> FileStore<D> {
         ensures tag { IsTrue (D.honest (disk_of self.old)) →
             IfOk result (λ tag. tag ≡ tag_at (D.state (disk_of self.old)).content k) }
         ensures same { records_of self.new ≡ records_of self.old }
+        ensures unreadable { unreadable_of self.new ≡ unreadable_of self.old }
         ensures reads { IsTrue (D.honest (disk_of self.old)) → has_stopped self.old ≡ false →
             OnlyReads D.state D.moment D.left_since (disk_of self.old) (disk_of self.new) }
         ensures any_moment { IsTrue (D.honest (disk_of self.old)) → has_stopped self.old ≡ false →
             LeavesOnly D.moment D.left_since (disk_of self.old) (disk_of self.new) (StandsFor (records_of self.old)) }
-        ensures past_ends { IsTrue (D.honest (disk_of self.old)) →
-            D.past_ends (disk_of self.new) ≡ D.past_ends (disk_of self.old) }
-        ensures honest { D.honest (disk_of self.new) ≡ D.honest (disk_of self.old) }
+        ensures counts { CountsFailures D.Disk is_device_failure (disk_of self.old) (disk_of self.new) result }
         ensures stays { has_stopped self.old ≡ true → self.new ≡ self.old }
     {
         if self.stopped {
@@ -157,6 +159,7 @@ impl<D: Disk + Drop> FileStore<D> {
 
 impl<D: Disk + Drop> Store for FileStore<D> {
     ghost use Rattle.state_file.specs.FileStore.{disk_of, has_stopped, kept_list, kept_stands, records_of};
+    ghost use Rattle.state_file.specs.FileStore.{unreadable_of};
 
     ghost list = { λ store. records_of store };
 
@@ -167,9 +170,11 @@ impl<D: Disk + Drop> Store for FileStore<D> {
     // It takes no memory.
     ghost refusals = { λ _. 0 };
 
+    ghost unreadable = { unreadable_of };
+
     ghost honest = { λ store. D.honest (disk_of store) };
 
-    ghost most = { λ _. 2 ^ 31 };
+    ghost most = { λ _. most_records };
 
     ghost moment = { λ store. D.moment (disk_of store) };
 
@@ -195,6 +200,7 @@ impl<D: Disk + Drop> Store for FileStore<D> {
             (D.failures (disk_of self.old)) (D.failures (disk_of self.new)) result }
         ensures refusals { Counts is_out_of_memory 0 0 result }
         ensures memory { result ≢ Err StoreFault.OutOfMemory }
+        ensures unreadable { Collects unreadable_slot (unreadable_of self.old) (unreadable_of self.new) result }
         ensures same { records_of self.new ≡ records_of self.old }
         ensures reads { IsTrue (D.honest (disk_of self.old)) → has_stopped self.old ≡ false →
             OnlyReads D.state D.moment D.left_since (disk_of self.old) (disk_of self.new) }
@@ -202,9 +208,7 @@ impl<D: Disk + Drop> Store for FileStore<D> {
             LeavesOnly (λ store. D.moment (disk_of store)) (λ store. LeftLists (D.left_since (disk_of store)))
             self.old self.new (λ left. left ≡ records_of self.old) }
         ensures stays { has_stopped self.old ≡ true → self.new ≡ self.old }
-        ensures past_ends { IsTrue (D.honest (disk_of self.old)) →
-            D.past_ends (disk_of self.new) ≡ D.past_ends (disk_of self.old) }
-        ensures honest { D.honest (disk_of self.new) ≡ D.honest (disk_of self.old) }
+        ensures counts { CountsFailures D.Disk is_device_failure (disk_of self.old) (disk_of self.new) result }
     {
         if self.stopped {
             return Err(StoreFault::Stopped);
@@ -215,7 +219,10 @@ impl<D: Disk + Drop> Store for FileStore<D> {
         match read_entry(&mut self.disk, k) {
             Ok(found) => match found {
                 Some(record) => Ok(Some(record)),
-                None => Err(StoreFault::Damaged(k)),
+                None => {
+                    self.unreadable.push(k);
+                    Err(StoreFault::Damaged(k))
+                }
             },
             Err(_) => {
                 self.stopped = true;
@@ -245,18 +252,17 @@ impl<D: Disk + Drop> Store for FileStore<D> {
         ensures bytes { IsTrue (D.honest (disk_of self.old)) → has_stopped self.old ≡ false →
             LeavesOnly D.moment D.left_since (disk_of self.old) (disk_of self.new)
             (ChangesOnly (slot_and_gate (length (records_of self.old)) ∷ []) (D.state (disk_of self.old)).content) }
-        ensures answer { Appends (2 ^ 31) (records_of self.old) (has_stopped self.old) new.now (records_of self.new)
+        ensures answer { Appends most_records (records_of self.old) (has_stopped self.old) new.now (records_of self.new)
             (has_stopped self.new) (D.failures (disk_of self.old)) (D.failures (disk_of self.new)) result }
         ensures refusals { Counts is_out_of_memory 0 0 result }
         ensures memory { result ≢ Err StoreFault.OutOfMemory }
+        ensures unreadable { unreadable_of self.new ≡ unreadable_of self.old }
         ensures full { result ≡ Err StoreFault.Full → self.new ≡ self.old }
         ensures adds { IsTrue (D.honest (disk_of self.old)) →
             OnOk result
             (AddsSlot (length (records_of self.old)) (D.state (disk_of self.old)).content
             (D.state (disk_of self.new))) }
-        ensures past_ends { IsTrue (D.honest (disk_of self.old)) →
-            D.past_ends (disk_of self.new) ≡ D.past_ends (disk_of self.old) }
-        ensures honest { D.honest (disk_of self.new) ≡ D.honest (disk_of self.old) }
+        ensures counts { CountsFailures D.Disk is_device_failure (disk_of self.old) (disk_of self.new) result }
     {
         if self.stopped {
             return Err(StoreFault::Stopped);

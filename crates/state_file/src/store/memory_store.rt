@@ -3,7 +3,7 @@
 ghost use Rattle.std.specs.Prelude.{◌⊎◌, IsTrue, length, ◌≡◌, ◌≢◌, ◌≤◌, ◌<◌, ◌+◌, true, false, [], ◌∷◌, ◌++◌, IfErr};
 ghost use Rattle.std.specs.Prelude.{OnOk, OnErr, if◌then◌else◌, slice_get, vec_len, vec_capacity};
 ghost use Rattle.state_file.specs.Disk.{Counts, LeavesOnly};
-ghost use Rattle.state_file.specs.Store.{Appends, Loads, is_out_of_memory};
+ghost use Rattle.state_file.specs.Store.{Appends, Collects, Loads, is_out_of_memory, unreadable_slot};
 
 use crate::record::Record;
 use crate::store::{Store, StoreFault};
@@ -31,8 +31,8 @@ pub struct MemoryStore {
 }
 
 impl MemoryStore {
-    ghost use Rattle.state_file.specs.MemoryStore.{cut_of, cut_of_append, failures_of, has_stopped, limit_of};
-    ghost use Rattle.state_file.specs.MemoryStore.{records_of, refusals_of};
+    ghost use Rattle.state_file.specs.MemoryStore.{KeepsRecords, cut_of, cut_of_append, failures_of, has_stopped};
+    ghost use Rattle.state_file.specs.MemoryStore.{limit_of, records_of, refusals_of};
 
     /// An empty store that takes `limit` records.
     pub fn with_limit(alloc: Global, limit: u32) -> Self
@@ -59,11 +59,9 @@ impl MemoryStore {
     /// The appends that count are those that reach the device, not those that are answered 26, 46 or 52.
     pub fn cut_at(&mut self, n: u32, cut: Cut)
         ensures cut { cut_of self.new ≡ cut_of_append n cut }
-        ensures records { records_of self.new ≡ records_of self.old }
-        ensures limit { limit_of self.new ≡ limit_of self.old }
         ensures stopped { has_stopped self.new ≡ has_stopped self.old }
         ensures failures { failures_of self.new ≡ failures_of self.old }
-        ensures refusals { refusals_of self.new ≡ refusals_of self.old }
+        ensures records { KeepsRecords self.old self.new }
     {
         self.cut = n.checked_sub(1).map(|before| (before, cut));
     }
@@ -71,11 +69,9 @@ impl MemoryStore {
     /// Opens the place again after a failure.
     pub fn reopen(&mut self)
         ensures stopped { has_stopped self.new ≡ false }
-        ensures records { records_of self.new ≡ records_of self.old }
-        ensures limit { limit_of self.new ≡ limit_of self.old }
         ensures cut { cut_of self.new ≡ cut_of self.old }
         ensures failures { failures_of self.new ≡ failures_of self.old }
-        ensures refusals { refusals_of self.new ≡ refusals_of self.old }
+        ensures records { KeepsRecords self.old self.new }
     {
         self.stopped = false;
     }
@@ -85,10 +81,8 @@ impl MemoryStore {
         ensures fault { result ≡ StoreFault.DeviceFailed }
         ensures stopped { has_stopped self.new ≡ true }
         ensures failures { failures_of self.new ≡ failures_of self.old + 1 }
-        ensures refusals { refusals_of self.new ≡ refusals_of self.old }
+        ensures records { KeepsRecords self.old self.new }
         ensures cut { cut_of self.new ≡ None }
-        ensures records { records_of self.new ≡ records_of self.old }
-        ensures limit { limit_of self.new ≡ limit_of self.old }
     {
         self.cut = None;
         self.stopped = true;
@@ -110,6 +104,9 @@ impl Store for MemoryStore {
 
     ghost refusals = { refusals_of };
 
+    // Each of its records can be read.
+    ghost unreadable = { λ _. [] };
+
     ghost honest = { λ _. true };
 
     ghost most = { limit_of };
@@ -130,6 +127,7 @@ impl Store for MemoryStore {
             (failures_of self.old)
             (failures_of self.new) result }
         ensures refusals { Counts is_out_of_memory (refusals_of self.old) (refusals_of self.new) result }
+        ensures unreadable { Collects unreadable_slot [] [] result }
         ensures same { records_of self.new ≡ records_of self.old }
         ensures any_moment { IsTrue true → has_stopped self.old ≡ false →
             LeavesOnly (λ store. length (records_of store)) (λ store. HadBeen (records_of store)) self.old self.new

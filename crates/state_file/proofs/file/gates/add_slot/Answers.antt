@@ -24,7 +24,7 @@ returns-clause-added g c front honest rest size =
       synced = done.0;
       ends = gate_done front (c.args.fields.now ++ c.args.tag.now) (256 * c.from-gate.result) len (g.D.Disk.state c.write_synced.new.disk).content (g.D.Disk.state c.write_synced-2.new.disk).content staged done.1 done.2;
     })
-    (c.write_synced-2.ensures.written (c.write_synced.ensures.honest ∙ honest))
+    (c.write_synced-2.ensures.written (c.write_synced.ensures.counts.honest ∙ honest))
 
 pub returns-clause-any_moment : goal.returns-clause-any_moment
 returns-clause-any_moment g c front honest rest size =
@@ -39,7 +39,7 @@ returns-clause-any_moment g c front honest rest size =
     let second =
     weaker g.D.Disk.moment g.D.Disk.left_since c.write_synced.new.disk c.write_synced-2.new.disk _ (λ left. IsClosedAfter front left ⊎ IsClosedAfter (front ++ 165 ∷ (c.args.fields.now ++ c.args.tag.now)) left)
     (λ left changes. gate_leaves front (c.args.fields.now ++ c.args.tag.now) (256 * c.from-gate.result) len (g.D.Disk.state c.write_synced.new.disk).content left staged changes)
-    (c.write_synced-2.ensures.any_moment (c.write_synced.ensures.honest ∙ honest) written.0) in
+    (c.write_synced-2.ensures.any_moment (c.write_synced.ensures.counts.honest ∙ honest) written.0) in
     combined g.D.Disk.moment g.D.Disk.left_since c.args.disk.now c.write_synced.new.disk c.write_synced-2.new.disk _ first second
 
 pub returns-clause-adds : goal.returns-clause-adds
@@ -52,7 +52,7 @@ returns-clause-adds g c honest =
     ok_along c.write_synced-2.result _ (AddsSlot c.args.slot content after)
     (λ done. subst (λ (n : ℕ). AddsSlot n content after) same
     (slot_added c.from-gate.result (c.args.fields.now ++ c.args.tag.now) c.block.result content mid after c.block.ensures.body c.block.ensures.bytes written.1 written.2 done.0 done.1))
-    (c.write_synced-2.ensures.written (c.write_synced.ensures.honest ∙ honest))
+    (c.write_synced-2.ensures.written (c.write_synced.ensures.counts.honest ∙ honest))
 
 pub returns-in_err-write_synced-clause-bytes : goal.returns-in_err-write_synced-clause-bytes
 returns-in_err-write_synced-clause-bytes g c honest synced =
@@ -78,5 +78,5 @@ returns-clause-bytes g c honest synced =
     let second =
     weaker g.D.Disk.moment g.D.Disk.left_since c.write_synced.new.disk c.write_synced-2.new.disk _ within
     (λ left changes. subst (λ (n : ℕ). ChangesOnly (slot_and_gate n ∷ []) content left) same (both_stay c.from-gate.result c.block.result content mid left size written.1 changes))
-    (c.write_synced-2.ensures.any_moment (c.write_synced.ensures.honest ∙ honest) written.0) in
+    (c.write_synced-2.ensures.any_moment (c.write_synced.ensures.counts.honest ∙ honest) written.0) in
     combined g.D.Disk.moment g.D.Disk.left_since c.args.disk.now c.write_synced.new.disk c.write_synced-2.new.disk _ first second

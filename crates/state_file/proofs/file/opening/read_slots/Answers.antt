@@ -12,9 +12,9 @@ returns-in_err-slot-clause-fault g c honest =
     let fault = c.in_err-slot.field-0.0 in
     let was = before.honest ∙ honest in
     let same = (before.reads honest).stays in
-    let still = (c.read_gate.ensures.reads was).stays ∙ same in
+    let still = (c.read_gate.ensures.reads.only was).stays ∙ same in
     let opened = open_gate first (g.D.Disk.state c.loop-disk.disk) found.count c.in_ok-read_gate.field-0 same (gate_within first (g.D.Disk.state c.loop-disk.disk) found.count found.records found.tag same before.counted (before.found honest)) (c.in_ok-read_gate.ensures.gate was) c.if-branch.true in
-    let reported : ReportsSlot first.content found.count fault = subst (λ (s : DiskState). ReportsSlot s.content found.count fault) still (c.in_err-slot.ensures.fault (c.read_gate.ensures.honest ∙ was)) in
+    let reported : ReportsSlot first.content found.count fault = subst (λ (s : DiskState). ReportsSlot s.content found.count fault) still (c.in_err-slot.ensures.fault (c.read_gate.ensures.reads.counts.honest ∙ was)) in
     fault_reported (Reports first.content) c.from_residual-in_err-slot.result fault (search rules)
     (found_harm first.content found.count found.records found.tag fault (before.found honest) before.counted (c.requires.key honest) opened reported)
 
@@ -26,21 +26,21 @@ loop-disk-preserved g c =
     let slot = c.in_ok-slot.slot in record {
       counted = omega (arith, c.push.ensures.count, before.counted, ap length c.push.ensures.records, length-append found.records (slot.entry ∷ []));
       few = omega (arith, c.push.ensures.count, c.in_ok-slot.ensures.few);
-      honest = c.read_slot.ensures.honest ∙ c.read_gate.ensures.honest ∙ before.honest;
-      failures = c.in_ok-slot.ensures.failures ∙ c.in_ok-read_gate.ensures.failures ∙ before.failures;
+      honest = c.read_slot.ensures.reads.counts.honest ∙ c.read_gate.ensures.reads.counts.honest ∙ before.honest;
+      failures = c.in_ok-slot.ensures.reads.counts.failures ∙ c.in_ok-read_gate.ensures.reads.counts.failures ∙ before.failures;
       past_ends = λ honest.
           let was = before.honest ∙ honest in
-          c.read_slot.ensures.past_ends (c.read_gate.ensures.honest ∙ was) ∙ c.read_gate.ensures.past_ends was ∙ before.past_ends honest;
+          c.read_slot.ensures.reads.counts.past_ends (c.read_gate.ensures.reads.counts.honest ∙ was) ∙ c.read_gate.ensures.reads.counts.past_ends was ∙ before.past_ends honest;
       reads = λ honest.
           let was = before.honest ∙ honest in
           reads_on g.D.Disk.state g.D.Disk.moment g.D.Disk.left_since c.args.disk.now c.loop-disk.disk c.read_slot.new.disk (before.reads honest)
-          (reads_on g.D.Disk.state g.D.Disk.moment g.D.Disk.left_since c.loop-disk.disk c.read_gate.new.disk c.read_slot.new.disk (c.read_gate.ensures.reads was) (c.read_slot.ensures.reads (c.read_gate.ensures.honest ∙ was)));
+          (reads_on g.D.Disk.state g.D.Disk.moment g.D.Disk.left_since c.loop-disk.disk c.read_gate.new.disk c.read_slot.new.disk (c.read_gate.ensures.reads.only was) (c.read_slot.ensures.reads.only (c.read_gate.ensures.reads.counts.honest ∙ was)));
       found = λ honest.
           let was = before.honest ∙ honest in
           let same = (before.reads honest).stays in
-          let still = (c.read_gate.ensures.reads was).stays ∙ same in
+          let still = (c.read_gate.ensures.reads.only was).stays ∙ same in
           let opened = open_gate first (g.D.Disk.state c.loop-disk.disk) found.count c.in_ok-read_gate.field-0 same (gate_within first (g.D.Disk.state c.loop-disk.disk) found.count found.records found.tag same before.counted (before.found honest)) (c.in_ok-read_gate.ensures.gate was) c.if-branch.true in
-          let has : HasSlot first.content found.count slot.entry slot.tag = subst (λ (s : DiskState). HasSlot s.content found.count slot.entry slot.tag) still (c.in_ok-slot.ensures.slot (c.read_gate.ensures.honest ∙ was)) in
+          let has : HasSlot first.content found.count slot.entry slot.tag = subst (λ (s : DiskState). HasSlot s.content found.count slot.entry slot.tag) still (c.in_ok-slot.ensures.slot (c.read_gate.ensures.reads.counts.honest ∙ was)) in
           found_more first.content found.count c.push.new.self.count found.records c.push.new.self.records found.tag c.push.new.self.tag slot.tag slot.entry (before.found honest) before.counted c.push.ensures.count
           c.push.ensures.records c.push.ensures.tag opened has;
     }

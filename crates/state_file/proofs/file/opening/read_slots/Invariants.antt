@@ -1,14 +1,15 @@
 -- The content begins with the records that were found, and all was only read.
-use Rattle.std.proofs.Common.{◌≡◌, ◌-◌, ◌^◌, ◌≤◌, length}
+use Rattle.std.proofs.Common.{◌≡◌, ◌-◌, ◌≤◌, length}
 use Rattle.std.specs.Prelude.{IsTrue}
-use Rattle.state_file.specs.Opening.{OnlyReads}
+use Rattle.state_file.specs.File.{most_records}
+use Rattle.state_file.specs.DiskCalls.{OnlyReads}
 use Rattle.state_file.proofs.Finding.{BeginsFound}
 use Rattle.state_file.proofs.file.opening.read_slots.Given as goal
 
 abbrev pub invariant-loop-disk : goal.invariant-loop-disk
 invariant-loop-disk g l = record {
   counted : l.found.count ≡ length l.found.records;
-  few : l.found.count ≤ 2 ^ 31;
+  few : l.found.count ≤ most_records;
   honest : g.D.Disk.honest l.disk ≡ g.D.Disk.honest l.initial.disk;
   failures : g.D.Disk.failures l.disk ≡ g.D.Disk.failures l.initial.disk;
   past_ends : IsTrue (g.D.Disk.honest l.initial.disk) → g.D.Disk.past_ends l.disk ≡ g.D.Disk.past_ends l.initial.disk;
@@ -17,4 +18,4 @@ invariant-loop-disk g l = record {
 }
 
 abbrev pub decreases-loop-disk : goal.decreases-loop-disk
-decreases-loop-disk g l = 2 ^ 31 - l.found.count
+decreases-loop-disk g l = most_records - l.found.count

@@ -1,4 +1,4 @@
-use Rattle.std.proofs.Common.{◌+◌, List, ℕ, length, subst, arith}
+use Rattle.std.proofs.Common.{◌+◌, List, ℕ, length, subst, arith, rules}
 use Rattle.std.proofs.lemmas.List.{take_all}
 use Rattle.state_file.specs.Log.{Overlays}
 use Rattle.state_file.specs.declared.disk.log.Entry.TheVariants.{Wrote}
@@ -14,10 +14,18 @@ returns-in-Ok-clause-written c h =
     let over : Overlays at bytes old new = subst (λ (l : List ℕ). Overlays at l old new) (take_all (length bytes) bytes (omega arith)) c.in-Ok.ensures.content in
     (opens c.args.self.now.first.items c.args.self.now.log.items c.write.new.log.items at bytes old new over c.in-Ok.ensures.log, overlays_bytes at bytes old new over)
 
-pub returns-in-Ok-clause-time : goal.returns-in-Ok-clause-time
-returns-in-Ok-clause-time c h =
-    elapses_more c.args.self.now.first.items c.args.self.now.log.items c.write.new.log.items (Wrote c.args.at (c.args.at + length c.args.bytes.now)) c.in-Ok.ensures.log
+pub returns-in-Ok-clause-call : goal.returns-in-Ok-clause-call
+returns-in-Ok-clause-call c =
+    record {
+      time = elapses_more c.args.self.now.first.items c.args.self.now.log.items c.write.new.log.items (Wrote c.args.at (c.args.at + length c.args.bytes.now)) c.in-Ok.ensures.log;
+      failures = search rules;
+      plan = search rules;
+    }
 
-pub returns-in-Ok-write-clause-time : goal.returns-in-Ok-write-clause-time
-returns-in-Ok-write-clause-time c h =
-    elapses_more c.args.self.now.first.items c.args.self.now.log.items c.write-in-Fails.new.log.items (Wrote c.args.at (c.args.at + length c.args.bytes.now)) c.in-Ok-write.ensures.log
+pub returns-in-Ok-write-clause-call : goal.returns-in-Ok-write-clause-call
+returns-in-Ok-write-clause-call c =
+    record {
+      time = elapses_more c.args.self.now.first.items c.args.self.now.log.items c.write-in-Fails.new.log.items (Wrote c.args.at (c.args.at + length c.args.bytes.now)) c.in-Ok-write.ensures.log;
+      failures = search rules;
+      plan = search rules;
+    }

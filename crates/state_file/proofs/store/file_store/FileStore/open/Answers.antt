@@ -7,6 +7,6 @@ invariant_of-result g c = record {
   counted = c.in-Ok.ensures.counted;
   few = omega (arith, c.in-Ok.ensures.counted, c.in-Ok.ensures.few);
   kept = λ honest running.
-      let before = sym c.in-Ok.ensures.honest ∙ honest in
+      let before = sym c.in-Ok.ensures.counts.honest ∙ honest in
       found_kept c.in-Ok.found.records c.in-Ok.found.tag (g.D.Disk.state c.args.disk).content (g.D.Disk.state c.find_records.new.disk) (c.in-Ok.ensures.synced before) (c.in-Ok.ensures.found before);
 }

@@ -23,9 +23,9 @@ invariant_of-self g c = record {
       let state = g.D.Disk.state self.disk in
       let after = g.D.Disk.state c.add_slot.new.disk in
       let fields = c.record_bytes-fields.result in
-      let kept = self.kept (sym c.add_slot.ensures.honest ∙ honest) running in
+      let kept = self.kept (sym c.add_slot.ensures.counts.honest ∙ honest) running in
       let front = take (256 * length self.records) state.content in
-      let added = c.in-Ok.ensures.added front (sym c.add_slot.ensures.honest ∙ honest) (kept_rests self.records self.tag state kept) (kept_size self.records self.tag state self.count kept self.counted) in
+      let added = c.in-Ok.ensures.added front (sym c.add_slot.ensures.counts.honest ∙ honest) (kept_rests self.records self.tag state kept) (kept_size self.records self.tag state self.count kept self.counted) in
       kept_grows self.records c.push.new.self self.tag state after self.count c.args.new.now fields c.tag-next_tag.result (c.record_bytes-fields.result ++ c.tag-next_tag.result) c.push.ensures self.counted (omega arith) (follows_key c.args.self.now.records c.args.new.now kept.file.first c.requires)
       c.add_slot.ensures.fields c.add_slot.ensures.tag refl c.record_bytes-fields.ensures c.tag-next_tag.ensures kept added;
 }

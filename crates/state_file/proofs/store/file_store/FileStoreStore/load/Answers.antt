@@ -27,19 +27,19 @@ pub returns-in-Some-clause-any_moment : goal.returns-in-Some-clause-any_moment
 returns-in-Some-clause-any_moment g c honest running =
     let self = c.args.self.now in
     lists_stay (λ (store : FileStore g.row.D.Denot g.D.Disk). store.disk) g.D.Disk.moment g.D.Disk.left_since self _ self.records
-    (reads_leave g.D.Disk.state g.D.Disk.moment g.D.Disk.left_since self.disk c.read_entry.new.disk self.records self.tag (self.kept honest running) (c.read_entry.ensures.reads honest))
+    (reads_leave g.D.Disk.state g.D.Disk.moment g.D.Disk.left_since self.disk c.read_entry.new.disk self.records self.tag (self.kept honest running) (c.read_entry.ensures.reads.only honest))
 
 pub returns-in-None-clause-any_moment : goal.returns-in-None-clause-any_moment
 returns-in-None-clause-any_moment g c honest running =
     let self = c.args.self.now in
     lists_stay (λ (store : FileStore g.row.D.Denot g.D.Disk). store.disk) g.D.Disk.moment g.D.Disk.left_since self _ self.records
-    (reads_leave g.D.Disk.state g.D.Disk.moment g.D.Disk.left_since self.disk c.read_entry.new.disk self.records self.tag (self.kept honest running) (c.read_entry.ensures.reads honest))
+    (reads_leave g.D.Disk.state g.D.Disk.moment g.D.Disk.left_since self.disk c.read_entry.new.disk self.records self.tag (self.kept honest running) (c.read_entry.ensures.reads.only honest))
 
 pub returns-in-Err-clause-any_moment : goal.returns-in-Err-clause-any_moment
 returns-in-Err-clause-any_moment g c honest running =
     let self = c.args.self.now in
     lists_stay (λ (store : FileStore g.row.D.Denot g.D.Disk). store.disk) g.D.Disk.moment g.D.Disk.left_since self _ self.records
-    (reads_leave g.D.Disk.state g.D.Disk.moment g.D.Disk.left_since self.disk c.read_entry.new.disk self.records self.tag (self.kept honest running) (c.read_entry.ensures.reads honest))
+    (reads_leave g.D.Disk.state g.D.Disk.moment g.D.Disk.left_since self.disk c.read_entry.new.disk self.records self.tag (self.kept honest running) (c.read_entry.ensures.reads.only honest))
 
 pub returns-in-Some-clause-answer : goal.returns-in-Some-clause-answer
 returns-in-Some-clause-answer g c =
