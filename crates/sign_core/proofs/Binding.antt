@@ -96,6 +96,7 @@ module _ {S R M : Type 0} (g : store.Ghosts S) (r : source.Ghosts R) (m : messag
     failures = counts;
     message = message;
     refusals = memory_counts _;
+    memory = omega arith;
   }
 
   -- what an append comes to, after the draws and the reading
@@ -143,6 +144,7 @@ module _ {S R M : Type 0} (g : store.Ghosts S) (r : source.Ghosts R) (m : messag
             failures = count;
             message = whole;
             refusals = refusals;
+            memory = adds.memory;
           }) adds.refusals
       by_fate cut_old ends =
           subst (λ (x : Result (Unit {0}) SignFault). Counts is_out_of_memory (g.refusals kept_in) (g.refusals new.store) x
@@ -167,6 +169,7 @@ module _ {S R M : Type 0} (g : store.Ghosts S) (r : source.Ghosts R) (m : messag
             failures = count;
             message = whole;
             refusals = refusals;
+            memory = adds.memory;
           }) adds.refusals
       by_fate cut_new ends =
           subst (λ (x : Result (Unit {0}) SignFault). Counts is_out_of_memory (g.refusals kept_in) (g.refusals new.store) x
@@ -191,6 +194,7 @@ module _ {S R M : Type 0} (g : store.Ghosts S) (r : source.Ghosts R) (m : messag
             failures = count;
             message = whole;
             refusals = refusals;
+            memory = adds.memory;
           }) adds.refusals
       by_fate no_memory ends =
           subst (λ (x : Result (Unit {0}) SignFault). Counts is_out_of_memory (g.refusals kept_in) (g.refusals new.store) x
@@ -215,6 +219,7 @@ module _ {S R M : Type 0} (g : store.Ghosts S) (r : source.Ghosts R) (m : messag
             failures = count;
             message = whole;
             refusals = refusals;
+            memory = adds.memory;
           }) adds.refusals
 
 -- a record that is added stands at the end

@@ -107,7 +107,7 @@ module _ {S R : Type 0} (g : store.Ghosts S) (r : source.Ghosts R) (level : ℕ)
     source = subst (λ (bytes : List ℕ). Provides (r.upcoming view.random) bytes (r.upcoming random)) (sym (append-nil (concat fields))) gave;
     failures = fails_along (r.failures view.random) (r.failures random) RandomFailed answer is failed;
     refusals = subst (λ (a : Result (List ℕ) SignFault). Counts is_out_of_memory (g.refusals view.store) (g.refusals view.store) a) is refl;
-    spare = omega arith;
+    memory = omega arith;
   }
   undrawn view random RandomRepeated answer rests is (identifier, kept, gave, sized, there) = record {
     draw = record { fields = identifier ∷ []; fate = acked };
@@ -120,7 +120,7 @@ module _ {S R : Type 0} (g : store.Ghosts S) (r : source.Ghosts R) (level : ℕ)
     source = subst (λ (bytes : List ℕ). Provides (r.upcoming view.random) bytes (r.upcoming random)) (sym (append-nil identifier)) gave;
     failures = fails_along (r.failures view.random) (r.failures random) RandomRepeated answer is kept;
     refusals = subst (λ (a : Result (List ℕ) SignFault). Counts is_out_of_memory (g.refusals view.store) (g.refusals view.store) a) is refl;
-    spare = omega arith;
+    memory = omega arith;
   }
   undrawn view random Changed answer rests is draws = absurd draws
   undrawn view random Exhausted answer rests is draws = absurd draws
@@ -246,7 +246,7 @@ drawn {S = S} {R = R} g r level key trees view new random seeds entry answer is_
       failures = subst (λ (a : Result (List ℕ) SignFault). Counts is_random_failed (r.failures view.random) (r.failures new.random) a) ends.answer_is
           (none_failed view.records entry bytes adds.fate (r.failures view.random) (r.failures new.random) none);
       refusals = refusals_answered (g.refusals view.store) (g.refusals new.store) answer adds.refusals;
-      spare = adds.spare;
+      memory = adds.memory;
     }
 
 err≢ok : {A : Type 0} (fault : SignFault) (a : A) → Err fault ≡ Ok a → ⊥

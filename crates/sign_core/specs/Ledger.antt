@@ -96,11 +96,12 @@ TakesMemory (KeyRecord key) = ⊥
 TakesMemory (Retire upto) = ⊥
 TakesMemory Moved = ⊥
 
--- A record was added: the key stays, and the memory for one more record may be used.
+-- A record was added: the key stays, and the memory for one more record may be used, if it takes any.
 pub record Grows (entry : Record) (old new : Table) : Type 0 where
   pub key : new.key ≡ old.key
   pub records : new.records ≡ old.records ++ entry ∷ []
   pub spare : old.spare ≤ new.spare + 1
+  pub untaken : (TakesMemory entry → ⊥) → new.spare ≡ old.spare
 
 -- ---- records that are taken up
 

@@ -33,7 +33,7 @@ use Rattle.sign_core.specs.Once.{public_of_key, reached}
 use Rattle.sign_core.specs.World.{Chance, Creation, Fate, Opening, Outcome, State}
 use Rattle.sign_core.specs.World.{answered, appended, closed_on, created, open_on, opened, requested}
 use Rattle.sign_core.specs.World.{retired, secret_from}
-use Rattle.sign_core.specs.Ledger.{Table}
+use Rattle.sign_core.specs.Ledger.{Table, TakesMemory}
 use Rattle.sign_core.specs.Textbook.{AllHaveSizes, public_in}
 
 -- ---- a signer
@@ -161,6 +161,10 @@ pub record IsAppended {S A : Type 0} (g : store.Ghosts S) (old new : S) (entry :
 abbrev pub added : State → Record → Fate → Outcome (Unit {0})
 added state entry fate = appended state entry fate (λ records. answered (open_on records) tt)
 
+-- The memory falls by no more than that for the records that are added.
+abbrev pub UsesMemory : {S R : Type 0} → (old new : View S R) → Type 0
+UsesMemory old new = old.spare + length old.records ≤ new.spare + length new.records
+
 -- A signer appends a record, with some fate, and takes it up where the append is acknowledged.
 pub record Adds {S R : Type 0} (g : store.Ghosts S) (old new : View S R) (entry : Record)
     (answer : Result (Unit {0}) SignFault) : Type 0 where
@@ -168,7 +172,8 @@ pub record Adds {S R : Type 0} (g : store.Ghosts S) (old new : View S R) (entry 
   pub ends : Ends g old new (added (state_of old) entry fate) answer
   pub random : new.random ≡ old.random
   pub refusals : Counts is_out_of_memory (g.refusals old.store) (g.refusals new.store) answer
-  pub spare : old.spare ≤ new.spare + 1
+  pub memory : UsesMemory old new
+  pub untaken : (TakesMemory entry → ⊥) → new.spare ≡ old.spare
 
 -- why a signer is hindered at once: it is closed, or its records go on elsewhere
 abbrev pub Hinders : (is_open has_moved : Bool) → SignFault → Type 0
@@ -224,6 +229,7 @@ pub record Signs {S R M : Type 0} (g : store.Ghosts S) (r : source.Ghosts R) (m 
   pub room : chance.has_room ≡ false → LacksMemory key.secret (wanted_by key.secret (deepest key.secret old.records))
       (binding_in old.records name) capacity old.spare
   pub refusals : RefusesMemory chance.has_room answer (g.refusals old.store) (g.refusals new.store)
+  pub memory : UsesMemory old new
 
 -- ---- retire
 
@@ -233,7 +239,7 @@ IsBottom records bottom = (key : Key) → key_in records ≡ Some key
     → (bottom.0 ≡ next_at key.secret records (bottom_of key.secret))
     × (bottom.1 ≡ leaves_of_current key.secret records (bottom_of key.secret))
 
--- A call of retire is a step of the world; it draws nothing and takes no memory of its own.
+-- A call of retire is a step of the world; it draws nothing, and memory is as it was.
 pub record Retires {S R : Type 0} (g : store.Ghosts S) (old new : View S R) (upto : ℕ)
     (answer : Result (Unit {0}) SignFault) : Type 0 where
   pub fate : Fate
@@ -242,6 +248,7 @@ pub record Retires {S R : Type 0} (g : store.Ghosts S) (old new : View S R) (upt
   pub ends : Ends g old new outcome answer
   pub random : new.random ≡ old.random
   pub refusals : Counts is_out_of_memory (g.refusals old.store) (g.refusals new.store) answer
+  pub spare : new.spare ≡ old.spare
 
 -- ---- create and open
 
