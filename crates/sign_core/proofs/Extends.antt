@@ -18,11 +18,13 @@ use Rattle.sign_core.specs.Signing.{answered_with}
 use Rattle.sign_core.specs.Source.{Provides}
 use Rattle.sign_core.specs.Records.{has_identifier}
 use Rattle.sign_core.specs.Once.{IsBeginning}
-use Rattle.sign_core.specs.Signer.{Adds, Ends, IsTied, View, added, is_out_of_memory, is_random_failed, is_store_failed, state_of}
+use Rattle.sign_core.specs.Signer.{Adds, Ends, IsTied, View, added, is_before_draws, is_fault, is_of_append, is_out_of_memory, is_random_failed}
+use Rattle.sign_core.specs.Signer.{is_store_failed, state_of}
 use Rattle.sign_core.specs.Signing.{DrawsTree, Extends}
 use Rattle.sign_core.specs.World.{Fate, Outcome, acked, answered, appended, cut_new, cut_old, drawing, extended, no_memory}
 use Rattle.sign_core.specs.World.{open_on, refused}
 use Rattle.sign_core.specs.Textbook.{Trees, trees_of}
+use Rattle.sign_core.proofs.Refusals.{is_late, is_tried, same_fault}
 use Rattle.sign_core.proofs.Fulfilled.{drawing_twice, extends_by, next_extend, whole_draw}
 
 -- the signer after it drew: only its source has changed
@@ -108,6 +110,8 @@ module _ {S R : Type 0} (g : store.Ghosts S) (r : source.Ghosts R) (level : ℕ)
     failures = fails_along (r.failures view.random) (r.failures random) RandomFailed answer is failed;
     refusals = subst (λ (a : Result (List ℕ) SignFault). Counts is_out_of_memory (g.refusals view.store) (g.refusals view.store) a) is refl;
     memory = omega arith;
+    stays = λ _ _. refl;
+    late = ap (is_fault is_before_draws) (sym is);
   }
   undrawn view random RandomRepeated answer rests is (identifier, kept, gave, sized, there) = record {
     draw = record { fields = identifier ∷ []; fate = acked };
@@ -121,6 +125,8 @@ module _ {S R : Type 0} (g : store.Ghosts S) (r : source.Ghosts R) (level : ℕ)
     failures = fails_along (r.failures view.random) (r.failures random) RandomRepeated answer is kept;
     refusals = subst (λ (a : Result (List ℕ) SignFault). Counts is_out_of_memory (g.refusals view.store) (g.refusals view.store) a) is refl;
     memory = omega arith;
+    stays = λ _ _. refl;
+    late = ap (is_fault is_before_draws) (sym is);
   }
   undrawn view random Changed answer rests is draws = absurd draws
   undrawn view random Exhausted answer rests is draws = absurd draws
@@ -247,6 +253,9 @@ drawn {S = S} {R = R} g r level key trees view new random seeds entry answer is_
           (none_failed view.records entry bytes adds.fate (r.failures view.random) (r.failures new.random) none);
       refusals = refusals_answered (g.refusals view.store) (g.refusals new.store) answer adds.refusals;
       memory = adds.memory;
+      stays = λ same none. is_tried g (after_draw view random) new entry answer adds (new.store ≡ view.store) same
+          (sym (same_fault is_of_append answer []) ∙ none);
+      late = same_fault is_before_draws answer [] ∙ is_late g (after_draw view random) new entry answer adds;
     }
 
 err≢ok : {A : Type 0} (fault : SignFault) (a : A) → Err fault ≡ Ok a → ⊥

@@ -147,6 +147,10 @@ keeps_after g old mid new records mid_records more extend bytes outcome running 
       most = second.most ∙ first.most;
     }
 
+length_front : (records more : List Record) → length records ≤ length (records ++ more)
+length_front [] more = omega arith
+length_front (first ∷ rest) more = omega (arith, length_front rest more)
+
 -- What a signer does in an Extend that is recorded and in what comes after it, it does in both.
 does_after : {S R M : Type 0} (g : store.Ghosts S) (r : source.Ghosts R) (m : message.Ghosts M) (old mid new : View S R) (before after : M)
     (given : Option (List ℕ)) (extend : Extend) (bytes : List ℕ) (outcome : Outcome (List ℕ)) (answer : Result (List ℕ) SignFault)
@@ -171,6 +175,14 @@ does_after g r m old mid new before after given extend bytes outcome answer runn
       message = second.message;
       refusals = counts_on is_out_of_memory (g.refusals old.store) (g.refusals mid.store) (g.refusals new.store) answer refusals second.refusals;
       memory = omega (arith, memory, second.memory);
+      stays = λ same none. absurd (omega (
+        arith,
+        ap length same,
+        ap length (second.ends.records ∙ second.grown),
+        ap length first.records,
+        length_push old.records (ExtendRecord extend),
+        length_front mid.records second.more,
+      ));
     }
 
 -- ---- one level more
@@ -225,6 +237,7 @@ fulfils_after {S = S} {R = R} {M = M} g r m name key below level old mid new bef
           bound_possible = second.bound_possible;
           does = does_after g r m old mid new before after second.given extend bytes second.outcome answer running ends gave first.failures first.refusals
               first.memory second.does;
+          late = second.late;
         }
 
 -- What an Extend that is recorded leaves: a signer that is open on the records with one more, over the same store.
@@ -303,5 +316,7 @@ fulfils_refused {S = S} {R = R} {M = M} g r m name key below level old new unrea
             message = message_kept m first.outcome.is_read None unread (ap (λ o. o.is_read) (sym is) ∙ is_unread);
             refusals = first.refusals;
             memory = first.memory;
+            stays = first.stays;
           };
+          late = first.late;
         }

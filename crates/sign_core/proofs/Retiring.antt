@@ -106,6 +106,7 @@ left_retires g v upto answer signer only step failures refusals = record {
   random = refl;
   refusals = refusals _;
   spare = refl;
+  stays = λ _ _. refl;
 }
 
 -- a call that is hindered at once

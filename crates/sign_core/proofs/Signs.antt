@@ -23,13 +23,14 @@ use Rattle.sign_core.specs.declared.ledger.Binding.{Binding}
 use Rattle.sign_core.specs.Source.{Provides}
 use Rattle.sign_core.specs.Records.{are_same, binding_in, deepest, has_moved, key_in, wanted_count}
 use Rattle.sign_core.specs.Once.{IsBeginning}
-use Rattle.sign_core.specs.Request.{HasPrepared, KeepsAll}
-use Rattle.sign_core.specs.Signer.{Hinders, IsRead, IsSigner, IsTied, KeepsStore, LacksMemory, RefusesMemory, Signs, View, is_out_of_memory}
+use Rattle.sign_core.specs.Request.{HasPrepared}
+use Rattle.sign_core.specs.Signer.{Hinders, IsRead, IsSigner, IsTied, KeepsAll, KeepsStore, LacksMemory, RefusesMemory, Signs, View, is_out_of_memory}
 use Rattle.sign_core.specs.Signer.{is_random_failed, is_store_failed, signature_size, state_of, wanted_by}
 use Rattle.sign_core.specs.Signing.{Binds, Fulfils, IsBindingOf, IsReady, Repeats, repeat_chance}
 use Rattle.sign_core.specs.Ledger.{kept_of}
 use Rattle.sign_core.specs.World.{Chance, Outcome, State, bound_anew, bound_sound, reading, refused, repeated, repeated_sound, requested, requested_of, requested_under}
 use Rattle.sign_core.specs.Textbook.{damaged_in, digest_at, tree_before}
+use Rattle.sign_core.proofs.Refusals.{keeps_at_all, keeps_late, same_view}
 
 -- ---- requests, by what hinders them
 
@@ -171,10 +172,8 @@ module _ {S R M : Type 0} (g : store.Ghosts S) (r : source.Ghosts R) (m : messag
     room = room;
     refusals = subst (λ s. RefusesMemory has_room answer (g.refusals old.store) (g.refusals s)) (sym keeps.store) (calm.memory (g.refusals old.store));
     memory = omega (arith, spare, ap length keeps.records);
+    keeps = keeps_at_all g old new answer keeps;
   }
-
-  same_view : (v : View S R) → KeepsAll v v
-  same_view v = record { store = refl; random = refl; records = refl; is_open = refl }
 
   -- a call that is hindered at once
   pub hindered_signs : (v : View S R) (name : List ℕ) (before : M) (capacity : ℕ) (key : Key) (fault : SignFault) → IsSigner g v → LeavesItsList g v.store
@@ -287,6 +286,12 @@ module _ {S R M : Type 0} (g : store.Ghosts S) (r : source.Ghosts R) (m : messag
     spare = mid.spare;
   }
 
+  -- what is kept of a signer with other memory is kept of it
+  kept_of_other : (old new : View S R) (spare : ℕ)
+      → KeepsAll (record { store = old.store; random = old.random; records = old.records; is_open = old.is_open; spare = spare }) new → KeepsAll old new
+  kept_of_other old new spare keeps =
+      record { store = keeps.store; random = keeps.random; records = keeps.records; is_open = keeps.is_open }
+
   pub binds_signs : (old mid new : View S R) (name : List ℕ) (before after : M) (capacity level : ℕ) (key : Key) (answer : Result (List ℕ) SignFault)
       → key_in old.records ≡ Some key → old.is_open ≡ true → has_moved old.records ≡ false → binding_in old.records name ≡ None
       → deepest key.secret old.records ≡ Some level → KeepsAll old mid → old.spare ≤ mid.spare → IsReady (g.most old.store) (levels_of key.secret - level) mid
@@ -316,6 +321,11 @@ module _ {S R M : Type 0} (g : store.Ghosts S) (r : source.Ghosts R) (m : messag
         room = λ lacking. absurd (true≢false (sym b.room ∙ lacking));
         refusals = subst (λ h. RefusesMemory h answer (g.refusals old.store) (g.refusals new.store)) (sym b.room) b.does.refusals;
         memory = omega (arith, spare, b.does.memory);
+        keeps = record {
+          at_once = λ early. kept_of_other old new mid.spare (b.keeps.at_once early);
+          uncounted = λ is same. kept_of_other old new mid.spare (b.keeps.uncounted is same);
+          store = b.keeps.store;
+        };
       }
 
   -- the standing chain isn't sound
@@ -342,7 +352,9 @@ module _ {S R M : Type 0} (g : store.Ghosts S) (r : source.Ghosts R) (m : messag
       message = refl;
       refusals = refl;
       memory = omega arith;
+      stays = λ _ _. refl;
     };
+    keeps = keeps_at_all g v v (Err (Damaged slot)) (same_view v);
   }
 
   -- the standing chain is sound, and what is wanted from there is made
@@ -358,6 +370,7 @@ module _ {S R M : Type 0} (g : store.Ghosts S) (r : source.Ghosts R) (m : messag
     possible = record { trees = fulfils.trees_possible; bound = fulfils.bound_possible };
     room = refl;
     does = fulfils.does;
+    keeps = keeps_late g r m old new before after _ _ _ fulfils.late fulfils.does;
   }
 
 -- ---- what a call answered

@@ -23,7 +23,8 @@ use Rattle.sign_core.specs.declared.key.AnyPublic.{AnyPublic}
 use Rattle.sign_core.specs.declared.fault.SignFault.{SignFault}
 use Rattle.sign_core.specs.declared.fault.SignFault.TheVariants.{DeviceFailed, NoMemoryToOpen, OutOfMemory}
 use Rattle.sign_core.specs.declared.fault.SignFault.TheVariants.{KeyThere, RandomFailed, StoreFailed}
-use Rattle.sign_core.specs.declared.fault.SignFault.TheVariants.{Illegal, Moved, Stopped, Unreadable}
+use Rattle.sign_core.specs.declared.fault.SignFault.TheVariants.{Damaged, Exhausted, Illegal, LedgerFull, Moved}
+use Rattle.sign_core.specs.declared.fault.SignFault.TheVariants.{Stopped, Unreadable}
 use Rattle.sign_core.specs.declared.source.Source as source
 use Rattle.sign_core.specs.Source.{Provides}
 use Rattle.sign_core.specs.Records.{binding_in, can_follow, deepest, key_in, leaves_of_current, next_at}
@@ -165,6 +166,28 @@ added state entry fate = appended state entry fate (λ records. answered (open_o
 abbrev pub UsesMemory : {S R : Type 0} → (old new : View S R) → Type 0
 UsesMemory old new = old.spare + length old.records ≤ new.spare + length new.records
 
+-- a signer that changed at most in how much memory it has
+pub record KeepsAll {S R : Type 0} (old new : View S R) : Type 0 where
+  pub store : new.store ≡ old.store
+  pub random : new.random ≡ old.random
+  pub records : new.records ≡ old.records
+  pub is_open : new.is_open ≡ old.is_open
+
+-- the answer is a fault of such a kind
+abbrev pub is_fault : {A : Type 0} → (is_kind : SignFault → Bool) → Result A SignFault → Bool
+is_fault is_kind (Ok _) = false
+is_fault is_kind (Err fault) = is_kind fault
+
+-- 25 and 29 can come of an append.
+abbrev pub is_of_append : SignFault → Bool
+is_of_append StoreFailed = true
+is_of_append OutOfMemory = true
+is_of_append _ = false
+
+-- Where no record was added, and none tried, it is so.
+abbrev pub UnlessAppended : {S R A : Type 0} → (old new : View S R) → Result A SignFault → Type 0 → Type 0
+UnlessAppended old new answer Kept = new.records ≡ old.records → is_fault is_of_append answer ≡ false → Kept
+
 -- A signer appends a record, with some fate, and takes it up where the append is acknowledged.
 pub record Adds {S R : Type 0} (g : store.Ghosts S) (old new : View S R) (entry : Record)
     (answer : Result (Unit {0}) SignFault) : Type 0 where
@@ -211,6 +234,23 @@ abbrev pub RefusesMemory : {A : Type 0} → (has_room : Bool) → Result A SignF
 RefusesMemory true answer before after = Counts is_out_of_memory before after answer
 RefusesMemory false answer before after = after ≡ before
 
+-- 22, 26, 28, 30 and 31 come to a new name before anything is drawn.
+abbrev pub is_before_draws : SignFault → Bool
+is_before_draws Exhausted = true
+is_before_draws Stopped = true
+is_before_draws (Damaged k) = true
+is_before_draws LedgerFull = true
+is_before_draws Moved = true
+is_before_draws _ = false
+
+-- What an answer keeps as it was: 22, 26, 28, 30 and 31 keep all but the memory, and so does 29 where the store counts no
+-- refusal; and each answer keeps the store, unless a record was added or its append failed.
+pub record KeepsAtRefusal {S R A : Type 0} (g : store.Ghosts S) (old new : View S R) (answer : Result A SignFault)
+    : Type 0 where
+  pub at_once : is_fault is_before_draws answer ≡ true → KeepsAll old new
+  pub uncounted : answer ≡ Err OutOfMemory → g.refusals new.store ≡ g.refusals old.store → KeepsAll old new
+  pub store : UnlessAppended old new answer (new.store ≡ old.store)
+
 -- A call of sign is a step of the world, by some chance: the bytes that are drawn are those that the source gave; the
 -- message is read or as it was; and memory is refused only where it is lacking.
 pub record Signs {S R M : Type 0} (g : store.Ghosts S) (r : source.Ghosts R) (m : message.Ghosts M)
@@ -230,6 +270,7 @@ pub record Signs {S R M : Type 0} (g : store.Ghosts S) (r : source.Ghosts R) (m 
       (binding_in old.records name) capacity old.spare
   pub refusals : RefusesMemory chance.has_room answer (g.refusals old.store) (g.refusals new.store)
   pub memory : UsesMemory old new
+  pub keeps : KeepsAtRefusal g old new answer
 
 -- ---- retire
 
@@ -239,7 +280,8 @@ IsBottom records bottom = (key : Key) → key_in records ≡ Some key
     → (bottom.0 ≡ next_at key.secret records (bottom_of key.secret))
     × (bottom.1 ≡ leaves_of_current key.secret records (bottom_of key.secret))
 
--- A call of retire is a step of the world; it draws nothing, and memory is as it was.
+-- A call of retire is a step of the world; it draws nothing, and memory is as it was. Unless a record was added or its
+-- append failed, so is all of the signer.
 pub record Retires {S R : Type 0} (g : store.Ghosts S) (old new : View S R) (upto : ℕ)
     (answer : Result (Unit {0}) SignFault) : Type 0 where
   pub fate : Fate
@@ -249,6 +291,7 @@ pub record Retires {S R : Type 0} (g : store.Ghosts S) (old new : View S R) (upt
   pub random : new.random ≡ old.random
   pub refusals : Counts is_out_of_memory (g.refusals old.store) (g.refusals new.store) answer
   pub spare : new.spare ≡ old.spare
+  pub stays : UnlessAppended old new answer (new ≡ old)
 
 -- ---- create and open
 
