@@ -30,6 +30,10 @@ records_of store = store.records
 abbrev pub has_stopped : {D : Type 0} {bound : _} → FileStore D bound → Bool
 has_stopped store = store.stopped
 
+-- the slots that load has reported as unreadable, the last one first
+abbrev pub unreadable_of : {D : Type 0} {bound : _} → FileStore D bound → List ℕ
+unreadable_of store = store.unreadable
+
 -- the disk afterwards: the store's, or the one that a refusal hands back
 abbrev pub disk_after : {D F : Type 0} {bound : _} → Result (FileStore D bound) (Refused D F) → D
 disk_after (Ok store) = store.disk

@@ -48,6 +48,19 @@ is_out_of_memory DeviceFailed = false
 is_out_of_memory OutOfMemory = true
 is_out_of_memory Full = false
 
+-- the slot that an answer 43 names
+abbrev pub unreadable_slot : StoreFault → List ℕ
+unreadable_slot Stopped = []
+unreadable_slot (Damaged k) = k ∷ []
+unreadable_slot DeviceFailed = []
+unreadable_slot OutOfMemory = []
+unreadable_slot Full = []
+
+-- What a refusal tells is added at the head of a list, and nothing else is.
+abbrev pub Collects : {A E T : Type 0} (told_by : E → List T) (before after : List T) → Result A E → Type 0
+Collects told_by before after (Ok _) = after ≡ before
+Collects told_by before after (Err fault) = after ≡ told_by fault ++ before
+
 -- the record that load may give: record k, where the store is honest
 abbrev pub IsRecordAt : Bool → List Record → ℕ → Record → Type 0
 IsRecordAt true list k entry = slice_get list k ≡ Some entry

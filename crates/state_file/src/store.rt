@@ -6,12 +6,14 @@ ghost use Rattle.state_file.specs.Disk.{Counts, LeavesOnly};
 
 mod file_store;
 mod memory_store;
+mod slot_list;
 #[cfg(test)]
 mod tests;
 
 use crate::record::Record;
 pub use file_store::FileStore;
 pub use memory_store::{Cut, MemoryStore};
+pub use slot_list::SlotList;
 use thiserror::Error;
 
 /// Why a store doesn't answer.
@@ -37,7 +39,7 @@ pub enum StoreFault {
 /// A list of records that grows at its end.
 pub trait Store {
     ghost use Rattle.state_file.specs.declared.record.Record.{Record as R};
-    ghost use Rattle.state_file.specs.Store.{Appends, CanFollow, Loads, is_out_of_memory};
+    ghost use Rattle.state_file.specs.Store.{Appends, CanFollow, Collects, Loads, is_out_of_memory, unreadable_slot};
 
     // its records
     ghost list: { Self → List R };
@@ -50,6 +52,9 @@ pub trait Store {
 
     // how often memory was refused to it
     ghost refusals: { Self → ℕ };
+
+    // the slots that `load` has reported as unreadable, the last one first
+    ghost unreadable: { Self → List ℕ };
 
     // whether its device keeps what was synced
     ghost honest: { Self → Bool };
@@ -70,6 +75,7 @@ pub trait Store {
             (failures self.old)
             (failures self.new) result }
         ensures refusals { Counts is_out_of_memory (refusals self.old) (refusals self.new) result }
+        ensures unreadable { Collects unreadable_slot (unreadable self.old) (unreadable self.new) result }
         ensures same { list self.new ≡ list self.old }
         ensures any_moment { IsTrue (honest self.old) → stopped self.old ≡ false →
             LeavesOnly moment left_since self.old self.new (λ left. left ≡ list self.old) }
@@ -92,6 +98,7 @@ pub trait Store {
             (stopped self.new)
             (failures self.old) (failures self.new) result }
         ensures refusals { Counts is_out_of_memory (refusals self.old) (refusals self.new) result }
+        ensures unreadable { unreadable self.new ≡ unreadable self.old }
         ensures honest { honest self.new ≡ honest self.old }
         ensures most { most self.new ≡ most self.old };
 

@@ -12,7 +12,8 @@ ghost use Rattle.state_file.specs.Format.{is_failed_format, Formats, LeftByForma
 ghost use Rattle.state_file.specs.Opening.{is_failed_opening, OnlyReads, Settles, Reports};
 ghost use Rattle.std.proofs.Common.{inl};
 ghost use Rattle.state_file.specs.Slot.{slot_record};
-ghost use Rattle.state_file.specs.Store.{Appends, CanFollow, Loads, ReadsTag, is_out_of_memory};
+ghost use Rattle.state_file.specs.Store.{Appends, CanFollow, Collects, Loads, ReadsTag, is_out_of_memory};
+ghost use Rattle.state_file.specs.Store.{unreadable_slot};
 
 #[cfg(test)]
 mod tests;
@@ -24,7 +25,7 @@ use crate::file::{
 use crate::record::{Record, RecordList};
 use crate::refused::Refused;
 use crate::slot::{record_bytes, tag};
-use crate::store::{Store, StoreFault};
+use crate::store::{SlotList, Store, StoreFault};
 
 /// Records on a disk, each in a slot of 256 bytes.
 #[derive(Drop)]
@@ -35,6 +36,8 @@ pub struct FileStore<D: Disk> {
     tag: [u8; 32],
     stopped: bool,
     records: RecordList,
+    // the slots that load has reported as unreadable
+    unreadable: SlotList,
     ghost counted: { count ≡ length records },
     ghost few: { length records ≤ 2 ^ 31 },
     ghost kept: { IsTrue (D.honest disk) → stopped ≡ false →
@@ -43,6 +46,7 @@ pub struct FileStore<D: Disk> {
 
 impl<D: Disk + Drop> FileStore<D> {
     ghost use Rattle.state_file.specs.FileStore.{disk_after, disk_of, has_stopped, records_of, outcome_of};
+    ghost use Rattle.state_file.specs.FileStore.{unreadable_of};
 
     /// How many records there are.
     pub fn count(&self) -> u32
@@ -63,6 +67,7 @@ impl<D: Disk + Drop> FileStore<D> {
     /// refusal hands the disk back.
     pub fn format(disk: D) -> Result<Self, Refused<D, FormatFault>>
         ensures records { IfOk result (λ store. (records_of store ≡ []) × (has_stopped store ≡ false)) }
+        ensures unreadable { IfOk result (λ store. unreadable_of store ≡ []) }
         ensures answer { IsTrue (D.honest disk) →
             Formats (D.state disk).content (D.state (disk_after result)) (outcome_of result) }
         ensures len { IsTrue (D.honest disk) →
@@ -82,6 +87,7 @@ impl<D: Disk + Drop> FileStore<D> {
                 tag: [0; 32],
                 stopped: false,
                 records: RecordList::new(),
+                unreadable: SlotList::new(),
             }),
             Err(fault) => Err(Refused { fault, given: disk }),
         }
@@ -94,6 +100,7 @@ impl<D: Disk + Drop> FileStore<D> {
         ensures records { IsTrue (D.honest disk) →
             IfOk result (λ store. SpellsRecords (D.state disk).content (records_of store)) }
         ensures running { IfOk result (λ store. has_stopped store ≡ false) }
+        ensures unreadable { IfOk result (λ store. unreadable_of store ≡ []) }
         ensures fault { IsTrue (D.honest disk) →
             IfErr result (λ refused. Reports (D.state disk).content refused.fault) }
         ensures any_moment { IsTrue (D.honest disk) →
@@ -115,6 +122,7 @@ impl<D: Disk + Drop> FileStore<D> {
                     tag,
                     stopped: false,
                     records: found.records,
+                    unreadable: SlotList::new(),
                 })
             }
             Err(fault) => Err(Refused { fault, given: disk }),
@@ -123,7 +131,7 @@ impl<D: Disk + Drop> FileStore<D> {
 }
 
 impl<D: Disk + Drop> FileStore<D> {
-    ghost use Rattle.state_file.specs.FileStore.{disk_of, has_stopped, records_of};
+    ghost use Rattle.state_file.specs.FileStore.{disk_of, has_stopped, records_of, unreadable_of};
 
     /// The tag of slot k, 32 bytes.
     pub fn tag_at(&mut self, k: u32) -> Result<[u8; 32], StoreFault>
@@ -133,6 +141,7 @@ impl<D: Disk + Drop> FileStore<D> {
         ensures tag { IsTrue (D.honest (disk_of self.old)) →
             IfOk result (λ tag. tag ≡ tag_at (D.state (disk_of self.old)).content k) }
         ensures same { records_of self.new ≡ records_of self.old }
+        ensures unreadable { unreadable_of self.new ≡ unreadable_of self.old }
         ensures reads { IsTrue (D.honest (disk_of self.old)) → has_stopped self.old ≡ false →
             OnlyReads D.state D.moment D.left_since (disk_of self.old) (disk_of self.new) }
         ensures any_moment { IsTrue (D.honest (disk_of self.old)) → has_stopped self.old ≡ false →
@@ -157,6 +166,7 @@ impl<D: Disk + Drop> FileStore<D> {
 
 impl<D: Disk + Drop> Store for FileStore<D> {
     ghost use Rattle.state_file.specs.FileStore.{disk_of, has_stopped, kept_list, kept_stands, records_of};
+    ghost use Rattle.state_file.specs.FileStore.{unreadable_of};
 
     ghost list = { λ store. records_of store };
 
@@ -166,6 +176,8 @@ impl<D: Disk + Drop> Store for FileStore<D> {
 
     // It takes no memory.
     ghost refusals = { λ _. 0 };
+
+    ghost unreadable = { unreadable_of };
 
     ghost honest = { λ store. D.honest (disk_of store) };
 
@@ -195,6 +207,7 @@ impl<D: Disk + Drop> Store for FileStore<D> {
             (D.failures (disk_of self.old)) (D.failures (disk_of self.new)) result }
         ensures refusals { Counts is_out_of_memory 0 0 result }
         ensures memory { result ≢ Err StoreFault.OutOfMemory }
+        ensures unreadable { Collects unreadable_slot (unreadable_of self.old) (unreadable_of self.new) result }
         ensures same { records_of self.new ≡ records_of self.old }
         ensures reads { IsTrue (D.honest (disk_of self.old)) → has_stopped self.old ≡ false →
             OnlyReads D.state D.moment D.left_since (disk_of self.old) (disk_of self.new) }
@@ -215,7 +228,10 @@ impl<D: Disk + Drop> Store for FileStore<D> {
         match read_entry(&mut self.disk, k) {
             Ok(found) => match found {
                 Some(record) => Ok(Some(record)),
-                None => Err(StoreFault::Damaged(k)),
+                None => {
+                    self.unreadable.push(k);
+                    Err(StoreFault::Damaged(k))
+                }
             },
             Err(_) => {
                 self.stopped = true;
@@ -249,6 +265,7 @@ impl<D: Disk + Drop> Store for FileStore<D> {
             (has_stopped self.new) (D.failures (disk_of self.old)) (D.failures (disk_of self.new)) result }
         ensures refusals { Counts is_out_of_memory 0 0 result }
         ensures memory { result ≢ Err StoreFault.OutOfMemory }
+        ensures unreadable { unreadable_of self.new ≡ unreadable_of self.old }
         ensures full { result ≡ Err StoreFault.Full → self.new ≡ self.old }
         ensures adds { IsTrue (D.honest (disk_of self.old)) →
             OnOk result

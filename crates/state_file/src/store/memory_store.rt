@@ -3,7 +3,7 @@
 ghost use Rattle.std.specs.Prelude.{◌⊎◌, IsTrue, length, ◌≡◌, ◌≢◌, ◌≤◌, ◌<◌, ◌+◌, true, false, [], ◌∷◌, ◌++◌, IfErr};
 ghost use Rattle.std.specs.Prelude.{OnOk, OnErr, if◌then◌else◌, slice_get, vec_len, vec_capacity};
 ghost use Rattle.state_file.specs.Disk.{Counts, LeavesOnly};
-ghost use Rattle.state_file.specs.Store.{Appends, Loads, is_out_of_memory};
+ghost use Rattle.state_file.specs.Store.{Appends, Collects, Loads, is_out_of_memory, unreadable_slot};
 
 use crate::record::Record;
 use crate::store::{Store, StoreFault};
@@ -110,6 +110,9 @@ impl Store for MemoryStore {
 
     ghost refusals = { refusals_of };
 
+    // Each of its records can be read.
+    ghost unreadable = { λ _. [] };
+
     ghost honest = { λ _. true };
 
     ghost most = { limit_of };
@@ -130,6 +133,7 @@ impl Store for MemoryStore {
             (failures_of self.old)
             (failures_of self.new) result }
         ensures refusals { Counts is_out_of_memory (refusals_of self.old) (refusals_of self.new) result }
+        ensures unreadable { Collects unreadable_slot [] [] result }
         ensures same { records_of self.new ≡ records_of self.old }
         ensures any_moment { IsTrue true → has_stopped self.old ≡ false →
             LeavesOnly (λ store. length (records_of store)) (λ store. HadBeen (records_of store)) self.old self.new
