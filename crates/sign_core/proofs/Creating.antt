@@ -1,6 +1,6 @@
 -- What each end of a create is: a step of the world.
 use Rattle.std.proofs.Common.{◌≡◌, ◌⊎◌, ℕ, ◌+◌, ◌≤◌, Bool, true, false, List, [], ◌∷◌, ◌++◌, length, Some, None, Result, Ok, Err, refl, sym, ap, ◌∙◌}
-use Rattle.std.proofs.Common.{subst, arith, append-nil, inl, inr, IsTrue}
+use Rattle.std.proofs.Common.{subst, arith, append-nil, inl, inr, IsTrue, ◌||◌}
 use Rattle.std.proofs.lemmas.Bool.Decides.{nat_tests}
 use Rattle.std.specs.Prelude.{Option, nat_le, if◌then◌else◌}
 use Rattle.std.specs.List.{concat}
@@ -21,7 +21,7 @@ use Rattle.sign_core.specs.declared.source.Source as source
 use Rattle.sign_core.specs.Source.{Provides}
 use Rattle.sign_core.specs.Once.{IsBeginning}
 use Rattle.sign_core.specs.Signer.{DrawsSecret, IsAppended, IsMade, KeepsStore, LeavesOld, LeavesSource, LoadFails, LooksForKey, MakesKey}
-use Rattle.sign_core.specs.Signer.{is_store_failed, is_random_failed, is_out_of_memory}
+use Rattle.sign_core.specs.Signer.{is_fault, is_store_failed, is_random_failed, is_out_of_memory}
 use Rattle.sign_core.specs.World.{Creation, Fate, Outcome, acked, answered, appended, begun, closed_on, created, cut, cut_new, cut_old, drawing}
 use Rattle.sign_core.specs.World.{new_key, no_memory, open_on, published, refused, secret_from}
 use Rattle.sign_core.specs.Textbook.{public_in}
@@ -67,6 +67,7 @@ refused_first g r spec old new random fault failed is load step failures unfaile
   step = step;
   answer = refl;
   store = keeps_old g old new [] fault is.list is.moments failures is.honest is.most;
+  stopped = is.stopped;
   load = load;
   possible = tt;
   source = provides_none (r.upcoming random);
@@ -128,6 +129,7 @@ undrawn_random g r spec old mid before after is draws = record {
   step = empty_step (g.list old) spec draws.fields acked None is.finds.1 draws.drawn;
   answer = refl;
   store = keeps_old g old mid (concat draws.fields) RandomFailed is.list is.moments is.finds.3 is.honest is.most;
+  stopped = is.stopped;
   load = is.finds.0;
   possible = draws.possible;
   source = subst (λ bytes. Provides (r.upcoming before) bytes (r.upcoming after)) (sym (append-nil (concat draws.fields))) draws.source;
@@ -191,15 +193,17 @@ made_by_fate : {S R : Type 0} (g : store.Ghosts S) (r : source.Ghosts R) (spec :
     → HasAppended g old mid new (KeyRecord (new_key secret)) answer → (draws : DrawsSecret r spec before after (Ok secret))
     → appended (closed_on (g.list old)) (KeyRecord (new_key secret)) fate (λ records. published records (public_in (new_key secret))) ≡ outcome
     → outcome.drawn ≡ [] → IsAnswer (drawing (concat draws.fields) outcome) → KeepsStore g old new (g.list old) (drawing (concat draws.fields) outcome)
+    → g.stopped new ≡ (is_fault is_store_failed outcome.answer || g.stopped old)
     → Counts is_random_failed (r.failures before) (r.failures after) outcome.answer
     → Counts is_out_of_memory (g.refusals old) (g.refusals new) outcome.answer
     → MakesKey g r spec old new before after IsAnswer
-made_by_fate g r spec old mid new before after secret fate outcome answer IsAnswer has draws step undrawn is keeps failures refusals = record {
+made_by_fate g r spec old mid new before after secret fate outcome answer IsAnswer has draws step undrawn is keeps stopped failures refusals = record {
   chance = record { failed_load = None; fields = draws.fields; has_room = true; fate = fate };
   outcome = drawing (concat draws.fields) outcome;
   step = empty_step (g.list old) spec draws.fields fate (Some secret) has.looked.finds.1 draws.drawn ∙ ap (drawing (concat draws.fields)) step;
   answer = is;
   store = keeps;
+  stopped = stopped;
   load = has.looked.finds.0;
   possible = draws.possible;
   source = subst (λ bytes. Provides (r.upcoming before) bytes (r.upcoming after))
@@ -231,7 +235,7 @@ made g r spec old mid new before after secret can draws has =
       failures = stored.stored.2 ∙ loaded.finds.3;
       honest = stored.honest ∙ loaded.honest;
       most = stored.most ∙ loaded.most;
-    }) draws.failures (stored.refusals ∙ loaded.refusals)
+    }) (stored.stored.1 ∙ sym loaded.finds.0) draws.failures (stored.refusals ∙ loaded.refusals)
 
 made_cut : {S R : Type 0} (g : store.Ghosts S) (r : source.Ghosts R) (spec : Spec) (old mid new : S) (before after : R) (secret : Secret)
     → (draws : DrawsSecret r spec before after (Ok secret)) → (has : HasAppended {A = Unit {0}} g old mid new (KeyRecord (new_key secret)) (Err StoreFailed))
@@ -249,7 +253,7 @@ made_cut g r spec old mid new before after secret draws has (inl same) =
       failures = stored.stored.2 ∙ ap (λ n. n + 1) loaded.finds.3;
       honest = stored.honest ∙ loaded.honest;
       most = stored.most ∙ loaded.most;
-    }) draws.failures (stored.refusals ∙ loaded.refusals)
+    }) stored.stored.1 draws.failures (stored.refusals ∙ loaded.refusals)
 made_cut g r spec old mid new before after secret draws has (inr more) =
     let entry = KeyRecord (new_key secret) in
     let loaded = has.looked in
@@ -262,7 +266,7 @@ made_cut g r spec old mid new before after secret draws has (inr more) =
       failures = stored.stored.2 ∙ ap (λ n. n + 1) loaded.finds.3;
       honest = stored.honest ∙ loaded.honest;
       most = stored.most ∙ loaded.most;
-    }) draws.failures (stored.refusals ∙ loaded.refusals)
+    }) stored.stored.1 draws.failures (stored.refusals ∙ loaded.refusals)
 
 pub unmade : {S R : Type 0} (g : store.Ghosts S) (r : source.Ghosts R) (spec : Spec) (old mid new : S) (before after : R) (secret : Secret) (fault : SignFault)
     → DrawsSecret r spec before after (Ok secret) → HasAppended {A = Unit {0}} g old mid new (KeyRecord (new_key secret)) (Err fault)
@@ -281,7 +285,7 @@ unmade g r spec old mid new before after secret OutOfMemory draws has =
       failures = stored.stored.2 ∙ loaded.finds.3;
       honest = stored.honest ∙ loaded.honest;
       most = stored.most ∙ loaded.most;
-    }) draws.failures (stored.refusals ∙ ap (λ n. n + 1) loaded.refusals)
+    }) (stored.stored.1 ∙ sym loaded.finds.0) draws.failures (stored.refusals ∙ ap (λ n. n + 1) loaded.refusals)
 unmade g r spec old mid new before after secret Changed draws has = absurd has.appended.stored
 unmade g r spec old mid new before after secret Exhausted draws has = absurd has.appended.stored
 unmade g r spec old mid new before after secret LedgerFull draws has = absurd has.appended.stored

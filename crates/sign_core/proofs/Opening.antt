@@ -1,6 +1,6 @@
 -- What each end of an opening is: a step of the world.
 use Rattle.std.proofs.Common.{◌≡◌, ℕ, zero, suc, ◌+◌, ◌<◌, ◌≤◌, Bool, true, false, List, [], ◌∷◌, ◌++◌, length, Some, None, Ok, Err, refl, sym}
-use Rattle.std.proofs.Common.{ap, ◌∙◌, subst, arith, inl, inr, IsTrue, true≢false, take, drop}
+use Rattle.std.proofs.Common.{ap, ◌∙◌, subst, arith, inl, inr, IsTrue, true≢false, take, drop, ◌||◌}
 use Rattle.std.proofs.lemmas.Bool.Decides.{nat_tests}
 use Rattle.std.proofs.lemmas.List.{take-append-drop, take_all}
 use Rattle.std.specs.Option.{ok_or, option_or}
@@ -163,11 +163,12 @@ stopped_step g old now records k fault has =
 
 -- an opening that is stopped at a place by a fault
 pub stopped_at : {S : Type 0} (g : store.Ghosts S) (old now next : S) (records : List Record) (k : ℕ) (fault : SignFault) → HasLoaded g old now records k
-    → StopsOpening (Some (k, fault)) (g.list old) (g.stopped old) (g.honest old) → g.list next ≡ g.list old → LeavesOld g old next
+    → StopsOpening (Some (k, fault)) (g.list old) (g.stopped old) (g.honest old)
+    → g.stopped next ≡ (is_device_failed fault || g.stopped old) → g.list next ≡ g.list old → LeavesOld g old next
     → Counts {A = AnyPublic} is_device_failed (g.failures old) (g.failures next) (Err fault)
     → RefusesToOpen {A = AnyPublic} (Err fault) (g.refusals old) (g.refusals next) → g.honest next ≡ g.honest old → g.most next ≡ g.most old
     → LoadsAll g old next (IsTakenUp (Err fault))
-stopped_at g old now next records k fault has load list moments failures refusals honest most = record {
+stopped_at g old now next records k fault has load stopped list moments failures refusals honest most = record {
   records = whole g old records k;
   long = whole_long g old records k has.begins;
   same = whole_same g old records k has.begins;
@@ -176,6 +177,7 @@ stopped_at g old now next records k fault has load list moments failures refusal
   step = stopped_step g old now records k fault has;
   answer = refl;
   load = load;
+  stopped = stopped;
   list = list;
   moments = moments;
   failures = failures;
@@ -194,22 +196,22 @@ pub unloaded : {S : Type 0} (g : store.Ghosts S) (old now next : S) (records : L
     → LoadsRecord g now next k (Err fault) → LoadsAll g old next (IsTakenUp (Err fault))
 unloaded g old now next records k Stopped has loads =
     stopped_at g old now next records k Stopped has
-    (sym has.kept.stopped ∙ loads.loads.0, first_place g old now records k has loads.loads.0) (loads.list ∙ has.kept.list)
+    (sym has.kept.stopped ∙ loads.loads.0, first_place g old now records k has loads.loads.0) (loads.stopped ∙ has.kept.stopped) (loads.list ∙ has.kept.list)
     (later_moments g old now next has.kept loads.moments) (loads.loads.1 ∙ has.kept.failures) (loads.refusals ∙ has.kept.refusals)
     (loads.honest ∙ has.kept.honest) (loads.most ∙ has.kept.most)
 unloaded g old now next records k (Unreadable slot) has loads =
     stopped_at g old now next records k (Unreadable slot) has
     (sym has.kept.stopped ∙ loads.loads.0, sym has.kept.honest ∙ loads.loads.1, loads.loads.2, omega (arith, loads.loads.3, ap length has.kept.list))
-    (loads.list ∙ has.kept.list)
+    (loads.stopped ∙ has.kept.stopped) (loads.list ∙ has.kept.list)
     (later_moments g old now next has.kept loads.moments) (loads.loads.4 ∙ has.kept.failures) (loads.refusals ∙ has.kept.refusals)
     (loads.honest ∙ has.kept.honest) (loads.most ∙ has.kept.most)
 unloaded g old now next records k DeviceFailed has loads =
-    stopped_at g old now next records k DeviceFailed has (sym has.kept.stopped ∙ loads.loads.0, has.begins.inside) (loads.list ∙ has.kept.list)
+    stopped_at g old now next records k DeviceFailed has (sym has.kept.stopped ∙ loads.loads.0, has.begins.inside) loads.stopped (loads.list ∙ has.kept.list)
     (later_moments g old now next has.kept loads.moments) (loads.loads.1 ∙ ap (λ n. n + 1) has.kept.failures) (loads.refusals ∙ has.kept.refusals)
     (loads.honest ∙ has.kept.honest) (loads.most ∙ has.kept.most)
 unloaded g old now next records k NoMemoryToOpen has loads =
-    stopped_at g old now next records k NoMemoryToOpen has (sym has.kept.stopped ∙ loads.loads.0, has.begins.inside) (loads.list ∙ has.kept.list)
-    (later_moments g old now next has.kept loads.moments) (loads.loads.1 ∙ has.kept.failures)
+    stopped_at g old now next records k NoMemoryToOpen has (sym has.kept.stopped ∙ loads.loads.0, has.begins.inside) (loads.stopped ∙ has.kept.stopped)
+    (loads.list ∙ has.kept.list) (later_moments g old now next has.kept loads.moments) (loads.loads.1 ∙ has.kept.failures)
     (inr (loads.refusals ∙ ap (λ n. n + 1) has.kept.refusals)) (loads.honest ∙ has.kept.honest) (loads.most ∙ has.kept.most)
 unloaded g old now next records k Changed has loads = absurd loads.loads
 unloaded g old now next records k Exhausted has loads = absurd loads.loads
@@ -250,6 +252,7 @@ illegal_at g old now next records k entry has loads not =
       step = illegal_step records (drop (k + 1) (g.list old)) entry k has.begins.long has.legal not;
       answer = refl;
       load = sym has.kept.stopped ∙ loads.loads.0;
+      stopped = kept.stopped;
       list = kept.list;
       moments = kept.moments;
       failures = kept.failures;
@@ -274,7 +277,7 @@ untaken g old now next table left k entry (Illegal slot) is loads takes =
     (illegal_at g old now next table.records k entry is.loaded loads (key_follows table entry false is.keyed takes.0))
 untaken g old now next table left k entry NoMemoryToOpen is loads takes =
     let kept = kept_some g old now next k entry is.loaded.kept loads in
-    stopped_at g old now next table.records k NoMemoryToOpen is.loaded (is.loaded.running is.some, is.loaded.begins.inside) kept.list kept.moments
+    stopped_at g old now next table.records k NoMemoryToOpen is.loaded (is.loaded.running is.some, is.loaded.begins.inside) kept.stopped kept.list kept.moments
     kept.failures (inl kept.refusals) kept.honest kept.most
 untaken g old now next table left k entry Changed is loads takes = absurd takes
 untaken g old now next table left k entry Exhausted is loads takes = absurd takes
@@ -348,6 +351,7 @@ all_taken g old now table k is end =
       step = published_step table.records table.key public is.loaded.legal is.keyed made;
       answer = (public, refl, ap public_of_key is.keyed ∙ made, refl);
       load = is.loaded.running is.some;
+      stopped = kept.stopped;
       list = kept.list;
       moments = kept.moments;
       failures = kept.failures;

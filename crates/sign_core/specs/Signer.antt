@@ -1,5 +1,5 @@
 -- What a signer over a store is to its callers, and what its calls are: steps of the world.
-use Rattle.std.specs.Prelude.{◌≡◌, ◌⊎◌, ℕ, ◌+◌, ◌<◌, ◌≤◌, Bool, true, false, IsTrue, List, [], ◌∷◌, ◌++◌}
+use Rattle.std.specs.Prelude.{◌≡◌, ◌⊎◌, ℕ, ◌+◌, ◌<◌, ◌≤◌, Bool, true, false, ◌||◌, IsTrue, List, [], ◌∷◌, ◌++◌}
 use Rattle.std.specs.Prelude.{length}
 use Rattle.std.specs.Prelude.{Option, Some, None, Result, Ok, Err}
 use Rattle.std.specs.List.{concat}
@@ -342,6 +342,7 @@ FindsNone list honest old_stopped new_stopped before after (Err _) = ⊥
 pub record LooksForKey {S A : Type 0} (g : store.Ghosts S) (old new : S) (answer : Result A SignFault) : Type 0 where
   pub finds : FindsNone (g.list old) (g.honest old) (g.stopped old) (g.stopped new) (g.failures old) (g.failures new)
       answer
+  pub stopped : g.stopped new ≡ (is_fault is_store_failed answer || g.stopped old)
   pub list : g.list new ≡ g.list old
   pub moments : LeavesOld g old new
   pub refusals : Counts is_out_of_memory (g.refusals old) (g.refusals new) answer
@@ -370,7 +371,7 @@ LeavesSource None [] old new = Unit {0}
 LeavesSource None (entry ∷ entries) old new = new ≡ old
 
 -- To make a key in a store is a step of the world, by some chance, with an outcome that is the answer: it takes no
--- memory of its own.
+-- memory of its own. The store has stopped where it had before, or the answer is 25.
 pub record MakesKey {S R : Type 0} (g : store.Ghosts S) (r : source.Ghosts R) (spec : Spec) (old new : S)
     (before after : R) (IsAnswer : Outcome AnyPublic → Type 0) : Type 0 where
   pub chance : Creation
@@ -378,6 +379,7 @@ pub record MakesKey {S R : Type 0} (g : store.Ghosts S) (r : source.Ghosts R) (s
   pub step : created (closed_on (g.list old)) spec chance ≡ outcome
   pub answer : IsAnswer outcome
   pub store : KeepsStore g old new (g.list old) outcome
+  pub stopped : g.stopped new ≡ (is_fault is_store_failed outcome.answer || g.stopped old)
   pub load : LoadFails chance.failed_load (g.list old) (g.stopped old) (g.honest old)
   pub possible : AreFields (key_sizes spec) chance.fields
   pub source : Provides (r.upcoming before) outcome.drawn (r.upcoming after)
@@ -435,6 +437,7 @@ pub record LoadsRecord {S : Type 0} (g : store.Ghosts S) (old new : S) (k : ℕ)
     (answer : Result (Option Record) SignFault) : Type 0 where
   pub loads : LoadsAt (g.honest old) (g.list old) (g.stopped old) k (g.stopped new) (g.failures old) (g.failures new)
       answer
+  pub stopped : g.stopped new ≡ (is_fault is_device_failed answer || g.stopped old)
   pub list : g.list new ≡ g.list old
   pub moments : LeavesOld g old new
   pub refusals : Counts is_no_memory (g.refusals old) (g.refusals new) answer
@@ -454,7 +457,8 @@ TakesUp old new entry (Err NoMemoryToOpen) =
 TakesUp old new entry (Err _) = ⊥
 
 -- To load the records of a store is a step of the world, with an outcome that is the answer. It goes over as many
--- records as the store has, and where the store is honest over its own.
+-- records as the store has, and where the store is honest over its own. The store has stopped where it had before, or
+-- the answer is 45.
 pub record LoadsAll {S : Type 0} (g : store.Ghosts S) (old new : S) (IsAnswer : Outcome AnyPublic → Type 0)
     : Type 0 where
   pub records : List Record
@@ -465,6 +469,7 @@ pub record LoadsAll {S : Type 0} (g : store.Ghosts S) (old new : S) (IsAnswer : 
   pub step : opened (closed_on records) chance ≡ outcome
   pub answer : IsAnswer outcome
   pub load : StopsOpening chance (g.list old) (g.stopped old) (g.honest old)
+  pub stopped : g.stopped new ≡ (is_fault is_device_failed outcome.answer || g.stopped old)
   pub list : g.list new ≡ g.list old
   pub moments : LeavesOld g old new
   pub failures : Counts is_device_failed (g.failures old) (g.failures new) outcome.answer
