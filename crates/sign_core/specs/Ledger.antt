@@ -138,7 +138,7 @@ TakesUp old new entry (Err OutOfMemory) =
 -- ---- a list of records that is taken up
 
 -- The list is legal up to a record that takes memory, or up to the 2^32nd; it is no first one.
-pub record LacksMemory (records : List Record) : Type 0 where
+pub record RunsOutOfMemory (records : List Record) : Type 0 where
   pub place : ℕ
   pub entry : Record
   pub stands : slice_get records place ≡ Some entry
@@ -150,4 +150,4 @@ pub record LacksMemory (records : List Record) : Type 0 where
 abbrev pub IsRefused : List Record → LedgerFault → Type 0
 IsRefused records Empty = records ≡ []
 IsRefused records (Illegal k) = first_illegal records ≡ Some k
-IsRefused records OutOfMemory = LacksMemory records
+IsRefused records OutOfMemory = RunsOutOfMemory records

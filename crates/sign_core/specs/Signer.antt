@@ -34,7 +34,7 @@ use Rattle.sign_core.specs.Once.{public_of_key, reached}
 use Rattle.sign_core.specs.World.{Chance, Creation, Fate, Opening, Outcome, State}
 use Rattle.sign_core.specs.World.{answered, appended, closed_on, created, open_on, opened, requested}
 use Rattle.sign_core.specs.World.{retired, secret_from}
-use Rattle.sign_core.specs.Ledger.{Table, TakesMemory}
+use Rattle.sign_core.specs.Ledger.{LacksRoom, RunsOutOfMemory, Table, TakesMemory}
 use Rattle.sign_core.specs.Textbook.{AllHaveSizes, public_in}
 
 -- ---- a signer
@@ -410,10 +410,12 @@ StopsOpening (Some (slot, DeviceFailed)) list stopped honest = (stopped ≡ fals
 StopsOpening (Some (slot, NoMemoryToOpen)) list stopped honest = (stopped ≡ false) × (slot ≤ length list)
 StopsOpening (Some (slot, _)) list stopped honest = ⊥
 
--- What memory an opening is refused is its store's, which counts it, or the signer's own.
-abbrev pub RefusesToOpen : {A : Type 0} → Result A SignFault → (before after : ℕ) → Type 0
-RefusesToOpen (Err NoMemoryToOpen) before after = (after ≡ before) ⊎ (after ≡ before + 1)
-RefusesToOpen answer before after = after ≡ before
+-- Where an opening lacks memory, its store was refused some, and counts it, or one of the records that it goes over takes
+-- some.
+abbrev pub RefusesToOpen : {A : Type 0} → List Record → Result A SignFault → (before after : ℕ) → Type 0
+RefusesToOpen records (Err NoMemoryToOpen) before after =
+    (after ≡ before + 1) ⊎ ((after ≡ before) × RunsOutOfMemory records)
+RefusesToOpen records answer before after = after ≡ before
 
 -- What the load of record k gives in an opening, by the answer.
 abbrev pub LoadsAt : (honest : Bool) (list : List Record) (old_stopped : Bool) (k : ℕ) (new_stopped : Bool)
@@ -453,7 +455,7 @@ TakesUp old new entry (Ok _) =
 TakesUp old new entry (Err (Illegal k)) =
     (can_follow (Some old.key) old.records entry ≡ false) × (k ≡ length old.records) × (new.records ≡ old.records)
 TakesUp old new entry (Err NoMemoryToOpen) =
-    (can_follow (Some old.key) old.records entry ≡ true) × (new.records ≡ old.records)
+    (can_follow (Some old.key) old.records entry ≡ true) × LacksRoom entry old × (new.records ≡ old.records)
 TakesUp old new entry (Err _) = ⊥
 
 -- To load the records of a store is a step of the world, with an outcome that is the answer. It goes over as many
@@ -473,7 +475,7 @@ pub record LoadsAll {S : Type 0} (g : store.Ghosts S) (old new : S) (IsAnswer : 
   pub list : g.list new ≡ g.list old
   pub moments : LeavesOld g old new
   pub failures : Counts is_device_failed (g.failures old) (g.failures new) outcome.answer
-  pub refusals : RefusesToOpen outcome.answer (g.refusals old) (g.refusals new)
+  pub refusals : RefusesToOpen records outcome.answer (g.refusals old) (g.refusals new)
   pub honest : g.honest new ≡ g.honest old
   pub most : g.most new ≡ g.most old
 
