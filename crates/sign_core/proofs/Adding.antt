@@ -91,6 +91,7 @@ adds_ok g old new entry was tied is records is_open random memory untaken = reco
       honest = is.honest;
       most = is.most;
     };
+    unreadable = is.unreadable;
   };
   random = random;
   refusals = is.refusals;
@@ -117,6 +118,7 @@ adds_err g old new entry StoreFailed was tied is records is_open random memory u
           honest = is.honest;
           most = is.most;
         };
+        unreadable = is.unreadable;
       };
       random = random;
       refusals = is.refusals;
@@ -136,6 +138,7 @@ adds_err g old new entry StoreFailed was tied is records is_open random memory u
           honest = is.honest;
           most = is.most;
         };
+        unreadable = is.unreadable;
       };
       random = random;
       refusals = is.refusals;
@@ -156,6 +159,7 @@ adds_err g old new entry OutOfMemory was tied is records is_open random memory u
       honest = is.honest;
       most = is.most;
     };
+    unreadable = is.unreadable;
   };
   random = random;
   refusals = is.refusals;

@@ -91,6 +91,7 @@ module _ {S R M : Type 0} (g : store.Ghosts S) (r : source.Ghosts R) (m : messag
         honest = refl;
         most = refl;
       };
+      unreadable = refl;
     };
     more = [];
     grown = sym (append-nil _);
@@ -140,6 +141,7 @@ module _ {S R M : Type 0} (g : store.Ghosts S) (r : source.Ghosts R) (m : messag
                 honest = ends.store.honest;
                 most = ends.store.most;
               };
+              unreadable = ends.unreadable;
             };
             more = entry ∷ [];
             grown = refl;
@@ -166,6 +168,7 @@ module _ {S R M : Type 0} (g : store.Ghosts S) (r : source.Ghosts R) (m : messag
                 honest = ends.store.honest;
                 most = ends.store.most;
               };
+              unreadable = ends.unreadable;
             };
             more = [];
             grown = sym (append-nil _);
@@ -192,6 +195,7 @@ module _ {S R M : Type 0} (g : store.Ghosts S) (r : source.Ghosts R) (m : messag
                 honest = ends.store.honest;
                 most = ends.store.most;
               };
+              unreadable = ends.unreadable;
             };
             more = [];
             grown = sym (append-nil _);
@@ -218,6 +222,7 @@ module _ {S R M : Type 0} (g : store.Ghosts S) (r : source.Ghosts R) (m : messag
                 honest = ends.store.honest;
                 most = ends.store.most;
               };
+              unreadable = ends.unreadable;
             };
             more = [];
             grown = sym (append-nil _);

@@ -89,6 +89,7 @@ module _ {S R : Type 0} (g : store.Ghosts S) (r : source.Ghosts R) (level : ℕ)
       honest = refl;
       most = refl;
     };
+    unreadable = refl;
   }
 
   fails_along : (before after : ℕ) (fault : SignFault) (answer : Result (List ℕ) SignFault) → Err fault ≡ answer
@@ -166,6 +167,7 @@ ends_drawn g view new random entry bytes acked answer ends = record {
     honest = ends.store.honest;
     most = ends.store.most;
   };
+  unreadable = ends.unreadable;
 }
 ends_drawn g view new random entry bytes cut_old answer ends = record {
   answer_is = ap (λ a. answered_with a []) ends.answer_is;
@@ -178,6 +180,7 @@ ends_drawn g view new random entry bytes cut_old answer ends = record {
     honest = ends.store.honest;
     most = ends.store.most;
   };
+  unreadable = ends.unreadable;
 }
 ends_drawn g view new random entry bytes cut_new answer ends = record {
   answer_is = ap (λ a. answered_with a []) ends.answer_is;
@@ -190,6 +193,7 @@ ends_drawn g view new random entry bytes cut_new answer ends = record {
     honest = ends.store.honest;
     most = ends.store.most;
   };
+  unreadable = ends.unreadable;
 }
 ends_drawn g view new random entry bytes no_memory answer ends = record {
   answer_is = ap (λ a. answered_with a []) ends.answer_is;
@@ -202,6 +206,7 @@ ends_drawn g view new random entry bytes no_memory answer ends = record {
     honest = ends.store.honest;
     most = ends.store.most;
   };
+  unreadable = ends.unreadable;
 }
 
 -- an append draws nothing, and its answer isn't that the source failed

@@ -20,7 +20,7 @@ use Rattle.sign_core.specs.declared.fault.SignFault.TheVariants.{Changed, Exhaus
 use Rattle.sign_core.specs.declared.fault.SignFault.TheVariants.{Unreadable, KeyThere}
 use Rattle.sign_core.specs.Records.{can_follow, first_illegal, illegal_from, key_in}
 use Rattle.sign_core.specs.Once.{public_of_key}
-use Rattle.sign_core.specs.Signer.{IsTakenUp, IsTied, LeavesOld, LoadsAll, LoadsRecord, RefusesToOpen, StopsOpening, TakesUp, is_device_failed}
+use Rattle.sign_core.specs.Signer.{IsTakenUp, IsTied, LeavesOld, LoadsAll, LoadsRecord, RefusesToOpen, StopsOpening, TakesUp, is_device_failed, unreadable_slot}
 use Rattle.sign_core.specs.Ledger.{LacksRoom, Table}
 use Rattle.sign_core.specs.World.{answered, closed_on, open_on, opened, opened_by, opened_on, published, refused}
 use Rattle.sign_core.specs.Textbook.{HasSizes, SecretHasSizes, public_in}
@@ -39,6 +39,7 @@ pub record IsKept {S : Type 0} (g : store.Ghosts S) (old now : S) : Type 0 where
   pub stopped : g.stopped now ≡ g.stopped old
   pub failures : g.failures now ≡ g.failures old
   pub refusals : g.refusals now ≡ g.refusals old
+  pub unreadable : g.unreadable now ≡ g.unreadable old
   pub honest : g.honest now ≡ g.honest old
   pub most : g.most now ≡ g.most old
 
@@ -73,6 +74,7 @@ none_loaded g old only = record {
     stopped = refl;
     failures = refl;
     refusals = refl;
+    unreadable = refl;
     honest = refl;
     most = refl;
   };
@@ -96,6 +98,7 @@ kept_found g old now next k found kept loads was is failures = record {
   stopped = is ∙ sym was ∙ kept.stopped;
   failures = failures ∙ kept.failures;
   refusals = loads.refusals ∙ kept.refusals;
+  unreadable = loads.unreadable ∙ kept.unreadable;
   honest = loads.honest ∙ kept.honest;
   most = loads.most ∙ kept.most;
 }
@@ -167,9 +170,10 @@ pub stopped_at : {S : Type 0} (g : store.Ghosts S) (old now next : S) (records :
     → StopsOpening (Some (k, fault)) (g.list old) (g.stopped old) (g.honest old)
     → g.stopped next ≡ (is_device_failed fault || g.stopped old) → g.list next ≡ g.list old → LeavesOld g old next
     → Counts {A = AnyPublic} is_device_failed (g.failures old) (g.failures next) (Err fault)
-    → RefusesToOpen {A = AnyPublic} (whole g old records k) (Err fault) (g.refusals old) (g.refusals next) → g.honest next ≡ g.honest old → g.most next ≡ g.most old
+    → RefusesToOpen {A = AnyPublic} (whole g old records k) (Err fault) (g.refusals old) (g.refusals next)
+    → g.unreadable next ≡ unreadable_slot fault ++ g.unreadable old → g.honest next ≡ g.honest old → g.most next ≡ g.most old
     → LoadsAll g old next (IsTakenUp (Err fault))
-stopped_at g old now next records k fault has load stopped list moments failures refusals honest most = record {
+stopped_at g old now next records k fault has load stopped list moments failures refusals unreadable honest most = record {
   records = whole g old records k;
   long = whole_long g old records k has.begins;
   same = whole_same g old records k has.begins;
@@ -183,6 +187,7 @@ stopped_at g old now next records k fault has load stopped list moments failures
   moments = moments;
   failures = failures;
   refusals = refusals;
+  unreadable = unreadable;
   honest = honest;
   most = most;
 }
@@ -199,21 +204,21 @@ unloaded g old now next records k Stopped has loads =
     stopped_at g old now next records k Stopped has
     (sym has.kept.stopped ∙ loads.loads.0, first_place g old now records k has loads.loads.0) (loads.stopped ∙ has.kept.stopped) (loads.list ∙ has.kept.list)
     (later_moments g old now next has.kept loads.moments) (loads.loads.1 ∙ has.kept.failures) (loads.refusals ∙ has.kept.refusals)
-    (loads.honest ∙ has.kept.honest) (loads.most ∙ has.kept.most)
+    (loads.unreadable ∙ has.kept.unreadable) (loads.honest ∙ has.kept.honest) (loads.most ∙ has.kept.most)
 unloaded g old now next records k (Unreadable slot) has loads =
     stopped_at g old now next records k (Unreadable slot) has
     (sym has.kept.stopped ∙ loads.loads.0, sym has.kept.honest ∙ loads.loads.1, loads.loads.2, omega (arith, loads.loads.3, ap length has.kept.list))
     (loads.stopped ∙ has.kept.stopped) (loads.list ∙ has.kept.list)
     (later_moments g old now next has.kept loads.moments) (loads.loads.4 ∙ has.kept.failures) (loads.refusals ∙ has.kept.refusals)
-    (loads.honest ∙ has.kept.honest) (loads.most ∙ has.kept.most)
+    (loads.unreadable ∙ ap (λ l. slot ∷ l) has.kept.unreadable) (loads.honest ∙ has.kept.honest) (loads.most ∙ has.kept.most)
 unloaded g old now next records k DeviceFailed has loads =
     stopped_at g old now next records k DeviceFailed has (sym has.kept.stopped ∙ loads.loads.0, has.begins.inside) loads.stopped (loads.list ∙ has.kept.list)
     (later_moments g old now next has.kept loads.moments) (loads.loads.1 ∙ ap (λ n. n + 1) has.kept.failures) (loads.refusals ∙ has.kept.refusals)
-    (loads.honest ∙ has.kept.honest) (loads.most ∙ has.kept.most)
+    (loads.unreadable ∙ has.kept.unreadable) (loads.honest ∙ has.kept.honest) (loads.most ∙ has.kept.most)
 unloaded g old now next records k NoMemoryToOpen has loads =
     stopped_at g old now next records k NoMemoryToOpen has (sym has.kept.stopped ∙ loads.loads.0, has.begins.inside) (loads.stopped ∙ has.kept.stopped)
     (loads.list ∙ has.kept.list) (later_moments g old now next has.kept loads.moments) (loads.loads.1 ∙ has.kept.failures)
-    (inl (loads.refusals ∙ ap (λ n. n + 1) has.kept.refusals)) (loads.honest ∙ has.kept.honest) (loads.most ∙ has.kept.most)
+    (inl (loads.refusals ∙ ap (λ n. n + 1) has.kept.refusals)) (loads.unreadable ∙ has.kept.unreadable) (loads.honest ∙ has.kept.honest) (loads.most ∙ has.kept.most)
 unloaded g old now next records k Changed has loads = absurd loads.loads
 unloaded g old now next records k Exhausted has loads = absurd loads.loads
 unloaded g old now next records k RandomFailed has loads = absurd loads.loads
@@ -258,6 +263,7 @@ illegal_at g old now next records k entry has loads not =
       moments = kept.moments;
       failures = kept.failures;
       refusals = kept.refusals;
+      unreadable = kept.unreadable;
       honest = kept.honest;
       most = kept.most;
     }
@@ -313,6 +319,7 @@ unroomed g old now next table k entry is loads follows lacking =
           lacking = elim lacking [ inl (takes, none) ↦ inl takes | inr full ↦ inr (sym is.loaded.begins.long ∙ full) ];
         },
       );
+      unreadable = kept.unreadable;
       honest = kept.honest;
       most = kept.most;
     }
@@ -403,6 +410,7 @@ all_taken g old now table k is end =
       moments = kept.moments;
       failures = kept.failures;
       refusals = kept.refusals;
+      unreadable = kept.unreadable;
       honest = kept.honest;
       most = kept.most;
     }

@@ -102,6 +102,7 @@ left_retires g v upto answer signer only step failures refusals = record {
       honest = refl;
       most = refl;
     };
+    unreadable = refl;
   };
   random = refl;
   refusals = refusals _;

@@ -164,6 +164,7 @@ module _ {S R M : Type 0} (g : store.Ghosts S) (r : source.Ghosts R) (m : messag
       is_open = keeps.is_open;
       store = subst (λ s. KeepsStore g old.store s old.records (kept (state_of old) answer is_read)) (sym keeps.store)
           (kept_store g old answer is_read signer only calm.store);
+      unreadable = ap g.unreadable keeps.store;
     };
     possible = record { trees = tt; bound = tt };
     source = subst (λ s. Provides (r.upcoming old.random) [] (r.upcoming s)) (sym keeps.random) (provides_nothing (r.upcoming old.random));
@@ -313,6 +314,7 @@ module _ {S R M : Type 0} (g : store.Ghosts S) (r : source.Ghosts R) (m : messag
           records = b.does.ends.records;
           is_open = b.does.ends.is_open;
           store = b.does.ends.store;
+          unreadable = b.does.ends.unreadable;
         };
         possible = b.possible;
         source = b.does.source;
@@ -344,6 +346,7 @@ module _ {S R M : Type 0} (g : store.Ghosts S) (r : source.Ghosts R) (m : messag
         records = refl;
         is_open = refl;
         store = kept_store g v (Err (Damaged slot)) false signer only (λ n. refl);
+        unreadable = refl;
       };
       more = [];
       grown = sym (append-nil _);

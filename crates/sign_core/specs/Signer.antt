@@ -18,7 +18,7 @@ use Rattle.state_file.specs.declared.record.Secret.TheVariants.{Lms, Hss, Xmss}
 use Rattle.state_file.specs.declared.store.Store as store
 use Rattle.state_file.specs.Disk.{Counts, LeavesOnly}
 use Rattle.state_file.specs.Laws.{IsLegal, bottom_of}
-use Rattle.state_file.specs.Store.{IsRecordAt}
+use Rattle.state_file.specs.Store.{Collects, IsRecordAt}
 use Rattle.sign_core.specs.declared.key.AnyPublic.{AnyPublic}
 use Rattle.sign_core.specs.declared.fault.SignFault.{SignFault}
 use Rattle.sign_core.specs.declared.fault.SignFault.TheVariants.{DeviceFailed, NoMemoryToOpen, OutOfMemory}
@@ -106,6 +106,11 @@ abbrev pub is_no_memory : SignFault → Bool
 is_no_memory NoMemoryToOpen = true
 is_no_memory _ = false
 
+-- the slot that an answer 43 names
+abbrev pub unreadable_slot : SignFault → List ℕ
+unreadable_slot (Unreadable k) = k ∷ []
+unreadable_slot _ = []
+
 -- What a call does to its store: the list grows as the records do; a stop at any moment of it leaves the old records
 -- and a beginning of those that were reached; and each failure of the device is answered.
 pub record KeepsStore {S A : Type 0} (g : store.Ghosts S) (old new : S) (records : List Record)
@@ -124,6 +129,7 @@ pub record Ends {S R A : Type 0} (g : store.Ghosts S) (old new : View S R) (outc
   pub records : new.records ≡ outcome.acknowledged
   pub is_open : new.is_open ≡ outcome.state.is_open
   pub store : KeepsStore g old.store new.store old.records outcome
+  pub unreadable : g.unreadable new.store ≡ g.unreadable old.store
 
 -- What an append does to a store that runs and has room, by its answer: to the list, to whether the store has stopped,
 -- and to the count of its device's failures.
@@ -155,6 +161,7 @@ pub record IsAppended {S A : Type 0} (g : store.Ghosts S) (old new : S) (entry :
   pub moments : LeavesEither g old new entry
   pub refused : answer ≡ Err OutOfMemory → LeavesOld g old new
   pub refusals : Counts is_out_of_memory (g.refusals old) (g.refusals new) answer
+  pub unreadable : g.unreadable new ≡ g.unreadable old
   pub honest : g.honest new ≡ g.honest old
   pub most : g.most new ≡ g.most old
 
@@ -346,6 +353,7 @@ pub record LooksForKey {S A : Type 0} (g : store.Ghosts S) (old new : S) (answer
   pub list : g.list new ≡ g.list old
   pub moments : LeavesOld g old new
   pub refusals : Counts is_out_of_memory (g.refusals old) (g.refusals new) answer
+  pub unreadable : Collects unreadable_slot (g.unreadable old) (g.unreadable new) answer
   pub honest : g.honest new ≡ g.honest old
   pub most : g.most new ≡ g.most old
 
@@ -371,7 +379,8 @@ LeavesSource None [] old new = Unit {0}
 LeavesSource None (entry ∷ entries) old new = new ≡ old
 
 -- To make a key in a store is a step of the world, by some chance, with an outcome that is the answer: it takes no
--- memory of its own. The store has stopped where it had before, or the answer is 25.
+-- memory of its own. The store has stopped where it had before, or the answer is 25; and the store has
+-- reported one slot more as unreadable, k, where the answer is 43 of k.
 pub record MakesKey {S R : Type 0} (g : store.Ghosts S) (r : source.Ghosts R) (spec : Spec) (old new : S)
     (before after : R) (IsAnswer : Outcome AnyPublic → Type 0) : Type 0 where
   pub chance : Creation
@@ -387,6 +396,7 @@ pub record MakesKey {S R : Type 0} (g : store.Ghosts S) (r : source.Ghosts R) (s
   pub failures : Counts is_random_failed (r.failures before) (r.failures after) outcome.answer
   pub room : chance.has_room ≡ true
   pub refusals : Counts is_out_of_memory (g.refusals old) (g.refusals new) outcome.answer
+  pub unreadable : Collects unreadable_slot (g.unreadable old) (g.unreadable new) outcome.answer
 
 -- A key is made, with its public key, and its record is the only one; or the fault is answered.
 abbrev pub IsMade : Result Key SignFault → Outcome AnyPublic → Type 0
@@ -443,6 +453,7 @@ pub record LoadsRecord {S : Type 0} (g : store.Ghosts S) (old new : S) (k : ℕ)
   pub list : g.list new ≡ g.list old
   pub moments : LeavesOld g old new
   pub refusals : Counts is_no_memory (g.refusals old) (g.refusals new) answer
+  pub unreadable : Collects unreadable_slot (g.unreadable old) (g.unreadable new) answer
   pub honest : g.honest new ≡ g.honest old
   pub most : g.most new ≡ g.most old
 
@@ -460,7 +471,7 @@ TakesUp old new entry (Err _) = ⊥
 
 -- To load the records of a store is a step of the world, with an outcome that is the answer. It goes over as many
 -- records as the store has, and where the store is honest over its own. The store has stopped where it had before, or
--- the answer is 45.
+-- the answer is 45; and the store has reported one slot more as unreadable, k, where the answer is 43 of k.
 pub record LoadsAll {S : Type 0} (g : store.Ghosts S) (old new : S) (IsAnswer : Outcome AnyPublic → Type 0)
     : Type 0 where
   pub records : List Record
@@ -476,6 +487,7 @@ pub record LoadsAll {S : Type 0} (g : store.Ghosts S) (old new : S) (IsAnswer : 
   pub moments : LeavesOld g old new
   pub failures : Counts is_device_failed (g.failures old) (g.failures new) outcome.answer
   pub refusals : RefusesToOpen records outcome.answer (g.refusals old) (g.refusals new)
+  pub unreadable : Collects unreadable_slot (g.unreadable old) (g.unreadable new) outcome.answer
   pub honest : g.honest new ≡ g.honest old
   pub most : g.most new ≡ g.most old
 
