@@ -17,9 +17,9 @@ use Rattle.sign_core.specs.declared.fault.SignFault.TheVariants.{Changed, Exhaus
 use Rattle.sign_core.specs.declared.fault.SignFault.TheVariants.{Unreadable, KeyThere}
 use Rattle.sign_core.specs.Fault.{closes}
 use Rattle.sign_core.specs.Once.{IsBeginning}
-use Rattle.sign_core.specs.Signer.{IsSigner, view_of, Adds, IsAppended, IsTied, LeavesEither, LeavesOld, View}
+use Rattle.sign_core.specs.Signer.{IsSigner, view_of, Adds, IsAppended, IsTied, LeavesEither, LeavesOld, UsesMemory, View}
 use Rattle.sign_core.specs.Records.{can_follow, key_in}
-use Rattle.sign_core.specs.Ledger.{Grows, Table}
+use Rattle.sign_core.specs.Ledger.{Grows, Table, TakesMemory}
 use Rattle.sign_core.specs.Textbook.{AllHaveSizes, HasSizes, SecretHasSizes}
 use Rattle.state_file.specs.Laws.{levels_of}
 use Rattle.state_file.specs.declared.record.Key.{Key}
@@ -70,11 +70,15 @@ moments_left g old new entry records all either same is honest running =
     weaker g.moment g.left_since old new _ _ (λ left either_one. beginning_left (g.list old) records left entry all (same honest) is either_one) (either honest
     running)
 
+pub length_one_more : (records : List Record) (entry : Record) → length (records ++ entry ∷ []) ≡ length records + 1
+length_one_more [] entry = refl
+length_one_more (first ∷ rest) entry = omega (arith, length_one_more rest entry)
+
 -- an append of a signer that is opened
 pub adds_ok : {S R : Type 0} (g : store.Ghosts S) (old new : View S R) (entry : Record) → old.is_open ≡ true → IsTied g old.store old.records
     → IsAppended {A = Unit {0}} g old.store new.store entry (Ok tt) → new.records ≡ old.records ++ entry ∷ [] → new.is_open ≡ true
-    → new.random ≡ old.random → old.spare ≤ new.spare + 1 → Adds g old new entry (Ok tt)
-adds_ok g old new entry was tied is records is_open random spare = record {
+    → new.random ≡ old.random → UsesMemory old new → ((TakesMemory entry → ⊥) → new.spare ≡ old.spare) → Adds g old new entry (Ok tt)
+adds_ok g old new entry was tied is records is_open random memory untaken = record {
   fate = acked;
   ends = record {
     answer_is = refl;
@@ -87,17 +91,19 @@ adds_ok g old new entry was tied is records is_open random spare = record {
       honest = is.honest;
       most = is.most;
     };
+    unreadable = is.unreadable;
   };
   random = random;
   refusals = is.refusals;
-  spare = spare;
+  memory = memory;
+  untaken = untaken;
 }
 
 pub adds_err : {S R : Type 0} (g : store.Ghosts S) (old new : View S R) (entry : Record) (fault : SignFault) → old.is_open ≡ true
     → IsTied g old.store old.records
     → IsAppended {A = Unit {0}} g old.store new.store entry (Err fault) → new.records ≡ old.records → new.is_open ≡ not (closes fault)
-    → new.random ≡ old.random → old.spare ≤ new.spare + 1 → Adds g old new entry (Err fault)
-adds_err g old new entry StoreFailed was tied is records is_open random spare =
+    → new.random ≡ old.random → UsesMemory old new → ((TakesMemory entry → ⊥) → new.spare ≡ old.spare) → Adds g old new entry (Err fault)
+adds_err g old new entry StoreFailed was tied is records is_open random memory untaken =
     ⊎_elim
     (λ (same : g.list new.store ≡ g.list old.store). record {
       fate = cut_old;
@@ -112,10 +118,12 @@ adds_err g old new entry StoreFailed was tied is records is_open random spare =
           honest = is.honest;
           most = is.most;
         };
+        unreadable = is.unreadable;
       };
       random = random;
       refusals = is.refusals;
-      spare = spare;
+      memory = memory;
+      untaken = untaken;
     })
     (λ (more : g.list new.store ≡ g.list old.store ++ entry ∷ []). record {
       fate = cut_new;
@@ -130,13 +138,15 @@ adds_err g old new entry StoreFailed was tied is records is_open random spare =
           honest = is.honest;
           most = is.most;
         };
+        unreadable = is.unreadable;
       };
       random = random;
       refusals = is.refusals;
-      spare = spare;
+      memory = memory;
+      untaken = untaken;
     })
     is.stored.0
-adds_err g old new entry OutOfMemory was tied is records is_open random spare = record {
+adds_err g old new entry OutOfMemory was tied is records is_open random memory untaken = record {
   fate = no_memory;
   ends = record {
     answer_is = refl;
@@ -149,27 +159,29 @@ adds_err g old new entry OutOfMemory was tied is records is_open random spare = 
       honest = is.honest;
       most = is.most;
     };
+    unreadable = is.unreadable;
   };
   random = random;
   refusals = is.refusals;
-  spare = spare;
+  memory = memory;
+  untaken = untaken;
 }
-adds_err g old new entry Changed was tied is records is_open random spare = absurd is.stored
-adds_err g old new entry Exhausted was tied is records is_open random spare = absurd is.stored
-adds_err g old new entry RandomFailed was tied is records is_open random spare = absurd is.stored
-adds_err g old new entry Stopped was tied is records is_open random spare = absurd is.stored
-adds_err g old new entry LedgerFull was tied is records is_open random spare = absurd is.stored
-adds_err g old new entry KeyThere was tied is records is_open random spare = absurd is.stored
-adds_err g old new entry RandomRepeated was tied is records is_open random spare = absurd is.stored
-adds_err g old new entry MessageRead was tied is records is_open random spare = absurd is.stored
-adds_err g old new entry MovedFault was tied is records is_open random spare = absurd is.stored
-adds_err g old new entry RetireRange was tied is records is_open random spare = absurd is.stored
-adds_err g old new entry NoKey was tied is records is_open random spare = absurd is.stored
-adds_err g old new entry DeviceFailed was tied is records is_open random spare = absurd is.stored
-adds_err g old new entry NoMemoryToOpen was tied is records is_open random spare = absurd is.stored
-adds_err g old new entry (Damaged k) was tied is records is_open random spare = absurd is.stored
-adds_err g old new entry (Unreadable k) was tied is records is_open random spare = absurd is.stored
-adds_err g old new entry (Illegal k) was tied is records is_open random spare = absurd is.stored
+adds_err g old new entry Changed was tied is records is_open random memory untaken = absurd is.stored
+adds_err g old new entry Exhausted was tied is records is_open random memory untaken = absurd is.stored
+adds_err g old new entry RandomFailed was tied is records is_open random memory untaken = absurd is.stored
+adds_err g old new entry Stopped was tied is records is_open random memory untaken = absurd is.stored
+adds_err g old new entry LedgerFull was tied is records is_open random memory untaken = absurd is.stored
+adds_err g old new entry KeyThere was tied is records is_open random memory untaken = absurd is.stored
+adds_err g old new entry RandomRepeated was tied is records is_open random memory untaken = absurd is.stored
+adds_err g old new entry MessageRead was tied is records is_open random memory untaken = absurd is.stored
+adds_err g old new entry MovedFault was tied is records is_open random memory untaken = absurd is.stored
+adds_err g old new entry RetireRange was tied is records is_open random memory untaken = absurd is.stored
+adds_err g old new entry NoKey was tied is records is_open random memory untaken = absurd is.stored
+adds_err g old new entry DeviceFailed was tied is records is_open random memory untaken = absurd is.stored
+adds_err g old new entry NoMemoryToOpen was tied is records is_open random memory untaken = absurd is.stored
+adds_err g old new entry (Damaged k) was tied is records is_open random memory untaken = absurd is.stored
+adds_err g old new entry (Unreadable k) was tied is records is_open random memory untaken = absurd is.stored
+adds_err g old new entry (Illegal k) was tied is records is_open random memory untaken = absurd is.stored
 
 -- the same of a signer's parts
 pub adds_in_ok : {S R : Type 0} (g : store.Ghosts S) (old new : S) (random : R) (before after : Table) (is_open : Bool) (entry : Record) (v : View S R)
@@ -178,7 +190,7 @@ pub adds_in_ok : {S R : Type 0} (g : store.Ghosts S) (old new : S) (random : R) 
 adds_in_ok {S = S} {R = R} g old new random before after is_open entry v is signer opened appended grows =
     subst (λ (w : View S R). w.is_open ≡ true → Adds g w (view_of new random after is_open) entry (Ok tt)) is
     (λ was. adds_ok g (view_of old random before is_open) (view_of new random after is_open) entry was (signer.tied was) appended grows.records was refl
-    grows.spare)
+    (omega (arith, grows.spare, ap length grows.records, length_one_more before.records entry)) grows.untaken)
     opened
 
 pub adds_in_err : {S R : Type 0} (g : store.Ghosts S) (old new : S) (random : R) (before : Table) (is_open stays : Bool) (entry : Record) (fault : SignFault)
@@ -188,7 +200,7 @@ pub adds_in_err : {S R : Type 0} (g : store.Ghosts S) (old new : S) (random : R)
 adds_in_err {S = S} {R = R} g old new random before is_open stays entry fault v is signer opened shut appended =
     subst (λ (w : View S R). w.is_open ≡ true → Adds g w (view_of new random before stays) entry (Err fault)) is
     (λ was. adds_err g (view_of old random before is_open) (view_of new random before stays) entry fault was (signer.tied was) appended refl shut refl (omega
-    arith))
+    arith) (λ _. refl))
     opened
 
 -- ---- a signer that goes on
@@ -196,10 +208,6 @@ adds_in_err {S = S} {R = R} g old new random before is_open stays entry fault v 
 grown_sizes : (records : List Record) (entry : Record) → AllHaveSizes records → HasSizes entry → AllHaveSizes (records ++ entry ∷ [])
 grown_sizes records entry sizes sized = λ k x at.
     elim (old_or_new records entry k x at) [ inl old ↦ sizes k x old | inr same ↦ subst HasSizes same sized ]
-
-pub length_one_more : (records : List Record) (entry : Record) → length (records ++ entry ∷ []) ≡ length records + 1
-length_one_more [] entry = refl
-length_one_more (first ∷ rest) entry = omega (arith, length_one_more rest entry)
 
 pub some_records : (records : List Record) (key : Key) → key_in records ≡ Some key → 0 < length records
 some_records [] key is = absurd (cc)

@@ -1,6 +1,6 @@
 -- What each end of a binding is: what was drawn, then what became of the message, and of the append of its record.
 use Rattle.std.proofs.Common.{◌≡◌, ◌∙◌, refl, sym, ap, ap₂, subst, ℕ, ◌+◌, ◌-◌, ◌<◌, ◌^◌, Bool, true, false, List, [], ◌∷◌, ◌++◌, length, map}
-use Rattle.std.proofs.Common.{Option, Some, None, Result, Ok, Err, MatchResult, IfErr, OnOk, IsErrAnd, append-nil, arith, IsTrue}
+use Rattle.std.proofs.Common.{Option, Some, None, Result, Ok, Err, MatchResult, IfErr, OnOk, IsErrAnd, append-nil, arith, IsTrue, true≢false}
 use Rattle.std.specs.Prelude.{not, is_some, replicate, unwrap_or, ◌&&◌}
 use Rattle.std.specs.List.{concat}
 use Rattle.std.specs.Cmp.Lexicographic.{bytes_decides}
@@ -37,17 +37,19 @@ use Rattle.sign_core.specs.Source.{DrawsBytes}
 use Rattle.sign_core.specs.Source.{Provides}
 use Rattle.sign_core.specs.Records.{binding_in, can_follow, current, free_at, has_moved, has_randomizer, is_free, key_in, next_at, next_in, next_of}
 use Rattle.sign_core.specs.Links.{AreMade, IsMade, signing_of_link, signings_of}
-use Rattle.sign_core.specs.Signer.{Adds, Ends, IsRead, IsTied, View, added, is_out_of_memory, is_random_failed, is_store_failed, signature_size, state_of, view_of}
+use Rattle.sign_core.specs.Signer.{Adds, Ends, IsRead, IsTied, View, added, is_before_draws, is_out_of_memory, is_random_failed, is_store_failed, signature_size, state_of, view_of}
 use Rattle.sign_core.specs.Signing.{Binds, Does, Fulfils, IsXmssKey, Stands, WritesChain, pairs_of}
 use Rattle.sign_core.specs.Ledger.{Table}
 use Rattle.sign_core.specs.World.{Chance, Fate, Outcome, acked, answered, appended, bound_sound, bound_with, cut_new, cut_old, drawing, fulfilled, new_bound, no_memory}
 use Rattle.sign_core.specs.World.{open_on, randomizer_from, reading}
 use Rattle.sign_core.specs.Textbook.{Trees, damaged_in, digest_at, secret_at, signature_at, signing_of_bound, signings_above, tree_before, trees_of}
 use Rattle.sign_core.proofs.Draws.{draw_fails}
+use Rattle.sign_core.proofs.Adding.{length_one_more}
 use Rattle.sign_core.proofs.Append.{tree_within}
 use Rattle.sign_core.proofs.ChainParts.{all_pairs, digest_told, key_chain, xmss_digest_told}
 use Rattle.sign_core.proofs.Follow.{tell_free}
 use Rattle.sign_core.proofs.LinkParts.{more_made}
+use Rattle.sign_core.proofs.Refusals.{is_late, keeps_at_all, keeps_late, same_fault, same_view}
 use Rattle.sign_core.proofs.Repeats.{fault_of, linked_ok}
 use Rattle.sign_core.proofs.Retiring.{beginning_kept}
 use Rattle.sign_core.proofs.Stays.{before_stays, key_stays, secret_stays, signings_stay, some_keyed}
@@ -89,6 +91,7 @@ module _ {S R M : Type 0} (g : store.Ghosts S) (r : source.Ghosts R) (m : messag
         honest = refl;
         most = refl;
       };
+      unreadable = refl;
     };
     more = [];
     grown = sym (append-nil _);
@@ -96,6 +99,8 @@ module _ {S R M : Type 0} (g : store.Ghosts S) (r : source.Ghosts R) (m : messag
     failures = counts;
     message = message;
     refusals = memory_counts _;
+    memory = omega arith;
+    stays = λ _ _. refl;
   }
 
   -- what an append comes to, after the draws and the reading
@@ -136,6 +141,7 @@ module _ {S R M : Type 0} (g : store.Ghosts S) (r : source.Ghosts R) (m : messag
                 honest = ends.store.honest;
                 most = ends.store.most;
               };
+              unreadable = ends.unreadable;
             };
             more = entry ∷ [];
             grown = refl;
@@ -143,6 +149,8 @@ module _ {S R M : Type 0} (g : store.Ghosts S) (r : source.Ghosts R) (m : messag
             failures = count;
             message = whole;
             refusals = refusals;
+            memory = adds.memory;
+            stays = λ same none. absurd (omega (arith, ap length same, ap length ends.records, length_one_more ledger.records entry));
           }) adds.refusals
       by_fate cut_old ends =
           subst (λ (x : Result (Unit {0}) SignFault). Counts is_out_of_memory (g.refusals kept_in) (g.refusals new.store) x
@@ -160,6 +168,7 @@ module _ {S R M : Type 0} (g : store.Ghosts S) (r : source.Ghosts R) (m : messag
                 honest = ends.store.honest;
                 most = ends.store.most;
               };
+              unreadable = ends.unreadable;
             };
             more = [];
             grown = sym (append-nil _);
@@ -167,6 +176,8 @@ module _ {S R M : Type 0} (g : store.Ghosts S) (r : source.Ghosts R) (m : messag
             failures = count;
             message = whole;
             refusals = refusals;
+            memory = adds.memory;
+            stays = λ same none. absurd (true≢false none);
           }) adds.refusals
       by_fate cut_new ends =
           subst (λ (x : Result (Unit {0}) SignFault). Counts is_out_of_memory (g.refusals kept_in) (g.refusals new.store) x
@@ -184,6 +195,7 @@ module _ {S R M : Type 0} (g : store.Ghosts S) (r : source.Ghosts R) (m : messag
                 honest = ends.store.honest;
                 most = ends.store.most;
               };
+              unreadable = ends.unreadable;
             };
             more = [];
             grown = sym (append-nil _);
@@ -191,6 +203,8 @@ module _ {S R M : Type 0} (g : store.Ghosts S) (r : source.Ghosts R) (m : messag
             failures = count;
             message = whole;
             refusals = refusals;
+            memory = adds.memory;
+            stays = λ same none. absurd (true≢false none);
           }) adds.refusals
       by_fate no_memory ends =
           subst (λ (x : Result (Unit {0}) SignFault). Counts is_out_of_memory (g.refusals kept_in) (g.refusals new.store) x
@@ -208,6 +222,7 @@ module _ {S R M : Type 0} (g : store.Ghosts S) (r : source.Ghosts R) (m : messag
                 honest = ends.store.honest;
                 most = ends.store.most;
               };
+              unreadable = ends.unreadable;
             };
             more = [];
             grown = sym (append-nil _);
@@ -215,6 +230,8 @@ module _ {S R M : Type 0} (g : store.Ghosts S) (r : source.Ghosts R) (m : messag
             failures = count;
             message = whole;
             refusals = refusals;
+            memory = adds.memory;
+            stays = λ same none. absurd (true≢false none);
           }) adds.refusals
 
 -- a record that is added stands at the end
@@ -335,6 +352,7 @@ module _ {S R M : Type 0} (g : store.Ghosts S) (r : source.Ghosts R) (m : messag
         bound_possible = tt;
         does = does_kept g r m kept_in random mid ledger is_open before after {A = List ℕ} true RandomFailed [] false None opened tied only (λ n. refl) (λ n. refl)
             nothing once unread;
+        late = refl;
       })
 
   -- the message can't be read
@@ -354,6 +372,7 @@ module _ {S R M : Type 0} (g : store.Ghosts S) (r : source.Ghosts R) (m : messag
     bound_possible = (sized, bytes, tt);
     does = does_kept g r m kept_in random mid ledger is_open before after {A = List ℕ} true MessageRead (concat (randomizer ∷ []) ++ []) true None opened tied only
         (λ n. refl) (λ n. refl) (one_field (r.upcoming random) (r.upcoming mid) randomizer draws.1) draws.0 fails;
+    late = refl;
   }
 
   -- the record is appended, or its append fails
@@ -380,6 +399,7 @@ module _ {S R M : Type 0} (g : store.Ghosts S) (r : source.Ghosts R) (m : messag
         bound_possible = (sized, bytes, tt);
         does = does_added g r m kept_in random mid ledger is_open before after new (BoundRecord bound) (sign bound) (concat (randomizer ∷ [])) text a opened adds
             (one_field (r.upcoming random) (r.upcoming mid) randomizer draws.1) draws.0 whole;
+        late = same_fault is_before_draws a _ ∙ is_late g (view_of kept_in mid ledger is_open) new (BoundRecord bound) a adds;
       })
 
 -- ---- the links of a signature
@@ -503,6 +523,7 @@ module _ {S R M : Type 0} (g : store.Ghosts S) (r : source.Ghosts R) (m : messag
         room = refl;
         does = does_kept g r m v.store v.random v.random shown v.is_open before after {A = List ℕ} v.is_open (Damaged k) [] false None refl tied only
             (λ n. refl) (λ n. refl) (gives_nothing (r.upcoming v.random)) refl unread;
+        keeps = keeps_at_all g v v (Err (Damaged k)) (same_view v);
       })
 
   -- the message can't be read
@@ -520,6 +541,7 @@ module _ {S R M : Type 0} (g : store.Ghosts S) (r : source.Ghosts R) (m : messag
         room = refl;
         does = does_kept g r m v.store v.random v.random shown v.is_open before after {A = List ℕ} true MessageRead [] true None opened tied only
             (λ n. refl) (λ n. refl) (gives_nothing (r.upcoming v.random)) refl fails;
+        keeps = keeps_at_all g v v (Err MessageRead) (same_view v);
       }
 
   -- the record is appended, or its append fails
@@ -535,6 +557,8 @@ module _ {S R M : Type 0} (g : store.Ghosts S) (r : source.Ghosts R) (m : messag
   added_binds linked mapped x new bound text a answer opened cases was chain whole is adds answers =
       let sound = linked_ok linked mapped x _ cases was (key_chain v.records key (λ d. OnOk linked (d ≡ None)) keyed chain) in
       let sign : Bound → List Record → List ℕ = λ b records. signature_at key records (length v.records) b in
+      let does = does_added g r m v.store v.random v.random shown v.is_open before after new (BoundRecord bound) (sign bound) [] text a opened adds
+      (gives_nothing (r.upcoming v.random)) refl whole in
       subst (λ (y : Result (List ℕ) SignFault). Binds g r m name 0 v new before after y key) (sym answers) (record {
         chance = undrawn_chance adds.fate (Some text);
         outcome = append_so g r m v.store v.random v.random shown v.is_open before after (BoundRecord bound) (sign bound) [] adds.fate;
@@ -542,6 +566,6 @@ module _ {S R M : Type 0} (g : store.Ghosts S) (r : source.Ghosts R) (m : messag
             ∙ ap (λ (b : Bound). append_so g r m v.store v.random v.random shown v.is_open before after (BoundRecord b) (sign b) [] adds.fate) (sym is);
         possible = record { trees = tt; bound = tt };
         room = refl;
-        does = does_added g r m v.store v.random v.random shown v.is_open before after new (BoundRecord bound) (sign bound) [] text a opened adds
-            (gives_nothing (r.upcoming v.random)) refl whole;
+        does = does;
+        keeps = keeps_late g r m v new before after _ _ _ (same_fault is_before_draws a _ ∙ is_late g v new (BoundRecord bound) a adds) does;
       })

@@ -1,6 +1,6 @@
 -- What each end of a create is: a step of the world.
 use Rattle.std.proofs.Common.{◌≡◌, ◌⊎◌, ℕ, ◌+◌, ◌≤◌, Bool, true, false, List, [], ◌∷◌, ◌++◌, length, Some, None, Result, Ok, Err, refl, sym, ap, ◌∙◌}
-use Rattle.std.proofs.Common.{subst, arith, append-nil, inl, inr, IsTrue}
+use Rattle.std.proofs.Common.{subst, arith, append-nil, inl, inr, IsTrue, ◌||◌}
 use Rattle.std.proofs.lemmas.Bool.Decides.{nat_tests}
 use Rattle.std.specs.Prelude.{Option, nat_le, if◌then◌else◌}
 use Rattle.std.specs.List.{concat}
@@ -11,6 +11,7 @@ use Rattle.state_file.specs.declared.record.Record.TheVariants.{Key as KeyRecord
 use Rattle.state_file.specs.declared.record.Secret.{Secret}
 use Rattle.state_file.specs.declared.store.Store as store
 use Rattle.state_file.specs.Disk.{Counts, LeavesOnly}
+use Rattle.state_file.specs.Store.{Collects}
 use Rattle.state_file.proofs.Moments.{combined}
 use Rattle.sign_core.specs.declared.key.AnyPublic.{AnyPublic}
 use Rattle.sign_core.specs.declared.fault.SignFault.{SignFault}
@@ -21,7 +22,7 @@ use Rattle.sign_core.specs.declared.source.Source as source
 use Rattle.sign_core.specs.Source.{Provides}
 use Rattle.sign_core.specs.Once.{IsBeginning}
 use Rattle.sign_core.specs.Signer.{DrawsSecret, IsAppended, IsMade, KeepsStore, LeavesOld, LeavesSource, LoadFails, LooksForKey, MakesKey}
-use Rattle.sign_core.specs.Signer.{is_store_failed, is_random_failed, is_out_of_memory}
+use Rattle.sign_core.specs.Signer.{is_fault, is_store_failed, is_random_failed, is_out_of_memory, unreadable_slot}
 use Rattle.sign_core.specs.World.{Creation, Fate, Outcome, acked, answered, appended, begun, closed_on, created, cut, cut_new, cut_old, drawing}
 use Rattle.sign_core.specs.World.{new_key, no_memory, open_on, published, refused, secret_from}
 use Rattle.sign_core.specs.Textbook.{public_in}
@@ -67,6 +68,7 @@ refused_first g r spec old new random fault failed is load step failures unfaile
   step = step;
   answer = refl;
   store = keeps_old g old new [] fault is.list is.moments failures is.honest is.most;
+  stopped = is.stopped;
   load = load;
   possible = tt;
   source = provides_none (r.upcoming random);
@@ -74,6 +76,7 @@ refused_first g r spec old new random fault failed is load step failures unfaile
   failures = unfailed;
   room = refl;
   refusals = is.refusals;
+  unreadable = is.unreadable;
 }
 
 there_step : (list : List Record) (spec : Spec) → 1 ≤ length list
@@ -128,6 +131,7 @@ undrawn_random g r spec old mid before after is draws = record {
   step = empty_step (g.list old) spec draws.fields acked None is.finds.1 draws.drawn;
   answer = refl;
   store = keeps_old g old mid (concat draws.fields) RandomFailed is.list is.moments is.finds.3 is.honest is.most;
+  stopped = is.stopped;
   load = is.finds.0;
   possible = draws.possible;
   source = subst (λ bytes. Provides (r.upcoming before) bytes (r.upcoming after)) (sym (append-nil (concat draws.fields))) draws.source;
@@ -135,6 +139,7 @@ undrawn_random g r spec old mid before after is draws = record {
   failures = draws.failures;
   room = refl;
   refusals = is.refusals;
+  unreadable = is.unreadable;
 }
 
 pub undrawn : {S R : Type 0} (g : store.Ghosts S) (r : source.Ghosts R) (spec : Spec) (old mid : S) (before after : R) (fault : SignFault)
@@ -191,15 +196,18 @@ made_by_fate : {S R : Type 0} (g : store.Ghosts S) (r : source.Ghosts R) (spec :
     → HasAppended g old mid new (KeyRecord (new_key secret)) answer → (draws : DrawsSecret r spec before after (Ok secret))
     → appended (closed_on (g.list old)) (KeyRecord (new_key secret)) fate (λ records. published records (public_in (new_key secret))) ≡ outcome
     → outcome.drawn ≡ [] → IsAnswer (drawing (concat draws.fields) outcome) → KeepsStore g old new (g.list old) (drawing (concat draws.fields) outcome)
+    → g.stopped new ≡ (is_fault is_store_failed outcome.answer || g.stopped old)
     → Counts is_random_failed (r.failures before) (r.failures after) outcome.answer
     → Counts is_out_of_memory (g.refusals old) (g.refusals new) outcome.answer
+    → Collects unreadable_slot (g.unreadable old) (g.unreadable new) outcome.answer
     → MakesKey g r spec old new before after IsAnswer
-made_by_fate g r spec old mid new before after secret fate outcome answer IsAnswer has draws step undrawn is keeps failures refusals = record {
+made_by_fate g r spec old mid new before after secret fate outcome answer IsAnswer has draws step undrawn is keeps stopped failures refusals unreadable = record {
   chance = record { failed_load = None; fields = draws.fields; has_room = true; fate = fate };
   outcome = drawing (concat draws.fields) outcome;
   step = empty_step (g.list old) spec draws.fields fate (Some secret) has.looked.finds.1 draws.drawn ∙ ap (drawing (concat draws.fields)) step;
   answer = is;
   store = keeps;
+  stopped = stopped;
   load = has.looked.finds.0;
   possible = draws.possible;
   source = subst (λ bytes. Provides (r.upcoming before) bytes (r.upcoming after))
@@ -208,6 +216,7 @@ made_by_fate g r spec old mid new before after secret fate outcome answer IsAnsw
   failures = failures;
   room = refl;
   refusals = refusals;
+  unreadable = unreadable;
 }
 
 alone : (list : List Record) (entry : Record) → length list ≡ 0 → list ++ entry ∷ [] ≡ entry ∷ []
@@ -231,7 +240,7 @@ made g r spec old mid new before after secret can draws has =
       failures = stored.stored.2 ∙ loaded.finds.3;
       honest = stored.honest ∙ loaded.honest;
       most = stored.most ∙ loaded.most;
-    }) draws.failures (stored.refusals ∙ loaded.refusals)
+    }) (stored.stored.1 ∙ sym loaded.finds.0) draws.failures (stored.refusals ∙ loaded.refusals) (stored.unreadable ∙ loaded.unreadable)
 
 made_cut : {S R : Type 0} (g : store.Ghosts S) (r : source.Ghosts R) (spec : Spec) (old mid new : S) (before after : R) (secret : Secret)
     → (draws : DrawsSecret r spec before after (Ok secret)) → (has : HasAppended {A = Unit {0}} g old mid new (KeyRecord (new_key secret)) (Err StoreFailed))
@@ -249,7 +258,7 @@ made_cut g r spec old mid new before after secret draws has (inl same) =
       failures = stored.stored.2 ∙ ap (λ n. n + 1) loaded.finds.3;
       honest = stored.honest ∙ loaded.honest;
       most = stored.most ∙ loaded.most;
-    }) draws.failures (stored.refusals ∙ loaded.refusals)
+    }) stored.stored.1 draws.failures (stored.refusals ∙ loaded.refusals) (stored.unreadable ∙ loaded.unreadable)
 made_cut g r spec old mid new before after secret draws has (inr more) =
     let entry = KeyRecord (new_key secret) in
     let loaded = has.looked in
@@ -262,7 +271,7 @@ made_cut g r spec old mid new before after secret draws has (inr more) =
       failures = stored.stored.2 ∙ ap (λ n. n + 1) loaded.finds.3;
       honest = stored.honest ∙ loaded.honest;
       most = stored.most ∙ loaded.most;
-    }) draws.failures (stored.refusals ∙ loaded.refusals)
+    }) stored.stored.1 draws.failures (stored.refusals ∙ loaded.refusals) (stored.unreadable ∙ loaded.unreadable)
 
 pub unmade : {S R : Type 0} (g : store.Ghosts S) (r : source.Ghosts R) (spec : Spec) (old mid new : S) (before after : R) (secret : Secret) (fault : SignFault)
     → DrawsSecret r spec before after (Ok secret) → HasAppended {A = Unit {0}} g old mid new (KeyRecord (new_key secret)) (Err fault)
@@ -281,7 +290,8 @@ unmade g r spec old mid new before after secret OutOfMemory draws has =
       failures = stored.stored.2 ∙ loaded.finds.3;
       honest = stored.honest ∙ loaded.honest;
       most = stored.most ∙ loaded.most;
-    }) draws.failures (stored.refusals ∙ ap (λ n. n + 1) loaded.refusals)
+    }) (stored.stored.1 ∙ sym loaded.finds.0) draws.failures (stored.refusals ∙ ap (λ n. n + 1) loaded.refusals)
+    (stored.unreadable ∙ loaded.unreadable)
 unmade g r spec old mid new before after secret Changed draws has = absurd has.appended.stored
 unmade g r spec old mid new before after secret Exhausted draws has = absurd has.appended.stored
 unmade g r spec old mid new before after secret LedgerFull draws has = absurd has.appended.stored

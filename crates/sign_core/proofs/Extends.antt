@@ -18,11 +18,13 @@ use Rattle.sign_core.specs.Signing.{answered_with}
 use Rattle.sign_core.specs.Source.{Provides}
 use Rattle.sign_core.specs.Records.{has_identifier}
 use Rattle.sign_core.specs.Once.{IsBeginning}
-use Rattle.sign_core.specs.Signer.{Adds, Ends, IsTied, View, added, is_out_of_memory, is_random_failed, is_store_failed, state_of}
+use Rattle.sign_core.specs.Signer.{Adds, Ends, IsTied, View, added, is_before_draws, is_fault, is_of_append, is_out_of_memory, is_random_failed}
+use Rattle.sign_core.specs.Signer.{is_store_failed, state_of}
 use Rattle.sign_core.specs.Signing.{DrawsTree, Extends}
 use Rattle.sign_core.specs.World.{Fate, Outcome, acked, answered, appended, cut_new, cut_old, drawing, extended, no_memory}
 use Rattle.sign_core.specs.World.{open_on, refused}
 use Rattle.sign_core.specs.Textbook.{Trees, trees_of}
+use Rattle.sign_core.proofs.Refusals.{is_late, is_tried, same_fault}
 use Rattle.sign_core.proofs.Fulfilled.{drawing_twice, extends_by, next_extend, whole_draw}
 
 -- the signer after it drew: only its source has changed
@@ -87,6 +89,7 @@ module _ {S R : Type 0} (g : store.Ghosts S) (r : source.Ghosts R) (level : ℕ)
       honest = refl;
       most = refl;
     };
+    unreadable = refl;
   }
 
   fails_along : (before after : ℕ) (fault : SignFault) (answer : Result (List ℕ) SignFault) → Err fault ≡ answer
@@ -107,7 +110,9 @@ module _ {S R : Type 0} (g : store.Ghosts S) (r : source.Ghosts R) (level : ℕ)
     source = subst (λ (bytes : List ℕ). Provides (r.upcoming view.random) bytes (r.upcoming random)) (sym (append-nil (concat fields))) gave;
     failures = fails_along (r.failures view.random) (r.failures random) RandomFailed answer is failed;
     refusals = subst (λ (a : Result (List ℕ) SignFault). Counts is_out_of_memory (g.refusals view.store) (g.refusals view.store) a) is refl;
-    spare = omega arith;
+    memory = omega arith;
+    stays = λ _ _. refl;
+    late = ap (is_fault is_before_draws) (sym is);
   }
   undrawn view random RandomRepeated answer rests is (identifier, kept, gave, sized, there) = record {
     draw = record { fields = identifier ∷ []; fate = acked };
@@ -120,7 +125,9 @@ module _ {S R : Type 0} (g : store.Ghosts S) (r : source.Ghosts R) (level : ℕ)
     source = subst (λ (bytes : List ℕ). Provides (r.upcoming view.random) bytes (r.upcoming random)) (sym (append-nil identifier)) gave;
     failures = fails_along (r.failures view.random) (r.failures random) RandomRepeated answer is kept;
     refusals = subst (λ (a : Result (List ℕ) SignFault). Counts is_out_of_memory (g.refusals view.store) (g.refusals view.store) a) is refl;
-    spare = omega arith;
+    memory = omega arith;
+    stays = λ _ _. refl;
+    late = ap (is_fault is_before_draws) (sym is);
   }
   undrawn view random Changed answer rests is draws = absurd draws
   undrawn view random Exhausted answer rests is draws = absurd draws
@@ -160,6 +167,7 @@ ends_drawn g view new random entry bytes acked answer ends = record {
     honest = ends.store.honest;
     most = ends.store.most;
   };
+  unreadable = ends.unreadable;
 }
 ends_drawn g view new random entry bytes cut_old answer ends = record {
   answer_is = ap (λ a. answered_with a []) ends.answer_is;
@@ -172,6 +180,7 @@ ends_drawn g view new random entry bytes cut_old answer ends = record {
     honest = ends.store.honest;
     most = ends.store.most;
   };
+  unreadable = ends.unreadable;
 }
 ends_drawn g view new random entry bytes cut_new answer ends = record {
   answer_is = ap (λ a. answered_with a []) ends.answer_is;
@@ -184,6 +193,7 @@ ends_drawn g view new random entry bytes cut_new answer ends = record {
     honest = ends.store.honest;
     most = ends.store.most;
   };
+  unreadable = ends.unreadable;
 }
 ends_drawn g view new random entry bytes no_memory answer ends = record {
   answer_is = ap (λ a. answered_with a []) ends.answer_is;
@@ -196,6 +206,7 @@ ends_drawn g view new random entry bytes no_memory answer ends = record {
     honest = ends.store.honest;
     most = ends.store.most;
   };
+  unreadable = ends.unreadable;
 }
 
 -- an append draws nothing, and its answer isn't that the source failed
@@ -246,7 +257,10 @@ drawn {S = S} {R = R} g r level key trees view new random seeds entry answer is_
       failures = subst (λ (a : Result (List ℕ) SignFault). Counts is_random_failed (r.failures view.random) (r.failures new.random) a) ends.answer_is
           (none_failed view.records entry bytes adds.fate (r.failures view.random) (r.failures new.random) none);
       refusals = refusals_answered (g.refusals view.store) (g.refusals new.store) answer adds.refusals;
-      spare = adds.spare;
+      memory = adds.memory;
+      stays = λ same none. is_tried g (after_draw view random) new entry answer adds (new.store ≡ view.store) same
+          (sym (same_fault is_of_append answer []) ∙ none);
+      late = same_fault is_before_draws answer [] ∙ is_late g (after_draw view random) new entry answer adds;
     }
 
 err≢ok : {A : Type 0} (fault : SignFault) (a : A) → Err fault ≡ Ok a → ⊥

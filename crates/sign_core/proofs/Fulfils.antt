@@ -19,7 +19,7 @@ use Rattle.sign_core.specs.declared.fault.SignFault.TheVariants.{OutOfMemory, Ra
 use Rattle.sign_core.specs.Source.{Provides}
 use Rattle.sign_core.specs.Records.{binding_in, has_identifier, has_moved, key_in, next_at}
 use Rattle.sign_core.specs.Once.{IsBeginning, reached}
-use Rattle.sign_core.specs.Signer.{Ends, GrowsAlike, IsRead, KeepsStore, View, is_out_of_memory, is_random_failed, is_store_failed}
+use Rattle.sign_core.specs.Signer.{Ends, GrowsAlike, IsRead, KeepsStore, UsesMemory, View, is_out_of_memory, is_random_failed, is_store_failed}
 use Rattle.sign_core.specs.Signing.{Does, Extends, Fulfils, IsReady}
 use Rattle.sign_core.specs.Textbook.{Trees, trees_of}
 use Rattle.sign_core.specs.World.{Chance, Draw, Fate, Outcome, acked, answered, appended, cut_new, cut_old, drawing, no_memory}
@@ -147,14 +147,18 @@ keeps_after g old mid new records mid_records more extend bytes outcome running 
       most = second.most ∙ first.most;
     }
 
+length_front : (records more : List Record) → length records ≤ length (records ++ more)
+length_front [] more = omega arith
+length_front (first ∷ rest) more = omega (arith, length_front rest more)
+
 -- What a signer does in an Extend that is recorded and in what comes after it, it does in both.
 does_after : {S R M : Type 0} (g : store.Ghosts S) (r : source.Ghosts R) (m : message.Ghosts M) (old mid new : View S R) (before after : M)
     (given : Option (List ℕ)) (extend : Extend) (bytes : List ℕ) (outcome : Outcome (List ℕ)) (answer : Result (List ℕ) SignFault)
     → g.stopped mid.store ≡ false → Ends g old mid (after_extend old.records extend bytes) (Ok [])
     → Provides (r.upcoming old.random) (bytes ++ []) (r.upcoming mid.random)
-    → r.failures mid.random ≡ r.failures old.random → g.refusals mid.store ≡ g.refusals old.store
+    → r.failures mid.random ≡ r.failures old.random → g.refusals mid.store ≡ g.refusals old.store → UsesMemory old mid
     → Does g r m mid new before after given outcome answer → Does g r m old new before after given (drawing bytes outcome) answer
-does_after g r m old mid new before after given extend bytes outcome answer running first gave failures refusals second =
+does_after g r m old mid new before after given extend bytes outcome answer running first gave failures refusals memory second =
     let drawn : Provides (r.upcoming old.random) bytes (r.upcoming mid.random) =
     subst (λ (b : List ℕ). Provides (r.upcoming old.random) b (r.upcoming mid.random)) (append-nil bytes) gave in record {
       ends = record {
@@ -163,6 +167,7 @@ does_after g r m old mid new before after given extend bytes outcome answer runn
         is_open = second.ends.is_open;
         store = keeps_after g old.store mid.store new.store old.records mid.records second.more extend bytes outcome running first.records second.grown
             first.store second.ends.store;
+        unreadable = second.ends.unreadable ∙ first.unreadable;
       };
       more = ExtendRecord extend ∷ second.more;
       grown = second.grown ∙ ap (λ l. l ++ second.more) first.records ∙ append_assoc old.records (ExtendRecord extend ∷ []) second.more;
@@ -170,6 +175,15 @@ does_after g r m old mid new before after given extend bytes outcome answer runn
       failures = counts_on is_random_failed (r.failures old.random) (r.failures mid.random) (r.failures new.random) answer failures second.failures;
       message = second.message;
       refusals = counts_on is_out_of_memory (g.refusals old.store) (g.refusals mid.store) (g.refusals new.store) answer refusals second.refusals;
+      memory = omega (arith, memory, second.memory);
+      stays = λ same none. absurd (omega (
+        arith,
+        ap length same,
+        ap length (second.ends.records ∙ second.grown),
+        ap length first.records,
+        length_push old.records (ExtendRecord extend),
+        length_front mid.records second.more,
+      ));
     }
 
 -- ---- one level more
@@ -223,7 +237,8 @@ fulfils_after {S = S} {R = R} {M = M} g r m name key below level old mid new bef
           trees_possible = (first.possible, second.trees_possible);
           bound_possible = second.bound_possible;
           does = does_after g r m old mid new before after second.given extend bytes second.outcome answer running ends gave first.failures first.refusals
-              second.does;
+              first.memory second.does;
+          late = second.late;
         }
 
 -- What an Extend that is recorded leaves: a signer that is open on the records with one more, over the same store.
@@ -247,7 +262,7 @@ is_recorded {S = S} {R = R} g r level old mid key first = by_draw (by_trees old.
           records = first.ends.records ∙ ap (λ o. o.acknowledged) is;
           is_open = first.ends.is_open ∙ ap (λ o. o.state.is_open) is;
           most = first.ends.store.most;
-          spare = first.spare;
+          spare = omega (arith, first.memory, ap length (first.ends.records ∙ ap (λ o. o.acknowledged) is), length_push old.records (ExtendRecord extend));
         }
 
 -- So it is ready for one record less, and has the same key and bindings.
@@ -301,5 +316,8 @@ fulfils_refused {S = S} {R = R} {M = M} g r m name key below level old new unrea
             failures = first.failures;
             message = message_kept m first.outcome.is_read None unread (ap (λ o. o.is_read) (sym is) ∙ is_unread);
             refusals = first.refusals;
+            memory = first.memory;
+            stays = first.stays;
           };
+          late = first.late;
         }

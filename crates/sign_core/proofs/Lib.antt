@@ -44,6 +44,7 @@ pub mod WritingParts
 pub mod Draws
 pub mod Fulfils
 pub mod ChainParts
+pub mod Refusals
 pub mod Repeats
 pub mod Binding
 pub mod Drawing

@@ -1,8 +1,8 @@
 -- What each end of an opening is: a step of the world.
 use Rattle.std.proofs.Common.{◌≡◌, ℕ, zero, suc, ◌+◌, ◌<◌, ◌≤◌, Bool, true, false, List, [], ◌∷◌, ◌++◌, length, Some, None, Ok, Err, refl, sym}
-use Rattle.std.proofs.Common.{ap, ◌∙◌, subst, arith, inl, inr, IsTrue, true≢false, take, drop}
+use Rattle.std.proofs.Common.{ap, ◌∙◌, subst, arith, inl, inr, IsTrue, true≢false, take, drop, ◌||◌}
 use Rattle.std.proofs.lemmas.Bool.Decides.{nat_tests}
-use Rattle.std.proofs.lemmas.List.{take-append-drop, take_all}
+use Rattle.std.proofs.lemmas.List.{take-append-drop, take_all, take_at}
 use Rattle.std.specs.Option.{ok_or, option_or}
 use Rattle.std.specs.Prelude.{IfErr, Option, cond, nat_lt, slice_get, if◌then◌else◌}
 use Rattle.state_file.specs.declared.record.Key.{Key}
@@ -10,6 +10,7 @@ use Rattle.state_file.specs.declared.record.Record.{Record}
 use Rattle.state_file.specs.declared.record.Record.TheVariants.{Key as KeyRecord, Extend as ExtendRecord, Bound as BoundRecord, Retire, Moved as MovedRecord}
 use Rattle.state_file.specs.declared.store.Store as store
 use Rattle.state_file.specs.Disk.{Counts}
+use Rattle.state_file.specs.Laws.{IsLegal}
 use Rattle.state_file.specs.Store.{IsRecordAt, is_key}
 use Rattle.state_file.proofs.Moments.{combined, started, weaker}
 use Rattle.sign_core.specs.declared.key.AnyPublic.{AnyPublic}
@@ -19,13 +20,13 @@ use Rattle.sign_core.specs.declared.fault.SignFault.TheVariants.{Changed, Exhaus
 use Rattle.sign_core.specs.declared.fault.SignFault.TheVariants.{Unreadable, KeyThere}
 use Rattle.sign_core.specs.Records.{can_follow, first_illegal, illegal_from, key_in}
 use Rattle.sign_core.specs.Once.{public_of_key}
-use Rattle.sign_core.specs.Signer.{IsTakenUp, IsTied, LeavesOld, LoadsAll, LoadsRecord, RefusesToOpen, StopsOpening, TakesUp, is_device_failed}
-use Rattle.sign_core.specs.Ledger.{Table}
+use Rattle.sign_core.specs.Signer.{IsTakenUp, IsTied, LeavesOld, LoadsAll, LoadsRecord, RefusesToOpen, StopsOpening, TakesUp, is_device_failed, unreadable_slot}
+use Rattle.sign_core.specs.Ledger.{LacksRoom, Table}
 use Rattle.sign_core.specs.World.{answered, closed_on, open_on, opened, opened_by, opened_on, published, refused}
 use Rattle.sign_core.specs.Textbook.{HasSizes, SecretHasSizes, public_in}
 use Rattle.sign_core.proofs.Adding.{length_one_more, some_records}
 use Rattle.sign_core.proofs.Follow.{key_stays}
-use Rattle.sign_core.proofs.Illegal.{first_illegal_appended, first_illegal_joined, illegal_after}
+use Rattle.sign_core.proofs.Illegal.{first_illegal_appended, first_illegal_joined, illegal_after, legal_from_none}
 use Rattle.sign_core.proofs.Lists.{take_with_next}
 use Rattle.sign_core.proofs.Sizes.{public_made}
 
@@ -38,6 +39,7 @@ pub record IsKept {S : Type 0} (g : store.Ghosts S) (old now : S) : Type 0 where
   pub stopped : g.stopped now ≡ g.stopped old
   pub failures : g.failures now ≡ g.failures old
   pub refusals : g.refusals now ≡ g.refusals old
+  pub unreadable : g.unreadable now ≡ g.unreadable old
   pub honest : g.honest now ≡ g.honest old
   pub most : g.most now ≡ g.most old
 
@@ -72,6 +74,7 @@ none_loaded g old only = record {
     stopped = refl;
     failures = refl;
     refusals = refl;
+    unreadable = refl;
     honest = refl;
     most = refl;
   };
@@ -95,6 +98,7 @@ kept_found g old now next k found kept loads was is failures = record {
   stopped = is ∙ sym was ∙ kept.stopped;
   failures = failures ∙ kept.failures;
   refusals = loads.refusals ∙ kept.refusals;
+  unreadable = loads.unreadable ∙ kept.unreadable;
   honest = loads.honest ∙ kept.honest;
   most = loads.most ∙ kept.most;
 }
@@ -163,11 +167,13 @@ stopped_step g old now records k fault has =
 
 -- an opening that is stopped at a place by a fault
 pub stopped_at : {S : Type 0} (g : store.Ghosts S) (old now next : S) (records : List Record) (k : ℕ) (fault : SignFault) → HasLoaded g old now records k
-    → StopsOpening (Some (k, fault)) (g.list old) (g.stopped old) (g.honest old) → g.list next ≡ g.list old → LeavesOld g old next
+    → StopsOpening (Some (k, fault)) (g.list old) (g.stopped old) (g.honest old)
+    → g.stopped next ≡ (is_device_failed fault || g.stopped old) → g.list next ≡ g.list old → LeavesOld g old next
     → Counts {A = AnyPublic} is_device_failed (g.failures old) (g.failures next) (Err fault)
-    → RefusesToOpen {A = AnyPublic} (Err fault) (g.refusals old) (g.refusals next) → g.honest next ≡ g.honest old → g.most next ≡ g.most old
+    → RefusesToOpen {A = AnyPublic} (whole g old records k) (Err fault) (g.refusals old) (g.refusals next)
+    → g.unreadable next ≡ unreadable_slot fault ++ g.unreadable old → g.honest next ≡ g.honest old → g.most next ≡ g.most old
     → LoadsAll g old next (IsTakenUp (Err fault))
-stopped_at g old now next records k fault has load list moments failures refusals honest most = record {
+stopped_at g old now next records k fault has load stopped list moments failures refusals unreadable honest most = record {
   records = whole g old records k;
   long = whole_long g old records k has.begins;
   same = whole_same g old records k has.begins;
@@ -176,10 +182,12 @@ stopped_at g old now next records k fault has load list moments failures refusal
   step = stopped_step g old now records k fault has;
   answer = refl;
   load = load;
+  stopped = stopped;
   list = list;
   moments = moments;
   failures = failures;
   refusals = refusals;
+  unreadable = unreadable;
   honest = honest;
   most = most;
 }
@@ -194,23 +202,23 @@ pub unloaded : {S : Type 0} (g : store.Ghosts S) (old now next : S) (records : L
     → LoadsRecord g now next k (Err fault) → LoadsAll g old next (IsTakenUp (Err fault))
 unloaded g old now next records k Stopped has loads =
     stopped_at g old now next records k Stopped has
-    (sym has.kept.stopped ∙ loads.loads.0, first_place g old now records k has loads.loads.0) (loads.list ∙ has.kept.list)
+    (sym has.kept.stopped ∙ loads.loads.0, first_place g old now records k has loads.loads.0) (loads.stopped ∙ has.kept.stopped) (loads.list ∙ has.kept.list)
     (later_moments g old now next has.kept loads.moments) (loads.loads.1 ∙ has.kept.failures) (loads.refusals ∙ has.kept.refusals)
-    (loads.honest ∙ has.kept.honest) (loads.most ∙ has.kept.most)
+    (loads.unreadable ∙ has.kept.unreadable) (loads.honest ∙ has.kept.honest) (loads.most ∙ has.kept.most)
 unloaded g old now next records k (Unreadable slot) has loads =
     stopped_at g old now next records k (Unreadable slot) has
     (sym has.kept.stopped ∙ loads.loads.0, sym has.kept.honest ∙ loads.loads.1, loads.loads.2, omega (arith, loads.loads.3, ap length has.kept.list))
-    (loads.list ∙ has.kept.list)
+    (loads.stopped ∙ has.kept.stopped) (loads.list ∙ has.kept.list)
     (later_moments g old now next has.kept loads.moments) (loads.loads.4 ∙ has.kept.failures) (loads.refusals ∙ has.kept.refusals)
-    (loads.honest ∙ has.kept.honest) (loads.most ∙ has.kept.most)
+    (loads.unreadable ∙ ap (λ l. slot ∷ l) has.kept.unreadable) (loads.honest ∙ has.kept.honest) (loads.most ∙ has.kept.most)
 unloaded g old now next records k DeviceFailed has loads =
-    stopped_at g old now next records k DeviceFailed has (sym has.kept.stopped ∙ loads.loads.0, has.begins.inside) (loads.list ∙ has.kept.list)
+    stopped_at g old now next records k DeviceFailed has (sym has.kept.stopped ∙ loads.loads.0, has.begins.inside) loads.stopped (loads.list ∙ has.kept.list)
     (later_moments g old now next has.kept loads.moments) (loads.loads.1 ∙ ap (λ n. n + 1) has.kept.failures) (loads.refusals ∙ has.kept.refusals)
-    (loads.honest ∙ has.kept.honest) (loads.most ∙ has.kept.most)
+    (loads.unreadable ∙ has.kept.unreadable) (loads.honest ∙ has.kept.honest) (loads.most ∙ has.kept.most)
 unloaded g old now next records k NoMemoryToOpen has loads =
-    stopped_at g old now next records k NoMemoryToOpen has (sym has.kept.stopped ∙ loads.loads.0, has.begins.inside) (loads.list ∙ has.kept.list)
-    (later_moments g old now next has.kept loads.moments) (loads.loads.1 ∙ has.kept.failures)
-    (inr (loads.refusals ∙ ap (λ n. n + 1) has.kept.refusals)) (loads.honest ∙ has.kept.honest) (loads.most ∙ has.kept.most)
+    stopped_at g old now next records k NoMemoryToOpen has (sym has.kept.stopped ∙ loads.loads.0, has.begins.inside) (loads.stopped ∙ has.kept.stopped)
+    (loads.list ∙ has.kept.list) (later_moments g old now next has.kept loads.moments) (loads.loads.1 ∙ has.kept.failures)
+    (inl (loads.refusals ∙ ap (λ n. n + 1) has.kept.refusals)) (loads.unreadable ∙ has.kept.unreadable) (loads.honest ∙ has.kept.honest) (loads.most ∙ has.kept.most)
 unloaded g old now next records k Changed has loads = absurd loads.loads
 unloaded g old now next records k Exhausted has loads = absurd loads.loads
 unloaded g old now next records k RandomFailed has loads = absurd loads.loads
@@ -250,10 +258,12 @@ illegal_at g old now next records k entry has loads not =
       step = illegal_step records (drop (k + 1) (g.list old)) entry k has.begins.long has.legal not;
       answer = refl;
       load = sym has.kept.stopped ∙ loads.loads.0;
+      stopped = kept.stopped;
       list = kept.list;
       moments = kept.moments;
       failures = kept.failures;
       refusals = kept.refusals;
+      unreadable = kept.unreadable;
       honest = kept.honest;
       most = kept.most;
     }
@@ -264,6 +274,56 @@ key_follows : (table : Table) (entry : Record) (b : Bool) → key_in table.recor
     → can_follow (key_in table.records) table.records entry ≡ b
 key_follows table entry b keyed is = ap (λ key. can_follow key table.records entry) keyed ∙ is
 
+record_there : (records more : List Record) (entry : Record) (k : ℕ) → length records ≡ k → slice_get ((records ++ entry ∷ []) ++ more) k ≡ Some entry
+record_there [] more entry zero long = refl
+record_there [] more entry (suc k) long = absurd (omega (arith, long))
+record_there (first ∷ rest) more entry zero long = absurd (omega (arith, long))
+record_there (first ∷ rest) more entry (suc k) long = record_there rest more entry k (omega (arith, long))
+
+legal_with : (records : List Record) (entry : Record) → first_illegal records ≡ None → can_follow (key_in records) records entry ≡ true
+    → first_illegal (records ++ entry ∷ []) ≡ None
+legal_with records entry legal follows =
+    first_illegal_appended records entry ∙ (λ i. option_or (legal i) (cond (follows i) None (Some (length records))))
+
+-- a record that could follow, and for which there is no memory
+unroomed : {S : Type 0} (g : store.Ghosts S) (old now next : S) (table : Table) (k : ℕ) (entry : Record) → IsLoadedTo g old now table k
+    → LoadsRecord g now next k (Ok (Some entry)) → can_follow (key_in table.records) table.records entry ≡ true → LacksRoom entry table
+    → LoadsAll g old next (IsTakenUp (Err NoMemoryToOpen))
+unroomed g old now next table k entry is loads follows lacking =
+    let more = drop (k + 1) (g.list old) in
+    let records = table.records ++ entry ∷ [] in
+    let begins = begins_more g old now next table.records k entry is.loaded.kept is.loaded.begins loads in
+    let legal = legal_with table.records entry is.loaded.legal follows in
+    let kept = kept_some g old now next k entry is.loaded.kept loads in record {
+      records = whole g old records (k + 1);
+      long = whole_long g old records (k + 1) begins;
+      same = whole_same g old records (k + 1) begins;
+      chance = Some (k, NoMemoryToOpen);
+      outcome = refused (closed_on (whole g old records (k + 1))) NoMemoryToOpen;
+      step = stops (records ++ more) k NoMemoryToOpen (first_illegal (records ++ more))
+          (λ j at. omega (arith, begins.long, illegal_after records more j legal at));
+      answer = refl;
+      load = (is.loaded.running is.some, is.loaded.begins.inside);
+      stopped = kept.stopped;
+      list = kept.list;
+      moments = kept.moments;
+      failures = kept.failures;
+      refusals = inr (
+        kept.refusals,
+        record {
+          place = k;
+          entry = entry;
+          stands = record_there table.records more entry k is.loaded.begins.long;
+          legal = subst IsLegal (sym (take_at records more (k + 1) begins.long)) (legal_from_none records (omega (arith, begins.long)) legal);
+          later = is.some;
+          lacking = elim lacking [ inl (takes, none) ↦ inl takes | inr full ↦ inr (sym is.loaded.begins.long ∙ full) ];
+        },
+      );
+      unreadable = kept.unreadable;
+      honest = kept.honest;
+      most = kept.most;
+    }
+
 -- a record that isn't taken up
 pub untaken : {S : Type 0} (g : store.Ghosts S) (old now next : S) (table left : Table) (k : ℕ) (entry : Record) (fault : SignFault)
     → IsLoadedTo g old now table k → LoadsRecord g now next k (Ok (Some entry)) → TakesUp {A = Unit {0}} table left entry (Err fault)
@@ -273,9 +333,7 @@ untaken g old now next table left k entry (Illegal slot) is loads takes =
     subst (λ n. LoadsAll g old next (IsTakenUp (Err (Illegal n)))) same
     (illegal_at g old now next table.records k entry is.loaded loads (key_follows table entry false is.keyed takes.0))
 untaken g old now next table left k entry NoMemoryToOpen is loads takes =
-    let kept = kept_some g old now next k entry is.loaded.kept loads in
-    stopped_at g old now next table.records k NoMemoryToOpen is.loaded (is.loaded.running is.some, is.loaded.begins.inside) kept.list kept.moments
-    kept.failures (inl kept.refusals) kept.honest kept.most
+    unroomed g old now next table k entry is loads (key_follows table entry true is.keyed takes.0) takes.1
 untaken g old now next table left k entry Changed is loads takes = absurd takes
 untaken g old now next table left k entry Exhausted is loads takes = absurd takes
 untaken g old now next table left k entry RandomFailed is loads takes = absurd takes
@@ -300,8 +358,7 @@ taken g old now next table after k entry is loads takes =
       loaded = subst (λ l. HasLoaded g old next l (k + 1)) (sym takes.2) (record {
         kept = kept_some g old now next k entry is.loaded.kept loads;
         begins = begins_more g old now next table.records k entry is.loaded.kept is.loaded.begins loads;
-        legal = first_illegal_appended table.records entry
-            ∙ (λ i. option_or (is.loaded.legal i) (cond (follows i) None (Some (length table.records))));
+        legal = legal_with table.records entry is.loaded.legal follows;
         running = λ _. is.loaded.running is.some;
       });
       some = omega arith;
@@ -348,10 +405,12 @@ all_taken g old now table k is end =
       step = published_step table.records table.key public is.loaded.legal is.keyed made;
       answer = (public, refl, ap public_of_key is.keyed ∙ made, refl);
       load = is.loaded.running is.some;
+      stopped = kept.stopped;
       list = kept.list;
       moments = kept.moments;
       failures = kept.failures;
       refusals = kept.refusals;
+      unreadable = kept.unreadable;
       honest = kept.honest;
       most = kept.most;
     }

@@ -102,9 +102,12 @@ left_retires g v upto answer signer only step failures refusals = record {
       honest = refl;
       most = refl;
     };
+    unreadable = refl;
   };
   random = refl;
   refusals = refusals _;
+  spare = refl;
+  stays = λ _ _. refl;
 }
 
 -- a call that is hindered at once

@@ -23,13 +23,14 @@ use Rattle.sign_core.specs.declared.ledger.Binding.{Binding}
 use Rattle.sign_core.specs.Source.{Provides}
 use Rattle.sign_core.specs.Records.{are_same, binding_in, deepest, has_moved, key_in, wanted_count}
 use Rattle.sign_core.specs.Once.{IsBeginning}
-use Rattle.sign_core.specs.Request.{HasPrepared, KeepsAll}
-use Rattle.sign_core.specs.Signer.{Hinders, IsRead, IsSigner, IsTied, KeepsStore, LacksMemory, RefusesMemory, Signs, View, is_out_of_memory}
+use Rattle.sign_core.specs.Request.{HasPrepared}
+use Rattle.sign_core.specs.Signer.{Hinders, IsRead, IsSigner, IsTied, KeepsAll, KeepsStore, LacksMemory, RefusesMemory, Signs, View, is_out_of_memory}
 use Rattle.sign_core.specs.Signer.{is_random_failed, is_store_failed, signature_size, state_of, wanted_by}
 use Rattle.sign_core.specs.Signing.{Binds, Fulfils, IsBindingOf, IsReady, Repeats, repeat_chance}
 use Rattle.sign_core.specs.Ledger.{kept_of}
 use Rattle.sign_core.specs.World.{Chance, Outcome, State, bound_anew, bound_sound, reading, refused, repeated, repeated_sound, requested, requested_of, requested_under}
 use Rattle.sign_core.specs.Textbook.{damaged_in, digest_at, tree_before}
+use Rattle.sign_core.proofs.Refusals.{keeps_at_all, keeps_late, same_view}
 
 -- ---- requests, by what hinders them
 
@@ -146,12 +147,12 @@ some_mapped f (Some a) b is = (a, refl)
 module _ {S R M : Type 0} (g : store.Ghosts S) (r : source.Ghosts R) (m : message.Ghosts M) where
   -- a call that leaves all but how much memory there is
   pub left_signs : (old new : View S R) (name : List ℕ) (before after : M) (capacity : ℕ) (key : Key) (answer : Result (List ℕ) SignFault)
-      (has_room is_read : Bool) (given : Option (List ℕ)) → KeepsAll old new → IsSigner g old → LeavesItsList g old.store → key_in old.records ≡ Some key
+      (has_room is_read : Bool) (given : Option (List ℕ)) → KeepsAll old new → old.spare ≤ new.spare → IsSigner g old → LeavesItsList g old.store → key_in old.records ≡ Some key
       → requested (g.most old.store) (state_of old) name (repeat_chance has_room given) ≡ kept (state_of old) answer is_read
       → IsRead m is_read given before after
       → (has_room ≡ false → LacksMemory key.secret (wanted_by key.secret (deepest key.secret old.records)) (binding_in old.records name) capacity old.spare)
       → IsCalm has_room answer → Signs g r m old new name before after capacity answer
-  left_signs old new name before after capacity key answer has_room is_read given keeps signer only keyed step read room calm = record {
+  left_signs old new name before after capacity key answer has_room is_read given keeps spare signer only keyed step read room calm = record {
     key = key;
     keyed = keyed;
     chance = repeat_chance has_room given;
@@ -163,6 +164,7 @@ module _ {S R M : Type 0} (g : store.Ghosts S) (r : source.Ghosts R) (m : messag
       is_open = keeps.is_open;
       store = subst (λ s. KeepsStore g old.store s old.records (kept (state_of old) answer is_read)) (sym keeps.store)
           (kept_store g old answer is_read signer only calm.store);
+      unreadable = ap g.unreadable keeps.store;
     };
     possible = record { trees = tt; bound = tt };
     source = subst (λ s. Provides (r.upcoming old.random) [] (r.upcoming s)) (sym keeps.random) (provides_nothing (r.upcoming old.random));
@@ -170,21 +172,20 @@ module _ {S R M : Type 0} (g : store.Ghosts S) (r : source.Ghosts R) (m : messag
     message = read;
     room = room;
     refusals = subst (λ s. RefusesMemory has_room answer (g.refusals old.store) (g.refusals s)) (sym keeps.store) (calm.memory (g.refusals old.store));
+    memory = omega (arith, spare, ap length keeps.records);
+    keeps = keeps_at_all g old new answer keeps;
   }
-
-  same_view : (v : View S R) → KeepsAll v v
-  same_view v = record { store = refl; random = refl; records = refl; is_open = refl }
 
   -- a call that is hindered at once
   pub hindered_signs : (v : View S R) (name : List ℕ) (before : M) (capacity : ℕ) (key : Key) (fault : SignFault) → IsSigner g v → LeavesItsList g v.store
       → key_in v.records ≡ Some key → Hinders v.is_open (has_moved v.records) fault → Signs g r m v v name before before capacity (Err fault)
   unfolding asked
   hindered_signs v name before capacity key Stopped signer only keyed why =
-      left_signs v v name before before capacity key (Err Stopped) true false None (same_view v) signer only keyed
+      left_signs v v name before before capacity key (Err Stopped) true false None (same_view v) (omega arith) signer only keyed
       (asked_is (g.most v.store) (state_of v) key name (repeat_chance true None) true (has_moved v.records) (binding_in v.records name) keyed (ap not why) refl refl)
       refl (λ lacking. absurd (true≢false lacking)) (record { store = λ n. refl; random = λ n. refl; memory = λ n. refl })
   hindered_signs v name before capacity key Moved signer only keyed why =
-      left_signs v v name before before capacity key (Err Moved) true false None (same_view v) signer only keyed
+      left_signs v v name before before capacity key (Err Moved) true false None (same_view v) (omega arith) signer only keyed
       (asked_is (g.most v.store) (state_of v) key name (repeat_chance true None) false true (binding_in v.records name) keyed (ap not why.0) why.1 refl)
       refl (λ lacking. absurd (true≢false lacking)) (record { store = λ n. refl; random = λ n. refl; memory = λ n. refl })
   hindered_signs v name before capacity key Changed signer only keyed why = absurd why
@@ -210,7 +211,7 @@ module _ {S R M : Type 0} (g : store.Ghosts S) (r : source.Ghosts R) (m : messag
       → Signs g r m v v name before before capacity (Err Exhausted)
   unfolding asked
   exhausted_signs v name before capacity key signer only keyed opened stays unbound none =
-      left_signs v v name before before capacity key (Err Exhausted) true false None (same_view v) signer only keyed
+      left_signs v v name before before capacity key (Err Exhausted) true false None (same_view v) (omega arith) signer only keyed
       (asked_is (g.most v.store) (state_of v) key name (repeat_chance true None) false false None keyed (ap not opened) stays unbound
       ∙ ap (bound_anew (g.most v.store) (state_of v) key name (repeat_chance true None)) none)
       refl (λ lacking. absurd (true≢false lacking)) (record { store = λ n. refl; random = λ n. refl; memory = λ n. refl })
@@ -218,40 +219,40 @@ module _ {S R M : Type 0} (g : store.Ghosts S) (r : source.Ghosts R) (m : messag
   -- the store or memory has no room
   pub unprepared_signs : (old new : View S R) (name : List ℕ) (before : M) (capacity room level : ℕ) (key : Key) (fault : SignFault) → IsSigner g old
       → LeavesItsList g old.store → key_in old.records ≡ Some key → old.is_open ≡ true → has_moved old.records ≡ false → binding_in old.records name ≡ None
-      → deepest key.secret old.records ≡ Some level → KeepsAll old new
+      → deepest key.secret old.records ≡ Some level → KeepsAll old new → old.spare ≤ new.spare
       → HasPrepared {A = Unit {0}} (g.most old.store) (levels_of key.secret - level) (signature_size key.secret) old new capacity room (Err fault)
       → Signs g r m old new name before before capacity (Err fault)
   unfolding anew
-  unprepared_signs old new name before capacity room level key LedgerFull signer only keyed opened stays unbound at keeps why =
+  unprepared_signs old new name before capacity room level key LedgerFull signer only keyed opened stays unbound at keeps spare why =
       let full : nat_lt (g.most old.store) (length old.records + wanted_count key.secret level) ≡ true = grind (arith, nat_tests) in
-      left_signs old new name before before capacity key (Err LedgerFull) true false None keeps signer only keyed
+      left_signs old new name before before capacity key (Err LedgerFull) true false None keeps spare signer only keyed
       (anew_is (g.most old.store) (state_of old) key name (repeat_chance true None) level true false keyed opened stays unbound at full refl)
       refl (λ lacking. absurd (true≢false lacking)) (record { store = λ n. refl; random = λ n. refl; memory = λ n. refl })
-  unprepared_signs old new name before capacity room level key OutOfMemory signer only keyed opened stays unbound at keeps why =
+  unprepared_signs old new name before capacity room level key OutOfMemory signer only keyed opened stays unbound at keeps spare why =
       let fits : length old.records + wanted_count key.secret level ≤ g.most old.store = why.0 in
       let full : nat_lt (g.most old.store) (length old.records + wanted_count key.secret level) ≡ false = grind (arith, nat_tests) in
-      left_signs old new name before before capacity key (Err OutOfMemory) false false None keeps signer only keyed
+      left_signs old new name before before capacity key (Err OutOfMemory) false false None keeps spare signer only keyed
       (anew_is (g.most old.store) (state_of old) key name (repeat_chance false None) level false true keyed opened stays unbound at full refl)
       refl
       (λ _. subst (λ found. LacksMemory key.secret (wanted_by key.secret (deepest key.secret old.records)) found capacity old.spare) (sym unbound)
       (subst (λ l. LacksMemory key.secret (wanted_by key.secret l) None capacity old.spare) (sym at) why.1))
       (record { store = λ n. refl; random = λ n. refl; memory = λ n. refl })
-  unprepared_signs old new name before capacity room level key Changed signer only keyed opened stays unbound at keeps why = absurd why
-  unprepared_signs old new name before capacity room level key Exhausted signer only keyed opened stays unbound at keeps why = absurd why
-  unprepared_signs old new name before capacity room level key RandomFailed signer only keyed opened stays unbound at keeps why = absurd why
-  unprepared_signs old new name before capacity room level key StoreFailed signer only keyed opened stays unbound at keeps why = absurd why
-  unprepared_signs old new name before capacity room level key Stopped signer only keyed opened stays unbound at keeps why = absurd why
-  unprepared_signs old new name before capacity room level key Moved signer only keyed opened stays unbound at keeps why = absurd why
-  unprepared_signs old new name before capacity room level key KeyThere signer only keyed opened stays unbound at keeps why = absurd why
-  unprepared_signs old new name before capacity room level key RandomRepeated signer only keyed opened stays unbound at keeps why = absurd why
-  unprepared_signs old new name before capacity room level key MessageRead signer only keyed opened stays unbound at keeps why = absurd why
-  unprepared_signs old new name before capacity room level key RetireRange signer only keyed opened stays unbound at keeps why = absurd why
-  unprepared_signs old new name before capacity room level key NoKey signer only keyed opened stays unbound at keeps why = absurd why
-  unprepared_signs old new name before capacity room level key DeviceFailed signer only keyed opened stays unbound at keeps why = absurd why
-  unprepared_signs old new name before capacity room level key NoMemoryToOpen signer only keyed opened stays unbound at keeps why = absurd why
-  unprepared_signs old new name before capacity room level key (Damaged k) signer only keyed opened stays unbound at keeps why = absurd why
-  unprepared_signs old new name before capacity room level key (Unreadable k) signer only keyed opened stays unbound at keeps why = absurd why
-  unprepared_signs old new name before capacity room level key (Illegal k) signer only keyed opened stays unbound at keeps why = absurd why
+  unprepared_signs old new name before capacity room level key Changed signer only keyed opened stays unbound at keeps spare why = absurd why
+  unprepared_signs old new name before capacity room level key Exhausted signer only keyed opened stays unbound at keeps spare why = absurd why
+  unprepared_signs old new name before capacity room level key RandomFailed signer only keyed opened stays unbound at keeps spare why = absurd why
+  unprepared_signs old new name before capacity room level key StoreFailed signer only keyed opened stays unbound at keeps spare why = absurd why
+  unprepared_signs old new name before capacity room level key Stopped signer only keyed opened stays unbound at keeps spare why = absurd why
+  unprepared_signs old new name before capacity room level key Moved signer only keyed opened stays unbound at keeps spare why = absurd why
+  unprepared_signs old new name before capacity room level key KeyThere signer only keyed opened stays unbound at keeps spare why = absurd why
+  unprepared_signs old new name before capacity room level key RandomRepeated signer only keyed opened stays unbound at keeps spare why = absurd why
+  unprepared_signs old new name before capacity room level key MessageRead signer only keyed opened stays unbound at keeps spare why = absurd why
+  unprepared_signs old new name before capacity room level key RetireRange signer only keyed opened stays unbound at keeps spare why = absurd why
+  unprepared_signs old new name before capacity room level key NoKey signer only keyed opened stays unbound at keeps spare why = absurd why
+  unprepared_signs old new name before capacity room level key DeviceFailed signer only keyed opened stays unbound at keeps spare why = absurd why
+  unprepared_signs old new name before capacity room level key NoMemoryToOpen signer only keyed opened stays unbound at keeps spare why = absurd why
+  unprepared_signs old new name before capacity room level key (Damaged k) signer only keyed opened stays unbound at keeps spare why = absurd why
+  unprepared_signs old new name before capacity room level key (Unreadable k) signer only keyed opened stays unbound at keeps spare why = absurd why
+  unprepared_signs old new name before capacity room level key (Illegal k) signer only keyed opened stays unbound at keeps spare why = absurd why
 
   -- ---- a name that is bound
 
@@ -267,7 +268,7 @@ module _ {S R M : Type 0} (g : store.Ghosts S) (r : source.Ghosts R) (m : messag
       let limit = g.most v.store in
       let answer_is : (repeated (state_of v) key k bound chance repeats.given).answer ≡ answer =
       sym (ap (λ f. (requested_of limit (state_of v) key name chance f).answer) found) ∙ repeats.step limit in
-      left_signs v v name before after capacity key answer repeats.has_room true repeats.given (same_view v) signer only keyed
+      left_signs v v name before after capacity key answer repeats.has_room true repeats.given (same_view v) (omega arith) signer only keyed
       (asked_is limit (state_of v) key name chance false false (Some (k, bound)) keyed (ap not opened) stays found
       ∙ whole.0 ∙ ap (λ a. kept (state_of v) a true) answer_is)
       repeats.message
@@ -286,12 +287,18 @@ module _ {S R M : Type 0} (g : store.Ghosts S) (r : source.Ghosts R) (m : messag
     spare = mid.spare;
   }
 
+  -- what is kept of a signer with other memory is kept of it
+  kept_of_other : (old new : View S R) (spare : ℕ)
+      → KeepsAll (record { store = old.store; random = old.random; records = old.records; is_open = old.is_open; spare = spare }) new → KeepsAll old new
+  kept_of_other old new spare keeps =
+      record { store = keeps.store; random = keeps.random; records = keeps.records; is_open = keeps.is_open }
+
   pub binds_signs : (old mid new : View S R) (name : List ℕ) (before after : M) (capacity level : ℕ) (key : Key) (answer : Result (List ℕ) SignFault)
       → key_in old.records ≡ Some key → old.is_open ≡ true → has_moved old.records ≡ false → binding_in old.records name ≡ None
-      → deepest key.secret old.records ≡ Some level → KeepsAll old mid → IsReady (g.most old.store) (levels_of key.secret - level) mid
+      → deepest key.secret old.records ≡ Some level → KeepsAll old mid → old.spare ≤ mid.spare → IsReady (g.most old.store) (levels_of key.secret - level) mid
       → Binds g r m name level mid new before after answer key → Signs g r m old new name before after capacity answer
   unfolding anew
-  binds_signs old mid new name before after capacity level key answer keyed opened stays unbound at keeps ready mid_binds =
+  binds_signs old mid new name before after capacity level key answer keyed opened stays unbound at keeps spare ready mid_binds =
       let is = same_but old mid keeps in
       let b = subst (λ v. Binds g r m name level v new before after answer key) is mid_binds in
       let fits = (subst (IsReady (g.most old.store) (levels_of key.secret - level)) is ready).few in
@@ -307,6 +314,7 @@ module _ {S R M : Type 0} (g : store.Ghosts S) (r : source.Ghosts R) (m : messag
           records = b.does.ends.records;
           is_open = b.does.ends.is_open;
           store = b.does.ends.store;
+          unreadable = b.does.ends.unreadable;
         };
         possible = b.possible;
         source = b.does.source;
@@ -314,6 +322,12 @@ module _ {S R M : Type 0} (g : store.Ghosts S) (r : source.Ghosts R) (m : messag
         message = b.does.message;
         room = λ lacking. absurd (true≢false (sym b.room ∙ lacking));
         refusals = subst (λ h. RefusesMemory h answer (g.refusals old.store) (g.refusals new.store)) (sym b.room) b.does.refusals;
+        memory = omega (arith, spare, b.does.memory);
+        keeps = record {
+          at_once = λ early. kept_of_other old new mid.spare (b.keeps.at_once early);
+          uncounted = λ is same. kept_of_other old new mid.spare (b.keeps.uncounted is same);
+          store = b.keeps.store;
+        };
       }
 
   -- the standing chain isn't sound
@@ -332,6 +346,7 @@ module _ {S R M : Type 0} (g : store.Ghosts S) (r : source.Ghosts R) (m : messag
         records = refl;
         is_open = refl;
         store = kept_store g v (Err (Damaged slot)) false signer only (λ n. refl);
+        unreadable = refl;
       };
       more = [];
       grown = sym (append-nil _);
@@ -339,7 +354,10 @@ module _ {S R M : Type 0} (g : store.Ghosts S) (r : source.Ghosts R) (m : messag
       failures = refl;
       message = refl;
       refusals = refl;
+      memory = omega arith;
+      stays = λ _ _. refl;
     };
+    keeps = keeps_at_all g v v (Err (Damaged slot)) (same_view v);
   }
 
   -- the standing chain is sound, and what is wanted from there is made
@@ -355,6 +373,7 @@ module _ {S R M : Type 0} (g : store.Ghosts S) (r : source.Ghosts R) (m : messag
     possible = record { trees = fulfils.trees_possible; bound = fulfils.bound_possible };
     room = refl;
     does = fulfils.does;
+    keeps = keeps_late g r m old new before after _ _ _ fulfils.late fulfils.does;
   }
 
 -- ---- what a call answered

@@ -96,11 +96,12 @@ TakesMemory (KeyRecord key) = ⊥
 TakesMemory (Retire upto) = ⊥
 TakesMemory Moved = ⊥
 
--- A record was added: the key stays, and the memory for one more record may be used.
+-- A record was added: the key stays, and the memory for one more record may be used, if it takes any.
 pub record Grows (entry : Record) (old new : Table) : Type 0 where
   pub key : new.key ≡ old.key
   pub records : new.records ≡ old.records ++ entry ∷ []
   pub spare : old.spare ≤ new.spare + 1
+  pub untaken : (TakesMemory entry → ⊥) → new.spare ≡ old.spare
 
 -- ---- records that are taken up
 
@@ -137,7 +138,7 @@ TakesUp old new entry (Err OutOfMemory) =
 -- ---- a list of records that is taken up
 
 -- The list is legal up to a record that takes memory, or up to the 2^32nd; it is no first one.
-pub record LacksMemory (records : List Record) : Type 0 where
+pub record RunsOutOfMemory (records : List Record) : Type 0 where
   pub place : ℕ
   pub entry : Record
   pub stands : slice_get records place ≡ Some entry
@@ -149,4 +150,4 @@ pub record LacksMemory (records : List Record) : Type 0 where
 abbrev pub IsRefused : List Record → LedgerFault → Type 0
 IsRefused records Empty = records ≡ []
 IsRefused records (Illegal k) = first_illegal records ≡ Some k
-IsRefused records OutOfMemory = LacksMemory records
+IsRefused records OutOfMemory = RunsOutOfMemory records

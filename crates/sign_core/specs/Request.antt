@@ -9,7 +9,7 @@ use Rattle.sign_core.specs.declared.fault.SignFault.TheVariants.{LedgerFull, Out
 use Rattle.sign_core.specs.declared.signer.request.Scheme.{Scheme}
 use Rattle.sign_core.specs.declared.signer.request.Scheme.TheVariants as scheme
 use Rattle.sign_core.specs.Links.{trees_in}
-use Rattle.sign_core.specs.Signer.{View, signature_size}
+use Rattle.sign_core.specs.Signer.{KeepsAll, View, signature_size}
 use Rattle.sign_core.specs.Signing.{IsReady}
 use Rattle.sign_core.specs.Textbook.{trees_of}
 
@@ -17,13 +17,6 @@ use Rattle.sign_core.specs.Textbook.{trees_of}
 abbrev pub IsScheme : Secret → Scheme → Type 0
 IsScheme secret (scheme.Chain trees) = trees_of secret ≡ Some (trees_in trees)
 IsScheme secret (scheme.Xmss tree) = secret ≡ Xmss tree.tree tree.secret_seed tree.prf_key tree.public_seed
-
--- a signer that changed at most in how much memory it has
-pub record KeepsAll {S R : Type 0} (old new : View S R) : Type 0 where
-  pub store : new.store ≡ old.store
-  pub random : new.random ≡ old.random
-  pub records : new.records ≡ old.records
-  pub is_open : new.is_open ≡ old.is_open
 
 -- Room is made for the records that a new name wants, of which this level is the deepest with a free leaf, and for its
 -- signature; or the store doesn't take as many records, or memory lacks.

@@ -1,5 +1,5 @@
 -- What a signer over a store is to its callers, and what its calls are: steps of the world.
-use Rattle.std.specs.Prelude.{◌≡◌, ◌⊎◌, ℕ, ◌+◌, ◌<◌, ◌≤◌, Bool, true, false, IsTrue, List, [], ◌∷◌, ◌++◌}
+use Rattle.std.specs.Prelude.{◌≡◌, ◌⊎◌, ℕ, ◌+◌, ◌<◌, ◌≤◌, Bool, true, false, ◌||◌, IsTrue, List, [], ◌∷◌, ◌++◌}
 use Rattle.std.specs.Prelude.{length}
 use Rattle.std.specs.Prelude.{Option, Some, None, Result, Ok, Err}
 use Rattle.std.specs.List.{concat}
@@ -18,12 +18,13 @@ use Rattle.state_file.specs.declared.record.Secret.TheVariants.{Lms, Hss, Xmss}
 use Rattle.state_file.specs.declared.store.Store as store
 use Rattle.state_file.specs.Disk.{Counts, LeavesOnly}
 use Rattle.state_file.specs.Laws.{IsLegal, bottom_of}
-use Rattle.state_file.specs.Store.{IsRecordAt}
+use Rattle.state_file.specs.Store.{Collects, IsRecordAt}
 use Rattle.sign_core.specs.declared.key.AnyPublic.{AnyPublic}
 use Rattle.sign_core.specs.declared.fault.SignFault.{SignFault}
 use Rattle.sign_core.specs.declared.fault.SignFault.TheVariants.{DeviceFailed, NoMemoryToOpen, OutOfMemory}
 use Rattle.sign_core.specs.declared.fault.SignFault.TheVariants.{KeyThere, RandomFailed, StoreFailed}
-use Rattle.sign_core.specs.declared.fault.SignFault.TheVariants.{Illegal, Moved, Stopped, Unreadable}
+use Rattle.sign_core.specs.declared.fault.SignFault.TheVariants.{Damaged, Exhausted, Illegal, LedgerFull, Moved}
+use Rattle.sign_core.specs.declared.fault.SignFault.TheVariants.{Stopped, Unreadable}
 use Rattle.sign_core.specs.declared.source.Source as source
 use Rattle.sign_core.specs.Source.{Provides}
 use Rattle.sign_core.specs.Records.{binding_in, can_follow, deepest, key_in, leaves_of_current, next_at}
@@ -33,7 +34,7 @@ use Rattle.sign_core.specs.Once.{public_of_key, reached}
 use Rattle.sign_core.specs.World.{Chance, Creation, Fate, Opening, Outcome, State}
 use Rattle.sign_core.specs.World.{answered, appended, closed_on, created, open_on, opened, requested}
 use Rattle.sign_core.specs.World.{retired, secret_from}
-use Rattle.sign_core.specs.Ledger.{Table}
+use Rattle.sign_core.specs.Ledger.{LacksRoom, RunsOutOfMemory, Table, TakesMemory}
 use Rattle.sign_core.specs.Textbook.{AllHaveSizes, public_in}
 
 -- ---- a signer
@@ -105,6 +106,11 @@ abbrev pub is_no_memory : SignFault → Bool
 is_no_memory NoMemoryToOpen = true
 is_no_memory _ = false
 
+-- the slot that an answer 43 names
+abbrev pub unreadable_slot : SignFault → List ℕ
+unreadable_slot (Unreadable k) = k ∷ []
+unreadable_slot _ = []
+
 -- What a call does to its store: the list grows as the records do; a stop at any moment of it leaves the old records
 -- and a beginning of those that were reached; and each failure of the device is answered.
 pub record KeepsStore {S A : Type 0} (g : store.Ghosts S) (old new : S) (records : List Record)
@@ -123,6 +129,7 @@ pub record Ends {S R A : Type 0} (g : store.Ghosts S) (old new : View S R) (outc
   pub records : new.records ≡ outcome.acknowledged
   pub is_open : new.is_open ≡ outcome.state.is_open
   pub store : KeepsStore g old.store new.store old.records outcome
+  pub unreadable : g.unreadable new.store ≡ g.unreadable old.store
 
 -- What an append does to a store that runs and has room, by its answer: to the list, to whether the store has stopped,
 -- and to the count of its device's failures.
@@ -154,12 +161,39 @@ pub record IsAppended {S A : Type 0} (g : store.Ghosts S) (old new : S) (entry :
   pub moments : LeavesEither g old new entry
   pub refused : answer ≡ Err OutOfMemory → LeavesOld g old new
   pub refusals : Counts is_out_of_memory (g.refusals old) (g.refusals new) answer
+  pub unreadable : g.unreadable new ≡ g.unreadable old
   pub honest : g.honest new ≡ g.honest old
   pub most : g.most new ≡ g.most old
 
 -- a record is added, and nothing answered
 abbrev pub added : State → Record → Fate → Outcome (Unit {0})
 added state entry fate = appended state entry fate (λ records. answered (open_on records) tt)
+
+-- The memory falls by no more than that for the records that are added.
+abbrev pub UsesMemory : {S R : Type 0} → (old new : View S R) → Type 0
+UsesMemory old new = old.spare + length old.records ≤ new.spare + length new.records
+
+-- a signer that changed at most in how much memory it has
+pub record KeepsAll {S R : Type 0} (old new : View S R) : Type 0 where
+  pub store : new.store ≡ old.store
+  pub random : new.random ≡ old.random
+  pub records : new.records ≡ old.records
+  pub is_open : new.is_open ≡ old.is_open
+
+-- the answer is a fault of such a kind
+abbrev pub is_fault : {A : Type 0} → (is_kind : SignFault → Bool) → Result A SignFault → Bool
+is_fault is_kind (Ok _) = false
+is_fault is_kind (Err fault) = is_kind fault
+
+-- 25 and 29 can come of an append.
+abbrev pub is_of_append : SignFault → Bool
+is_of_append StoreFailed = true
+is_of_append OutOfMemory = true
+is_of_append _ = false
+
+-- Where no record was added, and none tried, it is so.
+abbrev pub UnlessAppended : {S R A : Type 0} → (old new : View S R) → Result A SignFault → Type 0 → Type 0
+UnlessAppended old new answer Kept = new.records ≡ old.records → is_fault is_of_append answer ≡ false → Kept
 
 -- A signer appends a record, with some fate, and takes it up where the append is acknowledged.
 pub record Adds {S R : Type 0} (g : store.Ghosts S) (old new : View S R) (entry : Record)
@@ -168,7 +202,8 @@ pub record Adds {S R : Type 0} (g : store.Ghosts S) (old new : View S R) (entry 
   pub ends : Ends g old new (added (state_of old) entry fate) answer
   pub random : new.random ≡ old.random
   pub refusals : Counts is_out_of_memory (g.refusals old.store) (g.refusals new.store) answer
-  pub spare : old.spare ≤ new.spare + 1
+  pub memory : UsesMemory old new
+  pub untaken : (TakesMemory entry → ⊥) → new.spare ≡ old.spare
 
 -- why a signer is hindered at once: it is closed, or its records go on elsewhere
 abbrev pub Hinders : (is_open has_moved : Bool) → SignFault → Type 0
@@ -206,6 +241,23 @@ abbrev pub RefusesMemory : {A : Type 0} → (has_room : Bool) → Result A SignF
 RefusesMemory true answer before after = Counts is_out_of_memory before after answer
 RefusesMemory false answer before after = after ≡ before
 
+-- 22, 26, 28, 30 and 31 come to a new name before anything is drawn.
+abbrev pub is_before_draws : SignFault → Bool
+is_before_draws Exhausted = true
+is_before_draws Stopped = true
+is_before_draws (Damaged k) = true
+is_before_draws LedgerFull = true
+is_before_draws Moved = true
+is_before_draws _ = false
+
+-- What an answer keeps as it was: 22, 26, 28, 30 and 31 keep all but the memory, and so does 29 where the store counts no
+-- refusal; and each answer keeps the store, unless a record was added or its append failed.
+pub record KeepsAtRefusal {S R A : Type 0} (g : store.Ghosts S) (old new : View S R) (answer : Result A SignFault)
+    : Type 0 where
+  pub at_once : is_fault is_before_draws answer ≡ true → KeepsAll old new
+  pub uncounted : answer ≡ Err OutOfMemory → g.refusals new.store ≡ g.refusals old.store → KeepsAll old new
+  pub store : UnlessAppended old new answer (new.store ≡ old.store)
+
 -- A call of sign is a step of the world, by some chance: the bytes that are drawn are those that the source gave; the
 -- message is read or as it was; and memory is refused only where it is lacking.
 pub record Signs {S R M : Type 0} (g : store.Ghosts S) (r : source.Ghosts R) (m : message.Ghosts M)
@@ -224,6 +276,8 @@ pub record Signs {S R M : Type 0} (g : store.Ghosts S) (r : source.Ghosts R) (m 
   pub room : chance.has_room ≡ false → LacksMemory key.secret (wanted_by key.secret (deepest key.secret old.records))
       (binding_in old.records name) capacity old.spare
   pub refusals : RefusesMemory chance.has_room answer (g.refusals old.store) (g.refusals new.store)
+  pub memory : UsesMemory old new
+  pub keeps : KeepsAtRefusal g old new answer
 
 -- ---- retire
 
@@ -233,7 +287,8 @@ IsBottom records bottom = (key : Key) → key_in records ≡ Some key
     → (bottom.0 ≡ next_at key.secret records (bottom_of key.secret))
     × (bottom.1 ≡ leaves_of_current key.secret records (bottom_of key.secret))
 
--- A call of retire is a step of the world; it draws nothing and takes no memory of its own.
+-- A call of retire is a step of the world; it draws nothing, and memory is as it was. Unless a record was added or its
+-- append failed, so is all of the signer.
 pub record Retires {S R : Type 0} (g : store.Ghosts S) (old new : View S R) (upto : ℕ)
     (answer : Result (Unit {0}) SignFault) : Type 0 where
   pub fate : Fate
@@ -242,6 +297,8 @@ pub record Retires {S R : Type 0} (g : store.Ghosts S) (old new : View S R) (upt
   pub ends : Ends g old new outcome answer
   pub random : new.random ≡ old.random
   pub refusals : Counts is_out_of_memory (g.refusals old.store) (g.refusals new.store) answer
+  pub spare : new.spare ≡ old.spare
+  pub stays : UnlessAppended old new answer (new ≡ old)
 
 -- ---- create and open
 
@@ -292,9 +349,11 @@ FindsNone list honest old_stopped new_stopped before after (Err _) = ⊥
 pub record LooksForKey {S A : Type 0} (g : store.Ghosts S) (old new : S) (answer : Result A SignFault) : Type 0 where
   pub finds : FindsNone (g.list old) (g.honest old) (g.stopped old) (g.stopped new) (g.failures old) (g.failures new)
       answer
+  pub stopped : g.stopped new ≡ (is_fault is_store_failed answer || g.stopped old)
   pub list : g.list new ≡ g.list old
   pub moments : LeavesOld g old new
   pub refusals : Counts is_out_of_memory (g.refusals old) (g.refusals new) answer
+  pub unreadable : Collects unreadable_slot (g.unreadable old) (g.unreadable new) answer
   pub honest : g.honest new ≡ g.honest old
   pub most : g.most new ≡ g.most old
 
@@ -320,7 +379,8 @@ LeavesSource None [] old new = Unit {0}
 LeavesSource None (entry ∷ entries) old new = new ≡ old
 
 -- To make a key in a store is a step of the world, by some chance, with an outcome that is the answer: it takes no
--- memory of its own.
+-- memory of its own. The store has stopped where it had before, or the answer is 25; and the store has
+-- reported one slot more as unreadable, k, where the answer is 43 of k.
 pub record MakesKey {S R : Type 0} (g : store.Ghosts S) (r : source.Ghosts R) (spec : Spec) (old new : S)
     (before after : R) (IsAnswer : Outcome AnyPublic → Type 0) : Type 0 where
   pub chance : Creation
@@ -328,6 +388,7 @@ pub record MakesKey {S R : Type 0} (g : store.Ghosts S) (r : source.Ghosts R) (s
   pub step : created (closed_on (g.list old)) spec chance ≡ outcome
   pub answer : IsAnswer outcome
   pub store : KeepsStore g old new (g.list old) outcome
+  pub stopped : g.stopped new ≡ (is_fault is_store_failed outcome.answer || g.stopped old)
   pub load : LoadFails chance.failed_load (g.list old) (g.stopped old) (g.honest old)
   pub possible : AreFields (key_sizes spec) chance.fields
   pub source : Provides (r.upcoming before) outcome.drawn (r.upcoming after)
@@ -335,6 +396,7 @@ pub record MakesKey {S R : Type 0} (g : store.Ghosts S) (r : source.Ghosts R) (s
   pub failures : Counts is_random_failed (r.failures before) (r.failures after) outcome.answer
   pub room : chance.has_room ≡ true
   pub refusals : Counts is_out_of_memory (g.refusals old) (g.refusals new) outcome.answer
+  pub unreadable : Collects unreadable_slot (g.unreadable old) (g.unreadable new) outcome.answer
 
 -- A key is made, with its public key, and its record is the only one; or the fault is answered.
 abbrev pub IsMade : Result Key SignFault → Outcome AnyPublic → Type 0
@@ -358,10 +420,12 @@ StopsOpening (Some (slot, DeviceFailed)) list stopped honest = (stopped ≡ fals
 StopsOpening (Some (slot, NoMemoryToOpen)) list stopped honest = (stopped ≡ false) × (slot ≤ length list)
 StopsOpening (Some (slot, _)) list stopped honest = ⊥
 
--- What memory an opening is refused is its store's, which counts it, or the signer's own.
-abbrev pub RefusesToOpen : {A : Type 0} → Result A SignFault → (before after : ℕ) → Type 0
-RefusesToOpen (Err NoMemoryToOpen) before after = (after ≡ before) ⊎ (after ≡ before + 1)
-RefusesToOpen answer before after = after ≡ before
+-- Where an opening lacks memory, its store was refused some, and counts it, or one of the records that it goes over takes
+-- some.
+abbrev pub RefusesToOpen : {A : Type 0} → List Record → Result A SignFault → (before after : ℕ) → Type 0
+RefusesToOpen records (Err NoMemoryToOpen) before after =
+    (after ≡ before + 1) ⊎ ((after ≡ before) × RunsOutOfMemory records)
+RefusesToOpen records answer before after = after ≡ before
 
 -- What the load of record k gives in an opening, by the answer.
 abbrev pub LoadsAt : (honest : Bool) (list : List Record) (old_stopped : Bool) (k : ℕ) (new_stopped : Bool)
@@ -385,9 +449,11 @@ pub record LoadsRecord {S : Type 0} (g : store.Ghosts S) (old new : S) (k : ℕ)
     (answer : Result (Option Record) SignFault) : Type 0 where
   pub loads : LoadsAt (g.honest old) (g.list old) (g.stopped old) k (g.stopped new) (g.failures old) (g.failures new)
       answer
+  pub stopped : g.stopped new ≡ (is_fault is_device_failed answer || g.stopped old)
   pub list : g.list new ≡ g.list old
   pub moments : LeavesOld g old new
   pub refusals : Counts is_no_memory (g.refusals old) (g.refusals new) answer
+  pub unreadable : Collects unreadable_slot (g.unreadable old) (g.unreadable new) answer
   pub honest : g.honest new ≡ g.honest old
   pub most : g.most new ≡ g.most old
 
@@ -400,11 +466,12 @@ TakesUp old new entry (Ok _) =
 TakesUp old new entry (Err (Illegal k)) =
     (can_follow (Some old.key) old.records entry ≡ false) × (k ≡ length old.records) × (new.records ≡ old.records)
 TakesUp old new entry (Err NoMemoryToOpen) =
-    (can_follow (Some old.key) old.records entry ≡ true) × (new.records ≡ old.records)
+    (can_follow (Some old.key) old.records entry ≡ true) × LacksRoom entry old × (new.records ≡ old.records)
 TakesUp old new entry (Err _) = ⊥
 
 -- To load the records of a store is a step of the world, with an outcome that is the answer. It goes over as many
--- records as the store has, and where the store is honest over its own.
+-- records as the store has, and where the store is honest over its own. The store has stopped where it had before, or
+-- the answer is 45; and the store has reported one slot more as unreadable, k, where the answer is 43 of k.
 pub record LoadsAll {S : Type 0} (g : store.Ghosts S) (old new : S) (IsAnswer : Outcome AnyPublic → Type 0)
     : Type 0 where
   pub records : List Record
@@ -415,10 +482,12 @@ pub record LoadsAll {S : Type 0} (g : store.Ghosts S) (old new : S) (IsAnswer : 
   pub step : opened (closed_on records) chance ≡ outcome
   pub answer : IsAnswer outcome
   pub load : StopsOpening chance (g.list old) (g.stopped old) (g.honest old)
+  pub stopped : g.stopped new ≡ (is_fault is_device_failed outcome.answer || g.stopped old)
   pub list : g.list new ≡ g.list old
   pub moments : LeavesOld g old new
   pub failures : Counts is_device_failed (g.failures old) (g.failures new) outcome.answer
-  pub refusals : RefusesToOpen outcome.answer (g.refusals old) (g.refusals new)
+  pub refusals : RefusesToOpen records outcome.answer (g.refusals old) (g.refusals new)
+  pub unreadable : Collects unreadable_slot (g.unreadable old) (g.unreadable new) outcome.answer
   pub honest : g.honest new ≡ g.honest old
   pub most : g.most new ≡ g.most old
 

@@ -20,8 +20,8 @@ use Rattle.sign_core.specs.Source.{Provides}
 use Rattle.sign_core.specs.Records.{binding_in, current, has_identifier, has_moved, key_in, next_at}
 use Rattle.sign_core.specs.Links.{AreMade, IsMade, signings_of}
 use Rattle.sign_core.specs.Once.{AreDraws, AreFields, IsTreeDraw, tree_sizes}
-use Rattle.sign_core.specs.Signer.{Ends, IsRead, View, is_out_of_memory, is_random_failed, signature_size}
-use Rattle.sign_core.specs.Signer.{state_of}
+use Rattle.sign_core.specs.Signer.{Ends, IsRead, KeepsAtRefusal, UnlessAppended, UsesMemory, View, is_before_draws, is_fault}
+use Rattle.sign_core.specs.Signer.{is_out_of_memory, is_random_failed, signature_size, state_of}
 use Rattle.sign_core.specs.World.{Chance, Draw, Outcome, acked, answered, bound_sound, extended, fulfilled}
 use Rattle.sign_core.specs.World.{open_on, requested_of}
 use Rattle.sign_core.specs.Textbook.{Trees, damaged_in, secret_at, signature_by, signing_of_bound, signings_above}
@@ -111,6 +111,8 @@ pub record Does {S R M A : Type 0} (g : store.Ghosts S) (r : source.Ghosts R) (m
   pub failures : Counts is_random_failed (r.failures old.random) (r.failures new.random) answer
   pub message : IsRead m outcome.is_read given before after
   pub refusals : Counts is_out_of_memory (g.refusals old.store) (g.refusals new.store) answer
+  pub memory : UsesMemory old new
+  pub stays : UnlessAppended old new answer (new.store ≡ old.store)
 
 -- One new tree of a level: nothing is answered, and the message isn't read.
 pub record Extends {S R : Type 0} (g : store.Ghosts S) (r : source.Ghosts R) (level : ℕ)
@@ -124,7 +126,9 @@ pub record Extends {S R : Type 0} (g : store.Ghosts S) (r : source.Ghosts R) (le
   pub source : Provides (r.upcoming old.random) outcome.drawn (r.upcoming new.random)
   pub failures : Counts is_random_failed (r.failures old.random) (r.failures new.random) answer
   pub refusals : Counts is_out_of_memory (g.refusals old.store) (g.refusals new.store) answer
-  pub spare : old.spare ≤ new.spare + 1
+  pub memory : UsesMemory old new
+  pub stays : UnlessAppended old new answer (new.store ≡ old.store)
+  pub late : is_fault is_before_draws answer ≡ false
 
 -- All that a new name wants, where so many levels below a standing chain have no tree: the Extends, and the Bound.
 pub record Fulfils {S R M : Type 0} (g : store.Ghosts S) (r : source.Ghosts R) (m : message.Ghosts M) (name : List ℕ)
@@ -139,6 +143,7 @@ pub record Fulfils {S R M : Type 0} (g : store.Ghosts S) (r : source.Ghosts R) (
   pub trees_possible : AllByRecursion IsTreeDraw trees
   pub bound_possible : AreFields (32 ∷ []) bound.fields
   pub does : Does g r m old new before after given outcome answer
+  pub late : is_fault is_before_draws answer ≡ false
 
 -- A name that isn't bound, where there is room, and this level is the deepest with a free leaf.
 pub record Binds {S R M : Type 0} (g : store.Ghosts S) (r : source.Ghosts R) (m : message.Ghosts M) (name : List ℕ)
@@ -150,6 +155,7 @@ pub record Binds {S R M : Type 0} (g : store.Ghosts S) (r : source.Ghosts R) (m 
   pub possible : AreDraws chance
   pub room : chance.has_room ≡ true
   pub does : Does g r m old new before after chance.given outcome answer
+  pub keeps : KeepsAtRefusal g old new answer
 
 -- ---- a name that is bound
 

@@ -327,6 +327,7 @@ impl Ledger {
     // Makes room for one more record, if it takes memory.
     fn make_room(&mut self, entry: &Record) -> Result<(), LedgerFault>
         ensures stays { Stays self.old self.new }
+        ensures untaken { (TakesMemory entry.now → ⊥) → self.new.spare ≡ self.old.spare }
         ensures room { OnOk result (HasRoom entry.now self.new) }
         ensures lacking { IfErr result (λ fault. (fault ≡ OutOfMemory) × LacksRoom entry.now self.old) }
     {

@@ -67,6 +67,7 @@ fn append<S: Store>(store: &mut S, entry: &Record) -> Result<(), SignFault>
     ensures any_moment { LeavesEither S.Store store.old store.new entry.now }
     ensures refused { result ≡ Err SignFault.OutOfMemory → LeavesOld S.Store store.old store.new }
     ensures refusals { Counts is_out_of_memory (S.refusals store.old) (S.refusals store.new) result }
+    ensures unreadable { S.unreadable store.new ≡ S.unreadable store.old }
     ensures honest { S.honest store.new ≡ S.honest store.old }
     ensures most { S.most store.new ≡ S.most store.old }
 {

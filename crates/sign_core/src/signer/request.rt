@@ -1,6 +1,6 @@
 //! Requests: what hinders one, and which way it goes.
 
-ghost use Rattle.std.specs.Prelude.{◌≡◌, ◌<◌, ◌-◌, [], ℕ, List, None, Some, true, false, length, vec_capacity};
+ghost use Rattle.std.specs.Prelude.{◌≡◌, ◌<◌, ◌≤◌, ◌-◌, [], ℕ, List, None, Some, true, false, length, vec_capacity};
 ghost use Rattle.std.specs.Prelude.{IsSome, OnErr};
 ghost use Rattle.state_file.specs.Laws.{levels_of};
 ghost use Rattle.sign_core.specs.Signing.{answered_with};
@@ -85,6 +85,7 @@ impl<S: Store, R: Source> Signer<S, R> {
         ensures step { Signs S.Store R.Source M.Message self.old self.new name.now message.old message.new
             (vec_capacity out.old) (answered_with result out.new.items) }
         ensures empty { OnErr result (out.new.items ≡ []) }
+        ensures capacity { vec_capacity out.old ≤ vec_capacity out.new }
         // A name that is bound changes nothing, whatever the answer.
         ensures repeat { IsSome (binding_in self.old.records name.now) → self.new ≡ self.old }
     {
@@ -104,6 +105,7 @@ impl<S: Store, R: Source> Signer<S, R> {
     ) -> Result<(), SignFault>
         ensures step { Signs S.Store R.Source M.Message self.old self.new name.now message.old message.new
             (vec_capacity out.old) (answered_with result out.new.items) }
+        ensures capacity { vec_capacity out.old ≤ vec_capacity out.new }
         ensures repeat { IsSome (binding_in self.old.records name.now) → self.new ≡ self.old }
     {
         self.check_open()?;
@@ -122,10 +124,11 @@ impl<S: Store, R: Source> Signer<S, R> {
     ) -> Result<(), SignFault>
         requires kept { UnderKey self.now.records (λ key. (name : List ℕ)
             × IsBindingOf self.now.records binding.now key name) }
-        ensures { UnderKey self.now.records (λ key. (name : List ℕ) →
+        ensures step { UnderKey self.now.records (λ key. (name : List ℕ) →
             IsBindingOf self.now.records binding.now key name →
             Repeats M.Message self.now message.old message.new (vec_capacity out.old)
             (answered_with result out.new.items) key name) }
+        ensures capacity { vec_capacity out.old ≤ vec_capacity out.new }
     {
         match Scheme::of(&self.ledger.key().secret) {
             Scheme::Chain(trees) => self.repeat_chain(&trees, binding, message, out),
@@ -143,8 +146,9 @@ impl<S: Store, R: Source> Signer<S, R> {
         requires open { self.old.is_open ≡ true }
         requires goes_on { has_moved self.old.records ≡ false }
         requires unbound { binding_in self.old.records name.now ≡ None }
-        ensures { Signs S.Store R.Source M.Message self.old self.new name.now message.old message.new
+        ensures step { Signs S.Store R.Source M.Message self.old self.new name.now message.old message.new
             (vec_capacity out.old) (answered_with result out.new.items) }
+        ensures capacity { vec_capacity out.old ≤ vec_capacity out.new }
     {
         let level = self.ledger.deepest().ok_or(SignFault::Exhausted)?;
         self.prepare(level, out)?;
@@ -161,8 +165,9 @@ impl<S: Store, R: Source> Signer<S, R> {
         requires open { self.old.is_open ≡ true }
         requires goes_on { has_moved self.old.records ≡ false }
         requires level { UnderKey self.old.records (λ key. level < levels_of key.secret) }
-        ensures { UnderKey self.old.records (Prepares (S.most self.old.store) level self.old self.new
+        ensures room { UnderKey self.old.records (Prepares (S.most self.old.store) level self.old self.new
             (vec_capacity out.old) (length out.new.items) result) }
+        ensures capacity { vec_capacity out.old ≤ vec_capacity out.new }
     {
         let wanted = self.ledger.key().secret.levels() - level;
         if u64::from(self.ledger.len()) + u64::from(wanted) > u64::from(self.store.limit()) {
@@ -189,8 +194,9 @@ impl<S: Store, R: Source> Signer<S, R> {
         requires level { UnderKey self.old.records (λ key. deepest key.secret self.old.records ≡ Some level) }
         requires unbound { binding_in self.old.records name.now ≡ None }
         requires room { UnderKey self.old.records (λ key. length out.old.items ≡ signature_size key.secret) }
-        ensures { UnderKey self.old.records (Binds S.Store R.Source M.Message name.now level self.old self.new
+        ensures step { UnderKey self.old.records (Binds S.Store R.Source M.Message name.now level self.old self.new
             message.old message.new (answered_with result out.new.items)) }
+        ensures capacity { vec_capacity out.old ≤ vec_capacity out.new }
     {
         let (mut above, last) = trees
             .standing(&self.ledger, level)

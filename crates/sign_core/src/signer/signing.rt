@@ -1,6 +1,6 @@
 //! Signing over a store: a name that is bound has its signature again, and a new one has the wanted records made.
 
-ghost use Rattle.std.specs.Prelude.{◌≡◌, ◌<◌, ◌+◌, ◌-◌, [], ℕ, List, None, Some, length, vec_capacity};
+ghost use Rattle.std.specs.Prelude.{◌≡◌, ◌<◌, ◌≤◌, ◌+◌, ◌-◌, [], ℕ, List, None, Some, length, vec_capacity};
 ghost use Rattle.std.specs.Prelude.{IfErr, IfOk, OnErr, OnOk};
 ghost use Rattle.typecodes.specs.Message.{CantBeRead, ReadWhole};
 ghost use Rattle.lmots.specs.Key.{message_digest_of};
@@ -96,6 +96,7 @@ pub(super) fn make_room(secret: &Secret, out: &mut Vec<u8>) -> Result<(), SignFa
     ensures refused { IfErr result (λ fault. fault ≡ SignFault.OutOfMemory) }
     // Memory is requested only where there is no room for it yet.
     ensures full { OnErr result (vec_capacity out.old < signature_size secret.now) }
+    ensures capacity { vec_capacity out.old ≤ vec_capacity out.new }
 {
     out.resize(signature_len(secret) as usize, 0)
         .map_err(|_| SignFault::OutOfMemory)
@@ -169,9 +170,10 @@ impl<S: Store, R: Source> Signer<S, R> {
             (StandsIn (trees_in trees.now) self.old.records above.old.items last) }
         requires unbound { binding_in self.old.records name.now ≡ None }
         requires room { UnderKey self.old.records (λ key. length out.old.items ≡ signature_size key.secret) }
-        ensures { UnderKey self.old.records (λ key. Fulfils S.Store R.Source M.Message name.now
+        ensures step { UnderKey self.old.records (λ key. Fulfils S.Store R.Source M.Message name.now
             (bottom_of key.secret - length above.old.items) self.old self.new message.old message.new
             (answered_with result out.new.items) key) }
+        ensures capacity { vec_capacity out.old ≤ vec_capacity out.new }
     {
         if above.len() + 1 >= usize::from(self.ledger.key().secret.levels()) {
             return self.bind_under(trees, name, message, above, last, out);
@@ -198,8 +200,9 @@ impl<S: Store, R: Source> Signer<S, R> {
         requires bottom { UnderKey self.old.records (λ key. length above.old.items ≡ bottom_of key.secret) }
         requires unbound { binding_in self.old.records name.now ≡ None }
         requires room { UnderKey self.old.records (λ key. length out.old.items ≡ signature_size key.secret) }
-        ensures { UnderKey self.old.records (Fulfils S.Store R.Source M.Message name.now 0 self.old self.new
+        ensures step { UnderKey self.old.records (Fulfils S.Store R.Source M.Message name.now 0 self.old self.new
             message.old message.new (answered_with result out.new.items)) }
+        ensures capacity { vec_capacity out.old ≤ vec_capacity out.new }
     {
         let randomizer = draw::<R, 32>(&mut self.random)?;
         let leaf = last.signed.leaf;
@@ -234,8 +237,9 @@ impl<S: Store, R: Source> Signer<S, R> {
         requires free { UnderKey self.old.records (λ key. 0 < free_at key.secret self.old.records 0) }
         requires unbound { binding_in self.old.records name.now ≡ None }
         requires room { UnderKey self.old.records (λ key. length out.old.items ≡ signature_size key.secret) }
-        ensures { UnderKey self.old.records (Binds S.Store R.Source M.Message name.now 0 self.old self.new
+        ensures step { UnderKey self.old.records (Binds S.Store R.Source M.Message name.now 0 self.old self.new
             message.old message.new (answered_with result out.new.items)) }
+        ensures capacity { vec_capacity out.old ≤ vec_capacity out.new }
     {
         let root = self.ledger.key().root;
         let (leaf, _) = self.bottom();
@@ -264,10 +268,11 @@ impl<S: Store, R: Source> Signer<S, R> {
         requires trees { UnderKey self.now.records (λ key. trees_of key.secret ≡ Some (trees_in trees.now)) }
         requires kept { UnderKey self.now.records (λ key. (name : List ℕ)
             × IsBindingOf self.now.records binding.now key name) }
-        ensures { UnderKey self.now.records (λ key. (name : List ℕ) →
+        ensures step { UnderKey self.now.records (λ key. (name : List ℕ) →
             IsBindingOf self.now.records binding.now key name →
             Repeats M.Message self.now message.old message.new (vec_capacity out.old)
             (answered_with result out.new.items) key name) }
+        ensures capacity { vec_capacity out.old ≤ vec_capacity out.new }
     {
         let Binding {
             leaf,
@@ -307,10 +312,11 @@ impl<S: Store, R: Source> Signer<S, R> {
         requires key { UnderKey self.now.records (IsXmssKey secret.now) }
         requires kept { UnderKey self.now.records (λ key. (name : List ℕ)
             × IsBindingOf self.now.records binding.now key name) }
-        ensures { UnderKey self.now.records (λ key. (name : List ℕ) →
+        ensures step { UnderKey self.now.records (λ key. (name : List ℕ) →
             IsBindingOf self.now.records binding.now key name →
             Repeats M.Message self.now message.old message.new (vec_capacity out.old)
             (answered_with result out.new.items) key name) }
+        ensures capacity { vec_capacity out.old ≤ vec_capacity out.new }
     {
         let leaf = binding.leaf;
         let root = self.ledger.key().root;

@@ -31,6 +31,7 @@ returns-in_err-append-clause-makes g c =
       moments = e.any_moment;
       refused = e.refused;
       refusals = e.refusals;
+      unreadable = e.unreadable;
       honest = e.honest;
       most = e.most;
     } in
@@ -53,6 +54,7 @@ returns-clause-makes g c =
       moments = e.any_moment;
       refused = e.refused;
       refusals = e.refusals;
+      unreadable = e.unreadable;
       honest = e.honest;
       most = e.most;
     } in

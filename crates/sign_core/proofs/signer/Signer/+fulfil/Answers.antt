@@ -32,8 +32,8 @@ bind_under-requires-clause-bottom g t c key keyed =
     let few = few_levels key (trees_in a.trees.now) a.self.now.records (length a.above.now.items) a.above.now.items a.last stands.0 stands.1 in
     omega (arith, few, c.if-len-from.true, c.from.ensures, c.levels.ensures, c.len.ensures.value, ap (λ k. levels_of k.secret) same)
 
-pub returns-in_err-made : goal.returns-in_err-made
-returns-in_err-made g t c key keyed =
+pub returns-in_err-made-clause-step : goal.returns-in_err-made-clause-step
+returns-in_err-made-clause-step g t c key keyed =
     let a = c.args in
     let own : key_in a.self.now.records ≡ Some c.key.result.now = ap (λ w. key_in w.records) (sym c.self.view_is) ∙ c.key.ensures.first in
     let same : c.key.result.now ≡ key = same_Some _ _ (sym own ∙ keyed) in
@@ -103,8 +103,8 @@ fulfil-requires g t c κs within =
       ),
     )
 
-pub returns : goal.returns
-returns g t c key keyed =
+pub returns-clause-step : goal.returns-clause-step
+returns-clause-step g t c key keyed =
     let a = c.args in
     let own : key_in a.self.now.records ≡ Some c.key.result.now = ap (λ w. key_in w.records) (sym c.self.view_is) ∙ c.key.ensures.first in
     let same : c.key.result.now ≡ key = same_Some _ _ (sym own ∙ keyed) in
@@ -125,4 +125,4 @@ returns g t c key keyed =
     subst (λ (n : ℕ). Fulfils g.S.Store g.R.Source g.M.Message a.name.now n a.self.now c.fulfil.new.self a.message.now c.fulfil.new.message
     (answered_with c.fulfil.result c.fulfil.new.out.items) key) wanted
     (fulfils_after g.S.Store g.R.Source g.M.Message a.name.now key below (length a.above.now.items + 1) a.self.now c.extend.new.self c.fulfil.new.self
-    a.message.now c.fulfil.new.message (answered_with c.fulfil.result c.fulfil.new.out.items) at running first (c.fulfil.ensures key next))
+    a.message.now c.fulfil.new.message (answered_with c.fulfil.result c.fulfil.new.out.items) at running first (c.fulfil.ensures.step key next))

@@ -17,6 +17,7 @@ invariant_of-self g c =
       moments = e.any_moment;
       refused = e.refused;
       refusals = e.refusals;
+      unreadable = e.unreadable;
       honest = e.honest;
       most = e.most;
     })
@@ -35,6 +36,7 @@ returns-in-Ok g c =
       moments = e.any_moment;
       refused = e.refused;
       refusals = e.refusals;
+      unreadable = e.unreadable;
       honest = e.honest;
       most = e.most;
     })
@@ -54,6 +56,7 @@ returns-in-Err g c =
       moments = e.any_moment;
       refused = e.refused;
       refusals = e.refusals;
+      unreadable = e.unreadable;
       honest = e.honest;
       most = e.most;
     })

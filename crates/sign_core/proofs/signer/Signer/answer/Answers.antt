@@ -29,4 +29,4 @@ returns-in-Some-clause-step g c =
     repeats_signs g.S.Store g.R.Source g.M.Message v c.args.name.now c.args.message.now c.repeat.new.message (vec_capacity c.args.out.now) key
     c.in-Some.binding (answered_with c.repeat.result c.repeat.new.out.items) (subst (IsSigner g.S.Store) c.self.view_is c.self.invariant.0)
     (λ left honest running since. g.met.S.Store.leaves_nothing_else v.store left honest running since)
-    keyed c.in_ok-check_open.ensures.open c.in_ok-check_open.ensures.stays is (c.repeat.ensures key keyed c.args.name.now is)
+    keyed c.in_ok-check_open.ensures.open c.in_ok-check_open.ensures.stays is (c.repeat.ensures.step key keyed c.args.name.now is)

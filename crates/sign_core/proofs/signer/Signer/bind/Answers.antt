@@ -10,8 +10,8 @@ use Rattle.sign_core.proofs.Leaves.{deepest_is}
 use Rattle.sign_core.proofs.Signs.{binds_signs, exhausted_signs, none_fault, some_level, unprepared_signs}
 use Rattle.sign_core.proofs.signer.Signer.bind.Goals as goal
 
-pub returns-in_err-level : goal.returns-in_err-level
-returns-in_err-level g c =
+pub returns-in_err-level-clause-step : goal.returns-in_err-level-clause-step
+returns-in_err-level-clause-step g c =
     let v = c.args.self.now in
     let key = c.self.inside.ledger.key in
     let (none, is) = none_fault c.deepest.result c.in_err-level.field-0.0 (sym c.ok_or.ensures.value ∙ c.in_err-level.was) in
@@ -33,13 +33,13 @@ prepare-requires-clause-level g c key keyed =
     subst (λ k. c.in_ok-level.level < levels_of k.secret) own
     ((deepest_is i.key.secret i.records c.in_ok-level.level (sym c.deepest.ensures ∙ some)).0)
 
-pub returns-in_err-prepare : goal.returns-in_err-prepare
-returns-in_err-prepare g c =
+pub returns-in_err-prepare-clause-step : goal.returns-in_err-prepare-clause-step
+returns-in_err-prepare-clause-step g c =
     let v = c.args.self.now in
     let key = c.self.inside.ledger.key in
     let keyed = ap (λ w. key_in w.records) (sym c.self.view_is) ∙ c.self.invariant.1 in
     let some = some_level c.deepest.result c.in_ok-level.level (sym c.ok_or.ensures.value ∙ c.in_ok-level.was) in
-    let made = c.in_err-prepare.ensures key keyed in
+    let made = c.in_err-prepare.ensures.room key keyed in
     let answer : c.from_residual-in_err-prepare.result ≡ Err c.in_err-prepare.field-0.0 = search rules in
     subst (λ a. Signs g.S.Store g.R.Source g.M.Message v c.prepare.new.self c.args.name.now c.args.message.now c.args.message.now
     (vec_capacity c.args.out.now) (answered_with a c.prepare.new.out.items)) (sym answer)
@@ -48,29 +48,29 @@ returns-in_err-prepare g c =
     (subst (IsSigner g.S.Store) c.self.view_is c.self.invariant.0)
     (λ left honest running since. g.met.S.Store.leaves_nothing_else v.store left honest running since)
     keyed c.requires.open c.requires.goes_on c.requires.unbound
-    (ap (λ w. deepest key.secret w.records) (sym c.self.view_is) ∙ sym c.deepest.ensures ∙ some) made.keeps made.does)
+    (ap (λ w. deepest key.secret w.records) (sym c.self.view_is) ∙ sym c.deepest.ensures ∙ some) made.keeps made.spare made.does)
 
-pub returns-in-Chain : goal.returns-in-Chain
-returns-in-Chain g c =
+pub returns-in-Chain-clause-step : goal.returns-in-Chain-clause-step
+returns-in-Chain-clause-step g c =
     let v = c.args.self.now in
     let key = c.self.inside.ledger.key in
     let keyed = ap (λ w. key_in w.records) (sym c.self.view_is) ∙ c.self.invariant.1 in
     let some = some_level c.deepest.result c.in_ok-level.level (sym c.ok_or.ensures.value ∙ c.in_ok-level.was) in
-    let made = c.in_ok-prepare.ensures key keyed in
+    let made = c.in_ok-prepare.ensures.room key keyed in
     let mid = c.prepare.new.self in
     binds_signs g.S.Store g.R.Source g.M.Message v mid c.bind_chain.new.self c.args.name.now c.args.message.now c.bind_chain.new.message
     (vec_capacity c.args.out.now) c.in_ok-level.level key (answered_with c.bind_chain.result c.bind_chain.new.out.items) keyed c.requires.open c.requires.goes_on
-    c.requires.unbound (ap (λ w. deepest key.secret w.records) (sym c.self.view_is) ∙ sym c.deepest.ensures ∙ some) made.keeps made.does.0
-    (c.bind_chain.ensures key (ap key_in made.keeps.records ∙ keyed))
+    c.requires.unbound (ap (λ w. deepest key.secret w.records) (sym c.self.view_is) ∙ sym c.deepest.ensures ∙ some) made.keeps made.spare made.does.0
+    (c.bind_chain.ensures.step key (ap key_in made.keeps.records ∙ keyed))
 
-pub returns-in-Xmss : goal.returns-in-Xmss
-returns-in-Xmss g c =
+pub returns-in-Xmss-clause-step : goal.returns-in-Xmss-clause-step
+returns-in-Xmss-clause-step g c =
     let v = c.args.self.now in
     let i = c.self.inside.ledger in
     let key = i.key in
     let keyed = ap (λ w. key_in w.records) (sym c.self.view_is) ∙ c.self.invariant.1 in
     let some = some_level c.deepest.result c.in_ok-level.level (sym c.ok_or.ensures.value ∙ c.in_ok-level.was) in
-    let made = c.in_ok-prepare.ensures key keyed in
+    let made = c.in_ok-prepare.ensures.room key keyed in
     let mid = c.prepare.new.self in
     let still = ap key_in made.keeps.records ∙ keyed in
     let own : c.copied-key.result ≡ key =
@@ -80,6 +80,6 @@ returns-in-Xmss g c =
     let top : 0 ≡ c.in_ok-level.level = omega (arith, one, within) in
     binds_signs g.S.Store g.R.Source g.M.Message v mid c.bind_xmss.new.self c.args.name.now c.args.message.now c.bind_xmss.new.message
     (vec_capacity c.args.out.now) c.in_ok-level.level key (answered_with c.bind_xmss.result c.bind_xmss.new.out.items) keyed c.requires.open c.requires.goes_on
-    c.requires.unbound (ap (λ w. deepest key.secret w.records) (sym c.self.view_is) ∙ sym c.deepest.ensures ∙ some) made.keeps made.does.0
+    c.requires.unbound (ap (λ w. deepest key.secret w.records) (sym c.self.view_is) ∙ sym c.deepest.ensures ∙ some) made.keeps made.spare made.does.0
     (subst (λ n. Binds g.S.Store g.R.Source g.M.Message c.args.name.now n mid c.bind_xmss.new.self c.args.message.now c.bind_xmss.new.message
-    (answered_with c.bind_xmss.result c.bind_xmss.new.out.items) key) top (c.bind_xmss.ensures key still))
+    (answered_with c.bind_xmss.result c.bind_xmss.new.out.items) key) top (c.bind_xmss.ensures.step key still))

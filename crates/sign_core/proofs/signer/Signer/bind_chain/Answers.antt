@@ -35,8 +35,8 @@ standing-requires-clause-free g c =
     c.self.invariant.1 in
     (deepest_is i.key.secret i.records c.args.level at).1
 
-pub returns-in_err-above : goal.returns-in_err-above
-returns-in_err-above g c key keyed =
+pub returns-in_err-above-clause-step : goal.returns-in_err-above-clause-step
+returns-in_err-above-clause-step g c key keyed =
     let v = c.args.self.now in
     let i = c.self.inside.ledger in
     let own : i.key ≡ key = same_key v.records i.key key (ap (λ w. key_in w.records) (sym c.self.view_is) ∙ c.self.invariant.1) keyed in
@@ -59,8 +59,8 @@ fulfil-requires-clause-ready g c key keyed =
     subst (λ s. IfOk s (λ chain. length chain.0.items ≡ c.args.level)) value c.standing.ensures.count in
     subst (λ n. IsReady (g.S.Store.most c.args.self.now.store) (levels_of key.secret - n) c.args.self.now) (sym count) (c.requires.ready key keyed)
 
-pub returns : goal.returns
-returns g c key keyed =
+pub returns-clause-step : goal.returns-clause-step
+returns-clause-step g c key keyed =
     let v = c.args.self.now in
     let i = c.self.inside.ledger in
     let own : i.key ≡ key = same_key v.records i.key key (ap (λ w. key_in w.records) (sym c.self.view_is) ∙ c.self.invariant.1) keyed in
@@ -73,5 +73,5 @@ returns g c key keyed =
     fulfils_binds g.S.Store g.R.Source g.M.Message v c.fulfil.new.self c.args.name.now c.args.message.now c.fulfil.new.message c.args.level key
     (answered_with c.fulfil.result c.fulfil.new.out.items) here
     (subst (λ n. Fulfils g.S.Store g.R.Source g.M.Message c.args.name.now (bottom_of key.secret - n) v c.fulfil.new.self c.args.message.now
-    c.fulfil.new.message (answered_with c.fulfil.result c.fulfil.new.out.items) key) count (c.fulfil.ensures key keyed))
+    c.fulfil.new.message (answered_with c.fulfil.result c.fulfil.new.out.items) key) count (c.fulfil.ensures.step key keyed))
     (c.requires.ready key keyed).is_open

@@ -14,8 +14,8 @@ use Rattle.sign_core.proofs.Binding.{bound_added, bound_of_chain, chain_follows_
 use Rattle.sign_core.proofs.LedgerReading.{key_levels}
 use Rattle.sign_core.proofs.signer.Signer.bind_under.Goals as goal
 
-pub returns-in_err-randomizer : goal.returns-in_err-randomizer
-returns-in_err-randomizer g c key keyed =
+pub returns-in_err-randomizer-clause-step : goal.returns-in_err-randomizer-clause-step
+returns-in_err-randomizer-clause-step g c key keyed =
     let i = c.self.inside in
     let v = c.args.self.now in
     let T = trees_in c.args.trees.now in
@@ -29,8 +29,8 @@ returns-in_err-randomizer g c key keyed =
     (c.requires.stands key keyed).0 c.in_err-randomizer.field-0.0 opened (c.self.invariant.0.tied opened) refl
     (λ left honest running since. g.met.S.Store.leaves_nothing_else i.store left honest running since) c.in_err-randomizer.ensures.drawn))
 
-pub returns-in_err-digest : goal.returns-in_err-digest
-returns-in_err-digest g c key keyed =
+pub returns-in_err-digest-clause-step : goal.returns-in_err-digest-clause-step
+returns-in_err-digest-clause-step g c key keyed =
     let i = c.self.inside in
     let T = trees_in c.args.trees.now in
     let answer : c.from_residual-in_err-digest.result ≡ Err c.in_err-digest.field-0.0 = search rules in
@@ -60,8 +60,8 @@ add-requires-clause-follows g c =
     (ap (λ w. has_moved w.records) c.self.view_is ∙ c.requires.ready.stays) stands c.copied.ensures refl
     (ap (λ w. binding_in w.records c.args.name.now) c.self.view_is ∙ c.requires.unbound)
 
-pub returns-in_err-add : goal.returns-in_err-add
-returns-in_err-add g c key keyed =
+pub returns-in_err-add-clause-step : goal.returns-in_err-add-clause-step
+returns-in_err-add-clause-step g c key keyed =
     let i = c.self.inside in
     let T = trees_in c.args.trees.now in
     let records = i.ledger.records in
@@ -134,8 +134,8 @@ write_chain-requires-clause-trees g c =
     c.key.result.now c.add.ensures c.in_ok-add.was first (ap (λ w. key_in w.records) (sym c.self-2.view_is) ∙ c.key.ensures.first) in
     (T, ap (λ k. trees_of k.secret) own ∙ these)
 
-pub returns : goal.returns
-returns g c key keyed =
+pub returns-clause-step : goal.returns-clause-step
+returns-clause-step g c key keyed =
     let i = c.self.inside in
     let T = trees_in c.args.trees.now in
     let records = i.ledger.records in

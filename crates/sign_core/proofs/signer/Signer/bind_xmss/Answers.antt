@@ -45,8 +45,8 @@ add-requires-clause-follows g c =
     xmss_follows v.records own c.args.secret.now c.args.name.now _ first c.requires.ready.stays (c.requires.key own first) (c.requires.free own first)
     (c.bottom-leaf.ensures own first).0 c.copied.ensures c.requires.unbound refl
 
-pub returns-in_err-map_err : goal.returns-in_err-map_err
-returns-in_err-map_err g c key keyed =
+pub returns-in_err-map_err-clause-step : goal.returns-in_err-map_err-clause-step
+returns-in_err-map_err-clause-step g c key keyed =
     let v = c.args.self.now in
     let first : key_in v.records ≡ Some c.key.result.now = ap (λ w. key_in w.records) (sym c.self.view_is) ∙ c.key.ensures.first in
     let own : c.key.result.now ≡ key = same_key v.records c.key.result.now key first keyed in
@@ -59,8 +59,8 @@ returns-in_err-map_err g c key keyed =
     (λ left honest running since. g.met.S.Store.leaves_nothing_else v.store left honest running since) c.map_err.ensures.cases c.in_err-map_err.was
     (λ rest. c.xmss_link.ensures.damaged key rest (c.requires.key key keyed) (ap (λ k. k.root) (sym own))))
 
-pub returns-in_err-digest : goal.returns-in_err-digest
-returns-in_err-digest g c key keyed =
+pub returns-in_err-digest-clause-step : goal.returns-in_err-digest-clause-step
+returns-in_err-digest-clause-step g c key keyed =
     let v = c.args.self.now in
     let first : key_in v.records ≡ Some c.key.result.now = ap (λ w. key_in w.records) (sym c.self.view_is) ∙ c.key.ensures.first in
     let own : c.key.result.now ≡ key = same_key v.records c.key.result.now key first keyed in
@@ -74,8 +74,8 @@ returns-in_err-digest g c key keyed =
     c.map_err.ensures.cases c.in_ok-map_err.was (λ rest. c.xmss_link.ensures.sound key rest (c.requires.key key keyed) (ap (λ k. k.root) (sym own)))
     c.in_err-digest.ensures.err.1)
 
-pub returns-in_err-add : goal.returns-in_err-add
-returns-in_err-add g c key keyed =
+pub returns-in_err-add-clause-step : goal.returns-in_err-add-clause-step
+returns-in_err-add-clause-step g c key keyed =
     let v = c.args.self.now in
     let first : key_in v.records ≡ Some c.key.result.now = ap (λ w. key_in w.records) (sym c.self.view_is) ∙ c.key.ensures.first in
     let own : c.key.result.now ≡ key = same_key v.records c.key.result.now key first keyed in
@@ -96,8 +96,8 @@ returns-in_err-add g c key keyed =
     (λ rest. c.xmss_link.ensures.sound key rest (c.requires.key key keyed) (ap (λ k. k.root) (sym own))) whole is c.add.ensures
     (ap (λ a. answered_with a c.args.out.now.items) answer ∙ ap (λ a. answered_with a sig) (sym c.in_err-add.was))
 
-pub returns : goal.returns
-returns g c key keyed =
+pub returns-clause-step : goal.returns-clause-step
+returns-clause-step g c key keyed =
     let v = c.args.self.now in
     let first : key_in v.records ≡ Some c.key.result.now = ap (λ w. key_in w.records) (sym c.self.view_is) ∙ c.key.ensures.first in
     let own : c.key.result.now ≡ key = same_key v.records c.key.result.now key first keyed in

@@ -13,8 +13,8 @@ use Rattle.sign_core.proofs.Repeats.{bound_chain, chain_read, changed, damaged_c
 use Rattle.sign_core.proofs.LedgerReading.{key_levels}
 use Rattle.sign_core.proofs.signer.Signer.repeat_chain.Goals as goal
 
-pub returns-then-ne : goal.returns-then-ne
-returns-then-ne g c key keyed name kept =
+pub returns-then-ne-clause-step : goal.returns-then-ne-clause-step
+returns-then-ne-clause-step g c key keyed name kept =
     let v = c.args.self.now in
     let (text, whole, is) = c.in_ok-digest.ensures.ok in
     let found = is_found key v.records name c.args.binding.now kept in
@@ -25,8 +25,8 @@ returns-then-ne g c key keyed name kept =
     (is ∙ ap (λ s. message_digest_of s.identifier c.args.binding.now.leaf c.args.binding.now.randomizer text) c.secret_at.ensures))
     (sym c.ne.ensures ∙ c.if-ne.true)
 
-pub returns-in_err-make_room : goal.returns-in_err-make_room
-returns-in_err-make_room g c key keyed name kept =
+pub returns-in_err-make_room-clause-step : goal.returns-in_err-make_room-clause-step
+returns-in_err-make_room-clause-step g c key keyed name kept =
     let v = c.args.self.now in
     let (text, whole, is) = c.in_ok-digest.ensures.ok in
     let found = is_found key v.records name c.args.binding.now kept in
@@ -71,8 +71,8 @@ push_chain-requires-clause-room g c =
     let (some, few) = key_levels c.self.inside.ledger.records c.key.result.now c.key.ensures.sizes c.key.ensures.first in
     omega (arith, some, few, c.levels.ensures, ap length c.new-links.ensures)
 
-pub returns-in_err-map_err : goal.returns-in_err-map_err
-returns-in_err-map_err g c key keyed name kept =
+pub returns-in_err-map_err-clause-step : goal.returns-in_err-map_err-clause-step
+returns-in_err-map_err-clause-step g c key keyed name kept =
     let v = c.args.self.now in
     let (text, whole, is) = c.in_ok-digest.ensures.ok in
     let found = is_found key v.records name c.args.binding.now kept in
@@ -115,8 +115,8 @@ write_chain-requires-clause-trees g c =
     c.key.result.now c.key.ensures.first in
     (trees_in c.args.trees.now, these)
 
-pub returns : goal.returns
-returns g c key keyed name kept =
+pub returns-clause-step : goal.returns-clause-step
+returns-clause-step g c key keyed name kept =
     let v = c.args.self.now in
     let (text, whole, is) = c.in_ok-digest.ensures.ok in
     let found = is_found key v.records name c.args.binding.now kept in

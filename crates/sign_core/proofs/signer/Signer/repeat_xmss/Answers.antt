@@ -9,8 +9,8 @@ use Rattle.sign_core.proofs.ChainParts.{same_key}
 use Rattle.sign_core.proofs.Repeats.{bound_xmss_leaf, changed, damaged_xmss, is_found, lacks_room, same_size, signed_xmss, xmss_read}
 use Rattle.sign_core.proofs.signer.Signer.repeat_xmss.Goals as goal
 
-pub returns-then-ne : goal.returns-then-ne
-returns-then-ne g c key keyed name kept =
+pub returns-then-ne-clause-step : goal.returns-then-ne-clause-step
+returns-then-ne-clause-step g c key keyed name kept =
     let v = c.args.self.now in
     let (text, whole, is) = c.in_ok-digest.ensures.ok in
     let found = is_found key v.records name c.args.binding.now kept in
@@ -19,8 +19,8 @@ returns-then-ne g c key keyed name kept =
     (xmss_read key c.key.result.now v.records name c.args.binding.now found c.args.secret.now text c.in_ok-digest.digest (c.requires.key key keyed) own is)
     (sym c.ne.ensures ∙ c.if-ne.true)
 
-pub returns-in_err-make_room : goal.returns-in_err-make_room
-returns-in_err-make_room g c key keyed name kept =
+pub returns-in_err-make_room-clause-step : goal.returns-in_err-make_room-clause-step
+returns-in_err-make_room-clause-step g c key keyed name kept =
     let v = c.args.self.now in
     let (text, whole, is) = c.in_ok-digest.ensures.ok in
     let found = is_found key v.records name c.args.binding.now kept in
@@ -49,8 +49,8 @@ write_xmss-requires-clause-inside g c =
     bound_xmss_leaf c.key.result.now v.records _ c.args.binding.now c.args.secret.now (subst (IsSigner g.S.Store) c.self.view_is c.self.invariant.0).legal first
     (c.requires.key c.key.result.now first) (c.requires.kept c.key.result.now first).1
 
-pub returns-in_err-map_err : goal.returns-in_err-map_err
-returns-in_err-map_err g c key keyed name kept =
+pub returns-in_err-map_err-clause-step : goal.returns-in_err-map_err-clause-step
+returns-in_err-map_err-clause-step g c key keyed name kept =
     let v = c.args.self.now in
     let (text, whole, is) = c.in_ok-digest.ensures.ok in
     let found = is_found key v.records name c.args.binding.now kept in
@@ -64,8 +64,8 @@ returns-in_err-map_err g c key keyed name kept =
     (sym c.ne.ensures ∙ c.if-ne.false) c.map_err.ensures.cases c.in_err-map_err.was
     (λ rest. c.xmss_link.ensures.damaged key rest (c.requires.key key keyed) (ap (λ k. k.root) (sym own))))
 
-pub returns : goal.returns
-returns g c key keyed name kept =
+pub returns-clause-step : goal.returns-clause-step
+returns-clause-step g c key keyed name kept =
     let v = c.args.self.now in
     let (text, whole, is) = c.in_ok-digest.ensures.ok in
     let found = is_found key v.records name c.args.binding.now kept in
