@@ -30,6 +30,8 @@ pub mod Kept
 pub mod Fulfilled
 pub mod TreeParts
 pub mod Stops
+pub mod SoundChains
+pub mod Opened
 pub mod LedgerReading
 pub mod LedgerSteps
 pub mod LedgerPushes
