@@ -137,7 +137,7 @@ after_retired limit state handed upto fate (Some key) kept keyed =
 
 -- ---- runs
 
-kept_after : (limit : ℕ) (world : World) (event : Event) → IsEvent event → IsKept world.state.records world.handed
+pub kept_after : (limit : ℕ) (world : World) (event : Event) → IsEvent event → IsKept world.state.records world.handed
     → IsKept (after limit world event).state.records (after limit world event).handed
 kept_after limit world (create spec chance) can kept = after_created chance.failed_load world.state world.handed spec chance can.0 can.2 kept
 kept_after limit world (reopen chance) can kept = after_opened world.state world.handed chance (first_illegal world.state.records) kept

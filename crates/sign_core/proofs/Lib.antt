@@ -32,6 +32,7 @@ pub mod TreeParts
 pub mod Stops
 pub mod SoundChains
 pub mod Opened
+pub mod Sound
 pub mod LedgerReading
 pub mod LedgerSteps
 pub mod LedgerPushes

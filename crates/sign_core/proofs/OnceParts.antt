@@ -257,6 +257,7 @@ once limit world kept = record {
       λ room fate. begins_key world.state spec secret chance public empty loaded drawn room fate is;
   fresh = λ key level name message chance. fresh_fine limit world.state world.handed key level name message chance kept;
   exhausted = λ key name chance. exhausted_exactly limit world.state key name chance;
+  sound = kept.ground;
   undamaged = λ name chance slot. answers_whole limit world.state world.handed name chance slot kept;
   legal = λ chance slot. opens_legal world.state world.handed chance slot kept;
   reopens = λ key. opens_again world.state world.handed key kept;

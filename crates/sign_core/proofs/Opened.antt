@@ -20,7 +20,7 @@ use Rattle.sign_core.specs.declared.fault.SignFault.TheVariants.{Moved as MovedA
 use Rattle.sign_core.specs.Records.{are_same, binding_in, deepest, first_illegal, free_at, has_identifier, has_moved, has_randomizer, key_in}
 use Rattle.sign_core.specs.Records.{leaves_of_current, next_at, wanted_count}
 use Rattle.sign_core.specs.Once.{AllEvents, AreDraws, AreFields, IsBoundTo, IsEvent, IsTreeDraw, Verifies, public_of_key, tree_sizes}
-use Rattle.sign_core.specs.Opened.{AreSized, IsValidUnder, OpenedLaw, Reopens}
+use Rattle.sign_core.specs.Opened.{AreWellFormed, IsValidUnder, OpenedLaw, Reopens}
 use Rattle.sign_core.specs.World.{Chance, Creation, Draw, Event, Fate, Handed, Opening, Outcome, State, World, acked, after, appended}
 use Rattle.sign_core.specs.World.{begun, bound_anew, bound_sound, bound_with, create, created_after, cut_new, cut_old, drawing, extended, extended_by, extended_with}
 use Rattle.sign_core.specs.World.{first_draw, fulfilled, handed_with, later_draws, new_bound, no_memory, open_on, opened_by, opened_on, published}
@@ -39,7 +39,7 @@ use Rattle.sign_core.proofs.Stays.{some_keyed}
 use Rattle.sign_core.proofs.Valid.{checked}
 
 -- legal records have a key
-pub of_key : (records : List Record) → AreSized records → (key : Key) × AreOf key records
+pub of_key : (records : List Record) → AreWellFormed records → (key : Key) × AreOf key records
 of_key records are =
     (are.legal.key, record { legal = are.legal; sizes = are.sizes; keyed = key_first records are.legal.key are.legal.first })
 
@@ -225,7 +225,7 @@ opened_same state (Some (slot, fault)) None = refl
 opened_same state (Some (slot, fault)) (Some k) = refl
 
 -- legal records are opened
-pub reopens : (state : State) → AreSized state.records → Reopens state
+pub reopens : (state : State) → AreWellFormed state.records → Reopens state
 reopens state sized =
     let records = state.records in
     let (key, are) = of_key records sized in
@@ -310,14 +310,14 @@ right_along key public is limit world (event ∷ events) all right =
 -- ---- the law
 
 -- a world of legal records that has handed nothing out
-silent : State → World
+unfoldable pub silent : State → World
 silent state = record { state = state; handed = [] }
 
 none_handed : (public : AnyPublic) (handed : List Handed) → handed ≡ [] → (x : Handed) → Contains handed x → Verifies public x.message x.signature
 none_handed public [] empty x (k, within, at) = absurd (omega arith)
 none_handed public (y ∷ rest) empty x there = absurd (cc)
 
-after_state : (limit : ℕ) (world : World) (event : Event) → (after limit (silent world.state) event).state ≡ (after limit world event).state
+pub after_state : (limit : ℕ) (world : World) (event : Event) → (after limit (silent world.state) event).state ≡ (after limit world event).state
 unfolding silent
 after_state limit world (create spec chance) = refl
 after_state limit world (reopen chance) = refl
@@ -325,15 +325,15 @@ after_state limit world (request name chance) = refl
 after_state limit world (retire upto fate) = refl
 after_state limit world stop = refl
 
-stays_legal : (limit : ℕ) (world : World) (event : Event) → IsEvent event → AreSized world.state.records → AreSized (after limit world event).state.records
+stays_legal : (limit : ℕ) (world : World) (event : Event) → IsEvent event → AreWellFormed world.state.records → AreWellFormed (after limit world event).state.records
 unfolding silent
 stays_legal limit world event can sized =
     let (key, are) = of_key world.state.records sized in
     let (public, is) = public_made key.secret key.root (key_has_sizes world.state.records key are.sizes are.keyed) in
     let right = right_after key public is limit (silent world.state) event can (record { are = are; valid = none_handed public [] refl }) in
-    subst (λ (s : State). AreSized s.records) (after_state limit world event) (record { legal = right.are.legal; sizes = right.are.sizes })
+    subst (λ (s : State). AreWellFormed s.records) (after_state limit world event) (record { legal = right.are.legal; sizes = right.are.sizes })
 
-request_valid : (limit : ℕ) (state : State) (name message signature : List ℕ) (chance : Chance) → AreSized state.records → AreDraws chance
+request_valid : (limit : ℕ) (state : State) (name message signature : List ℕ) (chance : Chance) → AreWellFormed state.records → AreDraws chance
     → chance.given ≡ Some message → (requested limit state name chance).answer ≡ Ok signature → IsValidUnder state.records message signature
 request_valid limit state name message signature chance sized drawn given answers =
     let (key, are) = of_key state.records sized in
@@ -341,7 +341,7 @@ request_valid limit state name message signature chance sized drawn given answer
     let (more, fits) = fits_request key public is limit state name chance drawn are in
     record { public = public; keyed = ap public_of_key are.keyed ∙ is; verifies = fits message signature given answers }
 
-run_valid : (limit : ℕ) (world : World) (events : List Event) (x : Handed) → AreSized world.state.records → world.handed ≡ [] → AllEvents events
+run_valid : (limit : ℕ) (world : World) (events : List Event) (x : Handed) → AreWellFormed world.state.records → world.handed ≡ [] → AllEvents events
     → Contains (run limit world events).handed x → IsValidUnder world.state.records x.message x.signature
 run_valid limit world events x sized empty all there =
     let (key, are) = of_key world.state.records sized in

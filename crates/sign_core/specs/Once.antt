@@ -29,7 +29,7 @@ use Rattle.sign_core.specs.World.{acked, cut_new, cut_old, no_memory, create, re
 use Rattle.sign_core.specs.World.{after, answered, beginning, closed_on, created, new_key, open_on}
 use Rattle.sign_core.specs.World.{opened, reading, refused}
 use Rattle.sign_core.specs.World.{requested, retired, run, secret_from}
-use Rattle.sign_core.specs.Textbook.{digest_at, public_in, signature_at}
+use Rattle.sign_core.specs.Textbook.{AllHaveSizes, AreSound, digest_at, public_in, signature_at}
 
 -- ---- events that can come
 
@@ -204,7 +204,9 @@ pub record IsOnce (limit : ℕ) (world : World) : Type 0 where
       → binding_in world.state.records name ≡ None
       → ((requested limit world.state name chance).answer ≡ Err Exhausted)
       ↔ (deepest key.secret world.state.records ≡ None)
-  -- no request is answered that a record is damaged
+  -- there are no records, or they are sound: their roots and digests are those of the recorded secrets
+  pub sound : (world.state.records ≡ []) ⊎ AreSound world.state.records
+  -- so no request is answered that a record is damaged
   pub undamaged : (name : List ℕ) (chance : Chance) (slot : ℕ)
       → (requested limit world.state name chance).answer ≢ Err (Damaged slot)
   -- and no opening that the records aren't legal
@@ -224,6 +226,20 @@ pub record IsOnce (limit : ℕ) (world : World) : Type 0 where
 -- it holds after every list of events from the beginning
 abbrev pub OnceLaw : Type 0
 OnceLaw = (limit : ℕ) (events : List Event) → AllEvents events → IsOnce limit (run limit beginning events)
+
+-- ---- sound records
+
+-- The records are sound, and each part of them has its size in bytes.
+pub record AreWhole (records : List Record) : Type 0 where
+  pub sound : AreSound records
+  pub sizes : AllHaveSizes records
+
+-- Each event leaves sound records where there were such, and a create where there were none.
+pub record SoundLaw : Type 0 where
+  pub stays : (limit : ℕ) (world : World) (event : Event) → IsEvent event → AreWhole world.state.records
+      → AreWhole (after limit world event).state.records
+  pub begins : (state : State) (spec : Spec) (chance : Creation) → IsEvent (create spec chance) → state.records ≡ []
+      → ((created state spec chance).state.records ≡ []) ⊎ AreWhole (created state spec chance).state.records
 
 -- ---- cuts
 

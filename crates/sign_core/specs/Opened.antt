@@ -9,7 +9,7 @@ use Rattle.sign_core.specs.Textbook.{AllHaveSizes}
 use Rattle.sign_core.specs.World.{Chance, Event, Handed, State, World, after, answered, open_on, opened, requested, run}
 
 -- They are legal, and each part has its size in bytes.
-pub record AreSized (records : List Record) : Type 0 where
+pub record AreWellFormed (records : List Record) : Type 0 where
   pub legal : IsLegal records
   pub sizes : AllHaveSizes records
 
@@ -28,15 +28,15 @@ pub record Reopens (state : State) : Type 0 where
 -- What holds over them.
 pub record OpenedLaw : Type 0 where
   -- they are opened, where nothing fails
-  pub reopens : (state : State) → AreSized state.records → Reopens state
+  pub reopens : (state : State) → AreWellFormed state.records → Reopens state
   -- each event leaves legal records
-  pub legal : (limit : ℕ) (world : World) (event : Event) → IsEvent event → AreSized world.state.records
-      → AreSized (after limit world event).state.records
+  pub legal : (limit : ℕ) (world : World) (event : Event) → IsEvent event → AreWellFormed world.state.records
+      → AreWellFormed (after limit world event).state.records
   -- a signature that a request gives, under a new name or a bound one, is valid for the message that was read
   pub valid : (limit : ℕ) (state : State) (name message signature : List ℕ) (chance : Chance)
-      → AreSized state.records → AreDraws chance → chance.given ≡ Some message
+      → AreWellFormed state.records → AreDraws chance → chance.given ≡ Some message
       → (requested limit state name chance).answer ≡ Ok signature → IsValidUnder state.records message signature
   -- and so is each that is handed out, whatever comes
   pub handed : (limit : ℕ) (world : World) (events : List Event) (x : Handed)
-      → AreSized world.state.records → world.handed ≡ [] → AllEvents events
+      → AreWellFormed world.state.records → world.handed ≡ [] → AllEvents events
       → Contains (run limit world events).handed x → IsValidUnder world.state.records x.message x.signature

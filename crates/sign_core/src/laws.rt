@@ -13,7 +13,7 @@ ghost use Rattle.state_file.specs.Laws.{IsCurrent, IsLegal, bottom_of, identifie
 ghost use Rattle.sign_core.specs.declared.key.AnyPublic.{AnyPublic};
 ghost use Rattle.sign_core.specs.Records.{IsNext, binding_in, current, deepest, first_illegal, free_at};
 ghost use Rattle.sign_core.specs.Records.{has_identifier, key_in, next_in};
-ghost use Rattle.sign_core.specs.Once.{CutLaw, IsBoundTo, LastingLaw, OnceLaw, StopLaw, Verifies};
+ghost use Rattle.sign_core.specs.Once.{CutLaw, IsBoundTo, LastingLaw, OnceLaw, SoundLaw, StopLaw, Verifies};
 ghost use Rattle.sign_core.specs.Opened.{OpenedLaw};
 ghost use Rattle.sign_core.specs.Textbook.{AllHaveSizes, AreSound, damaged_in, public_in, signature_at, tree_before};
 
@@ -88,6 +88,14 @@ pub fn textbook_laws()
 /// one digest are one to it.
 pub fn once_law()
     ensures once { OnceLaw }
+{}
+
+/// Each event leaves sound records: those of a key whose roots and digests are what the recorded secrets make.
+///
+/// A create where no record stands leaves such records, or none, and every event after it leaves them so. Over them no
+/// request is answered that a record is damaged, and no opening that the records aren't legal (`once_law`).
+pub fn sound_law()
+    ensures sound { SoundLaw }
 {}
 
 /// What holds over any legal records whose parts have their sizes, whoever wrote them.
