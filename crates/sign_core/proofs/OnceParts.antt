@@ -1,7 +1,7 @@
 -- What the law says of a world follows from what every event keeps.
 use Rattle.std.proofs.Common.{◌≡◌, ◌≢◌, ◌∙◌, ◌↔◌, refl, sym, ap, subst, ℕ, ◌+◌, ◌-◌, ◌≤◌, ◌⊎◌, inl, inr, Bool, true, false, List, [], ◌∷◌, ◌++◌}
 use Rattle.std.proofs.Common.{length, Option, Some, None, Ok, Err, arith}
-use Rattle.std.specs.Prelude.{Contains, if◌then◌else◌, nat_lt, not}
+use Rattle.std.specs.Prelude.{Contains, if◌then◌else◌, nat_le, nat_lt, not}
 use Rattle.std.specs.Cmp.Lexicographic.{bytes_decides}
 use Rattle.std.proofs.lemmas.Bool.{le-ltb}
 use Rattle.std.proofs.lemmas.List.Elements.{Contains-push}
@@ -10,25 +10,27 @@ use Rattle.state_file.specs.Laws.{bottom_of}
 use Rattle.state_file.specs.declared.record.Bound.{Bound}
 use Rattle.state_file.specs.declared.record.Key.{Key}
 use Rattle.state_file.specs.declared.record.Record.{Record}
-use Rattle.state_file.specs.declared.record.Record.TheVariants.{Key as KeyRecord}
+use Rattle.state_file.specs.declared.record.Record.TheVariants.{Retire}
 use Rattle.state_file.specs.declared.record.Secret.{Secret}
 use Rattle.sign_core.specs.declared.key.AnyPublic.{AnyPublic}
 use Rattle.sign_core.specs.declared.fault.SignFault.TheVariants.{Changed, Damaged, Exhausted, Illegal, LedgerFull, OutOfMemory, Stopped, StoreFailed}
 use Rattle.sign_core.specs.declared.fault.SignFault.TheVariants.{Moved as MovedAway}
-use Rattle.sign_core.specs.Records.{are_same, binding_in, deepest, first_illegal, has_moved, key_in, wanted_count}
-use Rattle.sign_core.specs.Once.{AreComplete, CanStopOpening, IsBoundTo, IsOnce}
-use Rattle.sign_core.specs.World.{Chance, Creation, Handed, Opening, Outcome, State, World, acked, after, answered, bound_anew, bound_sound}
-use Rattle.sign_core.specs.World.{created, handed_with, new_key, open_on, opened}
+use Rattle.sign_core.specs.Records.{are_same, binding_in, deepest, first_illegal, has_moved, key_in, leaves_of_current, next_at, wanted_count}
+use Rattle.sign_core.specs.Once.{AreComplete, BeginsKey, CanStopOpening, IsBoundTo, IsOnce, Reopens}
+use Rattle.sign_core.specs.World.{Chance, Creation, Handed, Opening, Fate, Outcome, State, World, acked, after, answered, appended, bound_anew, bound_sound, cut_new, cut_old, no_memory}
+use Rattle.sign_core.specs.World.{retired_under}
+use Rattle.sign_core.specs.World.{handed_with, new_key, open_on, opened}
 use Rattle.sign_core.specs.World.{opened_by, opened_on, published, reading, refused, repeated, repeated_sound, request, requested, requested_of}
 use Rattle.sign_core.specs.World.{requested_under, secret_from}
 use Rattle.sign_core.specs.Textbook.{AreSound, damaged_in, digest_at, public_in, signature_at, tree_before}
 use Rattle.sign_core.proofs.Illegal.{none_from_legal}
+use Rattle.sign_core.proofs.Opened.{reopens}
 use Rattle.sign_core.proofs.Valid.{undamaged}
 use Rattle.sign_core.proofs.Ends.{Ends, IsDamaged, ended_anew, ended_request}
 use Rattle.sign_core.proofs.Fresh.{IsFine, fine_fulfilled, randomizer_drawn}
 use Rattle.sign_core.proofs.OnceKept.{IsKept, sound_with}
 use Rattle.sign_core.proofs.OneLeaf.{handed_valid, one_digest, one_name, one_signature}
-use Rattle.sign_core.proofs.Sizes.{key_has_sizes, public_made, spec_public, trees_made}
+use Rattle.sign_core.proofs.Sizes.{key_has_sizes, spec_public, trees_made}
 
 -- ---- sound records
 
@@ -203,8 +205,9 @@ handed_out limit world name message signature chance given answer =
 
 pub begins_key : (state : State) (spec : Spec) (secret : Secret) (chance : Creation) (public : AnyPublic) → state.records ≡ [] → chance.failed_load ≡ None
     → secret_from spec chance.fields ≡ Some secret → chance.has_room ≡ true → chance.fate ≡ acked → public_in (new_key secret) ≡ Some public
-    → (created state spec chance).state ≡ open_on (KeyRecord (new_key secret) ∷ [])
-begins_key state spec secret chance public empty loaded drawn room fate is = rw (loaded, empty, drawn, room, fate, is) refl
+    → BeginsKey state spec chance (new_key secret)
+begins_key state spec secret chance public empty loaded drawn room fate is =
+    record { public = public; is_public = is; begins = rw (loaded, empty, drawn, room, fate, is) refl }
 
 none_illegal_in : (records : List Record) → (records ≡ []) ⊎ AreSound records → first_illegal records ≡ None
 none_illegal_in records (inl empty) = ap first_illegal empty
@@ -233,12 +236,40 @@ opens_legal state handed chance slot kept can =
     subst (λ illegal. (opened_by state chance illegal).answer ≢ Err (Illegal slot)) (sym (none_illegal_in state.records kept.ground))
     (legal_opened state chance slot can)
 
-pub opens_again : (state : State) (handed : List Handed) (key : Key) → IsKept state.records handed → key_in state.records ≡ Some key
-    → (opened state None).state ≡ open_on state.records
+pub opens_again : (state : State) (handed : List Handed) (key : Key) → IsKept state.records handed → key_in state.records ≡ Some key → Reopens state
 opens_again state handed key kept keyed =
-    let (public, is) = public_made key.secret key.root (key_has_sizes state.records key kept.sizes keyed) in
-    ap (λ illegal. (opened_by state None illegal).state) (none_illegal_in state.records kept.ground)
-    ∙ ap (λ found. (opened_on state.records found).state) keyed ∙ ap (λ p. (published state.records p).state) is
+    let sound = sound_with state.records handed key kept keyed in
+    reopens state (record { legal = sound.legal; sizes = kept.sizes })
+
+-- ---- retirings
+
+-- its append was cut off
+abbrev Shuts : Outcome (Unit {0}) → Type 0
+Shuts outcome = outcome.answer ≡ Err StoreFailed → outcome.state.is_open ≡ false
+
+shuts_choice : (test : Bool) (x y : Outcome (Unit {0})) → Shuts x → Shuts y → Shuts (if test then x else y)
+shuts_choice true x y first second = first
+shuts_choice false x y first second = second
+
+shuts_append : (state : State) (entry : Record) (fate : Fate) → Shuts (appended state entry fate (λ records. answered (open_on records) tt))
+shuts_append state entry acked is = absurd (cc)
+shuts_append state entry cut_old is = refl
+shuts_append state entry cut_new is = refl
+shuts_append state entry no_memory is = absurd (cc)
+
+pub retiring_shuts : (limit : ℕ) (state : State) (upto : ℕ) (fate : Fate) (found : Option Key) → Shuts (retired_under limit state upto fate found)
+retiring_shuts limit state upto fate None = λ is. absurd (cc)
+retiring_shuts limit state upto fate (Some key) =
+    shuts_choice (not state.is_open) _ _ (λ is. absurd (cc))
+    (shuts_choice (has_moved state.records) _ _ (λ is. absurd (cc))
+    (shuts_choice (nat_lt (leaves_of_current key.secret state.records (bottom_of key.secret)) upto) _ _ (λ is. absurd (cc))
+    (shuts_choice (nat_le upto (next_at key.secret state.records (bottom_of key.secret))) _ _ (λ is. absurd (cc))
+    (shuts_choice (nat_lt limit (length state.records + 1)) _ _ (λ is. absurd (cc)) (shuts_append state (Retire upto) fate)))))
+
+pub closed_retires : (limit : ℕ) (state : State) (upto : ℕ) (fate : Fate) (found : Option Key) → state.is_open ≡ false
+    → retired_under limit state upto fate found ≡ refused state Stopped
+closed_retires limit state upto fate (Some key) closed = rw closed refl
+closed_retires limit state upto fate None closed = refl
 
 -- ---- all parts of the law
 
@@ -262,5 +293,7 @@ once limit world kept = record {
   legal = λ chance slot. opens_legal world.state world.handed chance slot kept;
   reopens = λ key. opens_again world.state world.handed key kept;
   stops = λ name chance. failed_closes limit world.state name chance;
+  stops_retiring = λ upto fate. retiring_shuts limit world.state upto fate (key_in world.state.records);
   closed = λ name chance. closed_under limit world.state name chance (key_in world.state.records);
+  closed_retiring = λ upto fate. closed_retires limit world.state upto fate (key_in world.state.records);
 }

@@ -19,8 +19,8 @@ use Rattle.sign_core.specs.declared.fault.SignFault.TheVariants.{RandomRepeated,
 use Rattle.sign_core.specs.declared.fault.SignFault.TheVariants.{Moved as MovedAway}
 use Rattle.sign_core.specs.Records.{are_same, binding_in, deepest, first_illegal, free_at, has_identifier, has_moved, has_randomizer, key_in}
 use Rattle.sign_core.specs.Records.{leaves_of_current, next_at, wanted_count}
-use Rattle.sign_core.specs.Once.{AllEvents, AreDraws, AreFields, IsBoundTo, IsEvent, IsTreeDraw, Verifies, public_of_key, tree_sizes}
-use Rattle.sign_core.specs.Opened.{AreWellFormed, IsValidUnder, OpenedLaw, Reopens}
+use Rattle.sign_core.specs.Once.{AllEvents, AreDraws, AreFields, IsBoundTo, IsEvent, IsTreeDraw, Reopens, Verifies, public_of_key, tree_sizes}
+use Rattle.sign_core.specs.Opened.{AreWellFormed, IsValidUnder, OpenedLaw}
 use Rattle.sign_core.specs.World.{Chance, Creation, Draw, Event, Fate, Handed, Opening, Outcome, State, World, acked, after, appended}
 use Rattle.sign_core.specs.World.{begun, bound_anew, bound_sound, bound_with, create, created_after, cut_new, cut_old, drawing, extended, extended_by, extended_with}
 use Rattle.sign_core.specs.World.{first_draw, fulfilled, handed_with, later_draws, new_bound, no_memory, open_on, opened_by, opened_on, published}

@@ -2,7 +2,7 @@
 use Rattle.std.specs.Prelude.{◌≡◌, ◌≢◌, ◌⊎◌, ◌↔◌, ℕ, ◌+◌, ◌-◌, ◌≤◌, true, false, List, [], ◌∷◌, ◌++◌, Contains}
 use Rattle.std.specs.Prelude.{length, map}
 use Rattle.std.specs.Prelude.{Option, Some, None, Ok, Err, IsOk, if◌then◌else◌, slice_get, take}
-use Rattle.std.specs.List.{AllByRecursion}
+use Rattle.std.specs.List.{AllByRecursion, concat}
 use Rattle.std.specs.Option.{option_to_list}
 use Rattle.typecodes.specs.declared.spec.Spec.{Spec}
 use Rattle.typecodes.specs.declared.spec.Spec.TheVariants.{Lms, Hss, Xmss}
@@ -26,7 +26,7 @@ use Rattle.sign_core.specs.Records.{binding_in, deepest, has_moved, key_in, want
 use Rattle.sign_core.specs.Uses.{LeafUse, MakesUses}
 use Rattle.sign_core.specs.World.{Chance, Creation, Draw, Event, Fate, Handed, Opening, Outcome, State, World}
 use Rattle.sign_core.specs.World.{acked, cut_new, cut_old, no_memory, create, reopen, request, retire, stop}
-use Rattle.sign_core.specs.World.{after, answered, beginning, closed_on, created, new_key, open_on}
+use Rattle.sign_core.specs.World.{after, answered, beginning, closed_on, created, drawing, new_key, open_on}
 use Rattle.sign_core.specs.World.{opened, reading, refused}
 use Rattle.sign_core.specs.World.{requested, retired, run, secret_from}
 use Rattle.sign_core.specs.Textbook.{AllHaveSizes, AreSound, digest_at, public_in, signature_at}
@@ -146,6 +146,21 @@ pub record IsOneLeaf (u v : LeafUse) : Type 0 where
 abbrev pub IsLast : LeafUse → List LeafUse → Type 0
 IsLast u uses = (above : List LeafUse) × (uses ≡ above ++ u ∷ [])
 
+-- ---- creates and openings
+
+-- A create begins this key: its record is the only one, the signer is open on it, and the public key is answered.
+pub record BeginsKey (state : State) (spec : Spec) (chance : Creation) (key : Key) : Type 0 where
+  pub public : AnyPublic
+  pub is_public : public_in key ≡ Some public
+  pub begins : created state spec chance
+      ≡ drawing (concat chance.fields) (answered (open_on (KeyRecord key ∷ [])) public)
+
+-- An opening where nothing fails opens the signer on the records, and answers the public key of record 0.
+pub record Reopens (state : State) : Type 0 where
+  pub public : AnyPublic
+  pub keyed : public_of_key (key_in state.records) ≡ Some public
+  pub opens : opened state None ≡ answered (open_on state.records) public
+
 -- ---- the law
 
 -- What holds in a world, whatever came before.
@@ -183,11 +198,11 @@ pub record IsOnce (limit : ℕ) (world : World) : Type 0 where
       → requested limit world.state name chance
       ≡ reading (if chance.has_room then answered world.state (signature_at key world.state.records k bound)
       else refused world.state OutOfMemory)
-  -- a create where no record stands begins a key, where nothing fails
+  -- a create where no record stands begins a key and answers its public key, where nothing fails
   pub begins : (spec : Spec) (secret : Secret) (chance : Creation) → IsSpec spec → world.state.records ≡ []
       → chance.failed_load ≡ None → secret_from spec chance.fields ≡ Some secret → chance.has_room ≡ true
       → chance.fate ≡ acked
-      → (created world.state spec chance).state ≡ open_on (KeyRecord (new_key secret) ∷ [])
+      → BeginsKey world.state spec chance (new_key secret)
   -- a new name is signed where a leaf is free, the store takes the records that are wanted and nothing fails, but for
   -- an I
   -- that was drawn before
@@ -212,16 +227,22 @@ pub record IsOnce (limit : ℕ) (world : World) : Type 0 where
   -- and no opening that the records aren't legal
   pub legal : (chance : Opening) (slot : ℕ) → CanStopOpening chance
       → (opened world.state chance).answer ≢ Err (Illegal slot)
-  -- an opening where nothing fails opens the signer on the records, where there is a key
-  pub reopens : (key : Key) → key_in world.state.records ≡ Some key
-      → (opened world.state None).state ≡ open_on world.state.records
-  -- a request or a retiring whose append the store fails closes the signer
+  -- an opening where nothing fails opens the signer on the records and answers the public key, where there is a key
+  pub reopens : (key : Key) → key_in world.state.records ≡ Some key → Reopens world.state
+  -- a request whose append the store fails closes the signer
   pub stops : (name : List ℕ) (chance : Chance)
       → (requested limit world.state name chance).answer ≡ Err StoreFailed
       → (requested limit world.state name chance).state.is_open ≡ false
-  -- and a closed one hands nothing out and changes nothing
+  -- and so does a retiring
+  pub stops_retiring : (upto : ℕ) (fate : Fate)
+      → (retired limit world.state upto fate).answer ≡ Err StoreFailed
+      → (retired limit world.state upto fate).state.is_open ≡ false
+  -- a closed signer hands nothing out and changes nothing
   pub closed : (name : List ℕ) (chance : Chance) → world.state.is_open ≡ false
       → requested limit world.state name chance ≡ refused world.state Stopped
+  -- and retires nothing
+  pub closed_retiring : (upto : ℕ) (fate : Fate) → world.state.is_open ≡ false
+      → retired limit world.state upto fate ≡ refused world.state Stopped
 
 -- it holds after every list of events from the beginning
 abbrev pub OnceLaw : Type 0

@@ -1,12 +1,12 @@
 -- What holds of any legal records whose parts have their sizes, whoever wrote them.
-use Rattle.std.specs.Prelude.{◌≡◌, ℕ, List, [], Contains, Some, None, Ok}
+use Rattle.std.specs.Prelude.{◌≡◌, ℕ, List, [], Contains, Some, Ok}
 use Rattle.state_file.specs.Laws.{IsLegal}
 use Rattle.state_file.specs.declared.record.Record.{Record}
 use Rattle.sign_core.specs.declared.key.AnyPublic.{AnyPublic}
-use Rattle.sign_core.specs.Once.{AllEvents, AreDraws, IsEvent, Verifies, public_of_key}
+use Rattle.sign_core.specs.Once.{AllEvents, AreDraws, IsEvent, Reopens, Verifies, public_of_key}
 use Rattle.sign_core.specs.Records.{key_in}
 use Rattle.sign_core.specs.Textbook.{AllHaveSizes}
-use Rattle.sign_core.specs.World.{Chance, Event, Handed, State, World, after, answered, open_on, opened, requested, run}
+use Rattle.sign_core.specs.World.{Chance, Event, Handed, State, World, after, requested, run}
 
 -- They are legal, and each part has its size in bytes.
 pub record AreWellFormed (records : List Record) : Type 0 where
@@ -18,12 +18,6 @@ pub record IsValidUnder (records : List Record) (message signature : List ℕ) :
   pub public : AnyPublic
   pub keyed : public_of_key (key_in records) ≡ Some public
   pub verifies : Verifies public message signature
-
--- An opening where nothing fails opens the signer on the records, and answers the public key of record 0.
-pub record Reopens (state : State) : Type 0 where
-  pub public : AnyPublic
-  pub keyed : public_of_key (key_in state.records) ≡ Some public
-  pub opens : opened state None ≡ answered (open_on state.records) public
 
 -- What holds over them.
 pub record OpenedLaw : Type 0 where
