@@ -12,6 +12,7 @@ pub mod Events
 pub mod OneLeaf
 pub mod Ends
 pub mod Fresh
+pub mod DrawnAgain
 pub mod Chains
 pub mod Textbook
 pub mod Keys
