@@ -66,7 +66,7 @@ after_published records handed (Some public) kept = kept
 after_published records handed None kept = kept
 
 -- a list that isn't as long as 1 is empty
-none_there : (records : List Record) → nat_le 1 (length records) ≡ false → records ≡ []
+pub none_there : (records : List Record) → nat_le 1 (length records) ≡ false → records ≡ []
 none_there [] short = refl
 none_there (first ∷ rest) short = absurd (omega (arith, leb-false 1 (length (first ∷ rest)) short))
 
@@ -112,7 +112,7 @@ retire_there : (found : Option ℕ) (secret : Secret) (records : List Record) (l
 retire_there (Some tree) secret records leaves upto inside beyond = (refl, inside)
 retire_there None secret records leaves upto inside beyond = absurd (omega (arith, inside, beyond))
 
-retire_can : (key : Key) (records : List Record) (upto : ℕ) → has_moved records ≡ false
+pub retire_can : (key : Key) (records : List Record) (upto : ℕ) → has_moved records ≡ false
     → nat_lt (leaves_of_current key.secret records (bottom_of key.secret)) upto ≡ false
     → nat_le upto (next_at key.secret records (bottom_of key.secret)) ≡ false → can_follow (Some key) records (Retire upto) ≡ true
 retire_can key records upto stays inside beyond =
@@ -137,7 +137,7 @@ after_retired limit state handed upto fate (Some key) kept keyed =
 
 -- ---- runs
 
-kept_after : (limit : ℕ) (world : World) (event : Event) → IsEvent event → IsKept world.state.records world.handed
+pub kept_after : (limit : ℕ) (world : World) (event : Event) → IsEvent event → IsKept world.state.records world.handed
     → IsKept (after limit world event).state.records (after limit world event).handed
 kept_after limit world (create spec chance) can kept = after_created chance.failed_load world.state world.handed spec chance can.0 can.2 kept
 kept_after limit world (reopen chance) can kept = after_opened world.state world.handed chance (first_illegal world.state.records) kept

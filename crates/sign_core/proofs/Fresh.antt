@@ -1,76 +1,199 @@
--- A request for a new name is answered, where a leaf is free and nothing fails, but for an I that was drawn before.
-use Rattle.std.proofs.Common.{◌≡◌, refl, ℕ, zero, suc, ◌-◌, ◌<◌, ◌⊎◌, inl, inr, List, [], ◌∷◌, ◌++◌, length, Option, Some, None, Err, IsOk, arith}
-use Rattle.std.specs.Prelude.{slice_get}
+-- A new name is signed where a leaf is free and nothing fails, but for an I that was drawn before.
+use Rattle.std.proofs.Common.{◌≡◌, ◌∙◌, refl, sym, ap, subst, ℕ, zero, suc, ◌+◌, ◌-◌, ◌<◌, ◌≤◌, ◌⊎◌, inl, inr, Bool, true, false, List, [], ◌∷◌, ◌++◌}
+use Rattle.std.proofs.Common.{length, map, take, Option, Some, Ok, Err, append_assoc, append-nil, arith}
+use Rattle.std.specs.Prelude.{if◌then◌else◌, slice_get}
+use Rattle.std.specs.List.{concat}
 use Rattle.state_file.specs.Laws.{bottom_of}
+use Rattle.state_file.specs.declared.record.Bound.{Bound}
 use Rattle.state_file.specs.declared.record.Key.{Key}
 use Rattle.state_file.specs.declared.record.Record.{Record}
+use Rattle.state_file.specs.declared.record.Record.TheVariants.{Bound as BoundRecord}
 use Rattle.state_file.specs.declared.record.Secret.{Secret}
 use Rattle.state_file.specs.declared.record.Secret.TheVariants.{Lms, Hss, Xmss}
 use Rattle.sign_core.specs.declared.fault.SignFault.TheVariants.{RandomRepeated}
 use Rattle.sign_core.specs.Records.{has_identifier, next_at}
-use Rattle.sign_core.specs.Once.{IsComplete, randomizer_sizes, tree_sizes}
-use Rattle.sign_core.specs.World.{Chance, Draw, Fate, Outcome, State, acked, appended, bound_with, cut_new, cut_old, extended, extended_by}
-use Rattle.sign_core.specs.World.{extended_with, fulfilled}
-use Rattle.sign_core.specs.World.{no_memory, open_on, randomizer_from}
-use Rattle.sign_core.specs.Textbook.{Trees, trees_of}
-use Rattle.sign_core.proofs.OnceKept.{kept_choice}
+use Rattle.sign_core.specs.Once.{BeginsTree, IsComplete, randomizer_sizes, tree_sizes}
+use Rattle.sign_core.specs.World.{Chance, Draw, Fate, Outcome, acked, bound_with, drawing, extended, extended_with}
+use Rattle.sign_core.specs.World.{fulfilled, new_bound, open_on, randomizer_from, refused}
+use Rattle.sign_core.specs.Textbook.{Trees, digest_at, signature_at, trees_of}
+use Rattle.sign_core.proofs.Fulfilled.{extends_by, next_extend, whole_draw}
 
--- it is answered, or an I was drawn before
-abbrev pub IsFine : Outcome (List ℕ) → Type 0
-IsFine outcome = (outcome.answer ≡ Err RandomRepeated) ⊎ IsOk outcome.answer
+-- ---- what is drawn
 
-fine_append : (state : State) (entry : Record) (fate : Fate) (next : List Record → Outcome (List ℕ)) → fate ≡ acked
-    → ((records : List Record) → IsFine (next records))
-    → IsFine (appended state entry fate next)
-fine_append state entry acked next is later = later (state.records ++ entry ∷ [])
-fine_append state entry cut_old next is later = absurd (cc)
-fine_append state entry cut_new next is later = absurd (cc)
-fine_append state entry no_memory next is later = absurd (cc)
+-- a draw of which nothing is missing
+whole : (draw : Draw) → IsComplete tree_sizes draw
+    → (identifier : List ℕ) × (seed : List ℕ) × (randomizer : List ℕ) × (draw ≡ whole_draw identifier seed randomizer acked)
+whole draw is =
+    let (identifier, seed, randomizer, fields) = three draw.fields is.fields in
+    (identifier, seed, randomizer, λ i. record { fields = fields i; fate = is.acknowledged i })
+  where
+    three : (fields : List (List ℕ)) → length fields ≡ 3
+        → (identifier : List ℕ) × (seed : List ℕ) × (randomizer : List ℕ) × (fields ≡ identifier ∷ seed ∷ randomizer ∷ [])
+    three [] count = absurd (omega (arith, count))
+    three (a ∷ []) count = absurd (omega (arith, count))
+    three (a ∷ b ∷ []) count = absurd (omega (arith, count))
+    three (a ∷ b ∷ c ∷ []) count = (a, b, c, refl)
+    three (a ∷ b ∷ c ∷ d ∷ rest) count = absurd (omega (arith, count))
 
-fine_bound : (state : State) (key : Key) (name drawn message : List ℕ) (randomizer given : Option (List ℕ)) (fate : Fate) → randomizer ≡ Some drawn
-    → given ≡ Some message
-    → fate ≡ acked → IsFine (bound_with state key name randomizer given fate)
-fine_bound state key name drawn message None given fate is was acknowledged = absurd (cc)
-fine_bound state key name drawn message (Some randomizer) None fate is was acknowledged = absurd (cc)
-fine_bound state key name drawn message (Some randomizer) (Some read) fate is was acknowledged = fine_append state _ fate _ acknowledged (λ records. inr refl)
+-- all fields of some draws, one after the other
+abbrev pub bytes_of : List Draw → List ℕ
+bytes_of draws = concat (map (λ (draw : Draw). concat draw.fields) draws)
 
-fine_with : (state : State) (trees : Trees) (level leaf : ℕ) (identifier : List ℕ) (fields : List (List ℕ)) (fate : Fate)
-    (next : List Record → Outcome (List ℕ))
-    → length fields ≡ 2 → fate ≡ acked → ((records : List Record) → IsFine (next records))
-    → IsFine (extended_with state trees level leaf identifier fields fate next)
-fine_with state trees level leaf identifier [] fate next count is later = absurd (omega (arith, count))
-fine_with state trees level leaf identifier (seed ∷ []) fate next count is later = absurd (omega (arith, count))
-fine_with state trees level leaf identifier (seed ∷ randomizer ∷ []) fate next count is later = fine_append state _ fate next is later
-fine_with state trees level leaf identifier (seed ∷ randomizer ∷ more ∷ rest) fate next count is later = absurd (omega (arith, count))
+-- an I that stands in the records
+again_extended : (key : Key) (level : ℕ) (found : Option Trees) (trees : Trees) → found ≡ Some trees
+    → (records : List Record) (identifier seed randomizer : List ℕ)
+    → has_identifier records identifier ≡ true → (next : List Record → Outcome (List ℕ))
+    → (extended (open_on records) key level found (whole_draw identifier seed randomizer acked) next).answer ≡ Err RandomRepeated
+again_extended key level found trees is_trees records identifier seed randomizer there next =
+    ap (λ t. (extended (open_on records) key level t (whole_draw identifier seed randomizer acked) next).answer) is_trees
+    ∙ ap (λ b. (drawing identifier (if b then refused (open_on records) RandomRepeated
+    else extended_with (open_on records) trees level (next_at key.secret records (level - 1)) identifier (seed ∷ randomizer ∷ []) acked next)).answer) there
 
-fine_by : (state : State) (trees : Trees) (level leaf : ℕ) (fields : List (List ℕ)) (fate : Fate) (next : List Record → Outcome (List ℕ))
-    → length fields ≡ 3 → fate ≡ acked → ((records : List Record) → IsFine (next records)) → IsFine (extended_by state trees level leaf fields fate next)
-fine_by state trees level leaf [] fate next count is later = absurd (omega (arith, count))
-fine_by state trees level leaf (identifier ∷ fields) fate next count is later =
-    kept_choice IsFine (has_identifier state.records identifier) _ _ (λ there. inl refl)
-    (λ new. fine_with state trees level leaf identifier fields fate next (omega (arith, count)) is later)
+-- ---- what is left to do is done
 
-fine_extended : (state : State) (key : Key) (level : ℕ) (made : Trees) (trees : Option Trees) (draw : Draw) (next : List Record → Outcome (List ℕ))
-    → trees ≡ Some made
-    → IsComplete tree_sizes draw → ((records : List Record) → IsFine (next records)) → IsFine (extended state key level trees draw next)
-fine_extended state key level made None draw next are whole later = absurd (cc)
-fine_extended state key level made (Some trees) draw next are whole later =
-    fine_by state trees level (next_at key.secret state.records (level - 1)) draw.fields draw.fate next whole.fields whole.acknowledged later
+-- So many trees were begun, and the name was bound.
+pub record IsDone (key : Key) (name message : List ℕ) (chance : Chance) (below : ℕ) (draws : List Draw) (records : List Record) (outcome : Outcome (List ℕ))
+    : Type 0 where
+  pub trees : List Record
+  pub bound : Bound
+  pub count : length trees ≡ below
+  pub each : (i : ℕ) (entry : Record) (draw : Draw) → slice_get trees i ≡ Some entry → slice_get draws i ≡ Some draw
+      → BeginsTree key (records ++ take i trees) (bottom_of key.secret - below + i + 1) draw.fields entry
+  pub named : bound.name ≡ name
+  pub leaf : bound.leaf ≡ next_at key.secret (records ++ trees) (bottom_of key.secret)
+  pub randomizer : randomizer_from key.secret chance.bound.fields ≡ Some bound.randomizer
+  pub digest : bound.digest ≡ digest_at key (records ++ trees) (length (records ++ trees)) bound.leaf bound.randomizer message
+  pub state : outcome.state ≡ open_on (records ++ trees ++ BoundRecord bound ∷ [])
+  pub answer : outcome.answer ≡ Ok (signature_at key (records ++ trees ++ BoundRecord bound ∷ []) (length (records ++ trees)) bound)
+  pub drawn : outcome.drawn ≡ bytes_of draws ++ concat chance.bound.fields
 
-pub fine_fulfilled : (key : Key) (name drawn message : List ℕ) (chance : Chance) (below : ℕ) (draws : List Draw) (records : List Record)
-    → chance.given ≡ Some message
+-- it is done, or an I was drawn before
+abbrev pub IsFine : Key → (name message : List ℕ) → Chance → (below : ℕ) → List Draw → List Record → Outcome (List ℕ) → Type 0
+IsFine key name message chance below draws records outcome =
+    (outcome.answer ≡ Err RandomRepeated) ⊎ IsDone key name message chance below draws records outcome
+
+-- the binding alone
+bound_done : (key : Key) (name message drawn : List ℕ) (chance : Chance) (records : List Record) → chance.given ≡ Some message
     → randomizer_from key.secret chance.bound.fields ≡ Some drawn → chance.bound.fate ≡ acked
-    → (0 < below → (trees : Trees) × (trees_of key.secret ≡ Some trees))
+    → IsDone key name message chance 0 [] records (fulfilled key name chance 0 [] records)
+bound_done key name message drawn chance records given is acknowledged =
+    let bound = new_bound key records name (next_at key.secret records (bottom_of key.secret)) drawn message in
+    let outcome = fulfilled key name chance 0 [] records in
+    let none : records ++ [] ≡ records = append-nil records in
+    let came : outcome ≡ drawing (concat chance.bound.fields) (bound_with (open_on records) key name (Some drawn) (Some message) acked) =
+    ap (λ (t : Option (List ℕ) × Option (List ℕ) × Fate). drawing (concat chance.bound.fields) (bound_with (open_on records) key name t.0 t.1 t.2))
+    (λ i. (is i, given i, acknowledged i)) in
+    record {
+      trees = [];
+      bound = bound;
+      count = refl;
+      each = λ i entry draw at. absurd (cc);
+      named = refl;
+      leaf = ap (λ all. next_at key.secret all (bottom_of key.secret)) (sym none);
+      randomizer = is;
+      digest = ap (λ all. digest_at key all (length all) bound.leaf drawn message) (sym none);
+      state = ap (λ (o : Outcome (List ℕ)). o.state) came ∙ ap (λ all. open_on (all ++ BoundRecord bound ∷ [])) (sym none);
+      answer = ap (λ (o : Outcome (List ℕ)). o.answer) came
+          ∙ ap (λ all. Ok (signature_at key (all ++ BoundRecord bound ∷ []) (length all) bound)) (sym none);
+      drawn = ap (λ (o : Outcome (List ℕ)). o.drawn) came ∙ append-nil (concat chance.bound.fields);
+    }
+
+extend_in : (key : Key) (trees : Trees) (records : List Record) (level : ℕ) (identifier seed randomizer : List ℕ)
+    → has_identifier records identifier ≡ false
+    → BeginsTree key records level (identifier ∷ seed ∷ randomizer ∷ []) (next_extend key trees records level identifier seed randomizer)
+extend_in key trees records level identifier seed randomizer new =
+    record { extend = _; is = refl; of_level = refl; leaf = refl; drawn = refl; new = new }
+
+begins_along : (key : Key) (before before' : List Record) (level level' : ℕ) (fields fields' : List (List ℕ)) (entry entry' : Record) → before ≡ before'
+    → level ≡ level' → fields ≡ fields' → entry ≡ entry' → BeginsTree key before level fields entry → BeginsTree key before' level' fields' entry'
+begins_along key before before' level level' fields fields' entry entry' a b c d =
+    subst (λ (t : List Record × ℕ × List (List ℕ) × Record). BeginsTree key t.0 t.1 t.2 t.3) (λ i. (a i, b i, c i, d i))
+
+-- the first tree, and those after it
+each_more : (key : Key) (below : ℕ) (records : List Record) (entry : Record) (trees : List Record) (draw : Draw) (draws : List Draw)
+    → suc below ≤ bottom_of key.secret → BeginsTree key records (bottom_of key.secret - below) draw.fields entry
+    → ((i : ℕ) (x : Record) (other : Draw) → slice_get trees i ≡ Some x → slice_get draws i ≡ Some other
+    → BeginsTree key (records ++ entry ∷ [] ++ take i trees) (bottom_of key.secret - below + i + 1) other.fields x)
+    → (i : ℕ) (x : Record) (other : Draw) → slice_get (entry ∷ trees) i ≡ Some x → slice_get (draw ∷ draws) i ≡ Some other
+    → BeginsTree key (records ++ take i (entry ∷ trees)) (bottom_of key.secret - suc below + i + 1) other.fields x
+each_more key below records entry trees draw draws inside first later zero x other at is =
+    let same : entry ≡ x = cc in
+    let drawn : draw ≡ other = cc in
+    begins_along key records (records ++ []) (bottom_of key.secret - below) (bottom_of key.secret - suc below + 0 + 1) draw.fields other.fields entry x
+    (sym (append-nil records)) (omega (arith, inside)) (ap (λ (d : Draw). d.fields) drawn) same first
+each_more key below records entry trees draw draws inside first later (suc i) x other at is =
+    begins_along key _ _ _ _ other.fields other.fields x x (append_assoc records (entry ∷ []) (take i trees)) (omega (arith, inside)) refl refl
+    (later i x other at is)
+
+-- one tree more before
+tree_done : (key : Key) (trees : Trees) (name message : List ℕ) (chance : Chance) (below : ℕ) (draws : List Draw) (records : List Record)
+    (identifier seed randomizer : List ℕ) (outcome : Outcome (List ℕ)) → suc below ≤ bottom_of key.secret → has_identifier records identifier ≡ false
+    → (let entry = next_extend key trees records (bottom_of key.secret - below) identifier seed randomizer in
+    IsDone key name message chance below draws (records ++ entry ∷ []) outcome
+    → IsDone key name message chance (suc below) (whole_draw identifier seed randomizer acked ∷ draws) records
+    (drawing identifier (drawing (seed ++ randomizer) outcome)))
+tree_done key trees name message chance below draws records identifier seed randomizer outcome inside new done =
+    let level = bottom_of key.secret - below in
+    let entry = next_extend key trees records level identifier seed randomizer in
+    let first = extend_in key trees records level identifier seed randomizer new in
+    let joined : records ++ entry ∷ [] ++ done.trees ≡ records ++ (entry ∷ done.trees) = append_assoc records (entry ∷ []) done.trees in
+    let fields : List ℕ = identifier ++ (seed ++ (randomizer ++ [])) in
+    record {
+      trees = entry ∷ done.trees;
+      bound = done.bound;
+      count = ap suc done.count;
+      each = each_more key below records entry done.trees (whole_draw identifier seed randomizer acked) draws inside first done.each;
+      named = done.named;
+      leaf = done.leaf ∙ ap (λ all. next_at key.secret all (bottom_of key.secret)) joined;
+      randomizer = done.randomizer;
+      digest = done.digest ∙ ap (λ all. digest_at key all (length all) done.bound.leaf done.bound.randomizer message) joined;
+      state = done.state ∙ ap (λ all. open_on (all ++ BoundRecord done.bound ∷ [])) joined;
+      answer = done.answer ∙ ap (λ all. Ok (signature_at key (all ++ BoundRecord done.bound ∷ []) (length all) done.bound)) joined;
+      drawn = ap (λ bytes. identifier ++ ((seed ++ randomizer) ++ bytes)) done.drawn
+          ∙ ap (λ bytes. identifier ++ bytes) (append_assoc seed randomizer _)
+          ∙ ap (λ bytes. identifier ++ (seed ++ (bytes ++ (bytes_of draws ++ concat chance.bound.fields)))) (sym (append-nil randomizer))
+          ∙ ap (λ bytes. identifier ++ bytes) (sym (append_assoc seed (randomizer ++ []) _))
+          ∙ sym (append_assoc identifier (seed ++ (randomizer ++ [])) _)
+          ∙ sym (append_assoc fields (bytes_of draws) (concat chance.bound.fields));
+    }
+
+-- all that is wanted
+pub fine_fulfilled : (key : Key) (name message drawn : List ℕ) (chance : Chance) (below : ℕ) (draws : List Draw) (records : List Record)
+    → chance.given ≡ Some message → randomizer_from key.secret chance.bound.fields ≡ Some drawn → chance.bound.fate ≡ acked
+    → below ≤ bottom_of key.secret → (0 < below → (trees : Trees) × (trees_of key.secret ≡ Some trees))
     → length draws ≡ below → ((i : ℕ) (draw : Draw) → slice_get draws i ≡ Some draw → IsComplete tree_sizes draw)
-    → IsFine (fulfilled key name chance below draws records)
-fine_fulfilled key name drawn message chance zero draws records given is acknowledged trees count each =
-    fine_bound (open_on records) key name drawn message (randomizer_from key.secret chance.bound.fields) chance.given chance.bound.fate is given acknowledged
-fine_fulfilled key name drawn message chance (suc below) [] records given is acknowledged trees count each = absurd (omega (arith, count))
-fine_fulfilled key name drawn message chance (suc below) (draw ∷ draws) records given is acknowledged trees count each =
+    → IsFine key name message chance below draws records (fulfilled key name chance below draws records)
+fine_fulfilled key name message drawn chance zero [] records given is acknowledged inside trees count each =
+    inr (bound_done key name message drawn chance records given is acknowledged)
+fine_fulfilled key name message drawn chance zero (draw ∷ draws) records given is acknowledged inside trees count each = absurd (omega (arith, count))
+fine_fulfilled key name message drawn chance (suc below) [] records given is acknowledged inside trees count each = absurd (omega (arith, count))
+fine_fulfilled key name message drawn chance (suc below) (draw ∷ draws) records given is acknowledged inside trees count each =
     let (made, are) = trees (omega arith) in
-    fine_extended (open_on records) key (bottom_of key.secret - below) made (trees_of key.secret) draw _ are (each 0 draw refl)
-    (λ all. fine_fulfilled key name drawn message chance below draws all given is acknowledged (λ some. (made, are)) (omega (arith, count))
-    (λ i x at. each (suc i) x at))
+    let (identifier, seed, randomizer, same) = whole draw (each 0 draw refl) in
+    let level = bottom_of key.secret - below in
+    let first = whole_draw identifier seed randomizer acked in
+    let next = fulfilled key name chance below draws in
+    let entry = next_extend key made records level identifier seed randomizer in
+    let done : (d : Draw) → Outcome (List ℕ) = λ d. extended (open_on records) key level (trees_of key.secret) d next in
+    subst (λ d. IsFine key name message chance (suc below) (d ∷ draws) records (done d)) (sym same)
+    (elim (cases_eq_bool (has_identifier records identifier)) as (λ u. IsFine key name message chance (suc below) (first ∷ draws) records (done first)) [
+      | inl there ↦ inl (again_extended key level (trees_of key.secret) made are records identifier seed randomizer there next)
+      | inr new ↦
+          let came = extends_by key level (trees_of key.secret) made are records identifier seed randomizer acked new next in
+          let rest = fine_fulfilled key name message drawn chance below draws (records ++ entry ∷ []) given is acknowledged (omega (arith, inside))
+          (λ some. (made, are)) (omega (arith, count)) (λ i x at. each (suc i) x at) in
+          subst (IsFine key name message chance (suc below) (first ∷ draws) records) (sym came)
+          (elim rest as (λ u. IsFine key name message chance (suc below) (first ∷ draws) records
+          (drawing identifier (drawing (seed ++ randomizer) (next (records ++ entry ∷ []))))) [
+            | inl again ↦ inl again
+            | inr finished ↦
+                inr (tree_done key made name message chance below draws records identifier seed randomizer (next (records ++ entry ∷ [])) inside new finished)
+          ])
+    ])
+  where
+    cases_eq_bool : (test : Bool) → (test ≡ true) ⊎ (test ≡ false)
+    cases_eq_bool true = inl refl
+    cases_eq_bool false = inr refl
 
 -- C is drawn where nothing is missing
 pub randomizer_drawn : (secret : Secret) (fields : List (List ℕ)) → length fields ≡ length (randomizer_sizes secret)

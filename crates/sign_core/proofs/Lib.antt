@@ -12,6 +12,7 @@ pub mod Events
 pub mod OneLeaf
 pub mod Ends
 pub mod Fresh
+pub mod DrawnAgain
 pub mod Chains
 pub mod Textbook
 pub mod Keys
@@ -30,6 +31,9 @@ pub mod Kept
 pub mod Fulfilled
 pub mod TreeParts
 pub mod Stops
+pub mod SoundChains
+pub mod Opened
+pub mod Sound
 pub mod LedgerReading
 pub mod LedgerSteps
 pub mod LedgerPushes

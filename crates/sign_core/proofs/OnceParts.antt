@@ -1,34 +1,40 @@
 -- What the law says of a world follows from what every event keeps.
 use Rattle.std.proofs.Common.{◌≡◌, ◌≢◌, ◌∙◌, ◌↔◌, refl, sym, ap, subst, ℕ, ◌+◌, ◌-◌, ◌≤◌, ◌⊎◌, inl, inr, Bool, true, false, List, [], ◌∷◌, ◌++◌}
-use Rattle.std.proofs.Common.{length, Option, Some, None, Ok, Err, arith}
-use Rattle.std.specs.Prelude.{Contains, if◌then◌else◌, nat_lt, not}
+use Rattle.std.proofs.Common.{length, length-append, take, ◌<◌, Option, Some, None, Ok, Err, arith}
+use Rattle.std.specs.Prelude.{Contains, if◌then◌else◌, nat_le, nat_lt, not}
 use Rattle.std.specs.Cmp.Lexicographic.{bytes_decides}
 use Rattle.std.proofs.lemmas.Bool.{le-ltb}
+use Rattle.std.proofs.lemmas.List.{length_push}
 use Rattle.std.proofs.lemmas.List.Elements.{Contains-push}
 use Rattle.typecodes.specs.declared.spec.Spec.{Spec}
-use Rattle.state_file.specs.Laws.{bottom_of}
+use Rattle.state_file.specs.Laws.{bottom_of, levels_of}
 use Rattle.state_file.specs.declared.record.Bound.{Bound}
 use Rattle.state_file.specs.declared.record.Key.{Key}
 use Rattle.state_file.specs.declared.record.Record.{Record}
-use Rattle.state_file.specs.declared.record.Record.TheVariants.{Key as KeyRecord}
+use Rattle.state_file.specs.declared.record.Record.TheVariants.{Bound as BoundRecord, Retire}
 use Rattle.state_file.specs.declared.record.Secret.{Secret}
 use Rattle.sign_core.specs.declared.key.AnyPublic.{AnyPublic}
 use Rattle.sign_core.specs.declared.fault.SignFault.TheVariants.{Changed, Damaged, Exhausted, Illegal, LedgerFull, OutOfMemory, Stopped, StoreFailed}
+use Rattle.sign_core.specs.declared.fault.SignFault.TheVariants.{RandomRepeated}
 use Rattle.sign_core.specs.declared.fault.SignFault.TheVariants.{Moved as MovedAway}
-use Rattle.sign_core.specs.Records.{are_same, binding_in, deepest, first_illegal, has_moved, key_in, wanted_count}
-use Rattle.sign_core.specs.Once.{AreComplete, CanStopOpening, IsBoundTo, IsOnce}
-use Rattle.sign_core.specs.World.{Chance, Creation, Handed, Opening, Outcome, State, World, acked, after, answered, bound_anew, bound_sound}
-use Rattle.sign_core.specs.World.{created, handed_with, new_key, open_on, opened}
+use Rattle.sign_core.specs.Records.{are_same, binding_in, deepest, first_illegal, has_moved, key_in, leaves_of_current, next_at, wanted_count}
+use Rattle.sign_core.specs.Once.{AreComplete, BeginsKey, BeginsTree, CanStopOpening, IsBoundTo, IsOnce, IsSigned, Reopens}
+use Rattle.sign_core.specs.World.{Chance, Creation, Handed, Opening, Fate, Outcome, State, World, acked, after, answered, appended, bound_anew, bound_sound, cut_new, cut_old, no_memory}
+use Rattle.sign_core.specs.World.{retired_under}
+use Rattle.sign_core.specs.World.{fulfilled, handed_with, new_key, open_on, opened}
 use Rattle.sign_core.specs.World.{opened_by, opened_on, published, reading, refused, repeated, repeated_sound, request, requested, requested_of}
 use Rattle.sign_core.specs.World.{requested_under, secret_from}
 use Rattle.sign_core.specs.Textbook.{AreSound, damaged_in, digest_at, public_in, signature_at, tree_before}
 use Rattle.sign_core.proofs.Illegal.{none_from_legal}
+use Rattle.sign_core.proofs.Opened.{reopens}
 use Rattle.sign_core.proofs.Valid.{undamaged}
 use Rattle.sign_core.proofs.Ends.{Ends, IsDamaged, ended_anew, ended_request}
-use Rattle.sign_core.proofs.Fresh.{IsFine, fine_fulfilled, randomizer_drawn}
+use Rattle.sign_core.proofs.Fresh.{IsDone, fine_fulfilled, randomizer_drawn}
+use Rattle.sign_core.proofs.DrawnAgain.{drawn_again, drawn_most}
+use Rattle.sign_core.proofs.Leaves.{deepest_is}
 use Rattle.sign_core.proofs.OnceKept.{IsKept, sound_with}
 use Rattle.sign_core.proofs.OneLeaf.{handed_valid, one_digest, one_name, one_signature}
-use Rattle.sign_core.proofs.Sizes.{key_has_sizes, public_made, spec_public, trees_made}
+use Rattle.sign_core.proofs.Sizes.{key_has_sizes, spec_public, trees_made}
 
 -- ---- sound records
 
@@ -97,21 +103,47 @@ answers_repeated limit state handed key k bound name message chance kept open_no
 
 -- ---- a name that isn't bound
 
+-- what is wanted is done
+signed_by : (key : Key) (records : List Record) (level : ℕ) (name message : List ℕ) (chance : Chance) (outcome : Outcome (List ℕ))
+    → level < levels_of key.secret → IsDone key name message chance (bottom_of key.secret - level) chance.trees records outcome
+    → IsSigned key records level name message chance outcome
+signed_by key records level name message chance outcome inside done =
+    let here : bottom_of key.secret - (bottom_of key.secret - level) ≡ level = omega (arith, inside) in
+    let all = records ++ done.trees in
+    record {
+      trees = done.trees;
+      bound = done.bound;
+      count = done.count;
+      each = λ i entry draw at is.
+          subst (λ l. BeginsTree key (records ++ take i done.trees) (l + i + 1) draw.fields entry) here (done.each i entry draw at is);
+      named = done.named;
+      leaf = done.leaf;
+      randomizer = done.randomizer;
+      digest = done.digest;
+      state = done.state;
+      longer = ap (λ (s : State). length s.records) done.state
+          ∙ omega (arith, length_push all (BoundRecord done.bound), length-append records done.trees, done.count, inside);
+      answer = done.answer;
+      drawn = done.drawn;
+    }
+
 pub fresh_fine : (limit : ℕ) (state : State) (handed : List Handed) (key : Key) (level : ℕ) (name message : List ℕ) (chance : Chance)
     → IsKept state.records handed
     → state.is_open ≡ true → has_moved state.records ≡ false → key_in state.records ≡ Some key
     → binding_in state.records name ≡ None → deepest key.secret state.records ≡ Some level
     → length state.records + wanted_count key.secret level ≤ limit → chance.given ≡ Some message
-    → AreComplete key.secret (bottom_of key.secret - level) chance → IsFine (requested limit state name chance)
+    → AreComplete key.secret (bottom_of key.secret - level) chance
+    → ((requested limit state name chance).answer ≡ Err RandomRepeated) ⊎ IsSigned key state.records level name message chance (requested limit state name chance)
 fresh_fine limit state handed key level name message chance kept open_now stays keyed unbound is short given whole =
     let records = state.records in
     let bottom = bottom_of key.secret in
+    let inside = (deepest_is key.secret records level is).0 in
     let sizes = key_has_sizes records key kept.sizes keyed in
     let tree = tree_before level records (length records) in
     let fits : nat_lt limit (length records + wanted_count key.secret level) ≡ false = le-ltb limit (length records + wanted_count key.secret level) short in
     let sound : damaged_in key level records tree ≡ None = undamaged records key level tree (sound_with records handed key kept keyed) keyed in
     let (drawn, is_drawn) = randomizer_drawn key.secret chance.bound.fields whole.bound.fields in
-    let fine = fine_fulfilled key name drawn message chance (bottom - level) chance.trees records given is_drawn whole.bound.acknowledged
+    let fine = fine_fulfilled key name message drawn chance (bottom - level) chance.trees records given is_drawn whole.bound.acknowledged (omega arith)
     (λ more. trees_made key.secret sizes (omega (arith, more))) whole.enough whole.each in
     let room_then : Bool → Outcome (List ℕ) = λ room. if not room then refused state OutOfMemory else bound_sound state key name chance level
     (damaged_in key level records tree) in
@@ -120,7 +152,12 @@ fresh_fine limit state handed key level name message chance kept open_now stays 
     ∙ ap (λ full. if full then refused state LedgerFull else room_then chance.has_room) fits
     ∙ ap room_then whole.room
     ∙ ap (bound_sound state key name chance level) sound in
-    subst IsFine (sym way) fine
+    subst (λ outcome. (outcome.answer ≡ Err RandomRepeated) ⊎ IsSigned key records level name message chance outcome) (sym way)
+    (elim fine as (λ u. let came = fulfilled key name chance (bottom - level) chance.trees records in
+    (came.answer ≡ Err RandomRepeated) ⊎ IsSigned key records level name message chance came) [
+      | inl again ↦ inl again
+      | inr done ↦ inr (signed_by key records level name message chance _ inside done)
+    ])
 
 -- 22 comes where no leaf is free, and nowhere else
 not_exhausted : Ends (λ outcome. outcome.answer ≢ Err Exhausted)
@@ -203,8 +240,9 @@ handed_out limit world name message signature chance given answer =
 
 pub begins_key : (state : State) (spec : Spec) (secret : Secret) (chance : Creation) (public : AnyPublic) → state.records ≡ [] → chance.failed_load ≡ None
     → secret_from spec chance.fields ≡ Some secret → chance.has_room ≡ true → chance.fate ≡ acked → public_in (new_key secret) ≡ Some public
-    → (created state spec chance).state ≡ open_on (KeyRecord (new_key secret) ∷ [])
-begins_key state spec secret chance public empty loaded drawn room fate is = rw (loaded, empty, drawn, room, fate, is) refl
+    → BeginsKey state spec chance (new_key secret)
+begins_key state spec secret chance public empty loaded drawn room fate is =
+    record { public = public; is_public = is; begins = rw (loaded, empty, drawn, room, fate, is) refl }
 
 none_illegal_in : (records : List Record) → (records ≡ []) ⊎ AreSound records → first_illegal records ≡ None
 none_illegal_in records (inl empty) = ap first_illegal empty
@@ -233,12 +271,40 @@ opens_legal state handed chance slot kept can =
     subst (λ illegal. (opened_by state chance illegal).answer ≢ Err (Illegal slot)) (sym (none_illegal_in state.records kept.ground))
     (legal_opened state chance slot can)
 
-pub opens_again : (state : State) (handed : List Handed) (key : Key) → IsKept state.records handed → key_in state.records ≡ Some key
-    → (opened state None).state ≡ open_on state.records
+pub opens_again : (state : State) (handed : List Handed) (key : Key) → IsKept state.records handed → key_in state.records ≡ Some key → Reopens state
 opens_again state handed key kept keyed =
-    let (public, is) = public_made key.secret key.root (key_has_sizes state.records key kept.sizes keyed) in
-    ap (λ illegal. (opened_by state None illegal).state) (none_illegal_in state.records kept.ground)
-    ∙ ap (λ found. (opened_on state.records found).state) keyed ∙ ap (λ p. (published state.records p).state) is
+    let sound = sound_with state.records handed key kept keyed in
+    reopens state (record { legal = sound.legal; sizes = kept.sizes })
+
+-- ---- retirings
+
+-- its append was cut off
+abbrev Shuts : Outcome (Unit {0}) → Type 0
+Shuts outcome = outcome.answer ≡ Err StoreFailed → outcome.state.is_open ≡ false
+
+shuts_choice : (test : Bool) (x y : Outcome (Unit {0})) → Shuts x → Shuts y → Shuts (if test then x else y)
+shuts_choice true x y first second = first
+shuts_choice false x y first second = second
+
+shuts_append : (state : State) (entry : Record) (fate : Fate) → Shuts (appended state entry fate (λ records. answered (open_on records) tt))
+shuts_append state entry acked is = absurd (cc)
+shuts_append state entry cut_old is = refl
+shuts_append state entry cut_new is = refl
+shuts_append state entry no_memory is = absurd (cc)
+
+pub retiring_shuts : (limit : ℕ) (state : State) (upto : ℕ) (fate : Fate) (found : Option Key) → Shuts (retired_under limit state upto fate found)
+retiring_shuts limit state upto fate None = λ is. absurd (cc)
+retiring_shuts limit state upto fate (Some key) =
+    shuts_choice (not state.is_open) _ _ (λ is. absurd (cc))
+    (shuts_choice (has_moved state.records) _ _ (λ is. absurd (cc))
+    (shuts_choice (nat_lt (leaves_of_current key.secret state.records (bottom_of key.secret)) upto) _ _ (λ is. absurd (cc))
+    (shuts_choice (nat_le upto (next_at key.secret state.records (bottom_of key.secret))) _ _ (λ is. absurd (cc))
+    (shuts_choice (nat_lt limit (length state.records + 1)) _ _ (λ is. absurd (cc)) (shuts_append state (Retire upto) fate)))))
+
+pub closed_retires : (limit : ℕ) (state : State) (upto : ℕ) (fate : Fate) (found : Option Key) → state.is_open ≡ false
+    → retired_under limit state upto fate found ≡ refused state Stopped
+closed_retires limit state upto fate (Some key) closed = rw closed refl
+closed_retires limit state upto fate None closed = refl
 
 -- ---- all parts of the law
 
@@ -256,10 +322,15 @@ once limit world kept = record {
       let (public, is) = spec_public spec chance.fields secret can drawn in
       λ room fate. begins_key world.state spec secret chance public empty loaded drawn room fate is;
   fresh = λ key level name message chance. fresh_fine limit world.state world.handed key level name message chance kept;
+  again = λ name chance. drawn_again limit world.state name chance;
+  draws = λ key name chance keyed drawn. drawn_most limit world.state key name chance keyed drawn;
   exhausted = λ key name chance. exhausted_exactly limit world.state key name chance;
+  sound = kept.ground;
   undamaged = λ name chance slot. answers_whole limit world.state world.handed name chance slot kept;
   legal = λ chance slot. opens_legal world.state world.handed chance slot kept;
   reopens = λ key. opens_again world.state world.handed key kept;
   stops = λ name chance. failed_closes limit world.state name chance;
+  stops_retiring = λ upto fate. retiring_shuts limit world.state upto fate (key_in world.state.records);
   closed = λ name chance. closed_under limit world.state name chance (key_in world.state.records);
+  closed_retiring = λ upto fate. closed_retires limit world.state upto fate (key_in world.state.records);
 }

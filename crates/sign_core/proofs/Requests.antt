@@ -42,7 +42,7 @@ free_test : (test : Bool) (leaves next : ℕ) → 0 < (if test then leaves - nex
 free_test true leaves next free = (refl, omega (arith, free))
 free_test false leaves next free = absurd (omega (arith, free))
 
-free_named : (secret : Secret) (records : List Record) (level : ℕ) → 0 < free_at secret records level
+pub free_named : (secret : Secret) (records : List Record) (level : ℕ) → 0 < free_at secret records level
     → is_free secret records level (next_at secret records level) ≡ true
 free_named secret records level free =
     let (there, inside) = free_test (is_some (current level records)) (leaves_at secret level) (next_at secret records level) free in
@@ -53,11 +53,11 @@ some_is : (found : Option ℕ) → is_some found ≡ true → (tree : ℕ) × (f
 some_is (Some tree) is = (tree, refl)
 some_is None is = absurd (cc)
 
-free_current : (secret : Secret) (records : List Record) (level : ℕ) → 0 < free_at secret records level → (tree : ℕ) × (current level records ≡ Some tree)
+pub free_current : (secret : Secret) (records : List Record) (level : ℕ) → 0 < free_at secret records level → (tree : ℕ) × (current level records ≡ Some tree)
 free_current secret records level free =
     some_is (current level records) (free_test (is_some (current level records)) (leaves_at secret level) (next_at secret records level) free).0
 
-free_anew : (secret : Secret) (records : List Record) (level tree : ℕ) → level < levels_of secret → current level records ≡ Some tree
+pub free_anew : (secret : Secret) (records : List Record) (level tree : ℕ) → level < levels_of secret → current level records ≡ Some tree
     → next_in secret records tree ≡ 0
     → 0 < free_at secret records level
 free_anew secret records level tree inside is none =
@@ -77,7 +77,7 @@ pub record IsReady (key : Key) (name : List ℕ) (below : ℕ) (records : List R
 
 -- ---- a new tree
 
-extend_of : Trees → List Record → (level : ℕ) → LmsSecret → (randomizer : List ℕ) → (leaf : ℕ) → Extend
+unfoldable pub extend_of : Trees → List Record → (level : ℕ) → LmsSecret → (randomizer : List ℕ) → (leaf : ℕ) → Extend
 extend_of trees records level secret randomizer leaf =
     let parent = secret_at trees records (tree_before (level - 1) records (length records)) in
     let public = public_of secret in
@@ -91,7 +91,7 @@ extend_of trees records level secret randomizer leaf =
       root = public.root;
     }
 
-extend_can : (key : Key) (records : List Record) (extend : Extend) → has_moved records ≡ false → 1 ≤ extend.level → extend.level < levels_of key.secret
+pub extend_can : (key : Key) (records : List Record) (extend : Extend) → has_moved records ≡ false → 1 ≤ extend.level → extend.level < levels_of key.secret
     → is_free key.secret records (extend.level - 1) extend.parent_leaf ≡ true → has_identifier records extend.identifier ≡ false
     → can_follow (Some key) records (ExtendRecord extend) ≡ true
 extend_can key records extend stays low inside free new =
@@ -103,7 +103,7 @@ same_bytes : (bytes : List ℕ) → are_same bytes bytes ≡ true
 same_bytes bytes = (bytes_decides bytes bytes).1 refl
 
 -- what is made is sound
-extend_sound : (trees : Trees) (records : List Record) (level leaf : ℕ) (identifier seed randomizer : List ℕ)
+pub extend_sound : (trees : Trees) (records : List Record) (level leaf : ℕ) (identifier seed randomizer : List ℕ)
     → (let secret = lms_secret (slice_index_or trees.pairs level trees.top.pair) identifier seed in
     is_sound_extend (Some trees) records (length records) (extend_of trees records level secret randomizer leaf) ≡ true)
 unfolding extend_of
@@ -112,7 +112,7 @@ extend_sound trees records level leaf identifier seed randomizer =
     let parent = secret_at trees records (tree_before (level - 1) records (length records)) in
     and_from _ _ (same_bytes public.root) (same_bytes (message_digest_of parent.identifier leaf randomizer (public_bytes public)))
 
-extend_sizes : (trees : Trees) (records : List Record) (level leaf : ℕ) (secret : LmsSecret) (randomizer : List ℕ) → length secret.identifier ≡ 16
+pub extend_sizes : (trees : Trees) (records : List Record) (level leaf : ℕ) (secret : LmsSecret) (randomizer : List ℕ) → length secret.identifier ≡ 16
     → length secret.seed ≡ 32
     → length randomizer ≡ 32 → HasSizes (ExtendRecord (extend_of trees records level secret randomizer leaf))
 unfolding extend_of
@@ -193,7 +193,7 @@ kept_extended key name given below records handed (Some trees) draw next ready a
 
 -- ---- a new binding
 
-bound_can : (key : Key) (records : List Record) (bound : Bound) → has_moved records ≡ false
+pub bound_can : (key : Key) (records : List Record) (bound : Bound) → has_moved records ≡ false
     → is_free key.secret records (bottom_of key.secret) bound.leaf ≡ true
     → binding_in records bound.name ≡ None → has_randomizer key.secret bound.randomizer ≡ true → can_follow (Some key) records (BoundRecord bound) ≡ true
 bound_can key records bound stays free unbound drawn =
@@ -234,11 +234,11 @@ kept_bound key name (Some message) records handed (Some randomizer) fate ready d
 
 -- ---- all wanted records
 
-first_drawn : (draws : List Draw) → AllByRecursion IsTreeDraw draws → IsTreeDraw (first_draw draws)
+pub first_drawn : (draws : List Draw) → AllByRecursion IsTreeDraw draws → IsTreeDraw (first_draw draws)
 first_drawn [] all = tt
 first_drawn (draw ∷ draws) all = all.0
 
-later_drawn : (draws : List Draw) → AllByRecursion IsTreeDraw draws → AllByRecursion IsTreeDraw (later_draws draws)
+pub later_drawn : (draws : List Draw) → AllByRecursion IsTreeDraw draws → AllByRecursion IsTreeDraw (later_draws draws)
 later_drawn [] all = all
 later_drawn (draw ∷ draws) all = all.1
 
@@ -283,7 +283,7 @@ kept_anew limit state handed key name chance (Some level) drawn kept keyed stays
 
 -- ---- a name that is bound
 
-not_false : (test : Bool) → not test ≡ false → test ≡ true
+pub not_false : (test : Bool) → not test ≡ false → test ≡ true
 not_false true e = refl
 not_false false e = absurd (cc)
 

@@ -5,6 +5,7 @@ pub mod Textbook
 pub mod World
 pub mod Uses
 pub mod Once
+pub mod Opened
 pub mod Source
 pub mod Fault
 pub mod Signing

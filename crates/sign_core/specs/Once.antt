@@ -1,8 +1,8 @@
 -- The law over all runs: no leaf at any level signs two digests.
-use Rattle.std.specs.Prelude.{◌≡◌, ◌≢◌, ◌⊎◌, ◌↔◌, ℕ, ◌+◌, ◌-◌, ◌≤◌, true, false, List, [], ◌∷◌, ◌++◌, Contains}
-use Rattle.std.specs.Prelude.{length, map}
-use Rattle.std.specs.Prelude.{Option, Some, None, Ok, Err, IsOk, if◌then◌else◌, slice_get, take}
-use Rattle.std.specs.List.{AllByRecursion}
+use Rattle.std.specs.Prelude.{◌≡◌, ◌≢◌, ◌⊎◌, ◌↔◌, ℕ, ◌+◌, ◌-◌, ◌*◌, ◌≤◌, true, false, List, [], ◌∷◌, ◌++◌, Contains}
+use Rattle.std.specs.Prelude.{length, map, sum}
+use Rattle.std.specs.Prelude.{Option, Some, None, Ok, Err, if◌then◌else◌, slice_get, take}
+use Rattle.std.specs.List.{AllByRecursion, concat}
 use Rattle.std.specs.Option.{option_to_list}
 use Rattle.typecodes.specs.declared.spec.Spec.{Spec}
 use Rattle.typecodes.specs.declared.spec.Spec.TheVariants.{Lms, Hss, Xmss}
@@ -11,9 +11,10 @@ use Rattle.typecodes.specs.Name.{IsName}
 use Rattle.typecodes.specs.Layout.{AreBytes}
 use Rattle.state_file.specs.Laws.{bottom_of}
 use Rattle.state_file.specs.declared.record.Bound.{Bound}
+use Rattle.state_file.specs.declared.record.Extend.{Extend}
 use Rattle.state_file.specs.declared.record.Key.{Key}
 use Rattle.state_file.specs.declared.record.Record.{Record}
-use Rattle.state_file.specs.declared.record.Record.TheVariants.{Key as KeyRecord}
+use Rattle.state_file.specs.declared.record.Record.TheVariants.{Bound as BoundRecord, Extend as ExtendRecord, Key as KeyRecord}
 use Rattle.state_file.specs.declared.record.Secret.{Secret}
 use Rattle.state_file.specs.declared.record.Secret.TheVariants.{Lms as LmsSecret, Hss as HssSecret, Xmss as XmssSecret}
 use Rattle.sign_core.specs.declared.key.AnyPublic.{AnyPublic}
@@ -22,14 +23,14 @@ use Rattle.sign_core.specs.declared.fault.SignFault.TheVariants.{Changed, Damage
 use Rattle.sign_core.specs.declared.fault.SignFault.TheVariants.{Stopped, StoreFailed, Unreadable}
 use Rattle.sign_core.specs.declared.fault.SignFault.TheVariants.{DeviceFailed, NoMemoryToOpen, RandomRepeated}
 use Rattle.sign_core.specs.Key.{KeyVerdict}
-use Rattle.sign_core.specs.Records.{binding_in, deepest, has_moved, key_in, wanted_count}
+use Rattle.sign_core.specs.Records.{binding_in, deepest, has_identifier, has_moved, key_in, next_at, wanted_count}
 use Rattle.sign_core.specs.Uses.{LeafUse, MakesUses}
 use Rattle.sign_core.specs.World.{Chance, Creation, Draw, Event, Fate, Handed, Opening, Outcome, State, World}
 use Rattle.sign_core.specs.World.{acked, cut_new, cut_old, no_memory, create, reopen, request, retire, stop}
-use Rattle.sign_core.specs.World.{after, answered, beginning, closed_on, created, new_key, open_on}
+use Rattle.sign_core.specs.World.{after, answered, beginning, closed_on, created, drawing, new_key, open_on}
 use Rattle.sign_core.specs.World.{opened, reading, refused}
-use Rattle.sign_core.specs.World.{requested, retired, run, secret_from}
-use Rattle.sign_core.specs.Textbook.{digest_at, public_in, signature_at}
+use Rattle.sign_core.specs.World.{randomizer_from, requested, retired, run, secret_from}
+use Rattle.sign_core.specs.Textbook.{AllHaveSizes, AreSound, digest_at, public_in, signature_at}
 
 -- ---- events that can come
 
@@ -62,6 +63,11 @@ randomizer_sizes (XmssSecret tree secret_seed prf_key public_seed) = []
 pub record AreDraws (chance : Chance) : Type 0 where
   pub trees : AllByRecursion IsTreeDraw chance.trees
   pub bound : AreFields (32 ∷ []) chance.bound.fields
+
+-- The draws of a request under a key: for the binding C, but nothing for XMSS.
+pub record AreDrawsOf (secret : Secret) (chance : Chance) : Type 0 where
+  pub trees : AllByRecursion IsTreeDraw chance.trees
+  pub bound : AreFields (randomizer_sizes secret) chance.bound.fields
 
 -- what the load of record 0 can fail with in a create, and what stops an opening at a slot
 abbrev pub CanFailLoad : Option SignFault → Type 0
@@ -146,6 +152,70 @@ pub record IsOneLeaf (u v : LeafUse) : Type 0 where
 abbrev pub IsLast : LeafUse → List LeafUse → Type 0
 IsLast u uses = (above : List LeafUse) × (uses ≡ above ++ u ∷ [])
 
+-- ---- a new name
+
+-- The record begins a tree of this level with these fields: under the next leaf of the tree above, and with an I that
+-- stands in no record before it.
+pub record BeginsTree (key : Key) (before : List Record) (level : ℕ) (fields : List (List ℕ)) (entry : Record)
+    : Type 0 where
+  pub extend : Extend
+  pub is : entry ≡ ExtendRecord extend
+  pub of_level : extend.level ≡ level
+  pub leaf : extend.parent_leaf ≡ next_at key.secret before (level - 1)
+  pub drawn : fields ≡ extend.identifier ∷ extend.seed ∷ extend.randomizer ∷ []
+  pub new : has_identifier before extend.identifier ≡ false
+
+-- all that is drawn where nothing is missing: for each new tree, and then for the binding
+abbrev pub all_drawn : Chance → List ℕ
+all_drawn chance = concat (map (λ draw. concat draw.fields) chance.trees) ++ concat chance.bound.fields
+
+-- A new name is signed where this level is the deepest with a free leaf: a tree is begun for each level below it, and
+-- the name is bound to the next leaf of the bottom tree and to the message's digest. The answer is its signature.
+pub record IsSigned (key : Key) (records : List Record) (level : ℕ) (name message : List ℕ) (chance : Chance)
+    (outcome : Outcome (List ℕ)) : Type 0 where
+  pub trees : List Record
+  pub bound : Bound
+  pub count : length trees ≡ bottom_of key.secret - level
+  pub each : (i : ℕ) (entry : Record) (draw : Draw) → slice_get trees i ≡ Some entry
+      → slice_get chance.trees i ≡ Some draw
+      → BeginsTree key (records ++ take i trees) (level + i + 1) draw.fields entry
+  pub named : bound.name ≡ name
+  pub leaf : bound.leaf ≡ next_at key.secret (records ++ trees) (bottom_of key.secret)
+  pub randomizer : randomizer_from key.secret chance.bound.fields ≡ Some bound.randomizer
+  pub digest : bound.digest
+      ≡ digest_at key (records ++ trees) (length (records ++ trees)) bound.leaf bound.randomizer message
+  pub state : outcome.state ≡ open_on (records ++ trees ++ BoundRecord bound ∷ [])
+  pub longer : length outcome.state.records ≡ length records + wanted_count key.secret level
+  pub answer : outcome.answer
+      ≡ Ok (signature_at key (records ++ trees ++ BoundRecord bound ∷ []) (length (records ++ trees)) bound)
+  pub drawn : outcome.drawn ≡ all_drawn chance
+
+-- With these records there was one more draw for a new tree, after so many had been begun, and its I stands in them.
+pub record DrewAgain (before : List Record) (draws : List Draw) (left : List Record) : Type 0 where
+  pub begun : ℕ
+  pub draw : Draw
+  pub is_draw : slice_get draws begun ≡ Some draw
+  pub longer : length left ≡ length before + begun
+  pub identifier : List ℕ
+  pub later : List (List ℕ)
+  pub fields : draw.fields ≡ identifier ∷ later
+  pub stands : has_identifier left identifier ≡ true
+
+-- ---- creates and openings
+
+-- A create begins this key: its record is the only one, the signer is open on it, and the public key is answered.
+pub record BeginsKey (state : State) (spec : Spec) (chance : Creation) (key : Key) : Type 0 where
+  pub public : AnyPublic
+  pub is_public : public_in key ≡ Some public
+  pub begins : created state spec chance
+      ≡ drawing (concat chance.fields) (answered (open_on (KeyRecord key ∷ [])) public)
+
+-- An opening where nothing fails opens the signer on the records, and answers the public key of record 0.
+pub record Reopens (state : State) : Type 0 where
+  pub public : AnyPublic
+  pub keyed : public_of_key (key_in state.records) ≡ Some public
+  pub opens : opened state None ≡ answered (open_on state.records) public
+
 -- ---- the law
 
 -- What holds in a world, whatever came before.
@@ -183,47 +253,77 @@ pub record IsOnce (limit : ℕ) (world : World) : Type 0 where
       → requested limit world.state name chance
       ≡ reading (if chance.has_room then answered world.state (signature_at key world.state.records k bound)
       else refused world.state OutOfMemory)
-  -- a create where no record stands begins a key, where nothing fails
+  -- a create where no record stands begins a key and answers its public key, where nothing fails
   pub begins : (spec : Spec) (secret : Secret) (chance : Creation) → IsSpec spec → world.state.records ≡ []
       → chance.failed_load ≡ None → secret_from spec chance.fields ≡ Some secret → chance.has_room ≡ true
       → chance.fate ≡ acked
-      → (created world.state spec chance).state ≡ open_on (KeyRecord (new_key secret) ∷ [])
+      → BeginsKey world.state spec chance (new_key secret)
   -- a new name is signed where a leaf is free, the store takes the records that are wanted and nothing fails, but for
-  -- an I
-  -- that was drawn before
+  -- an I that was drawn before
   pub fresh : (key : Key) (level : ℕ) (name message : List ℕ) (chance : Chance) → world.state.is_open ≡ true
       → has_moved world.state.records ≡ false → key_in world.state.records ≡ Some key
       → binding_in world.state.records name ≡ None → deepest key.secret world.state.records ≡ Some level
       → length world.state.records + wanted_count key.secret level ≤ limit → chance.given ≡ Some message
       → AreComplete key.secret (bottom_of key.secret - level) chance
       → ((requested limit world.state name chance).answer ≡ Err RandomRepeated)
-      ⊎ IsOk (requested limit world.state name chance).answer
+      ⊎ IsSigned key world.state.records level name message chance (requested limit world.state name chance)
+  -- 24 comes only where an I that was drawn stands in the records
+  pub again : (name : List ℕ) (chance : Chance)
+      → (requested limit world.state name chance).answer ≡ Err RandomRepeated
+      → DrewAgain world.state.records chance.trees (requested limit world.state name chance).state.records
+  -- a request draws I, SEED and C at most for each level below the top, and C for the binding, but XMSS nothing
+  pub draws : (key : Key) (name : List ℕ) (chance : Chance) → key_in world.state.records ≡ Some key
+      → AreDrawsOf key.secret chance
+      → length (requested limit world.state name chance).drawn
+      ≤ sum tree_sizes * bottom_of key.secret + sum (randomizer_sizes key.secret)
   -- 22 comes exactly where no leaf is free at any level
   pub exhausted : (key : Key) (name : List ℕ) (chance : Chance) → world.state.is_open ≡ true
       → has_moved world.state.records ≡ false → key_in world.state.records ≡ Some key
       → binding_in world.state.records name ≡ None
       → ((requested limit world.state name chance).answer ≡ Err Exhausted)
       ↔ (deepest key.secret world.state.records ≡ None)
-  -- no request is answered that a record is damaged
+  -- there are no records, or they are sound: their roots and digests are those of the recorded secrets
+  pub sound : (world.state.records ≡ []) ⊎ AreSound world.state.records
+  -- so no request is answered that a record is damaged
   pub undamaged : (name : List ℕ) (chance : Chance) (slot : ℕ)
       → (requested limit world.state name chance).answer ≢ Err (Damaged slot)
   -- and no opening that the records aren't legal
   pub legal : (chance : Opening) (slot : ℕ) → CanStopOpening chance
       → (opened world.state chance).answer ≢ Err (Illegal slot)
-  -- an opening where nothing fails opens the signer on the records, where there is a key
-  pub reopens : (key : Key) → key_in world.state.records ≡ Some key
-      → (opened world.state None).state ≡ open_on world.state.records
-  -- a request or a retiring whose append the store fails closes the signer
+  -- an opening where nothing fails opens the signer on the records and answers the public key, where there is a key
+  pub reopens : (key : Key) → key_in world.state.records ≡ Some key → Reopens world.state
+  -- a request whose append the store fails closes the signer
   pub stops : (name : List ℕ) (chance : Chance)
       → (requested limit world.state name chance).answer ≡ Err StoreFailed
       → (requested limit world.state name chance).state.is_open ≡ false
-  -- and a closed one hands nothing out and changes nothing
+  -- and so does a retiring
+  pub stops_retiring : (upto : ℕ) (fate : Fate)
+      → (retired limit world.state upto fate).answer ≡ Err StoreFailed
+      → (retired limit world.state upto fate).state.is_open ≡ false
+  -- a closed signer hands nothing out and changes nothing
   pub closed : (name : List ℕ) (chance : Chance) → world.state.is_open ≡ false
       → requested limit world.state name chance ≡ refused world.state Stopped
+  -- and retires nothing
+  pub closed_retiring : (upto : ℕ) (fate : Fate) → world.state.is_open ≡ false
+      → retired limit world.state upto fate ≡ refused world.state Stopped
 
 -- it holds after every list of events from the beginning
 abbrev pub OnceLaw : Type 0
 OnceLaw = (limit : ℕ) (events : List Event) → AllEvents events → IsOnce limit (run limit beginning events)
+
+-- ---- sound records
+
+-- The records are sound, and each part of them has its size in bytes.
+pub record AreWhole (records : List Record) : Type 0 where
+  pub sound : AreSound records
+  pub sizes : AllHaveSizes records
+
+-- Each event leaves sound records where there were such, and a create where there were none.
+pub record SoundLaw : Type 0 where
+  pub stays : (limit : ℕ) (world : World) (event : Event) → IsEvent event → AreWhole world.state.records
+      → AreWhole (after limit world event).state.records
+  pub begins : (state : State) (spec : Spec) (chance : Creation) → IsEvent (create spec chance) → state.records ≡ []
+      → ((created state spec chance).state.records ≡ []) ⊎ AreWhole (created state spec chance).state.records
 
 -- ---- cuts
 

@@ -13,7 +13,8 @@ ghost use Rattle.state_file.specs.Laws.{IsCurrent, IsLegal, bottom_of, identifie
 ghost use Rattle.sign_core.specs.declared.key.AnyPublic.{AnyPublic};
 ghost use Rattle.sign_core.specs.Records.{IsNext, binding_in, current, deepest, first_illegal, free_at};
 ghost use Rattle.sign_core.specs.Records.{has_identifier, key_in, next_in};
-ghost use Rattle.sign_core.specs.Once.{CutLaw, IsBoundTo, LastingLaw, OnceLaw, StopLaw, Verifies};
+ghost use Rattle.sign_core.specs.Once.{CutLaw, IsBoundTo, LastingLaw, OnceLaw, SoundLaw, StopLaw, Verifies};
+ghost use Rattle.sign_core.specs.Opened.{OpenedLaw};
 ghost use Rattle.sign_core.specs.Textbook.{AllHaveSizes, AreSound, damaged_in, public_in, signature_at, tree_before};
 
 /// What holds of the records of a key, in the words of legal lists.
@@ -87,6 +88,29 @@ pub fn textbook_laws()
 /// one digest are one to it.
 pub fn once_law()
     ensures once { OnceLaw }
+{}
+
+/// Each event leaves sound records: those of a key whose roots and digests are what the recorded secrets make.
+///
+/// A create where no record stands leaves such records, or none, and every event after it leaves them so. Over them no
+/// request is answered that a record is damaged, and no opening that the records aren't legal (`once_law`).
+pub fn sound_law()
+    ensures sound { SoundLaw }
+{}
+
+/// What holds over any legal records whose parts have their sizes, whoever wrote them.
+///
+/// The roots and digests that they say may be wrong: a signer makes each tree of a chain anew before it signs under it,
+/// and refuses a record that says otherwise as damaged. So
+///
+/// - an opening where nothing fails opens the signer on them, and answers the public key of record 0;
+/// - every event leaves legal records;
+/// - a signature that a request gives, under a new name or a bound one and in every scheme, is valid under that key for
+///   the message that was read, and so is each one that a run hands out.
+///
+/// The clauses stand in `specs/Opened.antt`.
+pub fn opened_law()
+    ensures opened { OpenedLaw }
 {}
 
 /// No event takes a record or a signature away, or puts another in its place.

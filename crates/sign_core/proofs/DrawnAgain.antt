@@ -1,0 +1,251 @@
+-- What a request draws: no more than its records want, and 24 comes only of an I that stands in the records.
+use Rattle.std.proofs.Common.{◌≡◌, ◌≢◌, refl, subst, ℕ, zero, suc, ◌+◌, ◌-◌, ◌*◌, ◌≤◌, List, [], ◌∷◌, ◌++◌}
+use Rattle.std.proofs.Common.{length, length-append, Option, Some, None, Err, arith}
+use Rattle.std.specs.Prelude.{if◌then◌else◌, nat_lt, not, slice_index_or, sum}
+use Rattle.std.specs.List.{AllByRecursion, concat}
+use Rattle.std.proofs.lemmas.List.{length_push}
+use Rattle.std.proofs.lemmas.List.Sums.{sum_by-cons}
+use Rattle.state_file.specs.Laws.{bottom_of}
+use Rattle.state_file.specs.declared.record.Bound.{Bound}
+use Rattle.state_file.specs.declared.record.Key.{Key}
+use Rattle.state_file.specs.declared.record.Record.{Record}
+use Rattle.sign_core.specs.declared.fault.SignFault.{SignFault}
+use Rattle.sign_core.specs.declared.fault.SignFault.TheVariants.{Changed, Damaged, Exhausted, LedgerFull, MessageRead, OutOfMemory}
+use Rattle.sign_core.specs.declared.fault.SignFault.TheVariants.{RandomRepeated, Stopped}
+use Rattle.sign_core.specs.declared.fault.SignFault.TheVariants.{Moved as MovedAway}
+use Rattle.sign_core.specs.Records.{are_same, binding_in, deepest, has_identifier, has_moved, key_in, next_at, wanted_count}
+use Rattle.sign_core.specs.Once.{AreDrawsOf, AreFields, DrewAgain, IsTreeDraw, randomizer_sizes, tree_sizes}
+use Rattle.sign_core.specs.World.{Chance, Draw, Fate, Outcome, State, acked, answered, appended, bound_anew, bound_sound, bound_with}
+use Rattle.sign_core.specs.World.{cut_new, cut_old, extend_record, extended, extended_by, extended_with, first_draw, fulfilled, later_draws, no_memory, open_on}
+use Rattle.sign_core.specs.World.{randomizer_from, reading, refused, repeated, repeated_sound, requested, requested_of, requested_under}
+use Rattle.sign_core.specs.Textbook.{Trees, damaged_in, digest_at, lms_secret, tree_before, trees_of}
+use Rattle.sign_core.proofs.OnceKept.{kept_choice}
+use Rattle.sign_core.proofs.Requests.{first_drawn, later_drawn}
+
+-- ---- what comes before the wanted records
+
+-- Q holds of refusals that aren't 24 and of answers, also once the message is read.
+record IsSettled (Q : Outcome (List ℕ) → Type 0) (state : State) : Type 0 where
+  refused_for : (fault : SignFault) → fault ≢ RandomRepeated → Q (refused state fault)
+  gives : (signature : List ℕ) → Q (answered state signature)
+  read : (outcome : Outcome (List ℕ)) → Q outcome → Q (reading outcome)
+
+module _ (Q : Outcome (List ℕ) → Type 0) (limit : ℕ) (state : State) (name : List ℕ) (chance : Chance) (settled : IsSettled Q state) where
+  settled_repeated_sound : (key : Key) (k : ℕ) (bound : Bound) (damaged : Option ℕ) → Q (repeated_sound state key k bound damaged)
+  settled_repeated_sound key k bound (Some slot) = settled.refused_for (Damaged slot) (λ e. cc)
+  settled_repeated_sound key k bound None = settled.gives _
+
+  settled_repeated : (key : Key) (k : ℕ) (bound : Bound) (given : Option (List ℕ)) → Q (repeated state key k bound chance given)
+  settled_repeated key k bound None = settled.read _ (settled.refused_for MessageRead (λ e. cc))
+  settled_repeated key k bound (Some message) = settled.read _
+      (kept_choice Q (not (are_same (digest_at key state.records k bound.leaf bound.randomizer message) bound.digest)) _ _
+      (λ other. settled.refused_for Changed (λ e. cc))
+      (λ same. kept_choice Q (not chance.has_room) _ _ (λ none. settled.refused_for OutOfMemory (λ e. cc))
+      (λ room. settled_repeated_sound key k bound _)))
+
+  settled_sound : (key : Key) (level : ℕ) (damaged : Option ℕ) → Q (fulfilled key name chance (bottom_of key.secret - level) chance.trees state.records)
+      → Q (bound_sound state key name chance level damaged)
+  settled_sound key level (Some slot) rest = settled.refused_for (Damaged slot) (λ e. cc)
+  settled_sound key level None rest = rest
+
+  settled_anew : (key : Key) (level : Option ℕ)
+      → ((deepest : ℕ) → Q (fulfilled key name chance (bottom_of key.secret - deepest) chance.trees state.records))
+      → Q (bound_anew limit state key name chance level)
+  settled_anew key None rest = settled.refused_for Exhausted (λ e. cc)
+  settled_anew key (Some level) rest =
+      kept_choice Q (nat_lt limit (length state.records + wanted_count key.secret level)) _ _ (λ full. settled.refused_for LedgerFull (λ e. cc))
+      (λ fits. kept_choice Q (not chance.has_room) _ _ (λ none. settled.refused_for OutOfMemory (λ e. cc))
+      (λ room. settled_sound key level (damaged_in key level state.records (tree_before level state.records (length state.records))) (rest level)))
+
+  settled_of : (key : Key) (found : Option (ℕ × Bound))
+      → ((deepest : ℕ) → Q (fulfilled key name chance (bottom_of key.secret - deepest) chance.trees state.records))
+      → Q (requested_of limit state key name chance found)
+  settled_of key (Some (k, bound)) rest = settled_repeated key k bound chance.given
+  settled_of key None rest = settled_anew key (deepest key.secret state.records) rest
+
+  settled_under : (found : Option Key)
+      → ((key : Key) (deepest : ℕ) → found ≡ Some key → Q (fulfilled key name chance (bottom_of key.secret - deepest) chance.trees state.records))
+      → Q (requested_under limit state name chance found)
+  settled_under None rest = settled.refused_for Stopped (λ e. cc)
+  settled_under (Some key) rest =
+      kept_choice Q (not state.is_open) _ _ (λ closed. settled.refused_for Stopped (λ e. cc))
+      (λ open_now. kept_choice Q (has_moved state.records) _ _ (λ moved. settled.refused_for MovedAway (λ e. cc))
+      (λ stays. settled_of key (binding_in state.records name) (λ level. rest key level refl)))
+
+-- ---- 24
+
+-- Where the answer is 24, an I was drawn again.
+abbrev Repeats : (before : List Record) → (draws : List Draw) → Outcome (List ℕ) → Type 0
+Repeats before draws outcome = outcome.answer ≡ Err RandomRepeated → DrewAgain before draws outcome.state.records
+
+repeats_bound : (state : State) (key : Key) (name : List ℕ) (randomizer given : Option (List ℕ)) (fate : Fate)
+    → (bound_with state key name randomizer given fate).answer ≡ Err RandomRepeated → ⊥
+repeats_bound state key name None given fate is = cc
+repeats_bound state key name (Some randomizer) None fate is = cc
+repeats_bound state key name (Some randomizer) (Some message) acked is = cc
+repeats_bound state key name (Some randomizer) (Some message) cut_old is = cc
+repeats_bound state key name (Some randomizer) (Some message) cut_new is = cc
+repeats_bound state key name (Some randomizer) (Some message) no_memory is = cc
+
+-- one tree was begun before
+one_more : (records : List Record) (entry : Record) (draw : Draw) (draws : List Draw) (left : List Record) → DrewAgain (records ++ entry ∷ []) draws left
+    → DrewAgain records (draw ∷ draws) left
+one_more records entry draw draws left again = record {
+  begun = suc again.begun;
+  draw = again.draw;
+  is_draw = again.is_draw;
+  longer = omega (arith, again.longer, length_push records entry);
+  identifier = again.identifier;
+  later = again.later;
+  fields = again.fields;
+  stands = again.stands;
+}
+
+repeats_append : (records : List Record) (entry : Record) (fate : Fate) (draw : Draw) (draws : List Draw) (next : List Record → Outcome (List ℕ))
+    → ((all : List Record) → Repeats all draws (next all)) → Repeats records (draw ∷ draws) (appended (open_on records) entry fate next)
+repeats_append records entry acked draw draws next later is = one_more records entry draw draws _ (later (records ++ entry ∷ []) is)
+repeats_append records entry cut_old draw draws next later is = absurd (cc)
+repeats_append records entry cut_new draw draws next later is = absurd (cc)
+repeats_append records entry no_memory draw draws next later is = absurd (cc)
+
+repeats_with : (records : List Record) (trees : Trees) (level leaf : ℕ) (identifier : List ℕ) (fields : List (List ℕ)) (fate : Fate) (draw : Draw)
+    (draws : List Draw) (next : List Record → Outcome (List ℕ)) → ((all : List Record) → Repeats all draws (next all))
+    → Repeats records (draw ∷ draws) (extended_with (open_on records) trees level leaf identifier fields fate next)
+repeats_with records trees level leaf identifier [] fate draw draws next later is = absurd (cc)
+repeats_with records trees level leaf identifier (seed ∷ []) fate draw draws next later is = absurd (cc)
+repeats_with records trees level leaf identifier (seed ∷ randomizer ∷ []) fate draw draws next later is =
+    repeats_append records _ fate draw draws next later is
+repeats_with records trees level leaf identifier (seed ∷ randomizer ∷ more ∷ rest) fate draw draws next later is = absurd (cc)
+
+repeats_by : (records : List Record) (trees : Trees) (level leaf : ℕ) (fields : List (List ℕ)) (draw : Draw) (draws : List Draw)
+    (next : List Record → Outcome (List ℕ)) → draw.fields ≡ fields → ((all : List Record) → Repeats all draws (next all))
+    → Repeats records (draw ∷ draws) (extended_by (open_on records) trees level leaf fields draw.fate next)
+repeats_by records trees level leaf [] draw draws next are later = λ is. absurd (cc)
+repeats_by records trees level leaf (identifier ∷ fields) draw draws next are later =
+    kept_choice (Repeats records (draw ∷ draws)) (has_identifier records identifier) _ _
+    (λ there is. record {
+      begun = 0;
+      draw = draw;
+      is_draw = refl;
+      longer = omega arith;
+      identifier = identifier;
+      later = fields;
+      fields = are;
+      stands = there;
+    })
+    (λ new. repeats_with records trees level leaf identifier fields draw.fate draw draws next later)
+
+repeats_extended : (records : List Record) (key : Key) (level : ℕ) (trees : Option Trees) (draw : Draw) (draws : List Draw)
+    (next : List Record → Outcome (List ℕ)) → ((all : List Record) → Repeats all draws (next all))
+    → Repeats records (draw ∷ draws) (extended (open_on records) key level trees draw next)
+repeats_extended records key level None draw draws next later = λ is. absurd (cc)
+repeats_extended records key level (Some trees) draw draws next later =
+    repeats_by records trees level (next_at key.secret records (level - 1)) draw.fields draw draws next refl later
+
+-- no draw for a new tree
+undrawn : (records : List Record) (key : Key) (level : ℕ) (trees : Option Trees) (next : List Record → Outcome (List ℕ))
+    → (extended (open_on records) key level trees (first_draw []) next).answer ≡ Err RandomRepeated → ⊥
+undrawn records key level None next is = cc
+undrawn records key level (Some trees) next is = cc
+
+repeats_fulfilled : (key : Key) (name : List ℕ) (chance : Chance) (below : ℕ) (draws : List Draw) (records : List Record)
+    → Repeats records draws (fulfilled key name chance below draws records)
+repeats_fulfilled key name chance zero draws records = λ is.
+    absurd (repeats_bound (open_on records) key name (randomizer_from key.secret chance.bound.fields) chance.given chance.bound.fate is)
+repeats_fulfilled key name chance (suc below) [] records = λ is.
+    absurd (undrawn records key (bottom_of key.secret - below) (trees_of key.secret) (fulfilled key name chance below []) is)
+repeats_fulfilled key name chance (suc below) (draw ∷ draws) records =
+    repeats_extended records key (bottom_of key.secret - below) (trees_of key.secret) draw draws (fulfilled key name chance below draws)
+    (repeats_fulfilled key name chance below draws)
+
+pub drawn_again : (limit : ℕ) (state : State) (name : List ℕ) (chance : Chance) → (requested limit state name chance).answer ≡ Err RandomRepeated
+    → DrewAgain state.records chance.trees (requested limit state name chance).state.records
+drawn_again limit state name chance =
+    settled_under (Repeats state.records chance.trees) limit state name chance
+    (record { refused_for = λ fault other is. absurd (other (cc)); gives = λ signature is. absurd (cc); read = λ outcome again. again })
+    (key_in state.records) (λ key level keyed. repeats_fulfilled key name chance (bottom_of key.secret - level) chance.trees state.records)
+
+-- ---- how much is drawn
+
+abbrev DrawsMost : ℕ → Outcome (List ℕ) → Type 0
+DrawsMost most outcome = length outcome.drawn ≤ most
+
+fields_size : (sizes : List ℕ) (fields : List (List ℕ)) → AreFields sizes fields → length (concat fields) ≤ sum sizes
+fields_size sizes [] are = omega arith
+fields_size [] (field ∷ fields) are = absurd are
+fields_size (size ∷ sizes) (field ∷ fields) are =
+    let rest = fields_size sizes fields are.2 in
+    let more : sum (size ∷ sizes) ≡ size + sum sizes = sum_by-cons (λ n. n) size sizes in
+    omega (arith, rest, are.0, more, length-append field (concat fields))
+
+most_append : (most : ℕ) (state : State) (entry : Record) (fate : Fate) (next : List Record → Outcome (List ℕ))
+    → ((all : List Record) → DrawsMost most (next all)) → DrawsMost most (appended state entry fate next)
+most_append most state entry acked next later = later (state.records ++ entry ∷ [])
+most_append most state entry cut_old next later = omega arith
+most_append most state entry cut_new next later = omega arith
+most_append most state entry no_memory next later = omega arith
+
+most_bound : (state : State) (key : Key) (name : List ℕ) (randomizer given : Option (List ℕ)) (fate : Fate)
+    → DrawsMost 0 (bound_with state key name randomizer given fate)
+most_bound state key name None given fate = omega arith
+most_bound state key name (Some randomizer) None fate = omega arith
+most_bound state key name (Some randomizer) (Some message) fate =
+    most_append 0 state _ fate (λ records. answered (open_on records) _) (λ all. omega arith)
+
+most_with : (most : ℕ) (state : State) (trees : Trees) (level leaf : ℕ) (identifier : List ℕ) (fields : List (List ℕ)) (fate : Fate)
+    (next : List Record → Outcome (List ℕ)) → AreFields (32 ∷ 32 ∷ []) fields → ((all : List Record) → DrawsMost most (next all))
+    → DrawsMost (64 + most) (extended_with state trees level leaf identifier fields fate next)
+most_with most state trees level leaf identifier [] fate next are later = omega arith
+most_with most state trees level leaf identifier (seed ∷ []) fate next are later =
+    omega (arith, are.0, length-append seed [], length-append (seed ++ []) [])
+most_with most state trees level leaf identifier (seed ∷ randomizer ∷ []) fate next are later =
+    let secret = lms_secret (slice_index_or trees.pairs level trees.top.pair) identifier seed in
+    let entry = extend_record trees state.records level secret randomizer leaf in
+    let rest = most_append most state entry fate next later in
+    omega (arith, are.0, are.2.0, length-append seed randomizer, length-append (seed ++ randomizer) (appended state entry fate next).drawn, rest)
+most_with most state trees level leaf identifier (seed ∷ randomizer ∷ more ∷ rest) fate next are later = absurd are.2.2
+
+most_by : (most : ℕ) (state : State) (trees : Trees) (level leaf : ℕ) (fields : List (List ℕ)) (fate : Fate)
+    (next : List Record → Outcome (List ℕ)) → AreFields tree_sizes fields → ((all : List Record) → DrawsMost most (next all))
+    → DrawsMost (80 + most) (extended_by state trees level leaf fields fate next)
+most_by most state trees level leaf [] fate next are later = omega arith
+most_by most state trees level leaf (identifier ∷ fields) fate next are later =
+    let came : Outcome (List ℕ) = if has_identifier state.records identifier then refused state RandomRepeated
+    else extended_with state trees level leaf identifier fields fate next in
+    let rest : DrawsMost (64 + most) came = kept_choice (DrawsMost (64 + most)) (has_identifier state.records identifier) (refused state RandomRepeated)
+    (extended_with state trees level leaf identifier fields fate next) (λ there. omega arith)
+    (λ new. most_with most state trees level leaf identifier fields fate next are.2 later) in
+    omega (arith, are.0, rest, length-append identifier came.drawn)
+
+most_extended : (most : ℕ) (state : State) (key : Key) (level : ℕ) (trees : Option Trees) (draw : Draw) (next : List Record → Outcome (List ℕ))
+    → IsTreeDraw draw → ((all : List Record) → DrawsMost most (next all)) → DrawsMost (80 + most) (extended state key level trees draw next)
+most_extended most state key level None draw next are later = omega arith
+most_extended most state key level (Some trees) draw next are later =
+    most_by most state trees level (next_at key.secret state.records (level - 1)) draw.fields draw.fate next are later
+
+most_fulfilled : (key : Key) (name : List ℕ) (chance : Chance) (below : ℕ) (draws : List Draw) (records : List Record) → AllByRecursion IsTreeDraw draws
+    → AreFields (randomizer_sizes key.secret) chance.bound.fields
+    → DrawsMost (80 * below + sum (randomizer_sizes key.secret)) (fulfilled key name chance below draws records)
+most_fulfilled key name chance zero draws records trees bound =
+    let rest = bound_with (open_on records) key name (randomizer_from key.secret chance.bound.fields) chance.given chance.bound.fate in
+    let none = most_bound (open_on records) key name (randomizer_from key.secret chance.bound.fields) chance.given chance.bound.fate in
+    omega (arith, none, fields_size (randomizer_sizes key.secret) chance.bound.fields bound, length-append (concat chance.bound.fields) rest.drawn)
+most_fulfilled key name chance (suc below) draws records trees bound =
+    let most = 80 * below + sum (randomizer_sizes key.secret) in
+    let whole = most_extended most (open_on records) key (bottom_of key.secret - below) (trees_of key.secret) (first_draw draws)
+    (fulfilled key name chance below (later_draws draws)) (first_drawn draws trees)
+    (λ all. most_fulfilled key name chance below (later_draws draws) all (later_drawn draws trees) bound) in
+    omega (arith, whole)
+
+pub drawn_most : (limit : ℕ) (state : State) (key : Key) (name : List ℕ) (chance : Chance) → key_in state.records ≡ Some key
+    → AreDrawsOf key.secret chance
+    → length (requested limit state name chance).drawn ≤ sum tree_sizes * bottom_of key.secret + sum (randomizer_sizes key.secret)
+drawn_most limit state key name chance keyed drawn =
+    let most = 80 * bottom_of key.secret + sum (randomizer_sizes key.secret) in
+    settled_under (DrawsMost most) limit state name chance
+    (record { refused_for = λ fault other. omega arith; gives = λ signature. omega arith; read = λ outcome draws. draws })
+    (key_in state.records)
+    (λ own level is.
+    let same : key ≡ own = cc in
+    let inner = most_fulfilled key name chance (bottom_of key.secret - level) chance.trees state.records drawn.trees drawn.bound in
+    subst (λ k. DrawsMost most (fulfilled k name chance (bottom_of k.secret - level) chance.trees state.records)) same (omega (arith, inner)))

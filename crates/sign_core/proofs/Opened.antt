@@ -1,0 +1,353 @@
+-- What holds of any legal records: they are opened, stay legal, and what is signed over them is valid.
+use Rattle.std.proofs.Common.{◌≡◌, ◌∙◌, refl, sym, ap, subst, ℕ, zero, suc, ◌+◌, ◌-◌, ◌<◌, inl, inr, Bool, true, false, List, [], ◌∷◌, ◌++◌}
+use Rattle.std.proofs.Common.{length, Option, Some, None, Result, Ok, Err, append-nil, arith}
+use Rattle.std.specs.Prelude.{Contains, if◌then◌else◌, nat_le, nat_lt, not}
+use Rattle.std.proofs.lemmas.Bool.{le-leb}
+use Rattle.std.specs.List.{AllByRecursion, concat}
+use Rattle.std.specs.Cmp.Lexicographic.{bytes_decides}
+use Rattle.std.proofs.lemmas.List.Elements.{Contains-push_cases}
+use Rattle.typecodes.specs.declared.spec.Spec.{Spec}
+use Rattle.state_file.specs.Laws.{bottom_of}
+use Rattle.state_file.specs.declared.record.Bound.{Bound}
+use Rattle.state_file.specs.declared.record.Key.{Key}
+use Rattle.state_file.specs.declared.record.Record.{Record}
+use Rattle.state_file.specs.declared.record.Record.TheVariants.{Bound as BoundRecord, Retire}
+use Rattle.sign_core.specs.declared.key.AnyPublic.{AnyPublic}
+use Rattle.sign_core.specs.declared.fault.SignFault.{SignFault}
+use Rattle.sign_core.specs.declared.fault.SignFault.TheVariants.{Changed, Damaged, Exhausted, KeyThere, LedgerFull, MessageRead, OutOfMemory, RandomFailed}
+use Rattle.sign_core.specs.declared.fault.SignFault.TheVariants.{RandomRepeated, Stopped}
+use Rattle.sign_core.specs.declared.fault.SignFault.TheVariants.{Moved as MovedAway}
+use Rattle.sign_core.specs.Records.{are_same, binding_in, deepest, first_illegal, free_at, has_identifier, has_moved, has_randomizer, key_in}
+use Rattle.sign_core.specs.Records.{leaves_of_current, next_at, wanted_count}
+use Rattle.sign_core.specs.Once.{AllEvents, AreDraws, AreFields, IsBoundTo, IsEvent, IsTreeDraw, Reopens, Verifies, public_of_key, tree_sizes}
+use Rattle.sign_core.specs.Opened.{AreWellFormed, IsValidUnder, OpenedLaw}
+use Rattle.sign_core.specs.World.{Chance, Creation, Draw, Event, Fate, Handed, Opening, Outcome, State, World, acked, after, appended}
+use Rattle.sign_core.specs.World.{begun, bound_anew, bound_sound, bound_with, create, created_after, cut_new, cut_old, drawing, extended, extended_by, extended_with}
+use Rattle.sign_core.specs.World.{first_draw, fulfilled, handed_with, later_draws, new_bound, no_memory, open_on, opened_by, opened_on, published}
+use Rattle.sign_core.specs.World.{randomizer_from, refused, reopen, repeated, repeated_sound, request, requested, requested_of, requested_under, retire}
+use Rattle.sign_core.specs.World.{retired_under, run, secret_from, stop}
+use Rattle.sign_core.specs.Textbook.{Trees, damaged_in, digest_at, public_in, signature_at, tree_before, trees_of}
+use Rattle.sign_core.proofs.Events.{retire_can}
+use Rattle.sign_core.proofs.Follow.{key_first}
+use Rattle.sign_core.proofs.Illegal.{none_from_legal}
+use Rattle.sign_core.proofs.Leaves.{deepest_is}
+use Rattle.sign_core.proofs.OnceKept.{kept_choice}
+use Rattle.sign_core.proofs.Requests.{first_drawn, later_drawn, not_false}
+use Rattle.sign_core.proofs.Sizes.{key_has_sizes, public_made, randomizer_size}
+use Rattle.sign_core.proofs.SoundChains.{AreOf, IsStanding, bound_stands, extend_stands, of_grown}
+use Rattle.sign_core.proofs.Stays.{some_keyed}
+use Rattle.sign_core.proofs.Valid.{checked}
+
+-- legal records have a key
+pub of_key : (records : List Record) → AreWellFormed records → (key : Key) × AreOf key records
+of_key records are =
+    (are.legal.key, record { legal = are.legal; sizes = are.sizes; keyed = key_first records are.legal.key are.legal.first })
+
+-- ---- outcomes of a request
+
+same_valid : (public : AnyPublic) (message other own signature : List ℕ) → Some message ≡ Some other
+    → ◌≡◌ {A = Result (List ℕ) SignFault} (Ok own) (Ok signature) → Verifies public message own → Verifies public other signature
+same_valid public message other own signature read is valid =
+    let one : message ≡ other = cc in
+    let two : own ≡ signature = cc in
+    subst (λ m. Verifies public m signature) one (subst (Verifies public message) two valid)
+
+module _ (key : Key) (public : AnyPublic) (is_public : public_in key ≡ Some public) where
+  -- The outcome leaves legal records, and what it answers is a valid signature of what was read.
+  abbrev pub Fits : (given : Option (List ℕ)) → Outcome (List ℕ) → Type 0
+  Fits given outcome = AreOf key outcome.state.records
+      × ((message signature : List ℕ) → given ≡ Some message → outcome.answer ≡ Ok signature → Verifies public message signature)
+
+  fits_refused : (given : Option (List ℕ)) (state : State) (fault : SignFault) → AreOf key state.records → Fits given (refused state fault)
+  fits_refused given state fault are = (are, λ message signature read is. absurd (cc))
+
+  fits_append : (given : Option (List ℕ)) (state : State) (entry : Record) (fate : Fate) (next : List Record → Outcome (List ℕ)) → AreOf key state.records
+      → AreOf key (state.records ++ entry ∷ []) → Fits given (next (state.records ++ entry ∷ [])) → Fits given (appended state entry fate next)
+  fits_append given state entry acked next are more later = later
+  fits_append given state entry cut_old next are more later = (are, λ message signature read is. absurd (cc))
+  fits_append given state entry cut_new next are more later = (more, λ message signature read is. absurd (cc))
+  fits_append given state entry no_memory next are more later = (are, λ message signature read is. absurd (cc))
+
+  -- ---- a new tree
+
+  fits_with : (given : Option (List ℕ)) (name : List ℕ) (below : ℕ) (records : List Record) (trees : Trees) (identifier : List ℕ) (fields : List (List ℕ))
+      (fate : Fate) (next : List Record → Outcome (List ℕ)) → IsStanding key name (suc below) records → trees_of key.secret ≡ Some trees
+      → AreFields tree_sizes (identifier ∷ fields) → has_identifier records identifier ≡ false
+      → ((all : List Record) → IsStanding key name below all → Fits given (next all))
+      → (let level = bottom_of key.secret - below in
+      Fits given (extended_with (open_on records) trees level (next_at key.secret records (level - 1)) identifier fields fate next))
+  fits_with given name below records trees identifier [] fate next ready are drawn new later = fits_refused given (open_on records) RandomFailed ready.are
+  fits_with given name below records trees identifier (seed ∷ []) fate next ready are drawn new later =
+      fits_refused given (open_on records) RandomFailed ready.are
+  fits_with given name below records trees identifier (seed ∷ randomizer ∷ []) fate next ready are drawn new later =
+      let more = extend_stands key name below records trees identifier seed randomizer ready are drawn new in
+      fits_append given (open_on records) _ fate next ready.are more.are (later _ more)
+  fits_with given name below records trees identifier (seed ∷ randomizer ∷ extra ∷ rest) fate next ready are drawn new later =
+      fits_refused given (open_on records) RandomFailed ready.are
+
+  fits_by : (given : Option (List ℕ)) (name : List ℕ) (below : ℕ) (records : List Record) (trees : Trees) (fields : List (List ℕ)) (fate : Fate)
+      (next : List Record → Outcome (List ℕ)) → IsStanding key name (suc below) records → trees_of key.secret ≡ Some trees → AreFields tree_sizes fields
+      → ((all : List Record) → IsStanding key name below all → Fits given (next all))
+      → (let level = bottom_of key.secret - below in
+      Fits given (extended_by (open_on records) trees level (next_at key.secret records (level - 1)) fields fate next))
+  fits_by given name below records trees [] fate next ready are drawn later = fits_refused given (open_on records) RandomFailed ready.are
+  fits_by given name below records trees (identifier ∷ fields) fate next ready are drawn later =
+      kept_choice (Fits given) (has_identifier records identifier) _ _ (λ there. fits_refused given (open_on records) RandomRepeated ready.are)
+      (λ new. fits_with given name below records trees identifier fields fate next ready are drawn new later)
+
+  fits_extended : (given : Option (List ℕ)) (name : List ℕ) (below : ℕ) (records : List Record) (trees : Option Trees) (draw : Draw)
+      (next : List Record → Outcome (List ℕ)) → IsStanding key name (suc below) records → trees_of key.secret ≡ trees → IsTreeDraw draw
+      → ((all : List Record) → IsStanding key name below all → Fits given (next all))
+      → Fits given (extended (open_on records) key (bottom_of key.secret - below) trees draw next)
+  fits_extended given name below records None draw next ready are drawn later = fits_refused given (open_on records) RandomFailed ready.are
+  fits_extended given name below records (Some trees) draw next ready are drawn later =
+      fits_by given name below records trees draw.fields draw.fate next ready are drawn later
+
+  -- ---- a new binding
+
+  fits_bound : (given : Option (List ℕ)) (name : List ℕ) (records : List Record) (randomizer : Option (List ℕ)) (fate : Fate) → IsStanding key name 0 records
+      → ((drawn : List ℕ) → randomizer ≡ Some drawn → (length drawn ≡ 32) × (has_randomizer key.secret drawn ≡ true))
+      → Fits given (bound_with (open_on records) key name randomizer given fate)
+  fits_bound given name records None fate ready drawn = fits_refused given (open_on records) RandomFailed ready.are
+  fits_bound None name records (Some randomizer) fate ready drawn = fits_refused None (open_on records) MessageRead ready.are
+  fits_bound (Some message) name records (Some randomizer) fate ready drawn =
+      let bound = new_bound key records name (next_at key.secret records (bottom_of key.secret)) randomizer message in
+      let all = records ++ BoundRecord bound ∷ [] in
+      let (size, fits) = drawn randomizer refl in
+      let stands = bound_stands key name message randomizer records ready size fits in
+      let valid = checked all key name message (length records) bound public stands.are.legal stands.are.sizes stands.is_bound stands.sound is_public in
+      fits_append (Some message) (open_on records) (BoundRecord bound) fate _ ready.are stands.are
+      (stands.are, λ other signature read is. same_valid public message other (signature_at key all (length records) bound) signature read is valid)
+
+  fits_fulfilled : (name : List ℕ) (chance : Chance) (below : ℕ) (draws : List Draw) (records : List Record) → AllByRecursion IsTreeDraw draws
+      → AreFields (32 ∷ []) chance.bound.fields → IsStanding key name below records
+      → Fits chance.given (fulfilled key name chance below draws records)
+  fits_fulfilled name chance zero draws records trees bound ready =
+      fits_bound chance.given name records (randomizer_from key.secret chance.bound.fields) chance.bound.fate ready
+      (λ drawn is. randomizer_size key.secret chance.bound.fields drawn bound is)
+  fits_fulfilled name chance (suc below) draws records trees bound ready =
+      fits_extended chance.given name below records (trees_of key.secret) (first_draw draws) _ ready refl (first_drawn draws trees)
+      (λ all more. fits_fulfilled name chance below (later_draws draws) all (later_drawn draws trees) bound more)
+
+  fits_sound : (state : State) (name : List ℕ) (chance : Chance) (level : ℕ) (damaged : Option ℕ) → AreDraws chance → AreOf key state.records
+      → (damaged ≡ None → IsStanding key name (bottom_of key.secret - level) state.records)
+      → Fits chance.given (bound_sound state key name chance level damaged)
+  fits_sound state name chance level (Some slot) drawn are ready = fits_refused chance.given state (Damaged slot) are
+  fits_sound state name chance level None drawn are ready =
+      fits_fulfilled name chance (bottom_of key.secret - level) chance.trees state.records drawn.trees drawn.bound (ready refl)
+
+  fits_anew : (limit : ℕ) (state : State) (name : List ℕ) (chance : Chance) (level : Option ℕ) → AreDraws chance → AreOf key state.records
+      → has_moved state.records ≡ false → binding_in state.records name ≡ None → deepest key.secret state.records ≡ level
+      → Fits chance.given (bound_anew limit state key name chance level)
+  fits_anew limit state name chance None drawn are stays unbound is = fits_refused chance.given state Exhausted are
+  fits_anew limit state name chance (Some level) drawn are stays unbound is =
+      let (inside, free, others) = deepest_is key.secret state.records level is in
+      let place : level ≡ bottom_of key.secret - (bottom_of key.secret - level) = omega (arith, inside) in
+      let records = state.records in
+      kept_choice (Fits chance.given) (nat_lt limit (length records + wanted_count key.secret level)) _ _
+      (λ full. fits_refused chance.given state LedgerFull are)
+      (λ room. kept_choice (Fits chance.given) (not chance.has_room) _ _ (λ none. fits_refused chance.given state OutOfMemory are)
+      (λ some. fits_sound state name chance level (damaged_in key level records (tree_before level records (length records))) drawn are
+      (λ whole. record {
+        are = are;
+        stays = stays;
+        unbound = unbound;
+        inside = omega (arith, inside);
+        free = subst (λ l. 0 < free_at key.secret records l) place free;
+        sound = subst (λ l. damaged_in key l records (tree_before l records (length records)) ≡ None) place whole;
+      })))
+
+  -- ---- a name that is bound
+
+  fits_repeated_sound : (state : State) (name message : List ℕ) (k : ℕ) (bound : Bound) (damaged : Option ℕ) → AreOf key state.records
+      → IsBoundTo state.records key name message k bound
+      → damaged_in key (bottom_of key.secret) state.records (tree_before (bottom_of key.secret) state.records k) ≡ damaged
+      → Fits (Some message) (repeated_sound state key k bound damaged)
+  fits_repeated_sound state name message k bound (Some slot) are is whole = fits_refused (Some message) state (Damaged slot) are
+  fits_repeated_sound state name message k bound None are is whole = (
+    are,
+    λ other signature read gives. same_valid public message other (signature_at key state.records k bound) signature read gives
+        (checked state.records key name message k bound public are.legal are.sizes is whole is_public),
+  )
+
+  fits_repeated : (state : State) (name : List ℕ) (k : ℕ) (bound : Bound) (chance : Chance) (given : Option (List ℕ)) → AreOf key state.records
+      → binding_in state.records name ≡ Some (k, bound) → Fits given (repeated state key k bound chance given)
+  fits_repeated state name k bound chance None are named = fits_refused None state MessageRead are
+  fits_repeated state name k bound chance (Some message) are named =
+      let digest = digest_at key state.records k bound.leaf bound.randomizer message in
+      kept_choice (Fits (Some message)) (not (are_same digest bound.digest)) _ _ (λ other. fits_refused (Some message) state Changed are)
+      (λ same. kept_choice (Fits (Some message)) (not chance.has_room) _ _ (λ none. fits_refused (Some message) state OutOfMemory are)
+      (λ room. fits_repeated_sound state name message k bound _ are
+      (record { keyed = are.keyed; named = named; digest = (bytes_decides digest bound.digest).0 (not_false _ same) }) refl))
+
+  -- ---- any request
+
+  fits_of : (limit : ℕ) (state : State) (name : List ℕ) (chance : Chance) (found : Option (ℕ × Bound)) → AreDraws chance → AreOf key state.records
+      → has_moved state.records ≡ false → binding_in state.records name ≡ found → Fits chance.given (requested_of limit state key name chance found)
+  fits_of limit state name chance (Some (k, bound)) drawn are stays is = fits_repeated state name k bound chance chance.given are is
+  fits_of limit state name chance None drawn are stays is = fits_anew limit state name chance (deepest key.secret state.records) drawn are stays is refl
+
+  fits_under : (limit : ℕ) (state : State) (name : List ℕ) (chance : Chance) → AreDraws chance → AreOf key state.records
+      → Fits chance.given (requested_under limit state name chance (Some key))
+  fits_under limit state name chance drawn are =
+      kept_choice (Fits chance.given) (not state.is_open) _ _ (λ closed. fits_refused chance.given state Stopped are)
+      (λ open_now. kept_choice (Fits chance.given) (has_moved state.records) _ _ (λ moved. fits_refused chance.given state MovedAway are)
+      (λ stays. fits_of limit state name chance (binding_in state.records name) drawn are stays refl))
+
+  pub fits_request : (limit : ℕ) (state : State) (name : List ℕ) (chance : Chance) → AreDraws chance → AreOf key state.records
+      → Fits chance.given (requested limit state name chance)
+  fits_request limit state name chance drawn are =
+      subst (λ found. Fits chance.given (requested_under limit state name chance found)) (sym are.keyed) (fits_under limit state name chance drawn are)
+
+-- ---- creates, openings, retirings
+
+-- where there is a record a create changes nothing
+created_there : (failed : Option SignFault) (state : State) (spec : Spec) (chance : Creation) → 0 < length state.records
+    → (created_after failed state spec chance).state ≡ state
+created_there (Some fault) state spec chance some = refl
+created_there None state spec chance some =
+    ap (λ test. (if test then refused state KeyThere else drawing (concat chance.fields) (begun state chance (secret_from spec chance.fields))).state)
+    (le-leb 1 (length state.records) some)
+
+-- an opening keeps the records
+published_same : (records : List Record) (public : Option AnyPublic) → (published records public).state.records ≡ records
+published_same records (Some public) = refl
+published_same records None = refl
+
+opened_on_same : (records : List Record) (found : Option Key) → (opened_on records found).state.records ≡ records
+opened_on_same records None = refl
+opened_on_same records (Some key) = published_same records (public_in key)
+
+opened_same : (state : State) (chance : Opening) (illegal : Option ℕ) → (opened_by state chance illegal).state.records ≡ state.records
+opened_same state None None = opened_on_same state.records (key_in state.records)
+opened_same state None (Some k) = refl
+opened_same state (Some (slot, fault)) None = refl
+opened_same state (Some (slot, fault)) (Some k) = refl
+
+-- legal records are opened
+pub reopens : (state : State) → AreWellFormed state.records → Reopens state
+reopens state sized =
+    let records = state.records in
+    let (key, are) = of_key records sized in
+    let (public, is) = public_made key.secret key.root (key_has_sizes records key are.sizes are.keyed) in
+    record {
+      public = public;
+      keyed = ap public_of_key are.keyed ∙ is;
+      opens = ap (opened_by state None) (none_from_legal records are.legal) ∙ ap (opened_on records) are.keyed ∙ ap (published records) is;
+    }
+
+abbrev Stays : {A : Type 0} → Key → Outcome A → Type 0
+Stays key outcome = AreOf key outcome.state.records
+
+stays_choice : {A : Type 0} (key : Key) (test : Bool) (x y : Outcome A) → (test ≡ true → Stays key x) → (test ≡ false → Stays key y)
+    → Stays key (if test then x else y)
+stays_choice key true x y first second = first refl
+stays_choice key false x y first second = second refl
+
+stays_append : {A : Type 0} (key : Key) (state : State) (entry : Record) (fate : Fate) (next : List Record → Outcome A) → AreOf key state.records
+    → AreOf key (state.records ++ entry ∷ []) → Stays key (next (state.records ++ entry ∷ [])) → Stays key (appended state entry fate next)
+stays_append key state entry acked next are more later = later
+stays_append key state entry cut_old next are more later = are
+stays_append key state entry cut_new next are more later = more
+stays_append key state entry no_memory next are more later = are
+
+stays_retired : (key : Key) (limit : ℕ) (state : State) (upto : ℕ) (fate : Fate) → AreOf key state.records
+    → Stays key (retired_under limit state upto fate (Some key))
+stays_retired key limit state upto fate are =
+    let records = state.records in
+    let bottom = bottom_of key.secret in
+    stays_choice key (not state.is_open) _ _ (λ closed. are)
+    (λ open_now. stays_choice key (has_moved records) _ _ (λ moved. are)
+    (λ stays. stays_choice key (nat_lt (leaves_of_current key.secret records bottom) upto) _ _ (λ outside. are)
+    (λ inside. stays_choice key (nat_le upto (next_at key.secret records bottom)) _ _ (λ done. are)
+    (λ beyond. stays_choice key (nat_lt limit (length records + 1)) _ _ (λ full. are)
+    (λ room.
+    let more = of_grown key records (Retire upto) are (retire_can key records upto stays inside beyond) tt in
+    stays_append key state (Retire upto) fate _ are more more)))))
+
+-- ---- runs
+
+-- What is kept: the records are legal and of the key, and what was handed out is valid.
+record IsRight (key : Key) (public : AnyPublic) (world : World) : Type 0 where
+  are : AreOf key world.state.records
+  valid : (x : Handed) → Contains world.handed x → Verifies public x.message x.signature
+
+handed_right : (public : AnyPublic) (handed : List Handed) (name : List ℕ) (given : Option (List ℕ)) (answer : Result (List ℕ) SignFault)
+    → ((message signature : List ℕ) → given ≡ Some message → answer ≡ Ok signature → Verifies public message signature)
+    → ((x : Handed) → Contains handed x → Verifies public x.message x.signature)
+    → (x : Handed) → Contains (handed ++ handed_with name given answer) x → Verifies public x.message x.signature
+handed_right public handed name (Some message) (Ok signature) fits old x there = elim (Contains-push_cases handed _ x there) [
+  | inl before ↦ old x before
+  | inr it ↦ subst (λ (y : Handed). Verifies public y.message y.signature) it (fits message signature refl refl)
+]
+handed_right public handed name None (Ok signature) fits old x there = old x (subst (λ l. Contains l x) (append-nil handed) there)
+handed_right public handed name (Some message) (Err fault) fits old x there = old x (subst (λ l. Contains l x) (append-nil handed) there)
+handed_right public handed name None (Err fault) fits old x there = old x (subst (λ l. Contains l x) (append-nil handed) there)
+
+right_after : (key : Key) (public : AnyPublic) → public_in key ≡ Some public → (limit : ℕ) (world : World) (event : Event) → IsEvent event
+    → IsRight key public world → IsRight key public (after limit world event)
+right_after key public is limit world (create spec chance) can right =
+    let same = created_there chance.failed_load world.state spec chance (some_keyed world.state.records key right.are.keyed) in
+    record { are = subst (λ (s : State). AreOf key s.records) (sym same) right.are; valid = right.valid }
+right_after key public is limit world (reopen chance) can right =
+    let same = opened_same world.state chance (first_illegal world.state.records) in
+    record { are = subst (AreOf key) (sym same) right.are; valid = right.valid }
+right_after key public is limit world (request name chance) can right =
+    let (are, fits) = fits_request key public is limit world.state name chance can.1 right.are in
+    record { are = are; valid = handed_right public world.handed name chance.given _ fits right.valid }
+right_after key public is limit world (retire upto fate) can right =
+    let are = subst (λ found. Stays key (retired_under limit world.state upto fate found)) (sym right.are.keyed)
+    (stays_retired key limit world.state upto fate right.are) in
+    record { are = are; valid = right.valid }
+right_after key public is limit world stop can right = record { are = right.are; valid = right.valid }
+
+right_along : (key : Key) (public : AnyPublic) → public_in key ≡ Some public → (limit : ℕ) (world : World) (events : List Event) → AllEvents events
+    → IsRight key public world → IsRight key public (run limit world events)
+right_along key public is limit world [] all right = right
+right_along key public is limit world (event ∷ events) all right =
+    right_along key public is limit (after limit world event) events all.1 (right_after key public is limit world event all.0 right)
+
+-- ---- the law
+
+-- a world of legal records that has handed nothing out
+unfoldable pub silent : State → World
+silent state = record { state = state; handed = [] }
+
+none_handed : (public : AnyPublic) (handed : List Handed) → handed ≡ [] → (x : Handed) → Contains handed x → Verifies public x.message x.signature
+none_handed public [] empty x (k, within, at) = absurd (omega arith)
+none_handed public (y ∷ rest) empty x there = absurd (cc)
+
+pub after_state : (limit : ℕ) (world : World) (event : Event) → (after limit (silent world.state) event).state ≡ (after limit world event).state
+unfolding silent
+after_state limit world (create spec chance) = refl
+after_state limit world (reopen chance) = refl
+after_state limit world (request name chance) = refl
+after_state limit world (retire upto fate) = refl
+after_state limit world stop = refl
+
+stays_legal : (limit : ℕ) (world : World) (event : Event) → IsEvent event → AreWellFormed world.state.records → AreWellFormed (after limit world event).state.records
+unfolding silent
+stays_legal limit world event can sized =
+    let (key, are) = of_key world.state.records sized in
+    let (public, is) = public_made key.secret key.root (key_has_sizes world.state.records key are.sizes are.keyed) in
+    let right = right_after key public is limit (silent world.state) event can (record { are = are; valid = none_handed public [] refl }) in
+    subst (λ (s : State). AreWellFormed s.records) (after_state limit world event) (record { legal = right.are.legal; sizes = right.are.sizes })
+
+request_valid : (limit : ℕ) (state : State) (name message signature : List ℕ) (chance : Chance) → AreWellFormed state.records → AreDraws chance
+    → chance.given ≡ Some message → (requested limit state name chance).answer ≡ Ok signature → IsValidUnder state.records message signature
+request_valid limit state name message signature chance sized drawn given answers =
+    let (key, are) = of_key state.records sized in
+    let (public, is) = public_made key.secret key.root (key_has_sizes state.records key are.sizes are.keyed) in
+    let (more, fits) = fits_request key public is limit state name chance drawn are in
+    record { public = public; keyed = ap public_of_key are.keyed ∙ is; verifies = fits message signature given answers }
+
+run_valid : (limit : ℕ) (world : World) (events : List Event) (x : Handed) → AreWellFormed world.state.records → world.handed ≡ [] → AllEvents events
+    → Contains (run limit world events).handed x → IsValidUnder world.state.records x.message x.signature
+run_valid limit world events x sized empty all there =
+    let (key, are) = of_key world.state.records sized in
+    let (public, is) = public_made key.secret key.root (key_has_sizes world.state.records key are.sizes are.keyed) in
+    let right = right_along key public is limit world events all (record { are = are; valid = none_handed public world.handed empty }) in
+    record { public = public; keyed = ap public_of_key are.keyed ∙ is; verifies = right.valid x there }
+
+pub opened_law : OpenedLaw
+opened_law = record { reopens = reopens; legal = stays_legal; valid = request_valid; handed = run_valid }

@@ -1,0 +1,53 @@
+-- Each event leaves sound records.
+use Rattle.std.proofs.Common.{◌≡◌, sym, subst, ℕ, ◌⊎◌, inl, inr, List, [], ◌∷◌, ◌++◌, Some, arith}
+use Rattle.typecodes.specs.declared.spec.Spec.{Spec}
+use Rattle.state_file.specs.declared.record.Key.{Key}
+use Rattle.state_file.specs.declared.record.Record.{Record}
+use Rattle.sign_core.specs.Records.{key_in}
+use Rattle.sign_core.specs.Once.{AreWhole, IsEvent, SoundLaw}
+use Rattle.sign_core.specs.Textbook.{AllHaveSizes, AreSound}
+use Rattle.sign_core.specs.World.{Creation, Event, State, World, after, create, created}
+use Rattle.sign_core.proofs.Events.{kept_after}
+use Rattle.sign_core.proofs.Lasting.{extends_along}
+use Rattle.sign_core.proofs.OnceKept.{IsKept, kept_empty}
+use Rattle.sign_core.proofs.Opened.{after_state, silent}
+
+none_handed : (records : List Record) → AreWhole records → IsKept records []
+none_handed records whole = record {
+  ground = inr whole.sound;
+  sizes = whole.sizes;
+  recorded = λ x (k, within, at). absurd (omega arith);
+}
+
+-- records that grew from those of a key are some
+some_left : (records more left : List Record) (key : Key) → key_in records ≡ Some key → left ≡ records ++ more → left ≡ [] → ⊥
+some_left [] more left key keyed grown empty = cc
+some_left (entry ∷ records) more left key keyed grown empty = cc
+
+stays : (limit : ℕ) (world : World) (event : Event) → IsEvent event → AreWhole world.state.records → AreWhole (after limit world event).state.records
+unfolding silent
+stays limit world event can whole =
+    let kept = kept_after limit (silent world.state) event can (none_handed world.state.records whole) in
+    let same = after_state limit world event in
+    let left = (after limit world event).state.records in
+    let extends = extends_along limit world (event ∷ []) in
+    let ground = subst (λ (s : State). (s.records ≡ []) ⊎ AreSound s.records) same kept.ground in
+    record {
+      sound = elim ground as (λ u. AreSound left) [
+        | inl empty ↦ absurd (some_left world.state.records extends.records left whole.sound.key whole.sound.keyed extends.records_are empty)
+        | inr sound ↦ sound
+      ];
+      sizes = subst (λ (s : State). AllHaveSizes s.records) same kept.sizes;
+    }
+
+begins : (state : State) (spec : Spec) (chance : Creation) → IsEvent (create spec chance) → state.records ≡ []
+    → ((created state spec chance).state.records ≡ []) ⊎ AreWhole (created state spec chance).state.records
+begins state spec chance can empty =
+    let kept = kept_after 0 (record { state = state; handed = [] }) (create spec chance) can (subst (λ l. IsKept l []) (sym empty) kept_empty) in
+    elim kept.ground as (λ u. ((created state spec chance).state.records ≡ []) ⊎ AreWhole (created state spec chance).state.records) [
+      | inl none ↦ inl none
+      | inr sound ↦ inr (record { sound = sound; sizes = kept.sizes })
+    ]
+
+pub sound_law : SoundLaw
+sound_law = record { stays = stays; begins = begins }
