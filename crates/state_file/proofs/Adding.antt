@@ -11,7 +11,7 @@ use Rattle.state_file.specs.Gates.{AddsSlot, slot_and_gate}
 -- the first write, and what both change
 pub first_stays : (k : ℕ) (bytes content c : List ℕ) → length bytes ≡ 256 → ChangesOnly (range_of (256 * k + 1) bytes ∷ []) content c → ChangesOnly (slot_and_gate k ∷ []) content c
 first_stays k bytes content c size first = record {
-  kept = λ place inside outside. first.kept place inside (⊎_elim (λ (low : place < 256 * k). inl (omega arith)) (λ (high : 256 * k + 257 ≤ place). inr (omega (arith, size))) outside.0, tt);
+  kept = λ offset inside outside. first.kept offset inside (⊎_elim (λ (low : offset < 256 * k). inl (omega arith)) (λ (high : 256 * k + 257 ≤ offset). inr (omega (arith, size))) outside.0, tt);
   no_shorter = first.no_shorter;
   no_longer = omega (arith, size, first.no_longer);
 }
@@ -19,9 +19,9 @@ first_stays k bytes content c size first = record {
 pub both_stay : (k : ℕ) (bytes content mid c : List ℕ) → length bytes ≡ 256 → ChangesOnly (range_of (256 * k + 1) bytes ∷ []) content mid → ChangesOnly (range_of (256 * k) (165 ∷ []) ∷ []) mid c
     → ChangesOnly (slot_and_gate k ∷ []) content c
 both_stay k bytes content mid c size first second = record {
-  kept = λ place inside outside.
-      second.kept place (omega (arith, first.no_shorter)) (⊎_elim (λ (low : place < 256 * k). inl low) (λ (high : 256 * k + 257 ≤ place). inr (omega arith)) outside.0, tt)
-      ∙ (first_stays k bytes content mid size first).kept place inside outside;
+  kept = λ offset inside outside.
+      second.kept offset (omega (arith, first.no_shorter)) (⊎_elim (λ (low : offset < 256 * k). inl low) (λ (high : 256 * k + 257 ≤ offset). inr (omega arith)) outside.0, tt)
+      ∙ (first_stays k bytes content mid size first).kept offset inside outside;
   no_shorter = omega (arith, first.no_shorter, second.no_shorter);
   no_longer = omega (arith, size, first.no_longer, second.no_longer);
 }
@@ -39,9 +39,9 @@ slot_added k body bytes content mid new body_len is first put synced second =
     let part : take (length bytes) tail ≡ bytes = ap (λ n. take n tail) (sym width) ∙ put in
     let reaches : 256 * k + 257 ≤ length mid = omega (arith, ap length part, length-take (length bytes) tail, length-drop (256 * k + 1) mid, size) in
     let last : slice_index bytes 255 ≡ 0 = ap (λ (l : List ℕ). slice_index l 255) is ∙ get_or_at body 0 [] 0 255 body_len in
-    let place : 256 * (k + 1) ≡ 256 * k + 1 + 255 = omega arith in
+    let offset : 256 * (k + 1) ≡ 256 * k + 1 + 255 = omega arith in
     let gate : slice_index mid (256 * (k + 1)) ≡ 0 =
-    ap (λ n. slice_index mid n) place ∙ sym (get_or-drop (256 * k + 1) mid 255 0) ∙ sym (get_or-take (length bytes) tail 255 0 (omega (arith, size))) ∙ ap (λ (l : List ℕ). slice_index l 255) part ∙ last in
+    ap (λ n. slice_index mid n) offset ∙ sym (get_or-drop (256 * k + 1) mid 255 0) ∙ sym (get_or-take (length bytes) tail 255 0 (omega (arith, size))) ∙ ap (λ (l : List ℕ). slice_index l 255) part ∙ last in
     let shut : slice_index new.content (256 * (k + 1)) ≡ 0 = second.kept (256 * (k + 1)) (omega (arith, reaches)) (inr (omega arith), tt) ∙ gate in
     record {
       synced = synced;

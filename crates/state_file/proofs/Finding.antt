@@ -7,7 +7,7 @@ use Rattle.state_file.specs.File.{Begins, Holds, IsClosed, IsDamagedAt, IsOpen, 
 use Rattle.state_file.specs.Disk.{DiskState, MayLeave, settled, Elapses, LeavesOnly}
 use Rattle.state_file.specs.FileStore.{closed_gate, fields_length, opened_by}
 use Rattle.state_file.specs.DiskCalls.{OnlyReads}
-use Rattle.state_file.specs.Opening.{HasEntry, HasSlot, IsFound, StartsWithKey, Reports, ReportsSlot}
+use Rattle.state_file.specs.Opening.{HasEntry, HasSlot, IsFound, StartsWithKey, ReportsContent, ReportsSlot}
 use Rattle.state_file.specs.Slot.{slot_record}
 use Rattle.state_file.specs.Store.{begins_with_key}
 use Rattle.state_file.specs.declared.file.opening.OpenFault.{OpenFault}
@@ -126,7 +126,7 @@ found_all content count records tag found counted key closed = record {
 
 -- where the next slot is open and isn't whole, it is damaged
 pub found_harm : (content : List ℕ) (count : ℕ) (records : List Record) (tag : List ℕ) (fault : OpenFault) → BeginsFound content count records tag → count ≡ length records → StartsWithKey content → IsOpen content count → ReportsSlot content count fault
-    → Reports content fault
+    → ReportsContent content fault
 found_harm content count records tag NoKey found counted key opened reported = absurd reported
 found_harm content count records tag NotKeyFile found counted key opened reported = absurd reported
 found_harm content count records tag VersionFault found counted key opened reported = absurd reported

@@ -40,12 +40,12 @@ newest_taken log i entry inside is =
 -- the whole range was written
 pub overlays_range : (at : ℕ) (bytes old new : List ℕ) → Overlays at bytes old new → ChangesOnly (range_of at bytes ∷ []) old new
 overlays_range at [] old new over = record {
-  kept = λ place inside outside. ⊎_elim (over.before place inside) (over.after place inside) outside.0;
+  kept = λ offset inside outside. ⊎_elim (over.before offset inside) (over.after offset inside) outside.0;
   no_shorter = grind (arith, nat_tests);
   no_longer = grind (arith, nat_tests);
 }
 overlays_range at (b ∷ bytes) old new over = record {
-  kept = λ place inside outside. ⊎_elim (over.before place inside) (over.after place inside) outside.0;
+  kept = λ offset inside outside. ⊎_elim (over.before offset inside) (over.after offset inside) outside.0;
   no_shorter = grind (arith, nat_tests);
   no_longer = grind (arith, nat_tests);
 }

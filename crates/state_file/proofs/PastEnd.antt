@@ -17,5 +17,5 @@ still_within n old new same within = subst (λ (s : DiskState). n ≤ length s.c
 
 -- the bytes that were read, as a part of the content
 pub range_taken : (content bytes : List ℕ) (at from len size : ℕ) → at ≡ from → len ≡ size → bytes ≡ slice_range content at (at + len) → bytes ≡ take size (drop from content)
-range_taken content bytes at from len size place width is =
-    let count : at + len - at ≡ size = omega arith in is ∙ ap (λ n. take n (drop at content)) count ∙ ap (λ n. take size (drop n content)) place
+range_taken content bytes at from len size offset width is =
+    let count : at + len - at ≡ size = omega arith in is ∙ ap (λ n. take n (drop at content)) count ∙ ap (λ n. take size (drop n content)) offset

@@ -4,19 +4,19 @@ use Rattle.std.specs.Prelude.{Result, Ok, Err, Bool, true, false, if◌then◌el
 use Rattle.state_file.specs.declared.disk.DiskFault.{DiskFault}
 use Rattle.state_file.specs.declared.disk.DiskFault.TheVariants.{Failed, PastEnd, OutOfMemory}
 
--- the places from `from` on and below `to`
+-- the offsets from `from` on and below `to`
 pub record Range : Type 0 where
   pub from : ℕ
   pub to : ℕ
 
--- where these bytes stand, if they begin at this place
+-- where these bytes stand, if they begin at this offset
 abbrev pub range_of : ℕ → List ℕ → Range
 range_of at bytes = record { from = at; to = at + length bytes }
 
--- the place lies in none of them
+-- the offset lies in none of them
 abbrev pub IsOutside : ℕ → List Range → Type 0
-IsOutside place [] = Unit {0}
-IsOutside place (range ∷ ranges) = ((place < range.from) ⊎ (range.to ≤ place)) × IsOutside place ranges
+IsOutside offset [] = Unit {0}
+IsOutside offset (range ∷ ranges) = ((offset < range.from) ⊎ (range.to ≤ offset)) × IsOutside offset ranges
 
 -- the greatest of a length and of the ends of ranges
 abbrev pub greatest_end : ℕ → List Range → ℕ
@@ -25,7 +25,8 @@ greatest_end len (range ∷ ranges) = max range.to (greatest_end len ranges)
 
 -- New differs from old at most in these ranges and past old's end.
 pub record ChangesOnly (ranges : List Range) (old new : List ℕ) : Type 0 where
-  pub kept : (place : ℕ) → place < length old → IsOutside place ranges → slice_index new place ≡ slice_index old place
+  pub kept : (offset : ℕ) → offset < length old → IsOutside offset ranges
+      → slice_index new offset ≡ slice_index old offset
   pub no_shorter : length old ≤ length new
   pub no_longer : length new ≤ greatest_end (length old) ranges
 
@@ -57,10 +58,10 @@ pub record OpensRange (range : Range) (old new : DiskState) : Type 0 where
   pub same_base : new.base ≡ old.base
 
 -- What a write does. One that is refused may have written any part of its range, or nothing.
-abbrev pub Writes : {A E : Type 0} (at : ℕ) (bytes : List ℕ) (old new : DiskState) → Result A E → Type 0
-Writes at bytes old new (Ok _) = OpensRange (range_of at bytes) old new
+abbrev pub WritesBytes : {A E : Type 0} (at : ℕ) (bytes : List ℕ) (old new : DiskState) → Result A E → Type 0
+WritesBytes at bytes old new (Ok _) = OpensRange (range_of at bytes) old new
     × (slice_range new.content at (at + length bytes) ≡ bytes)
-Writes at bytes old new (Err _) = (new ≡ old) ⊎ OpensRange (range_of at bytes) old new
+WritesBytes at bytes old new (Err _) = (new ≡ old) ⊎ OpensRange (range_of at bytes) old new
 
 -- What a sync does. One that is refused promises nothing: what a read gives after it is one of the contents
 -- that a stop may leave, as ever.

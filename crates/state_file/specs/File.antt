@@ -32,9 +32,9 @@ open_value = 0xA5
 abbrev pub IsOpen : List ℕ → ℕ → Type 0
 IsOpen content k = gate content k ≡ Some open_value
 
--- this place lies in the content, and a gate there is closed
+-- this offset lies in the content, and a gate there is closed
 abbrev pub IsClosedAt : List ℕ → ℕ → Type 0
-IsClosedAt content place = (place < length content) × (slice_index content place ≢ open_value)
+IsClosedAt content offset = (offset < length content) × (slice_index content offset ≢ open_value)
 
 abbrev pub IsClosed : List ℕ → ℕ → Type 0
 IsClosed content k = IsClosedAt content (256 * k)

@@ -32,7 +32,7 @@ LeftBy first log = ChangesOnly (ranges_of (reverse log)) (base_of first (reverse
 abbrev pub LeftSince : (first : List ℕ) (log : List Entry) → ℕ → List ℕ → Type 0
 LeftSince first log t c = (k : ℕ) × (t ≤ k) × (k ≤ length log) × LeftBy first (take k log) c
 
--- New is old with these bytes at this place, and zeros in a gap before them. No bytes change nothing.
+-- New is old with these bytes at this offset, and zeros in a gap before them. No bytes change nothing.
 pub record Overlays (at : ℕ) (bytes old new : List ℕ) : Type 0 where
   pub len : length new ≡ (if length bytes == 0 then length old else max (length old) (at + length bytes))
   pub put : (i : ℕ) → i < length bytes → slice_index new (at + i) ≡ slice_index bytes i
@@ -43,9 +43,10 @@ pub record Overlays (at : ℕ) (bytes old new : List ℕ) : Type 0 where
 -- the longest content that a stop may leave, with this byte wherever it may leave any
 pub record IsLongestLeft (byte : ℕ) (base : List ℕ) (ranges : List Range) (c : List ℕ) : Type 0 where
   pub longest : length c ≡ greatest_end (length base) ranges
-  pub kept : (place : ℕ) → place < length base → IsOutside place ranges → slice_index c place ≡ slice_index base place
-  pub inside : (place : ℕ) → place < length c → (IsOutside place ranges → ⊥) → slice_index c place ≡ byte
-  pub after : (place : ℕ) → place < length c → length base ≤ place → slice_index c place ≡ byte
+  pub kept : (offset : ℕ) → offset < length base → IsOutside offset ranges
+      → slice_index c offset ≡ slice_index base offset
+  pub inside : (offset : ℕ) → offset < length c → (IsOutside offset ranges → ⊥) → slice_index c offset ≡ byte
+  pub after : (offset : ℕ) → offset < length c → length base ≤ offset → slice_index c offset ≡ byte
 
 pub left_now : (first : List ℕ) (log : List Entry) (t : ℕ) (c : List ℕ) → t ≤ length log → LeftBy first log c
     → LeftSince first log t c

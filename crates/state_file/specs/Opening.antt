@@ -32,12 +32,12 @@ OpensAs content (damaged k) = IsDamagedAt content k
 -- ---- what its parts do
 
 -- what each refusal reports of the content
-abbrev pub Reports : List ℕ → OpenFault → Type 0
-Reports content NoKey = OpensAs content no_key
-Reports content NotKeyFile = OpensAs content no_key_file
-Reports content VersionFault = OpensAs content unknown_version
-Reports content (Damaged k) = OpensAs content (damaged k)
-Reports content DeviceFailed = Unit {0}
+abbrev pub ReportsContent : List ℕ → OpenFault → Type 0
+ReportsContent content NoKey = OpensAs content no_key
+ReportsContent content NotKeyFile = OpensAs content no_key_file
+ReportsContent content VersionFault = OpensAs content unknown_version
+ReportsContent content (Damaged k) = OpensAs content (damaged k)
+ReportsContent content DeviceFailed = Unit {0}
 
 -- A refusal for what stands there leaves it as it was, and all of it is synced.
 abbrev pub KeepsContent : List ℕ → DiskState → OpenFault → Type 0

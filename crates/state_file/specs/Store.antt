@@ -64,10 +64,10 @@ unreadable_slot DeviceFailed = []
 unreadable_slot OutOfMemory = []
 unreadable_slot Full = []
 
--- What a refusal tells is added at the head of a list, and nothing else is.
-abbrev pub Collects : {A E T : Type 0} (told_by : E → List T) (before after : List T) → Result A E → Type 0
-Collects told_by before after (Ok _) = after ≡ before
-Collects told_by before after (Err fault) = after ≡ told_by fault ++ before
+-- What a refusal names is added at the head of a list, and nothing else is.
+abbrev pub Collects : {A E T : Type 0} (named_by : E → List T) (before after : List T) → Result A E → Type 0
+Collects named_by before after (Ok _) = after ≡ before
+Collects named_by before after (Err fault) = after ≡ named_by fault ++ before
 
 -- the record that load may give: record k, where the store is honest
 abbrev pub IsRecordAt : Bool → List Record → ℕ → Record → Type 0

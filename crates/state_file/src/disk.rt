@@ -1,7 +1,7 @@
 //! What a disk is: bytes that may get lost, where they weren't synced, when the power goes.
 
 ghost use Rattle.std.specs.Prelude.{◌≡◌, ◌+◌, ◌<◌, ◌≤◌, ℕ, List, Bool, IsTrue, length, slice_range, IfOk, OnOk};
-ghost use Rattle.state_file.specs.Disk.{DiskState, MayLeave, Writes, Syncs, Counts, is_failure, is_past_end};
+ghost use Rattle.state_file.specs.Disk.{DiskState, MayLeave, WritesBytes, Syncs, Counts, is_failure, is_past_end};
 ghost use Rattle.state_file.specs.Disk.{TimePasses};
 
 mod log;
@@ -58,7 +58,7 @@ pub trait Disk {
         ensures past_ends { past_ends self.new ≡ past_ends self.old }
         ensures honest { honest self.new ≡ honest self.old };
 
-    /// Reads as many bytes as `into` has, which is one at least, from the place `at` on. A read past the end is
+    /// Reads as many bytes as `into` has, which is one at least, from the offset `at` on. A read past the end is
     /// refused, and no other is refused as one. After an Err nothing is said of `into`.
     fn read_at(&mut self, at: u64, into: &mut [u8]) -> Result<(), DiskFault>
         requires { 0 < length into.old }
@@ -74,11 +74,11 @@ pub trait Disk {
         ensures failures { Counts is_failure (failures self.old) (failures self.new) result }
         ensures honest { honest self.new ≡ honest self.old };
 
-    /// Writes these bytes, one at least, over what is there and past the end. Until a sync succeeds, a stop may
+    /// WritesBytes these bytes, one at least, over what is there and past the end. Until a sync succeeds, a stop may
     /// leave any bytes in the range.
     fn write_at(&mut self, at: u64, bytes: &[u8]) -> Result<(), DiskFault>
         requires { 0 < length bytes.now }
-        ensures written { IsTrue (honest self.old) → Writes at bytes.now (state self.old) (state self.new) result }
+        ensures written { IsTrue (honest self.old) → WritesBytes at bytes.now (state self.old) (state self.new) result }
         ensures time { IsTrue (honest self.old) → TimePasses state moment left_since self.old self.new }
         ensures failures { Counts is_failure (failures self.old) (failures self.new) result }
         ensures past_ends { past_ends self.new ≡ past_ends self.old }

@@ -21,9 +21,8 @@ pub fn slot_laws()
 
 /// What holds of the contents of a disk: each spells the records of a key, or has a reason why there are none, and
 /// but one of these. One that stands for a list, as each does that a stop in an append leaves, spells it or has no
-/// key (`standing`): opening it reports none of 41 to 43. Nor has one a key that a stop leaves while a place of under
-/// 257
-/// bytes is prepared (`prepared`).
+/// key (`standing`): opening it reports none of 41 to 43. Nor has one a key that a stop leaves while a place of
+/// under 257 bytes is prepared (`prepared`).
 pub fn content_laws()
     ensures some { (content : List ℕ) → (opening : Opening) × OpensAs content opening }
     ensures once { (content : List ℕ) (opening other : Opening) → OpensAs content opening → OpensAs content other →

@@ -43,15 +43,15 @@ fn longest(base: &[u8], log: &[Entry]) -> u64
     longest
 }
 
-// Whether a place lies in no range since the last sync.
+// Whether an offset lies in no range since the last sync.
 #[tactic(auto, using(crate::proofs::Log::newest_taken))]
-fn is_outside(place: u64, log: &[Entry]) -> bool
-    ensures { IsTrue result ↔ IsOutside place (ranges_of (reverse log.now)) }
+fn is_outside(offset: u64, log: &[Entry]) -> bool
+    ensures { IsTrue result ↔ IsOutside offset (ranges_of (reverse log.now)) }
 {
     let mut outside = true;
     for entry in log {
         outside = match entry {
-            Entry::Wrote { from, to } => outside && (place < *from || *to <= place),
+            Entry::Wrote { from, to } => outside && (offset < *from || *to <= offset),
             Entry::Synced(_) => true,
         };
     }
@@ -69,14 +69,14 @@ pub(crate) fn longest_left(
 {
     let longest = usize::try_from(longest(base, log)).map_err(|_| AllocError)?;
     let mut left = Vec::new(alloc);
-    for place in 0..longest {
-        let kept = place < base.len() && is_outside(place as u64, log);
-        left.push(if kept { base[place] } else { byte })?;
+    for offset in 0..longest {
+        let kept = offset < base.len() && is_outside(offset as u64, log);
+        left.push(if kept { base[offset] } else { byte })?;
     }
     Ok(left)
 }
 
-/// So many bytes from a place on, if they are there.
+/// So many bytes from an offset on, if they are there.
 pub(crate) fn part(content: &[u8], at: u64, len: usize) -> Option<&[u8]>
     ensures { MatchOption result (length content.now < at + len)
         (λ p. (at + len ≤ length content.now) × (p.now ≡ slice_range content.now at (at + len))) }
@@ -108,7 +108,7 @@ pub(crate) fn write(
     done
 }
 
-// Puts bytes at a place, with zeros in a gap before them, or does nothing where memory is refused.
+// Puts bytes at an offset, with zeros in a gap before them, or does nothing where memory is refused.
 fn overlay(content: &mut Vec<u8>, at: u64, bytes: &[u8]) -> Result<(), AllocError>
     ensures content { OnOk result (Overlays at bytes.now content.old.items content.new.items) }
     ensures content_err { OnErr result (content.new.items ≡ content.old.items) }

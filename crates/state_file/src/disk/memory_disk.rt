@@ -3,7 +3,7 @@
 ghost use Rattle.std.specs.Prelude.{if◌then◌else◌, nat_le, IsTrue, ◌-◌, ◌≡◌, ◌+◌, ◌≤◌, ◌<◌, length, slice_range};
 ghost use Rattle.std.specs.Prelude.{IfOk, IfErr, OnOk, OnErr, ◌≢◌, ℕ, List};
 ghost use Rattle.std.proofs.Props.{props};
-ghost use Rattle.state_file.specs.Disk.{DiskState, MayLeave, ChangesOnly, settled, Writes, Syncs, Counts};
+ghost use Rattle.state_file.specs.Disk.{DiskState, MayLeave, ChangesOnly, settled, WritesBytes, Syncs, Counts};
 ghost use Rattle.state_file.specs.Disk.{is_failure, is_past_end, TimePasses};
 ghost use Rattle.state_file.specs.Log.{LeftBy, left_now, left_only_now};
 
@@ -219,7 +219,7 @@ impl Disk for MemoryDisk {
         ensures stores { WritesInMemory at bytes.now (state_in self.old) (state_in self.new) (next_fate self.old)
             result }
         ensures written { IsTrue (is_honest self.old) →
-            Writes at bytes.now (state_in self.old) (state_in self.new) result }
+            WritesBytes at bytes.now (state_in self.old) (state_in self.new) result }
         ensures past_ends { past_ends_in self.new ≡ past_ends_in self.old }
         ensures call { CallComes self.old self.new result }
     {

@@ -7,7 +7,7 @@ use std::alloc::{AllocError, Global};
 #[derive(Clone, Copy)]
 enum Step<'a> {
     Len(Result<u64, DiskFault>),
-    // the bytes read from a place on
+    // the bytes read from an offset on
     Read(u64, &'a [u8]),
     // a read of two bytes
     ReadFails(u64, DiskFault),

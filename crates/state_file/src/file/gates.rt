@@ -5,7 +5,7 @@ ghost use Rattle.std.specs.Prelude.{length, slice_range, IfOk, OnOk};
 ghost use Rattle.state_file.specs.File.{open_value};
 ghost use Rattle.state_file.specs.Disk.{settled, range_of, ChangesOnly, IsSynced, LeavesOnly, MayLeave};
 ghost use Rattle.state_file.specs.Disk.{is_failure};
-ghost use Rattle.state_file.specs.DiskCalls.{CountsFailuresUnread, ReadsDisk};
+ghost use Rattle.state_file.specs.DiskCalls.{CountsFailuresWithoutReads, ReadsDisk};
 ghost use Rattle.state_file.specs.Gates.{AddsSlot, IsClosedAfter, IsAtRest, slot_and_gate};
 
 use crate::disk::{Disk, DiskFault};
@@ -36,7 +36,7 @@ pub(crate) fn write_synced<D: Disk>(disk: &mut D, at: u64, bytes: &[u8]) -> Resu
     ensures any_moment { IsTrue (D.honest disk.old) → IsSynced (D.state disk.old) →
         LeavesOnly D.moment D.left_since disk.old disk.new
         (ChangesOnly (range_of at bytes.now ∷ []) (D.state disk.old).content) }
-    ensures counts { CountsFailuresUnread D.Disk is_failure disk.old disk.new result }
+    ensures counts { CountsFailuresWithoutReads D.Disk is_failure disk.old disk.new result }
 {
     disk.write_at(at, bytes)?;
     disk.sync()
@@ -64,7 +64,7 @@ pub(crate) fn add_slot<D: Disk>(
         length front ≡ 256 * slot →
         LeavesOnly D.moment D.left_since disk.old disk.new
         (λ c. IsClosedAfter front c ⊎ IsClosedAfter (front ++ open_value ∷ (fields.now ++ tag.now)) c) }
-    ensures counts { CountsFailuresUnread D.Disk is_failure disk.old disk.new result }
+    ensures counts { CountsFailuresWithoutReads D.Disk is_failure disk.old disk.new result }
 {
     let gate = SLOT * u64::from(slot);
     write_synced(disk, gate + 1, &block(fields, tag))?;
@@ -97,7 +97,7 @@ pub(crate) fn settle<D: Disk>(disk: &mut D) -> Result<u64, DiskFault>
         (λ len. (D.state disk.new ≡ settled (D.state disk.old).content) × (len ≡ length (D.state disk.old).content)) }
     ensures any_moment { IsTrue (D.honest disk.old) →
         LeavesOnly D.moment D.left_since disk.old disk.new (MayLeave (D.state disk.old)) }
-    ensures counts { CountsFailuresUnread D.Disk is_failure disk.old disk.new result }
+    ensures counts { CountsFailuresWithoutReads D.Disk is_failure disk.old disk.new result }
 {
     disk.sync()?;
     disk.len()

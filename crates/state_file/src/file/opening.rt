@@ -9,7 +9,7 @@ ghost use Rattle.state_file.specs.declared.record.Record.{Record as Entry};
 ghost use Rattle.state_file.specs.Disk.{settled, MayLeave, LeavesOnly, is_failure};
 ghost use Rattle.state_file.specs.DiskCalls.{CountsFailures, ReadsDisk};
 ghost use Rattle.state_file.specs.Opening.{is_failed_opening, HasEntry, HasSlot, IsFound, KeepsContent};
-ghost use Rattle.state_file.specs.Opening.{StartsWithKey, Reports, ReportsSlot};
+ghost use Rattle.state_file.specs.Opening.{StartsWithKey, ReportsContent, ReportsSlot};
 
 use crate::disk::{Disk, DiskFault};
 use crate::file::gates::{SLOT, read_within, settle};
@@ -192,7 +192,7 @@ fn read_first_fields<D: Disk>(disk: &mut D, len: u64) -> Result<[u8; 223], OpenF
     ensures may { IsTrue (D.honest disk.old) → OnOk result (MayHaveKey (D.state disk.old).content) }
     ensures fields { IsTrue (D.honest disk.old) →
         IfOk result (λ fields. fields ≡ fields_at (D.state disk.old).content 0) }
-    ensures fault { IsTrue (D.honest disk.old) → IfErr result (Reports (D.state disk.old).content) }
+    ensures fault { IsTrue (D.honest disk.old) → IfErr result (ReportsContent (D.state disk.old).content) }
     ensures reads { ReadsDisk D.Disk is_failed_opening disk.old disk.new result }
 {
     if len < SLOT + 1 {
@@ -208,7 +208,7 @@ fn read_first_fields<D: Disk>(disk: &mut D, len: u64) -> Result<[u8; 223], OpenF
 fn check_key<D: Disk>(disk: &mut D, len: u64) -> Result<(), OpenFault>
     requires len { IsTrue (D.honest disk.old) → len ≡ length (D.state disk.old).content }
     ensures key { IsTrue (D.honest disk.old) → OnOk result (StartsWithKey (D.state disk.old).content) }
-    ensures fault { IsTrue (D.honest disk.old) → IfErr result (Reports (D.state disk.old).content) }
+    ensures fault { IsTrue (D.honest disk.old) → IfErr result (ReportsContent (D.state disk.old).content) }
     ensures reads { ReadsDisk D.Disk is_failed_opening disk.old disk.new result }
 {
     let fields = read_first_fields(disk, len)?;
@@ -254,7 +254,7 @@ fn read_slots<D: Disk>(disk: &mut D, len: u64) -> Result<Found, OpenFault>
     ensures few { IfOk result (λ found. found.count ≤ most_records) }
     ensures found { IsTrue (D.honest disk.old) →
         IfOk result (λ found. IsFound (D.state disk.old).content found.records found.tag) }
-    ensures fault { IsTrue (D.honest disk.old) → IfErr result (Reports (D.state disk.old).content) }
+    ensures fault { IsTrue (D.honest disk.old) → IfErr result (ReportsContent (D.state disk.old).content) }
     ensures reads { ReadsDisk D.Disk is_failed_opening disk.old disk.new result }
 {
     let mut found = Found::none();
@@ -272,7 +272,7 @@ pub(crate) fn find_records<D: Disk>(disk: &mut D) -> Result<Found, OpenFault>
     ensures few { IfOk result (λ found. found.count ≤ most_records) }
     ensures found { IsTrue (D.honest disk.old) →
         IfOk result (λ found. IsFound (D.state disk.old).content found.records found.tag) }
-    ensures fault { IsTrue (D.honest disk.old) → IfErr result (Reports (D.state disk.old).content) }
+    ensures fault { IsTrue (D.honest disk.old) → IfErr result (ReportsContent (D.state disk.old).content) }
     ensures synced { IsTrue (D.honest disk.old) → OnOk result (D.state disk.new ≡ settled (D.state disk.old).content) }
     ensures kept { IsTrue (D.honest disk.old) →
         IfErr result (KeepsContent (D.state disk.old).content (D.state disk.new)) }

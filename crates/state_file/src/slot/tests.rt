@@ -96,12 +96,12 @@ fn is_drawn(entry: &Record, drawn: &[u8; 223]) -> bool {
 
 // The first of these bytes of the record that can be another: they are still read as the record, or have its tag.
 fn first_free(entry: &Record, drawn: &[u8; 223]) -> Option<usize> {
-    for place in 0..223 {
+    for offset in 0..223 {
         let mut other = *drawn;
-        other[place] ^= 0x5a;
+        other[offset] ^= 0x5a;
         let same_tag = tag(&[0; 32], &other) == tag(&[0; 32], drawn);
         if same_tag || read_record(&other) == Some(entry.copied()) {
-            return Some(place);
+            return Some(offset);
         }
     }
     None
@@ -128,19 +128,19 @@ fn each_kind_as_drawn(rt: HostRuntime) -> Result<(), Fail> {
 }
 
 // Whether the bytes with one changed spell a record. Places are those of the whole slot.
-fn is_spelled_with(drawn: &[u8; 223], place: usize, byte: u8) -> bool {
+fn is_spelled_with(drawn: &[u8; 223], offset: usize, byte: u8) -> bool {
     let mut other = *drawn;
-    if let Some(at) = other.get_mut(place.wrapping_sub(1)) {
+    if let Some(at) = other.get_mut(offset.wrapping_sub(1)) {
         *at = byte;
     }
     read_record(&other).is_some()
 }
 
-// The first place of these where the bytes, with this one changed so, spell a record, or where they don't.
+// The first offset of these where the bytes, with this one changed so, spell a record, or where they don't.
 fn first_place(drawn: &[u8; 223], changes: &[(usize, u8)], spelled: bool) -> Option<usize> {
-    for (place, byte) in changes {
-        if is_spelled_with(drawn, *place, *byte) == spelled {
-            return Some(*place);
+    for (offset, byte) in changes {
+        if is_spelled_with(drawn, *offset, *byte) == spelled {
+            return Some(*offset);
         }
     }
     None
@@ -320,9 +320,9 @@ fn what_a_first_slot_is_known_by(rt: HostRuntime) {
 }
 
 // What the fields of a Key are known by, with one byte changed.
-fn known_with(place: usize) -> (bool, Option<Version>) {
+fn known_with(offset: usize) -> (bool, Option<Version>) {
     let mut other = drawn::LMS_KEY;
-    if let Some(byte) = other.get_mut(place) {
+    if let Some(byte) = other.get_mut(offset) {
         *byte ^= 0x5a;
     }
     known_by(&other)
@@ -330,11 +330,11 @@ fn known_with(place: usize) -> (bool, Option<Version>) {
 
 #[test]
 fn each_byte_that_a_first_slot_is_known_by(rt: HostRuntime) {
-    for place in 0..9 {
-        assert_eq!(rt; known_with(place), (false, Some(Version::One)));
+    for offset in 0..9 {
+        assert_eq!(rt; known_with(offset), (false, Some(Version::One)));
     }
-    for place in 9..11 {
-        assert_eq!(rt; known_with(place), (true, None));
+    for offset in 9..11 {
+        assert_eq!(rt; known_with(offset), (true, None));
     }
 }
 

@@ -10,7 +10,7 @@ ghost use Rattle.state_file.specs.DiskCalls.{CountsFailures, OnlyReads};
 ghost use Rattle.state_file.specs.File.{StandsFor, LeftLists, IsSyncedFile, IsSyncedFile-prop};
 ghost use Rattle.state_file.specs.Gates.{AddsSlot, slot_and_gate};
 ghost use Rattle.state_file.specs.Format.{is_failed_format, Formats, LeftByFormat};
-ghost use Rattle.state_file.specs.Opening.{is_failed_opening, Settles, Reports};
+ghost use Rattle.state_file.specs.Opening.{is_failed_opening, Settles, ReportsContent};
 ghost use Rattle.std.proofs.Common.{inl};
 ghost use Rattle.state_file.specs.Slot.{slot_record};
 ghost use Rattle.state_file.specs.Store.{Appends, CanFollow, Collects, Loads, ReadsTag, is_out_of_memory};
@@ -100,7 +100,7 @@ impl<D: Disk + Drop> FileStore<D> {
         ensures running { IfOk result (λ store. has_stopped store ≡ false) }
         ensures unreadable { IfOk result (λ store. unreadable_of store ≡ []) }
         ensures fault { IsTrue (D.honest disk) →
-            IfErr result (λ refused. Reports (D.state disk).content refused.fault) }
+            IfErr result (λ refused. ReportsContent (D.state disk).content refused.fault) }
         ensures any_moment { IsTrue (D.honest disk) →
             LeavesOnly D.moment D.left_since disk (disk_after result) (MayLeave (D.state disk)) }
         ensures settled { IsTrue (D.honest disk) →
@@ -231,10 +231,9 @@ impl<D: Disk + Drop> Store for FileStore<D> {
         }
     }
 
-    /// Adds a record at the end. It takes no memory. Where the store is full nothing changes. Whatever it answers, a
-    /// stop
-    /// at any moment leaves a content that spells the old records, or these and the new one (`contents`), and that
-    /// differs from the old content at most in the new slot and the gate after it (`bytes`).
+    /// Adds a record at the end. It takes no memory. Where the store is full nothing changes. Whatever it answers,
+    /// a stop at any moment leaves a content that spells the old records, or these and the new one (`contents`), and
+    /// that differs from the old content at most in the new slot and the gate after it (`bytes`).
     fn append(&mut self, new: &Record) -> Result<(), StoreFault>
         requires { CanFollow (records_of self.old) new.now }
         ensures any_moment { IsTrue (D.honest (disk_of self.old)) → has_stopped self.old ≡ false →

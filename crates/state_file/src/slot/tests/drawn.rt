@@ -1,5 +1,5 @@
 //! The bytes 1 to 223 of a slot of each kind, and the tags of two slots, made by Python's struct and
-//! hashlib from the table of the format, by the places of its fields.
+//! hashlib from the table of the format, by the offsets of its fields.
 
 pub(super) const LMS_KEY: [u8; 223] = [
     0x01, 0x48, 0x42, 0x53, 0x53, 0x54, 0x41, 0x54, 0x45, 0x00, 0x01, 0x01, 0x01, 0x00, 0x00, 0x00,

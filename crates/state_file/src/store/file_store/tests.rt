@@ -226,19 +226,19 @@ fn a_place_with_a_key_is_not_prepared(rt: HostRuntime) {
 fn opened_with(
     alloc: Global,
     file: &[u8],
-    place: usize,
+    offset: usize,
     byte: u8,
 ) -> Option<Result<u32, OpenFault>> {
     let mut content = file.to_vec(alloc).ok()?;
-    *content.get_mut(place)? = byte;
+    *content.get_mut(offset)? = byte;
     opened_from(alloc, &content)
 }
 
 // What the file of three records opens with, with zeros up to a length and one byte changed.
-fn opened_at(alloc: Global, len: usize, place: usize, byte: u8) -> Option<Result<u32, OpenFault>> {
+fn opened_at(alloc: Global, len: usize, offset: usize, byte: u8) -> Option<Result<u32, OpenFault>> {
     let mut file = file_of(alloc, 3)?;
     file.resize(len, 0).ok()?;
-    opened_with(alloc, &file, place, byte)
+    opened_with(alloc, &file, offset, byte)
 }
 
 #[test]
@@ -263,22 +263,22 @@ fn gates_with_another_value(rt: HostRuntime) {
 }
 
 // The fault that a file opens with where a byte of a slot, but not of its gate, is changed.
-fn harm(place: usize) -> Option<OpenFault> {
-    match place {
+fn harm(offset: usize) -> Option<OpenFault> {
+    match offset {
         1..=9 => Some(OpenFault::NotKeyFile),
         10 | 11 => Some(OpenFault::Version),
-        _ => Some(OpenFault::Damaged(u32::try_from(place / 256).ok()?)),
+        _ => Some(OpenFault::Damaged(u32::try_from(offset / 256).ok()?)),
     }
 }
 
 // The first byte of the file of three records, but its gates, which changed doesn't give the fault.
 fn first_unharmed(alloc: Global) -> Option<Option<usize>> {
     let file = file_of(alloc, 3)?;
-    for (place, byte) in file.iter().enumerate() {
+    for (offset, byte) in file.iter().enumerate() {
         for change in [0x01, 0x5A] {
-            let found = opened_with(alloc, &file, place, *byte ^ change)?;
-            if place % 256 != 0 && found != Err(harm(place)?) {
-                return Some(Some(place));
+            let found = opened_with(alloc, &file, offset, *byte ^ change)?;
+            if offset % 256 != 0 && found != Err(harm(offset)?) {
+                return Some(Some(offset));
             }
         }
     }

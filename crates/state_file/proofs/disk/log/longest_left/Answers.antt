@@ -8,11 +8,11 @@ pub returns : goal.returns
 returns c =
     let ranges = ranges_of (reverse c.args.log.now) in
     let end : c.in_ok-longest.longest ≡ greatest_end (length c.args.base.now) ranges = search rules in
-    let all : c.loop-place.place ≡ greatest_end (length c.args.base.now) ranges = omega arith in
+    let all : c.loop-offset.offset ≡ greatest_end (length c.args.base.now) ranges = omega arith in
     let long : length c.args.base.now ≤ greatest_end (length c.args.base.now) ranges = no_shorter _ ranges in
     record {
       longest = omega arith;
-      kept = λ k inside outside. c.loop-place.invariant.kept k (omega arith) inside outside;
-      inside = λ k within not_outside. c.loop-place.invariant.inside k (omega arith) not_outside;
-      after = λ k within past. c.loop-place.invariant.after k (omega arith) past;
+      kept = λ k inside outside. c.loop-offset.invariant.kept k (omega arith) inside outside;
+      inside = λ k within not_outside. c.loop-offset.invariant.inside k (omega arith) not_outside;
+      after = λ k within past. c.loop-offset.invariant.after k (omega arith) past;
     }

@@ -1,6 +1,6 @@
 use Rattle.std.proofs.Common.{[], ◌∷◌, length, length-append, ◌∙◌, ap, subst, arith, rules}
 use Rattle.state_file.specs.Disk.{DiskState}
-use Rattle.state_file.specs.Opening.{HasSlot, Reports, ReportsSlot}
+use Rattle.state_file.specs.Opening.{HasSlot, ReportsContent, ReportsSlot}
 use Rattle.state_file.proofs.Finding.{fault_reported, found_all, found_harm, found_more, gate_within, open_gate, reads_on, shut_gate}
 use Rattle.state_file.proofs.file.opening.read_slots.Goals as goal
 
@@ -15,7 +15,7 @@ returns-in_err-slot-clause-fault g c honest =
     let still = (c.read_gate.ensures.reads.only was).stays ∙ same in
     let opened = open_gate first (g.D.Disk.state c.loop-disk.disk) found.count c.in_ok-read_gate.field-0 same (gate_within first (g.D.Disk.state c.loop-disk.disk) found.count found.records found.tag same before.counted (before.found honest)) (c.in_ok-read_gate.ensures.gate was) c.if-branch.true in
     let reported : ReportsSlot first.content found.count fault = subst (λ (s : DiskState). ReportsSlot s.content found.count fault) still (c.in_err-slot.ensures.fault (c.read_gate.ensures.reads.counts.honest ∙ was)) in
-    fault_reported (Reports first.content) c.from_residual-in_err-slot.result fault (search rules)
+    fault_reported (ReportsContent first.content) c.from_residual-in_err-slot.result fault (search rules)
     (found_harm first.content found.count found.records found.tag fault (before.found honest) before.counted (c.requires.key honest) opened reported)
 
 pub loop-disk-preserved : goal.loop-disk-preserved
