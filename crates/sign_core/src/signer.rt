@@ -123,7 +123,7 @@ fn load_first<S: Store>(store: &mut S) -> Result<(), SignFault>
         Ok(None) => Ok(()),
         Ok(Some(_)) => Err(SignFault::KeyThere),
         Err(StoreFault::Stopped) => Err(SignFault::Stopped),
-        Err(StoreFault::Damaged(slot)) => Err(SignFault::Unreadable(slot)),
+        Err(StoreFault::Damaged(_)) => Err(SignFault::Unreadable(0)),
         Err(StoreFault::DeviceFailed) => Err(SignFault::StoreFailed),
         Err(StoreFault::OutOfMemory) => Err(SignFault::OutOfMemory),
         Err(StoreFault::Full) => unreachable!(),

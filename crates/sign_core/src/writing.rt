@@ -13,7 +13,7 @@ ghost use Rattle.std.specs.Prelude.{◌^◌, map};
 ghost use Rattle.typecodes.specs.Types.{height_of, lms_signature_len_of, xmss_height_of, xmss_signature_len_of};
 ghost use Rattle.lms.specs.Secret.{path_in as lms_path_in};
 ghost use Rattle.lms.specs.Writing.{signature_bytes as lms_signature_bytes, textbook as lms_textbook};
-ghost use Rattle.xmss.specs.Secret.{path_in as xmss_path_in};
+ghost use Rattle.xmss.specs.Secret.{path_in as xmss_path_in, randomizer_of};
 ghost use Rattle.xmss.specs.Writing.{signature_bytes as xmss_signature_bytes, textbook as xmss_textbook};
 ghost use Rattle.hss.specs.Secret.{signing_of};
 ghost use Rattle.hss.specs.Writing.{FromSecrets, pairs_of as level_pairs_of};
@@ -57,17 +57,19 @@ pub(crate) fn write_lms(
 pub(crate) fn write_xmss(
     secret: &XmssSecret,
     leaf: u32,
+    randomizer: &[u8; 32],
     digest: &[u8; 32],
     path: &[[u8; 32]],
     into: &mut [u8],
 )
     requires inside { leaf < 2 ^ xmss_height_of secret.now.tree }
+    requires randomizer { randomizer.now ≡ randomizer_of secret.now.prf_key leaf }
     requires path { path.now ≡ xmss_path_in secret.now leaf }
     requires nodes { length path.now ≡ xmss_height_of secret.now.tree }
     requires room { length into.old ≡ xmss_signature_len_of secret.now.tree }
     ensures { into.new ≡ xmss_signature_bytes (xmss_textbook secret.now leaf digest.now) }
 {
-    xmss::write_signature(secret, leaf, digest, path, into);
+    xmss::write_signature(secret, leaf, randomizer, digest, path, into);
 }
 
 /// Writes the textbook signature of levels, from the top down, whose roots and paths are those of their secrets.

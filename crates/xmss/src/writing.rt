@@ -5,7 +5,7 @@ ghost use Rattle.typecodes.specs.Layout.{Spells};
 ghost use Rattle.typecodes.specs.Types.{xmss_height_of, xmss_signature_len_of};
 ghost use Rattle.xmss.specs.Key.{public_key};
 ghost use Rattle.xmss.specs.Signature.{signature};
-ghost use Rattle.xmss.specs.Secret.{digest_in, path_in, public_of, root_in};
+ghost use Rattle.xmss.specs.Secret.{digest_in, path_in, public_of, randomizer_of, root_in};
 ghost use Rattle.xmss.specs.Writing.{public_bytes, signature_bytes, signed};
 ghost use Rattle.xmss.specs.Verification.{IsValid};
 
@@ -32,11 +32,13 @@ pub fn write_public(public: &XmssPublic, into: &mut [u8])
 pub fn write_signature(
     secret: &XmssSecret,
     leaf: u32,
+    randomizer: &[u8; 32],
     digest: &[u8; 32],
     path: &[[u8; 32]],
     into: &mut [u8],
 )
     requires inside { leaf < 2 ^ xmss_height_of secret.now.tree }
+    requires randomizer { randomizer.now ≡ randomizer_of secret.now.prf_key leaf }
     requires path { length path.now ≡ xmss_height_of secret.now.tree }
     requires room { length into.old ≡ xmss_signature_len_of secret.now.tree }
     ensures bytes { into.new ≡ signature_bytes (signed secret.now leaf digest.now path.now) }
@@ -49,7 +51,7 @@ pub fn write_signature(
         IsValid (public_of secret.now) message (signed secret.now leaf digest.now path.now) }
 {
     let place = put(into, 0, &leaf.to_be_bytes());
-    let place = put(into, place, &secret.randomizer(leaf));
+    let place = put(into, place, randomizer);
     let end = place + 32 * WOTS_CHAINS;
     let seed = Prf::new(secret.public_seed);
     let key = Wots { seed: &seed, leaf };

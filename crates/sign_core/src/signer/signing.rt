@@ -4,7 +4,7 @@ ghost use Rattle.std.specs.Prelude.{◌≡◌, ◌<◌, ◌≤◌, ◌+◌, ◌-
 ghost use Rattle.std.specs.Prelude.{IfErr, IfOk, OnErr, OnOk};
 ghost use Rattle.typecodes.specs.Message.{CantBeRead, ReadWhole};
 ghost use Rattle.lmots.specs.Key.{message_digest_of};
-ghost use Rattle.xmss.specs.Secret.{digest_in as xmss_digest_in};
+ghost use Rattle.xmss.specs.Digest.{message_digest_of as xmss_digest_of};
 ghost use Rattle.state_file.specs.Laws.{bottom_of, levels_of};
 ghost use Rattle.sign_core.specs.Signing.{answered_with};
 ghost use Rattle.sign_core.specs.Records.{binding_in, free_at};
@@ -72,22 +72,20 @@ fn read_digest<M: Message>(
         .map_err(|_| SignFault::MessageRead)
 }
 
-// M' of the message that a reader gives, by a leaf of an XMSS key with this root.
+// M' of the message that a reader gives, by a leaf of an XMSS key with this root, and the leaf's randomizer.
 fn read_xmss_digest<M: Message>(
-    secret: &XmssSecret,
+    randomizer: &[u8; 32],
     root: &[u8; 32],
     leaf: u32,
     message: &mut M,
 ) -> Result<[u8; 32], SignFault>
     ensures ok { IfOk result (λ digest. (text : List ℕ)
         × ReadWhole M.transition M.remaining text message.old message.new
-        × (digest ≡ xmss_digest_in secret.now root.now leaf text)) }
+        × (digest ≡ xmss_digest_of randomizer.now root.now leaf text)) }
     ensures err { IfErr result (λ fault. (fault ≡ SignFault.MessageRead)
         × CantBeRead M.transition message.old message.new) }
 {
-    message_digest_from(&secret.randomizer(leaf), root, leaf, message).map_err(
-        |_| SignFault::MessageRead,
-    )
+    message_digest_from(randomizer, root, leaf, message).map_err(|_| SignFault::MessageRead)
 }
 
 // Makes room for a signature of the key.
@@ -246,14 +244,15 @@ impl<S: Store, R: Source> Signer<S, R> {
         let mut nodes = [[0; 32]; 20];
         let path = &mut nodes[..usize::from(secret.tree.height())];
         xmss_link(*secret, &root, leaf, path).map_err(SignFault::Damaged)?;
-        let digest = read_xmss_digest(secret, &root, leaf, message)?;
+        let randomizer = secret.randomizer(leaf);
+        let digest = read_xmss_digest(&randomizer, &root, leaf, message)?;
         self.add(Record::Bound(Bound {
             name: name.copied(),
             leaf,
             randomizer: [0; 32],
             digest,
         }))?;
-        write_xmss(secret, leaf, &digest, path, out);
+        write_xmss(secret, leaf, &randomizer, &digest, path, out);
         Ok(())
     }
 
@@ -320,7 +319,8 @@ impl<S: Store, R: Source> Signer<S, R> {
     {
         let leaf = binding.leaf;
         let root = self.ledger.key().root;
-        let digest = read_xmss_digest(secret, &root, leaf, message)?;
+        let randomizer = secret.randomizer(leaf);
+        let digest = read_xmss_digest(&randomizer, &root, leaf, message)?;
         if digest != binding.digest {
             return Err(SignFault::Changed);
         }
@@ -328,7 +328,7 @@ impl<S: Store, R: Source> Signer<S, R> {
         let mut nodes = [[0; 32]; 20];
         let path = &mut nodes[..usize::from(secret.tree.height())];
         xmss_link(*secret, &root, leaf, path).map_err(SignFault::Damaged)?;
-        write_xmss(secret, leaf, &digest, path, out);
+        write_xmss(secret, leaf, &randomizer, &digest, path, out);
         Ok(())
     }
 }

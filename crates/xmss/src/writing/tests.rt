@@ -71,7 +71,7 @@ fn rising_bytes(rt: HostRuntime) {
     let randomizer = SECRET.randomizer(700);
     let digest = SECRET.message_digest(&root, 700, b"abc");
     let mut signature = [0; 2500];
-    write_signature(&SECRET, 700, &digest, &path, &mut signature);
+    write_signature(&SECRET, 700, &randomizer, &digest, &path, &mut signature);
 
     for (what, made, expected) in [
         ("root", root, ROOT),

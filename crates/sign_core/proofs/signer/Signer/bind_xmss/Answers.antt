@@ -2,6 +2,7 @@ use Rattle.std.proofs.Common.{rules, ◌≡◌, ◌∙◌, ◌<◌, ◌^◌, ◌
 use Rattle.std.specs.Prelude.{replicate}
 use Rattle.std.proofs.lemmas.List.{take_at}
 use Rattle.typecodes.specs.Types.{xmss_height_of}
+use Rattle.xmss.specs.Digest.{message_digest_of}
 use Rattle.state_file.specs.declared.record.Bound.{Bound}
 use Rattle.state_file.specs.declared.record.Record.TheVariants.{Bound as BoundRecord}
 use Rattle.sign_core.specs.Signing.{answered_with}
@@ -79,7 +80,8 @@ returns-in_err-add-clause-step g c key keyed =
     let v = c.args.self.now in
     let first : key_in v.records ≡ Some c.key.result.now = ap (λ w. key_in w.records) (sym c.self.view_is) ∙ c.key.ensures.first in
     let own : c.key.result.now ≡ key = same_key v.records c.key.result.now key first keyed in
-    let (text, whole, digest_is) = c.in_ok-digest.ensures.ok in
+    let (text, whole, read) = c.in_ok-digest.ensures.ok in
+    let digest_is = read ∙ ap (λ r. message_digest_of r c.key.result.now.root c.bottom-leaf.result.0 text) c.randomizer-randomizer.ensures in
     let bound : Bound = record {
       name = c.copied.result;
       leaf = c.bottom-leaf.result.0;
@@ -101,7 +103,8 @@ returns-clause-step g c key keyed =
     let v = c.args.self.now in
     let first : key_in v.records ≡ Some c.key.result.now = ap (λ w. key_in w.records) (sym c.self.view_is) ∙ c.key.ensures.first in
     let own : c.key.result.now ≡ key = same_key v.records c.key.result.now key first keyed in
-    let (text, whole, digest_is) = c.in_ok-digest.ensures.ok in
+    let (text, whole, read) = c.in_ok-digest.ensures.ok in
+    let digest_is = read ∙ ap (λ r. message_digest_of r c.key.result.now.root c.bottom-leaf.result.0 text) c.randomizer-randomizer.ensures in
     let bound : Bound = record {
       name = c.copied.result;
       leaf = c.bottom-leaf.result.0;
