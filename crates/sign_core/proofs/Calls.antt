@@ -1,17 +1,20 @@
 -- A chain of calls, with stops at any moment, is a run of the world.
-use Rattle.std.proofs.Common.{◌≡◌, ◌∙◌, refl, ap, subst, ℕ, List, [], ◌∷◌, ◌++◌, length, Option, Some, None, append-nil, take}
+use Rattle.std.proofs.Common.{◌≡◌, ◌∙◌, refl, ap, subst, ℕ, suc, ◌≤◌, List, [], ◌∷◌, ◌++◌, length, Option, Some, None, append-nil, take, sym, inl, inr, arith}
 use Rattle.std.proofs.lemmas.List.{take_all}
 use Rattle.state_file.specs.declared.record.Key.{Key}
 use Rattle.state_file.specs.declared.record.Record.{Record}
 use Rattle.state_file.specs.declared.record.Secret.{Secret}
 use Rattle.state_file.specs.declared.record.Secret.TheVariants.{Lms, Hss, Xmss}
+use Rattle.state_file.specs.declared.store.Store as store
 use Rattle.sign_core.specs.declared.key.AnyPublic.{AnyPublic}
-use Rattle.sign_core.specs.Calls.{AreSteps, CallsLaw, IsRun, IsStep, Step, after_steps, ends, stepped, stops}
-use Rattle.sign_core.specs.Once.{AllEvents, AreFields, IsBeginning, IsLeftBy, IsOnce, randomizer_sizes, reached}
+use Rattle.sign_core.specs.Calls.{AreCalls, AreSteps, Call, CallsLaw, IsRun, IsStep, IsStoppedIn, Step, StoppedLaw, after_steps, ends, events_of}
+use Rattle.sign_core.specs.Calls.{reached_by, stepped, stops, store_after}
+use Rattle.sign_core.specs.Once.{AllEvents, AreFields, IsBeginning, IsEvent, IsLeftBy, IsOnce, randomizer_sizes, reached}
 use Rattle.sign_core.specs.Records.{first_illegal, key_in}
 use Rattle.sign_core.specs.Textbook.{public_in}
 use Rattle.sign_core.specs.World.{Event, Opening, State, World, after, beginning, create, opened_by, opened_on, published, reopen}
 use Rattle.sign_core.specs.World.{request, retire, run, stop}
+use Rattle.sign_core.proofs.Acknowledged.{open_acknowledged}
 use Rattle.sign_core.proofs.Events.{kept_by_run}
 use Rattle.sign_core.proofs.OnceParts.{once}
 use Rattle.sign_core.proofs.Stops.{left_by_stop, stop_law}
@@ -37,21 +40,22 @@ whole_left records all left same is = is.beginning ∙ ap (take is.count) same �
 
 -- ---- one step
 
-left_run : (limit : ℕ) (world : World) (left : List Record) → IsLeftBy limit world left → IsRun limit world (stepped limit world (stops stop left))
-left_run limit world left by = record { events = by.events; possible = by.possible; leads = by.leads }
+-- what a stop at a moment of an event leaves, is left by events that can come
+stop_left : (limit : ℕ) (world : World) (event : Event) (left : List Record) → IsEvent event
+    → IsBeginning (length world.state.records) (reached_by limit world event) left → IsLeftBy limit world left
+stop_left limit world (create spec chance) left can is = stop_law.creates limit world spec chance left can is
+stop_left limit world (reopen chance) left can is =
+    left_by_stop limit world left
+    (whole_left world.state.records _ left (opened_reaches world.state chance (first_illegal world.state.records)) is)
+stop_left limit world (request name chance) left can is = stop_law.requests limit world name chance left can is
+stop_left limit world (retire upto fate) left can is = stop_law.retires limit world upto fate left is
+stop_left limit world stop left can is = left_by_stop limit world left (whole_left world.state.records world.state.records left refl is)
 
 step_run : (limit : ℕ) (world : World) (step : Step) → IsStep limit world step → IsRun limit world (stepped limit world step)
 step_run limit world (ends event) can = record { events = event ∷ []; possible = (can, tt); leads = refl }
-step_run limit world (stops (create spec chance) left) can =
-    left_run limit world left (stop_law.creates limit world spec chance left can.0 can.1)
-step_run limit world (stops (reopen chance) left) can =
-    left_run limit world left (left_by_stop limit world left
-    (whole_left world.state.records _ left (opened_reaches world.state chance (first_illegal world.state.records)) can.1))
-step_run limit world (stops (request name chance) left) can =
-    left_run limit world left (stop_law.requests limit world name chance left can.0 can.1)
-step_run limit world (stops (retire upto fate) left) can = left_run limit world left (stop_law.retires limit world upto fate left can.1)
-step_run limit world (stops stop left) can =
-    left_run limit world left (left_by_stop limit world left (whole_left world.state.records world.state.records left refl can.1))
+step_run limit world (stops event left) can =
+    let by = stop_left limit world event left can.0 can.1 in
+    record { events = by.events; possible = by.possible; leads = by.leads }
 
 -- ---- all of them
 
@@ -91,5 +95,46 @@ pub calls_law : CallsLaw
 calls_law = record {
   runs = steps_run;
   once = steps_once;
+  acknowledged = open_acknowledged;
   draws = λ secret chance drawn. record { trees = drawn.trees; bound = randomizer_fields secret chance.bound.fields drawn.bound };
 }
+
+-- ---- calls on a store
+
+no_call : (limit : ℕ) (world : World) (events : List Event) (left : List Record) → IsLeftBy limit world left → IsStoppedIn limit world events left
+no_call limit world events left by = record { ended = 0; possible = tt; stopped = by }
+
+one_call : (limit : ℕ) (world : World) (event : Event) (events : List Event) (left : List Record) → IsEvent event
+    → IsStoppedIn limit (after limit world event) events left → IsStoppedIn limit world (event ∷ events) left
+one_call limit world event events left can by = record { ended = suc by.ended; possible = (can, by.possible); stopped = by.stopped }
+
+-- Of what was left since a moment before a call, either a stop before it left it, or one in it.
+module _ {S : Type 0} (moment : S → ℕ) (left_since : S → ℕ → List Record → Type 0) (limit : ℕ) where
+  -- all that was left since a moment until this one, is left by events that can come
+  abbrev AreLeft : World → S → ℕ → Type 0
+  AreLeft world store t = (list : List Record) → left_since store t list → IsLeftBy limit world list
+
+  -- what is left by the calls so far, and by those to come
+  calls_stop : (t : ℕ) (world : World) (old : S) (calls : List (Call S)) (left : List Record) (P : Type 0) → t ≤ moment old
+      → (left_since old t left → P) → (IsStoppedIn limit world (events_of calls) left → P) → AreCalls moment left_since limit world old calls
+      → left_since (store_after old calls) t left → P
+  calls_stop t world old [] left P low before later are is = before is
+  calls_stop t world old (call ∷ calls) left P low before later are is = elim are.0.leaves as (λ u. P) [
+    | inl leaves ↦
+        calls_stop t (after limit world call.event) call.store calls left P (omega (arith, low, leaves.later))
+        (λ since. elim (leaves.before t left low since) as (λ u. P) [
+          | inl old_one ↦ before old_one
+          | inr within ↦
+              later (no_call limit world (events_of (call ∷ calls)) left (stop_left limit world call.event left are.0.possible within))
+        ])
+        (λ by. later (one_call limit world call.event (events_of calls) left are.0.possible by)) are.1 is
+    | inr same ↦
+        calls_stop t (after limit world call.event) call.store calls left P (subst (λ s. t ≤ moment s) (sym same) low)
+        (λ since. before (subst (λ s. left_since s t left) same since))
+        (λ by. later (one_call limit world call.event (events_of calls) left are.0.possible by)) are.1 is
+  ]
+
+pub stopped_law : {S : Type 0} (g : store.Ghosts S) → StoppedLaw g
+stopped_law g limit world first calls left settled are is =
+    calls_stop g.moment g.left_since limit (g.moment first) world first calls left (IsStoppedIn limit world (events_of calls) left) (omega arith)
+    (λ since. no_call limit world (events_of calls) left (left_by_stop limit world left (settled left since))) (λ by. by) are is
