@@ -33,6 +33,8 @@ pub mod TreeParts
 pub mod Stops
 pub mod SoundChains
 pub mod Opened
+pub mod Calls
+pub mod Acknowledged
 pub mod Sound
 pub mod LedgerReading
 pub mod LedgerSteps

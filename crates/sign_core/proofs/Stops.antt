@@ -316,7 +316,7 @@ beyond (x ∷ records) more zero enough = absurd (omega (arith, enough))
 beyond (x ∷ records) more (suc count) enough =
     let (first, rest, is, are) = beyond records more count (omega (arith, enough)) in (first, rest, ap (λ l. x ∷ l) is, are)
 
-left_by_stop : (limit : ℕ) (world : World) (left : List Record) → left ≡ world.state.records → IsLeftBy limit world left
+pub left_by_stop : (limit : ℕ) (world : World) (left : List Record) → left ≡ world.state.records → IsLeftBy limit world left
 left_by_stop limit world left is =
     record { events = stop ∷ []; possible = (tt, tt); leads = ap (λ l. record { state = closed_on l; handed = world.handed }) (sym is) }
 

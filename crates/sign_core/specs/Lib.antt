@@ -6,6 +6,7 @@ pub mod World
 pub mod Uses
 pub mod Once
 pub mod Opened
+pub mod Calls
 pub mod Source
 pub mod Fault
 pub mod Signing

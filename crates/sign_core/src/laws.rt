@@ -14,8 +14,11 @@ ghost use Rattle.sign_core.specs.declared.key.AnyPublic.{AnyPublic};
 ghost use Rattle.sign_core.specs.Records.{IsNext, binding_in, current, deepest, first_illegal, free_at};
 ghost use Rattle.sign_core.specs.Records.{has_identifier, key_in, next_in};
 ghost use Rattle.sign_core.specs.Once.{CutLaw, IsBoundTo, LastingLaw, OnceLaw, SoundLaw, StopLaw, Verifies};
+ghost use Rattle.sign_core.specs.Calls.{CallsLaw, StoppedLaw};
 ghost use Rattle.sign_core.specs.Opened.{OpenedLaw};
 ghost use Rattle.sign_core.specs.Textbook.{AllHaveSizes, AreSound, damaged_in, public_in, signature_at, tree_before};
+
+use state_file::Store;
 
 /// What holds of the records of a key, in the words of legal lists.
 ///
@@ -125,8 +128,24 @@ pub fn cut_law()
 {}
 
 /// What a stop at any moment of an event leaves is what events leave that can come: one whose append is cut off
-/// there, or none
-/// and a stop.
+/// there, or none and a stop.
 pub fn stop_law()
     ensures stops { StopLaw }
+{}
+
+/// A chain of calls is a run of the world, and the law over all runs holds of it.
+///
+/// Each call comes to its end, or the power goes at a moment of it and leaves a beginning, no shorter than the records
+/// before, of those that the call reaches. Whatever the power leaves, the next call may be an opening of it.
+pub fn calls_law()
+    ensures calls { CallsLaw }
+{}
+
+/// What the power's going leaves of a store, at any moment since the first of some calls on it, is what a run of the
+/// world leaves: so many of the calls come to their end, and then events that can come leave it.
+///
+/// Each call is an event, and by its contract a stop at any moment of it leaves a beginning, no shorter than the records
+/// before, of those that the event reaches; or it leaves the store as it was.
+pub fn stopped_law<S: Store>()
+    ensures stopped { StoppedLaw S.Store }
 {}

@@ -1,0 +1,119 @@
+-- Chains of calls: each comes to its end, or the power goes at a moment of it.
+use Rattle.std.specs.Prelude.{◌≡◌, ◌⊎◌, ℕ, List, [], ◌∷◌, length, map, take, true}
+use Rattle.state_file.specs.declared.record.Record.{Record}
+use Rattle.state_file.specs.declared.record.Secret.{Secret}
+use Rattle.state_file.specs.declared.store.Store as store
+use Rattle.state_file.specs.Disk.{LeavesOnly}
+use Rattle.sign_core.specs.Once.{AllEvents, AreDraws, AreDrawsOf, IsBeginning, IsEvent, IsLeftBy, IsOnce, reached}
+use Rattle.sign_core.specs.World.{Chance, Event, World, after, beginning, closed_on, create, created, opened, reopen}
+use Rattle.sign_core.specs.World.{request, requested, retire, retired, run, stop}
+
+-- An event comes to its end; or the power goes at a moment of it, or after its append failed and before the next
+-- opening, and leaves these records.
+pub data Step : Type 0 where
+  ends : Event → Step
+  stops : Event → (left : List Record) → Step
+
+-- the records that an event reaches
+abbrev pub reached_by : (limit : ℕ) → World → Event → List Record
+reached_by limit world (create spec chance) = reached (created world.state spec chance)
+reached_by limit world (reopen chance) = reached (opened world.state chance)
+reached_by limit world (request name chance) = reached (requested limit world.state name chance)
+reached_by limit world (retire upto fate) = reached (retired limit world.state upto fate)
+reached_by limit world stop = world.state.records
+
+-- the records that it acknowledges
+abbrev pub acknowledged_by : (limit : ℕ) → World → Event → List Record
+acknowledged_by limit world (create spec chance) = (created world.state spec chance).acknowledged
+acknowledged_by limit world (reopen chance) = (opened world.state chance).acknowledged
+acknowledged_by limit world (request name chance) = (requested limit world.state name chance).acknowledged
+acknowledged_by limit world (retire upto fate) = (retired limit world.state upto fate).acknowledged
+acknowledged_by limit world stop = world.state.records
+
+abbrev pub IsOpenAfter : (limit : ℕ) → World → Event → Type 0
+IsOpenAfter limit world event = (after limit world event).state.is_open ≡ true
+
+-- The step can come: what the power's going leaves is a beginning, no shorter than the records before, of those that
+-- the event reaches.
+abbrev pub IsStep : (limit : ℕ) → World → Step → Type 0
+IsStep limit world (ends event) = IsEvent event
+IsStep limit world (stops event left) =
+    IsEvent event × IsBeginning (length world.state.records) (reached_by limit world event) left
+
+-- the world after it; where the power goes, nothing is handed out and no signer is open
+abbrev pub stepped : (limit : ℕ) → World → Step → World
+stepped limit world (ends event) = after limit world event
+stepped limit world (stops event left) = record { state = closed_on left; handed = world.handed }
+
+-- a chain of steps, each in the world that the one before left
+abbrev pub AreSteps : (limit : ℕ) → World → List Step → Type 0
+AreSteps limit world [] = Unit {0}
+AreSteps limit world (step ∷ steps) = IsStep limit world step × AreSteps limit (stepped limit world step) steps
+
+abbrev pub after_steps : (limit : ℕ) → World → List Step → World
+after_steps limit world [] = world
+after_steps limit world (step ∷ steps) = after_steps limit (stepped limit world step) steps
+
+-- Events that can come lead from one world to another.
+pub record IsRun (limit : ℕ) (before left : World) : Type 0 where
+  pub events : List Event
+  pub possible : AllEvents events
+  pub leads : run limit before events ≡ left
+
+pub record CallsLaw : Type 0 where
+  -- a chain of calls, with stops at any moment, is a run of the world
+  pub runs : (limit : ℕ) (world : World) (steps : List Step) → AreSteps limit world steps
+      → IsRun limit world (after_steps limit world steps)
+  -- so the law over all runs holds after it
+  pub once : (limit : ℕ) (steps : List Step) → AreSteps limit beginning steps
+      → IsOnce limit (after_steps limit beginning steps)
+  -- while a signer is open, all its records are acknowledged
+  pub acknowledged : (limit : ℕ) (world : World) (event : Event) → IsOpenAfter limit world event
+      → acknowledged_by limit world event ≡ (after limit world event).state.records
+  -- what a request draws under a key is what an event's request draws
+  pub draws : (secret : Secret) (chance : Chance) → AreDrawsOf secret chance → AreDraws chance
+
+-- ---- calls on a store
+
+-- An event as a call on a store, which it leaves so.
+pub record Call (S : Type 0) : Type 0 where
+  pub event : Event
+  pub store : S
+
+-- The event can come, and a stop at any moment of the call leaves a beginning, no shorter than the records before, of
+-- those that the event reaches; or the call leaves the store as it was.
+pub record IsCall {S : Type 0} (moment : S → ℕ) (left_since : S → ℕ → List Record → Type 0) (limit : ℕ)
+    (world : World) (old : S) (call : Call S) : Type 0 where
+  pub possible : IsEvent call.event
+  pub leaves : LeavesOnly moment left_since old call.store
+      (IsBeginning (length world.state.records) (reached_by limit world call.event))
+      ⊎ (call.store ≡ old)
+
+-- calls one after the other
+abbrev pub AreCalls : {S : Type 0} (moment : S → ℕ) (left_since : S → ℕ → List Record → Type 0) (limit : ℕ)
+    → World → (old : S) → List (Call S) → Type 0
+AreCalls moment left_since limit world old [] = Unit {0}
+AreCalls moment left_since limit world old (call ∷ calls) = IsCall moment left_since limit world old call
+    × AreCalls moment left_since limit (after limit world call.event) call.store calls
+
+-- the store after all of them
+abbrev pub store_after : {S : Type 0} (old : S) → List (Call S) → S
+store_after old [] = old
+store_after old (call ∷ calls) = store_after call.store calls
+
+abbrev pub events_of : {S : Type 0} → List (Call S) → List Event
+events_of calls = map (λ call. call.event) calls
+
+-- So many of the events come to their end, and then events that can come leave these records, and hand out nothing.
+pub record IsStoppedIn (limit : ℕ) (world : World) (events : List Event) (left : List Record) : Type 0 where
+  pub ended : ℕ
+  pub possible : AllEvents (take ended events)
+  pub stopped : IsLeftBy limit (run limit world (take ended events)) left
+
+-- What the power's going leaves, at any moment since the first of these calls, is what a run of the world leaves.
+abbrev pub StoppedLaw : {S : Type 0} → store.Ghosts S → Type 0
+StoppedLaw {S = S} g = (limit : ℕ) (world : World) (first : S) (calls : List (Call S)) (left : List Record)
+    → ((list : List Record) → g.left_since first (g.moment first) list → list ≡ world.state.records)
+    → AreCalls g.moment g.left_since limit world first calls
+    → g.left_since (store_after first calls) (g.moment first) left
+    → IsStoppedIn limit world (events_of calls) left
