@@ -238,8 +238,8 @@ signer_grown g old new random before after is_open entry v is signer keyed opene
 
 -- ---- a bottom tree
 
-pub levels_told : (records : List Record) (key : Key) (n : ℕ) → AllHaveSizes records → key_in records ≡ Some key → n ≡ levels_of key.secret → (1 ≤ n) × (n ≤ 8)
-levels_told records key n sizes keyed is = by_secret key.secret (key_has_sizes records key sizes keyed) is
+pub levels_range : (records : List Record) (key : Key) (n : ℕ) → AllHaveSizes records → key_in records ≡ Some key → n ≡ levels_of key.secret → (1 ≤ n) × (n ≤ 8)
+levels_range records key n sizes keyed is = by_secret key.secret (key_has_sizes records key sizes keyed) is
   where
     by_secret : (secret : Secret) → SecretHasSizes secret → n ≡ levels_of secret → (1 ≤ n) × (n ≤ 8)
     by_secret (Lms pair identifier seed) sized is = (omega (arith, is), omega (arith, is))

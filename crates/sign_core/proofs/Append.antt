@@ -16,7 +16,7 @@ use Rattle.state_file.specs.declared.record.Secret.TheVariants.{Lms, Hss, Xmss}
 use Rattle.state_file.specs.Laws.{bottom_of, leaves_at, leaves_in, levels_of}
 use Rattle.sign_core.specs.Records.{current, deepest, free_at, in_tree, last_from, makes, next_at, next_in, next_of, number_in}
 use Rattle.sign_core.specs.Records.{numbers_from, reaches, same_tree, under}
-use Rattle.sign_core.proofs.TreeSteps.{current_is, last_is, same_told, tell_same}
+use Rattle.sign_core.proofs.TreeSteps.{current_is, last_is, same_means, tell_same}
 use Rattle.sign_core.proofs.Leaves.{is_deepest, is_next, number_own}
 
 -- ---- current trees
@@ -125,7 +125,7 @@ older_apart level records extend of (Some j) within =
     ap (λ b. cond b (Some j) None) (false_from_ne_true
     (same_tree (current (suc level) (take j (records ++ ExtendRecord extend ∷ []))) (current (suc level) (records ++ ExtendRecord extend ∷ [])))
     (λ same.
-    let (tree, there, here) = same_told (current (suc level) (take j (records ++ ExtendRecord extend ∷ [])))
+    let (tree, there, here) = same_means (current (suc level) (take j (records ++ ExtendRecord extend ∷ [])))
     (current (suc level) (records ++ ExtendRecord extend ∷ [])) same in
     let new : length records ≡ tree = new_alone level tree records extend of here in
     let (last, parent) = current_is (suc level) (take j (records ++ ExtendRecord extend ∷ [])) tree there in

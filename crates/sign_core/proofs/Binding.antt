@@ -46,7 +46,7 @@ use Rattle.sign_core.specs.Textbook.{Trees, damaged_in, digest_at, secret_at, si
 use Rattle.sign_core.proofs.Draws.{draw_fails}
 use Rattle.sign_core.proofs.Adding.{length_one_more}
 use Rattle.sign_core.proofs.Append.{tree_within}
-use Rattle.sign_core.proofs.ChainParts.{all_pairs, digest_told, key_chain, xmss_digest_told}
+use Rattle.sign_core.proofs.ChainParts.{all_pairs, leaf_digest, key_chain, xmss_leaf_digest}
 use Rattle.sign_core.proofs.Follow.{tell_free}
 use Rattle.sign_core.proofs.LinkParts.{more_made}
 use Rattle.sign_core.proofs.Refusals.{is_late, keeps_at_all, keeps_late, same_fault, same_view}
@@ -304,7 +304,7 @@ bound_of_chain records key trees above last name bound text keyed these stands n
     stands.secret ∙ ap (secret_at trees records) (sym (tree_at_end records bottom stands.tree stands.current_is)) in
     let digest : bound.digest ≡ digest_at key records (length records) (next_at key.secret records bottom) bound.randomizer text =
     digest_is ∙ ap₂ (λ (s : LmsSecret) leaf. message_digest_of s.identifier leaf bound.randomizer text) secret stands.leaf
-    ∙ sym (digest_told records key trees (length records) (next_at key.secret records bottom) bound.randomizer text keyed these) in
+    ∙ sym (leaf_digest records key trees (length records) (next_at key.secret records bottom) bound.randomizer text keyed these) in
     λ i. record { name = named i; leaf = leaf i; randomizer = bound.randomizer; digest = digest i }
 
 -- such a record can follow
@@ -473,7 +473,7 @@ bound_of_xmss records key own secret name bound text of_key same named leaf none
     let next = next_at key.secret records (bottom_of key.secret) in
     let digest : bound.digest ≡ digest_at key records (length records) next (replicate 32 0) text =
     is ∙ ap₂ (λ (k : Key) n. xmss_digest_in secret k.root n text) same leaf
-    ∙ sym (xmss_digest_told records key secret (length records) next (replicate 32 0) text of_key) in
+    ∙ sym (xmss_leaf_digest records key secret (length records) next (replicate 32 0) text of_key) in
     λ i. record { name = named i; leaf = leaf i; randomizer = none i; digest = digest i }
 
 -- and can follow

@@ -15,14 +15,14 @@ use Rattle.sign_core.specs.Records.{are_same, binding_in, binds, bound_from, has
 -- ---- names
 
 -- what binds a name is a Bound of that name
-binds_told : (name : List ℕ) (entry : Record) (bound : Bound) → binds name entry ≡ Some bound → (entry ≡ BoundRecord bound) × (bound.name ≡ name)
-binds_told name (KeyRecord key) bound is = absurd (none-some bound is)
-binds_told name (ExtendRecord extend) bound is = absurd (none-some bound is)
-binds_told name (BoundRecord other) bound is =
+binds_means : (name : List ℕ) (entry : Record) (bound : Bound) → binds name entry ≡ Some bound → (entry ≡ BoundRecord bound) × (bound.name ≡ name)
+binds_means name (KeyRecord key) bound is = absurd (none-some bound is)
+binds_means name (ExtendRecord extend) bound is = absurd (none-some bound is)
+binds_means name (BoundRecord other) bound is =
     let (same, at) = cond_some (are_same other.name name) other bound is in
     (ap BoundRecord at, subst (λ b. b.name ≡ name) at ((bytes_decides other.name name).0 same))
-binds_told name (Retire upto) bound is = absurd (none-some bound is)
-binds_told name Moved bound is = absurd (none-some bound is)
+binds_means name (Retire upto) bound is = absurd (none-some bound is)
+binds_means name Moved bound is = absurd (none-some bound is)
 
 pub binds_own : (bound : Bound) (name : List ℕ) → bound.name ≡ name → binds name (BoundRecord bound) ≡ Some bound
 binds_own bound name same = ap (λ b. cond b (Some bound) None) ((bytes_decides bound.name name).1 same)
@@ -49,7 +49,7 @@ FoundBinding name k entries = ((j : ℕ) × (bound : Bound) × (bound_from name 
 bound_here : (name : List ℕ) (k : ℕ) (entry : Record) (rest : List Record) (bound : Bound) → binds name entry ≡ Some bound
     → BoundAt name k (entry ∷ rest) k bound
 bound_here name k entry rest bound is =
-    let (same, named) = binds_told name entry bound is in record {
+    let (same, named) = binds_means name entry bound is in record {
       at = 0;
       place = omega arith;
       stands = ap Some same;

@@ -101,11 +101,11 @@ bound_tree records key trees k bound legal keyed these at =
     )
 
 -- the digest that a leaf of the tree before place k signs
-pub digest_told : (records : List Record) (key : Key) (trees : Trees) (k leaf : ℕ) (randomizer text : List ℕ) → key_in records ≡ Some key
+pub leaf_digest : (records : List Record) (key : Key) (trees : Trees) (k leaf : ℕ) (randomizer text : List ℕ) → key_in records ≡ Some key
     → trees_of key.secret ≡ Some trees
     → digest_at key records k leaf randomizer text
     ≡ message_digest_of (secret_at trees records (tree_before (bottom_of key.secret) records k)).identifier leaf randomizer text
-digest_told records key trees k leaf randomizer text keyed these = by_secret key.secret these (key_stands records key keyed)
+leaf_digest records key trees k leaf randomizer text keyed these = by_secret key.secret these (key_stands records key keyed)
   where
     by_secret : (secret : Secret) → trees_of secret ≡ Some trees → slice_get records 0 ≡ Some (KeyRecord key)
         → digest_by secret key.root records k leaf randomizer text
@@ -145,10 +145,10 @@ signings_pairs records key trees (suc level) place legal keyed these (extend, st
     ∙ ap (λ p. take level trees.pairs ++ p ∷ []) (pair_at key trees records level parent (key_stands records key keyed) these there)
     ∙ take_one_more trees.pairs level trees.top.pair (omega (arith, few))
 
-pairs_told : (links : List Link) → pairs_of links ≡ map pair_of (signings_of links)
+pairs_of_links : (links : List Link) → pairs_of links ≡ map pair_of (signings_of links)
 unfolding pair_of
-pairs_told [] = refl
-pairs_told (link ∷ links) = ap (λ l. link.secret.pair ∷ l) (pairs_told links)
+pairs_of_links [] = refl
+pairs_of_links (link ∷ links) = ap (λ l. link.secret.pair ∷ l) (pairs_of_links links)
 
 -- links that sign as a chain of trees does, down to the bottom, have the types of the levels
 pub links_pairs : (records : List Record) (key : Key) (trees other : Trees) (level place : ℕ) (links : List Link) (last : Signing) → IsLegal records
@@ -161,7 +161,7 @@ links_pairs records key trees other level place links last legal keyed these oth
     let (some, typed) = levels_typed key.secret trees these in
     let few : bottom < length trees.pairs = omega (arith, some, typed) in
     let count : suc bottom ≡ bottom + 1 = omega arith in
-    pairs_told links ∙ ap (map pair_of) signs ∙ ap (λ n. map pair_of (signings_above trees n records place ++ last ∷ [])) level_is
+    pairs_of_links links ∙ ap (map pair_of) signs ∙ ap (λ n. map pair_of (signings_above trees n records place ++ last ∷ [])) level_is
     ∙ map-append pair_of (signings_above trees bottom records place) (last ∷ [])
     ∙ ap (λ l. l ++ last.secret.pair ∷ []) (signings_pairs records key trees bottom place legal keyed these at few)
     ∙ ap (λ (s : LmsSecret). take bottom trees.pairs ++ s.pair ∷ []) secret
@@ -177,9 +177,9 @@ pub xmss_leaf_inside : (records : List Record) (key : Key) (secret : XmssSecret)
 xmss_leaf_inside records key secret k bound legal keyed is at =
     subst (λ s. bound.leaf < leaves_at s (bottom_of s)) is (leaf_inside records key k bound legal keyed at)
 
-pub xmss_digest_told : (records : List Record) (key : Key) (secret : XmssSecret) (k leaf : ℕ) (randomizer text : List ℕ) → IsXmssKey secret key
+pub xmss_leaf_digest : (records : List Record) (key : Key) (secret : XmssSecret) (k leaf : ℕ) (randomizer text : List ℕ) → IsXmssKey secret key
     → digest_at key records k leaf randomizer text ≡ xmss_digest_in secret key.root leaf text
-xmss_digest_told records key secret k leaf randomizer text is = ap (λ s. digest_by s key.root records k leaf randomizer text) is
+xmss_leaf_digest records key secret k leaf randomizer text is = ap (λ s. digest_by s key.root records k leaf randomizer text) is
 
 pub xmss_signed : (records : List Record) (key : Key) (secret : XmssSecret) (k : ℕ) (bound : Bound) → IsXmssKey secret key
     → signature_at key records k bound ≡ xmss_signature_bytes (xmss_textbook secret bound.leaf bound.digest)

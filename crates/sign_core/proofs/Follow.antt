@@ -41,13 +41,13 @@ pub key_stays : (records more : List Record) → 0 < length records → key_in (
 key_stays [] more some = absurd (omega (arith, some))
 key_stays (entry ∷ rest) more some = first_alone entry (rest ++ more) rest
 
-moved_told : (last : Option Record) → is_moved last ≡ true → last ≡ Some Moved
-moved_told None is = absurd (true≢false (sym is))
-moved_told (Some (KeyRecord key)) is = absurd (true≢false (sym is))
-moved_told (Some (ExtendRecord extend)) is = absurd (true≢false (sym is))
-moved_told (Some (BoundRecord bound)) is = absurd (true≢false (sym is))
-moved_told (Some (Retire upto)) is = absurd (true≢false (sym is))
-moved_told (Some Moved) is = refl
+moved_means : (last : Option Record) → is_moved last ≡ true → last ≡ Some Moved
+moved_means None is = absurd (true≢false (sym is))
+moved_means (Some (KeyRecord key)) is = absurd (true≢false (sym is))
+moved_means (Some (ExtendRecord extend)) is = absurd (true≢false (sym is))
+moved_means (Some (BoundRecord bound)) is = absurd (true≢false (sym is))
+moved_means (Some (Retire upto)) is = absurd (true≢false (sym is))
+moved_means (Some Moved) is = refl
 
 -- a legal list with no Moved at its end has none
 pub none_moved : (records : List Record) (k : ℕ) → IsLegal records → has_moved records ≡ false → slice_get records k ≡ Some Moved → ⊥
@@ -58,10 +58,10 @@ none_moved records k legal stays is =
 
 -- ---- randomizers
 
-randomizer_told : (secret : Secret) (randomizer : List ℕ) → has_randomizer secret randomizer ≡ true → HasRandomizer secret randomizer
-randomizer_told (Lms pair identifier seed) randomizer is = tt
-randomizer_told (Hss levels identifier seed) randomizer is = tt
-randomizer_told (Xmss tree secret_seed prf_key public_seed) randomizer is = (bytes_decides randomizer (replicate 32 0)).0 is
+randomizer_means : (secret : Secret) (randomizer : List ℕ) → has_randomizer secret randomizer ≡ true → HasRandomizer secret randomizer
+randomizer_means (Lms pair identifier seed) randomizer is = tt
+randomizer_means (Hss levels identifier seed) randomizer is = tt
+randomizer_means (Xmss tree secret_seed prf_key public_seed) randomizer is = (bytes_decides randomizer (replicate 32 0)).0 is
 
 tell_randomizer : (secret : Secret) (randomizer : List ℕ) → HasRandomizer secret randomizer → has_randomizer secret randomizer ≡ true
 tell_randomizer (Lms pair identifier seed) randomizer is = refl
@@ -70,9 +70,9 @@ tell_randomizer (Xmss tree secret_seed prf_key public_seed) randomizer is = (byt
 
 -- ---- what a record reaches, and the leaf that it names
 
-in_tree_told : (found : Option ℕ) (m tree n : ℕ) → in_tree found m ≡ Some (tree, n) → (found ≡ Some tree) × (m ≡ n)
-in_tree_told None m tree n is = absurd (none-some (tree, n) is)
-in_tree_told (Some other) m tree n is = let (same, number) = some_pair_parts other tree m n is in (ap Some same, number)
+in_tree_means : (found : Option ℕ) (m tree n : ℕ) → in_tree found m ≡ Some (tree, n) → (found ≡ Some tree) × (m ≡ n)
+in_tree_means None m tree n is = absurd (none-some (tree, n) is)
+in_tree_means (Some other) m tree n is = let (same, number) = some_pair_parts other tree m n is in (ap Some same, number)
 
 -- a record that names a leaf reaches the number above it
 pub names_reach : (secret : Secret) (records : List Record) (k : ℕ) (entry : Record) (tree leaf : ℕ) → k ≤ length records
@@ -102,14 +102,14 @@ pub reach_names : (secret : Secret) (records : List Record) (k : ℕ) (entry : R
 reach_names secret records k (KeyRecord key) tree n within fits is = absurd (none-some (tree, n) is)
 reach_names secret records k (ExtendRecord extend) tree n within (level, of, high, parent, inside) is =
     let above : level ≡ extend.level - 1 = omega (arith, of) in
-    let (at, number) = in_tree_told (current (extend.level - 1) (take k records)) (extend.parent_leaf + 1) tree n is in
+    let (at, number) = in_tree_means (current (extend.level - 1) (take k records)) (extend.parent_leaf + 1) tree n is in
     let there : current level (take k records) ≡ Some tree = ap (λ l. current l (take k records)) above ∙ at in
     inl (extend.parent_leaf, (level, of, current_before records k level tree within there, refl), sym number)
 reach_names secret records k (BoundRecord bound) tree n within fits is =
-    let (at, number) = in_tree_told (current (bottom_of secret) (take k records)) (bound.leaf + 1) tree n is in
+    let (at, number) = in_tree_means (current (bottom_of secret) (take k records)) (bound.leaf + 1) tree n is in
     inl (bound.leaf, (current_before records k (bottom_of secret) tree within at, refl), sym number)
 reach_names secret records k (Retire upto) tree n within fits is =
-    let (at, number) = in_tree_told (current (bottom_of secret) (take k records)) upto tree n is in
+    let (at, number) = in_tree_means (current (bottom_of secret) (take k records)) upto tree n is in
     inr (ap Retire number, current_before records k (bottom_of secret) tree within at)
 reach_names secret records k Moved tree n within fits is = absurd (none-some (tree, n) is)
 
@@ -135,9 +135,9 @@ some_tree None is = absurd (true≢false (sym is))
 some_tree (Some tree) is = (tree, refl)
 
 -- what a free leaf is
-pub free_told : (secret : Secret) (records : List Record) (level leaf : ℕ) → is_free secret records level leaf ≡ true
+pub free_means : (secret : Secret) (records : List Record) (level leaf : ℕ) → is_free secret records level leaf ≡ true
     → (tree : ℕ) × (current level records ≡ Some tree) × (leaf < leaves_at secret level) × (next_in secret records tree ≤ leaf)
-free_told secret records level leaf is =
+free_means secret records level leaf is =
     let (two, high) = and_parts (is_some (current level records) && nat_lt leaf (leaves_at secret level)) (nat_le (next_at secret records level) leaf) is in
     let (some, low) = and_parts (is_some (current level records)) (nat_lt leaf (leaves_at secret level)) two in
     let (tree, at) = some_tree (current level records) some in
@@ -154,10 +154,10 @@ tell_free secret records level leaf tree at low high =
 
 -- ---- a record that can follow
 
-extend_told : (secret : Secret) (before : List Record) (extend : Extend) → can_follow_legal secret before (ExtendRecord extend) ≡ true
+extend_means : (secret : Secret) (before : List Record) (extend : Extend) → can_follow_legal secret before (ExtendRecord extend) ≡ true
     → (1 ≤ extend.level) × (extend.level < levels_of secret) × (is_free secret before (extend.level - 1) extend.parent_leaf ≡ true)
     × (has_identifier before extend.identifier ≡ false)
-extend_told secret before extend is =
+extend_means secret before extend is =
     let (three, fresh) = and_parts
     (nat_le 1 extend.level && nat_lt extend.level (levels_of secret) && is_free secret before (extend.level - 1) extend.parent_leaf)
     (not (has_identifier before extend.identifier)) is in
@@ -167,20 +167,20 @@ extend_told secret before extend is =
       leb-true 1 extend.level low,
       ltb-true extend.level (levels_of secret) high,
       free,
-      not_told (has_identifier before extend.identifier) fresh,
+      not_means (has_identifier before extend.identifier) fresh,
     )
   where
-    not_told : (b : Bool) → not b ≡ true → b ≡ false
-    not_told true is = sym is
-    not_told false is = refl
+    not_means : (b : Bool) → not b ≡ true → b ≡ false
+    not_means true is = sym is
+    not_means false is = refl
 
-bound_told : (secret : Secret) (before : List Record) (bound : Bound) → can_follow_legal secret before (BoundRecord bound) ≡ true
+bound_means : (secret : Secret) (before : List Record) (bound : Bound) → can_follow_legal secret before (BoundRecord bound) ≡ true
     → (is_free secret before (bottom_of secret) bound.leaf ≡ true) × (binding_in before bound.name ≡ None) × HasRandomizer secret bound.randomizer
-bound_told secret before bound is =
+bound_means secret before bound is =
     let (two, random) = and_parts (is_free secret before (bottom_of secret) bound.leaf && not (is_some (binding_in before bound.name)))
     (has_randomizer secret bound.randomizer) is in
     let (free, new) = and_parts (is_free secret before (bottom_of secret) bound.leaf) (not (is_some (binding_in before bound.name))) two in
-    (free, none_told (binding_in before bound.name) new, randomizer_told secret bound.randomizer random)
+    (free, none_told (binding_in before bound.name) new, randomizer_means secret bound.randomizer random)
   where
     none_told : (found : Option (ℕ × Bound)) → not (is_some found) ≡ true → found ≡ None
     none_told None is = refl
@@ -200,13 +200,13 @@ pub follower_fits : (secret : Secret) (before : List Record) (entry : Record) �
     → Fits secret (before ++ entry ∷ []) (length before) entry
 follower_fits secret before (KeyRecord key) is = absurd (true≢false (sym is))
 follower_fits secret before (ExtendRecord extend) is =
-    let (low, high, free, fresh) = extend_told secret before extend is in
-    let (tree, at, inside, next) = free_told secret before (extend.level - 1) extend.parent_leaf free in
+    let (low, high, free, fresh) = extend_means secret before extend is in
+    let (tree, at, inside, next) = free_means secret before (extend.level - 1) extend.parent_leaf free in
     let of : extend.level ≡ extend.level - 1 + 1 = omega (arith, low) in
     (extend.level - 1, of, high, (tree, still_current before (ExtendRecord extend ∷ []) (extend.level - 1) tree at), inside)
 follower_fits secret before (BoundRecord bound) is =
-    let (free, new, random) = bound_told secret before bound is in
-    let (tree, at, inside, next) = free_told secret before (bottom_of secret) bound.leaf free in
+    let (free, new, random) = bound_means secret before bound is in
+    let (tree, at, inside, next) = free_means secret before (bottom_of secret) bound.leaf free in
     ((tree, still_current before (BoundRecord bound ∷ []) (bottom_of secret) tree at), inside, random)
 follower_fits secret before (Retire upto) is =
     let (some, low) = and_parts (is_some (current (bottom_of secret) before)) (nat_le upto (leaves_at secret (bottom_of secret))) is in
@@ -225,14 +225,14 @@ pub follower_names : (secret : Secret) (before : List Record) (entry : Record) (
     → Names secret (before ++ entry ∷ []) (length before) entry tree leaf → next_in secret before tree ≤ leaf
 follower_names secret before (KeyRecord key) tree leaf is names = absurd names
 follower_names secret before (ExtendRecord extend) tree leaf is (level, of, there, same) =
-    let (low, high, free, fresh) = extend_told secret before extend is in
-    let (own, at, inside, next) = free_told secret before (extend.level - 1) extend.parent_leaf free in
+    let (low, high, free, fresh) = extend_means secret before extend is in
+    let (own, at, inside, next) = free_means secret before (extend.level - 1) extend.parent_leaf free in
     let above : extend.level - 1 ≡ level = omega (arith, of) in
     let here : current level before ≡ Some own = ap (λ l. current l before) (sym above) ∙ at in
     same_next secret before level tree own leaf here (was_current before (ExtendRecord extend ∷ []) level tree there) (omega (arith, next, same))
 follower_names secret before (BoundRecord bound) tree leaf is (there, same) =
-    let (free, new, random) = bound_told secret before bound is in
-    let (own, at, inside, next) = free_told secret before (bottom_of secret) bound.leaf free in
+    let (free, new, random) = bound_means secret before bound is in
+    let (own, at, inside, next) = free_means secret before (bottom_of secret) bound.leaf free in
     same_next secret before (bottom_of secret) tree own leaf at (was_current before (BoundRecord bound ∷ []) (bottom_of secret) tree there)
     (omega (arith, next, same))
 follower_names secret before (Retire upto) tree leaf is names = absurd names
@@ -243,7 +243,7 @@ pub follower_identifier : (secret : Secret) (before : List Record) (entry : Reco
     → identifier_of entry ≡ Some identifier → has_identifier before identifier ≡ false
 follower_identifier secret before (KeyRecord key) identifier is own = absurd (true≢false (sym is))
 follower_identifier secret before (ExtendRecord extend) identifier is own =
-    let (low, high, free, fresh) = extend_told secret before extend is in
+    let (low, high, free, fresh) = extend_means secret before extend is in
     subst (λ i. has_identifier before i ≡ false) (same_Some extend.identifier identifier own) fresh
 follower_identifier secret before (BoundRecord bound) identifier is own = absurd (none-some identifier own)
 follower_identifier secret before (Retire upto) identifier is own = absurd (none-some identifier own)
@@ -252,7 +252,7 @@ follower_identifier secret before Moved identifier is own = absurd (none-some id
 -- and so is its name
 pub follower_name : (secret : Secret) (before : List Record) (bound : Bound) → can_follow_legal secret before (BoundRecord bound) ≡ true
     → binding_in before bound.name ≡ None
-follower_name secret before bound is = let (free, new, random) = bound_told secret before bound is in new
+follower_name secret before bound is = let (free, new, random) = bound_means secret before bound is in new
 
 -- ---- the last record of a legal list
 
@@ -353,7 +353,7 @@ last_follows before Moved legal some = refl
 -- and no Moved stands before it
 pub last_stays : (before : List Record) (entry : Record) → IsLegal (before ++ entry ∷ []) → has_moved before ≡ false
 last_stays before entry legal = false_from_ne_true (has_moved before) (λ moved.
-    let at : slice_get before (length before - 1) ≡ Some Moved = moved_told (slice_get before (length before - 1)) moved in
+    let at : slice_get before (length before - 1) ≡ Some Moved = moved_means (slice_get before (length before - 1)) moved in
     let below : length before - 1 < length before = slice_get_within before (length before - 1) Moved at in
     let ends : length before - 1 + 1 ≡ length (before ++ entry ∷ []) =
     legal.fits (length before - 1) Moved (slice_get_stays before (entry ∷ []) (length before - 1) Moved at) in

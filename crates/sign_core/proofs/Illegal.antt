@@ -216,9 +216,9 @@ first_illegal_appended records entry =
 -- ---- more records
 
 -- the first illegal record of a longer list
-pub first_illegal_joined : (records more : List Record)
+pub first_illegal_after : (records more : List Record)
     → first_illegal (records ++ more) ≡ option_or (first_illegal records) (illegal_from (records ++ more) (length records) more)
-first_illegal_joined records more =
+first_illegal_after records more =
     let here : 0 + length records ≡ length records = omega arith in
     illegal_append (records ++ more) 0 records more
     ∙ ap (λ n. option_or (illegal_from (records ++ more) 0 records) (illegal_from (records ++ more) n more)) here
@@ -237,4 +237,4 @@ illegal_least all k (first ∷ rest) j is = by (Follows all k first) is (illegal
 pub illegal_after : (records more : List Record) (j : ℕ) → first_illegal records ≡ None → first_illegal (records ++ more) ≡ Some j → length records ≤ j
 illegal_after records more j legal is =
     illegal_least (records ++ more) (length records) more j
-    (sym (first_illegal_joined records more ∙ ap (λ o. option_or o (illegal_from (records ++ more) (length records) more)) legal) ∙ is)
+    (sym (first_illegal_after records more ∙ ap (λ o. option_or o (illegal_from (records ++ more) (length records) more)) legal) ∙ is)

@@ -148,10 +148,10 @@ follows_moved secret records levels has k within =
 
 -- ---- what is kept, read
 
-with_next_told : (secret : Secret) (records : List Record) (found : Option ℕ) (tree : Tree) → with_next secret records found ≡ Some tree
+with_next_means : (secret : Secret) (records : List Record) (found : Option ℕ) (tree : Tree) → with_next secret records found ≡ Some tree
     → (found ≡ Some tree.place) × (next_in secret records tree.place ≡ tree.next)
-with_next_told secret records None tree is = absurd (none-some tree is)
-with_next_told secret records (Some place) tree is =
+with_next_means secret records None tree is = absurd (none-some tree is)
+with_next_means secret records (Some place) tree is =
     let same = same_Some (record { place = place; next = next_in secret records place }) tree is in
     (ap (λ t. Some t.place) same, subst (λ p. next_in secret records p ≡ tree.next) (ap (λ t. t.place) same) (ap (λ t. t.next) same))
 
@@ -159,7 +159,7 @@ with_next_told secret records (Some place) tree is =
 pub kept_tree : (secret : Secret) (records : List Record) (levels : List (Option Tree)) (level : ℕ) (tree : Tree) → HasTrees secret records levels
     → level < 8 → kept_at levels level ≡ Some tree → (current level records ≡ Some tree.place) × (next_in secret records tree.place ≡ tree.next)
 kept_tree secret records levels level tree has within is =
-    with_next_told secret records (current level records) tree (sym (has level within) ∙ is)
+    with_next_means secret records (current level records) tree (sym (has level within) ∙ is)
 
 -- where none is kept none is current
 pub kept_none : (secret : Secret) (records : List Record) (levels : List (Option Tree)) (level : ℕ) → HasTrees secret records levels

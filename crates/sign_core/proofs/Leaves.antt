@@ -42,9 +42,9 @@ number_own tree n = ap (λ b. cond b n 0) (eq-eqb tree tree refl)
 pub number_other : (tree other n : ℕ) → other ≢ tree → number_in tree (Some (other, n)) ≡ 0
 number_other tree other n apart = ap (λ b. cond b n 0) (ne_eqb other tree apart)
 
-number_told : (tree n : ℕ) (reached : Option (ℕ × ℕ)) → number_in tree reached ≡ n → (n ≡ 0) ⊎ (reached ≡ Some (tree, n))
-number_told tree n None is = inl (sym is)
-number_told tree n (Some (other, m)) is = by (nat_eq other tree) refl is
+number_means : (tree n : ℕ) (reached : Option (ℕ × ℕ)) → number_in tree reached ≡ n → (n ≡ 0) ⊎ (reached ≡ Some (tree, n))
+number_means tree n None is = inl (sym is)
+number_means tree n (Some (other, m)) is = by (nat_eq other tree) refl is
   where
     by : (same : Bool) → nat_eq other tree ≡ same → cond same m 0 ≡ n → (n ≡ 0) ⊎ (◌≡◌ {A = Option (ℕ × ℕ)} (Some (other, m)) (Some (tree, n)))
     by true same at = let own : other ≡ tree = eqb-true other tree same in inr (λ i. Some (own i, at i))
@@ -90,7 +90,7 @@ next_reached : (secret : Secret) (records : List Record) (tree i next : ℕ) →
 next_reached secret records tree i next at =
     let (entry, stands, number) = at_number secret records tree 0 records i next at in
     let place : i ≡ 0 + i = omega arith in
-    elim (number_told tree next (reaches secret (take (0 + i) records) entry) number) [
+    elim (number_means tree next (reaches secret (take (0 + i) records) entry) number) [
       | inl none ↦ inl none
       | inr reached ↦ inr (i, entry, stands, ap (λ m. reaches secret (take m records) entry) place ∙ reached)
     ]

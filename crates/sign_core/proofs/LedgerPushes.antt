@@ -26,11 +26,11 @@ use Rattle.sign_core.specs.Textbook.{HasSizes, tree_before}
 use Rattle.sign_core.specs.declared.ledger.Binding.{Binding}
 use Rattle.sign_core.specs.declared.ledger.Made.{Made}
 use Rattle.sign_core.specs.declared.trees.Tree.{Tree}
-use Rattle.sign_core.proofs.Follow.{follower_name, free_told, key_stays}
+use Rattle.sign_core.proofs.Follow.{follower_name, free_means, key_stays}
 use Rattle.sign_core.proofs.Keys.{key_stands}
 use Rattle.sign_core.proofs.Legal.{grows}
 use Rattle.sign_core.proofs.LedgerSteps.{identifier_grown, identifier_other, is_some_record, kept_bound, made_after, made_before, made_here}
-use Rattle.sign_core.proofs.LedgerSteps.{kept_other, made_other, moved_last, not_told, or_none, sizes_grown}
+use Rattle.sign_core.proofs.LedgerSteps.{kept_other, made_other, moved_last, not_means, or_none, sizes_grown}
 
 -- what is ensured of an Ok, of an answer that is one
 pub on_ok : {T E P : Type 0} (r : Result T E) → IsOk r → OnOk r P → P
@@ -64,7 +64,7 @@ follows_legal : (records : List Record) (key : Key) (entry : Record) → can_fol
     → (has_moved records ≡ false) × (can_follow_legal key.secret records entry ≡ true)
 follows_legal records key entry follows =
     let (stays, rest) = and_parts (not (has_moved records)) (can_follow_legal key.secret records entry) follows in
-    (not_told (has_moved records) stays, rest)
+    (not_means (has_moved records) stays, rest)
 
 bound_free : (records : List Record) (key : Key) (bound : Bound) → can_follow (Some key) records (BoundRecord bound) ≡ true
     → is_free key.secret records (bottom_of key.secret) bound.leaf ≡ true
@@ -79,7 +79,7 @@ bound_free records key bound follows =
 pub bound_leaf : (records : List Record) (key : Key) (bound : Bound) → can_follow (Some key) records (BoundRecord bound) ≡ true
     → bound.leaf < 2 ^ 25
 bound_leaf records key bound follows =
-    let (tree, at, inside, next) = free_told key.secret records (bottom_of key.secret) bound.leaf (bound_free records key bound follows) in
+    let (tree, at, inside, next) = free_means key.secret records (bottom_of key.secret) bound.leaf (bound_free records key bound follows) in
     let few : leaves_at key.secret (bottom_of key.secret) ≤ 2 ^ 25 = leaves_few key.secret (bottom_of key.secret) in
     omega (arith, inside, few)
 
@@ -101,7 +101,7 @@ pub extend_inside : (records : List Record) (key : Key) (extend : Extend) → ca
     → (1 ≤ extend.level) × (extend.level < levels_of key.secret) × (extend.parent_leaf < 2 ^ 25)
 extend_inside records key extend follows =
     let (low, high, free) = extend_parts records key extend follows in
-    let (tree, at, inside, next) = free_told key.secret records (extend.level - 1) extend.parent_leaf free in
+    let (tree, at, inside, next) = free_means key.secret records (extend.level - 1) extend.parent_leaf free in
     let few : leaves_at key.secret (extend.level - 1) ≤ 2 ^ 25 = leaves_few key.secret (extend.level - 1) in
     (low, high, omega (arith, inside, few))
 
@@ -138,7 +138,7 @@ pub grown_bound : (records : List Record) (key : Key) (made : ByPlace Made) (bin
 grown_bound records key made bindings identifiers levels count moved old bound bottom tree follows own last within tree_is new_levels trees
     bound_name named new_bindings bound_is new grown =
     let (stays, rest) = follows_legal records key (BoundRecord bound) follows in
-    let (place, at, inside, next) = free_told key.secret records (bottom_of key.secret) bound.leaf (bound_free records key bound follows) in
+    let (place, at, inside, next) = free_means key.secret records (bottom_of key.secret) bound.leaf (bound_free records key bound follows) in
     let some : 0 < length records = is_some_record records key made bindings identifiers levels count moved old (BoundRecord bound) follows in
     let under : tree ≡ tree_before (bottom_of key.secret) records (length records) =
     tree_is ∙ tree_of_end key.secret records levels bottom old.trees_are within
@@ -204,7 +204,7 @@ grown_extend records key made bindings identifiers levels count moved old extend
     new_made made_is new_identifiers identifier_is new grown =
     let (stays, rest) = follows_legal records key (ExtendRecord extend) follows in
     let (low, high, free) = extend_parts records key extend follows in
-    let (place, at, inside, next) = free_told key.secret records (extend.level - 1) extend.parent_leaf free in
+    let (place, at, inside, next) = free_means key.secret records (extend.level - 1) extend.parent_leaf free in
     let some : 0 < length records = is_some_record records key made bindings identifiers levels count moved old (ExtendRecord extend) follows in
     let under : parent ≡ tree_before (extend.level - 1) records (length records) =
     parent_is ∙ tree_of_end key.secret records levels (level - 1) old.trees_are within

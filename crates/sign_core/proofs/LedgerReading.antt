@@ -39,15 +39,15 @@ level_by (Some Moved) = 0
 level_by None = 0
 
 -- the record that makes a tree says its level
-level_told : (records : List Record) (key : Key) → slice_get records 0 ≡ Some (KeyRecord key) → (k level tree : ℕ) → IsCurrent records k level tree
+level_means : (records : List Record) (key : Key) → slice_get records 0 ≡ Some (KeyRecord key) → (k level tree : ℕ) → IsCurrent records k level tree
     → level ≡ level_by (slice_get records tree)
 unfolding level_by
-level_told records key first k zero tree is = sym (ap level_by (ap (slice_get records) is ∙ first))
-level_told records key first k (suc level) tree (last, parent) = sym (ap level_by last.stands ∙ last.of_level)
+level_means records key first k zero tree is = sym (ap level_by (ap (slice_get records) is ∙ first))
+level_means records key first k (suc level) tree (last, parent) = sym (ap level_by last.stands ∙ last.of_level)
 
-in_tree_told : (found : Option ℕ) (m tree n : ℕ) → in_tree found m ≡ Some (tree, n) → (found ≡ Some tree) × (m ≡ n)
-in_tree_told None m tree n is = absurd (none-some (tree, n) is)
-in_tree_told (Some own) m tree n is =
+in_tree_means : (found : Option ℕ) (m tree n : ℕ) → in_tree found m ≡ Some (tree, n) → (found ≡ Some tree) × (m ≡ n)
+in_tree_means None m tree n is = absurd (none-some (tree, n) is)
+in_tree_means (Some own) m tree n is =
     let same = same_Some (own, m) (tree, n) is in
     (ap (λ p. Some p.0) same, ap (λ p. p.1) same)
 
@@ -55,8 +55,8 @@ in_tree_told (Some own) m tree n is =
 one_level : (records : List Record) (key : Key) → slice_get records 0 ≡ Some (KeyRecord key) → (k level other tree : ℕ) → k ≤ length records
     → current level records ≡ Some tree → current other (take k records) ≡ Some tree → level ≡ other
 one_level records key first k level other tree within is before =
-    level_told records key first (length records) level tree (current_is level records tree is)
-    ∙ sym (level_told records key first k other tree (current_before records k other tree within before))
+    level_means records key first (length records) level tree (current_is level records tree is)
+    ∙ sym (level_means records key first k other tree (current_before records k other tree within before))
 
 module _ (records : List Record) (key : Key) (level tree n : ℕ) (first : slice_get records 0 ≡ Some (KeyRecord key))
     (is : current level records ≡ Some tree) (k : ℕ) (within : k ≤ length records) where
@@ -64,18 +64,18 @@ module _ (records : List Record) (key : Key) (level tree n : ℕ) (first : slice
       → n ≤ leaves_at key.secret level
   reach_inside (KeyRecord other) fits reached = absurd (none-some (tree, n) reached)
   reach_inside (ExtendRecord extend) (own, of, high, above, inside) reached =
-      let (at, number) = in_tree_told (current (extend.level - 1) (take k records)) (extend.parent_leaf + 1) tree n reached in
+      let (at, number) = in_tree_means (current (extend.level - 1) (take k records)) (extend.parent_leaf + 1) tree n reached in
       let same : level ≡ extend.level - 1 = one_level records key first k level (extend.level - 1) tree within is at in
       let here : own ≡ level = omega (arith, same, of) in
       let low : extend.parent_leaf < leaves_at key.secret level = subst (λ l. extend.parent_leaf < leaves_at key.secret l) here inside in
       omega (arith, low, number)
   reach_inside (BoundRecord bound) (above, inside, random) reached =
-      let (at, number) = in_tree_told (current (bottom_of key.secret) (take k records)) (bound.leaf + 1) tree n reached in
+      let (at, number) = in_tree_means (current (bottom_of key.secret) (take k records)) (bound.leaf + 1) tree n reached in
       let same : level ≡ bottom_of key.secret = one_level records key first k level (bottom_of key.secret) tree within is at in
       let low : bound.leaf < leaves_at key.secret level = subst (λ l. bound.leaf < leaves_at key.secret l) (sym same) inside in
       omega (arith, low, number)
   reach_inside (Retire upto) (above, inside) reached =
-      let (at, number) = in_tree_told (current (bottom_of key.secret) (take k records)) upto tree n reached in
+      let (at, number) = in_tree_means (current (bottom_of key.secret) (take k records)) upto tree n reached in
       let same : level ≡ bottom_of key.secret = one_level records key first k level (bottom_of key.secret) tree within is at in
       let low : upto ≤ leaves_at key.secret level = subst (λ l. upto ≤ leaves_at key.secret l) (sym same) inside in
       omega (arith, low, number)

@@ -184,13 +184,13 @@ module _ (records : List Record) (key : Key) (made : ByPlace Made) (bindings : B
         identifiers_are = λ identifier. old.identifiers_are identifier ∙ sym (identifier_other records entry identifier is_some_record none);
       })
 
-pub not_told : (b : Bool) → not b ≡ true → b ≡ false
-not_told true is = sym is
-not_told false is = refl
+pub not_means : (b : Bool) → not b ≡ true → b ≡ false
+not_means true is = sym is
+not_means false is = refl
 
-some_told : (found : Option ℕ) → is_some found ≡ true → (place : ℕ) × (found ≡ Some place)
-some_told None is = absurd (true≢false (sym is))
-some_told (Some place) is = (place, refl)
+some_means : (found : Option ℕ) → is_some found ≡ true → (place : ℕ) × (found ≡ Some place)
+some_means None is = absurd (true≢false (sym is))
+some_means (Some place) is = (place, refl)
 
 -- a Retire of leaves of the current bottom tree
 pub grown_retire : (records : List Record) (key : Key) (made : ByPlace Made) (bindings : ByText Binding) (identifiers : ByText ℕ)
@@ -201,7 +201,7 @@ pub grown_retire : (records : List Record) (key : Key) (made : ByPlace Made) (bi
 grown_retire records key made bindings identifiers levels count moved old upto bottom follows last new_levels trees new grown =
     let (stays, rest) = and_parts (not (has_moved records)) (can_follow_legal key.secret records (Retire upto)) follows in
     let (there, low) = and_parts (is_some (current (bottom_of key.secret) records)) (nat_le upto (leaves_at key.secret (bottom_of key.secret))) rest in
-    let (tree, at) = some_told (current (bottom_of key.secret) records) there in
+    let (tree, at) = some_means (current (bottom_of key.secret) records) there in
     grown_plain records key made bindings identifiers levels count moved old (Retire upto) follows (λ k. refl) (λ name. refl) refl (tt) new_levels
     (trees key.secret records key tree (key_stands records key old.keyed) (sym last) (ap (λ l. current l records) last ∙ at) old.trees_are)
-    moved (old.moved_is ∙ not_told (has_moved records) stays) new grown
+    moved (old.moved_is ∙ not_means (has_moved records) stays) new grown

@@ -135,15 +135,15 @@ parts_of : (found : Option Key) (key : Key) (before : List Record) (entry : Reco
 parts_of found key before entry is follows =
     and_parts (not (has_moved before)) (can_follow_legal key.secret before entry) (subst (λ o. can_follow o before entry ≡ true) is follows)
 
-not_told : (b : Bool) → not b ≡ true → b ≡ false
-not_told true is = sym is
-not_told false is = refl
+not_means : (b : Bool) → not b ≡ true → b ≡ false
+not_means true is = sym is
+not_means false is = refl
 
 -- a legal list, grown by a record that can follow it, is legal
 pub grows : (before : List Record) (entry : Record) → IsLegal before → can_follow (key_in before) before entry ≡ true → IsLegal (before ++ entry ∷ [])
 grows before entry legal follows =
     let (stays, rest) = parts_of (key_in before) legal.key before entry (key_first before legal.key legal.first) follows in
-    grown before entry legal (not_told (has_moved before) stays) rest
+    grown before entry legal (not_means (has_moved before) stays) rest
 
 -- and the last record of a legal list can follow those before it
 pub grew : (before : List Record) (entry : Record) → 0 < length before → IsLegal (before ++ entry ∷ [])

@@ -242,10 +242,10 @@ signings_more trees records level place extend stands =
     let parent = tree_before level records place in
     sym (ap (λ r. signings_above trees level records parent ++ signing_by trees records parent r) stands)
 
-signings_joined : (trees : Trees) (records : List Record) (level place : ℕ) (made : Made) → IsUnder trees records level place made
+signings_of_chain : (trees : Trees) (records : List Record) (level place : ℕ) (made : Made) → IsUnder trees records level place made
     → signings_above trees (level - 1) records made.parent ++ named_by (secret_at trees records made.parent) made.extend ∷ []
     ≡ signings_above trees level records place
-signings_joined trees records level place made below =
+signings_of_chain trees records level place made below =
     subst (λ p. signings_above trees (level - 1) records p ++ named_by (secret_at trees records p) made.extend ∷ [] ≡ signings_above trees level records place)
     below.above
     (signings_more trees records (level - 1) place made.extend below.stands
@@ -256,7 +256,7 @@ pub all_signings : (trees : Trees) (records : List Record) (level place : ℕ) (
     → above ≡ old ++ (signings_above trees (level - 1) records made.parent ++ named_by (secret_at trees records made.parent) made.extend ∷ [])
     → new ≡ above ++ last ∷ [] → new ≡ old ++ (signings_above trees level records place ++ last ∷ [])
 all_signings trees records level place made old above new last below above_is is =
-    is ∙ ap (λ xs. xs ++ last ∷ []) (above_is ∙ ap (λ xs. old ++ xs) (signings_joined trees records level place made below))
+    is ∙ ap (λ xs. xs ++ last ∷ []) (above_is ∙ ap (λ xs. old ++ xs) (signings_of_chain trees records level place made below))
     ∙ append_assoc old (signings_above trees level records place) (last ∷ [])
 
 -- ---- answers

@@ -26,7 +26,7 @@ use Rattle.sign_core.specs.World.{answered, closed_on, open_on, opened, opened_b
 use Rattle.sign_core.specs.Textbook.{HasSizes, SecretHasSizes, public_in}
 use Rattle.sign_core.proofs.Adding.{length_one_more, some_records}
 use Rattle.sign_core.proofs.Follow.{key_stays}
-use Rattle.sign_core.proofs.Illegal.{first_illegal_appended, first_illegal_joined, illegal_after, legal_from_none}
+use Rattle.sign_core.proofs.Illegal.{first_illegal_appended, first_illegal_after, illegal_after, legal_from_none}
 use Rattle.sign_core.proofs.Lists.{take_with_next}
 use Rattle.sign_core.proofs.Sizes.{public_made}
 
@@ -242,7 +242,7 @@ illegal_step records more entry k long legal not =
     let all = (records ++ entry ∷ []) ++ more in
     let here : first_illegal (records ++ entry ∷ []) ≡ Some k =
     first_illegal_appended records entry ∙ (λ i. option_or (legal i) (cond (not i) None (Some (long i)))) in
-    ap (opened_by (closed_on all) None) (first_illegal_joined (records ++ entry ∷ []) more
+    ap (opened_by (closed_on all) None) (first_illegal_after (records ++ entry ∷ []) more
     ∙ ap (λ o. option_or o (illegal_from all (length (records ++ entry ∷ [])) more)) here)
 
 pub illegal_at : {S : Type 0} (g : store.Ghosts S) (old now next : S) (records : List Record) (k : ℕ) (entry : Record) → HasLoaded g old now records k

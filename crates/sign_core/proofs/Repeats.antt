@@ -30,7 +30,7 @@ use Rattle.sign_core.specs.Ledger.{kept_of}
 use Rattle.sign_core.specs.World.{Outcome, State, refused, repeated_sound, requested_of}
 use Rattle.sign_core.specs.Textbook.{Trees, damaged_in, digest_at, secret_at, signature_at, signings_above, tree_before, trees_of}
 use Rattle.sign_core.proofs.Bindings.{binding_stands}
-use Rattle.sign_core.proofs.ChainParts.{bound_tree, digest_told, key_chain, xmss_damaged, xmss_digest_told, xmss_leaf_inside, xmss_signed}
+use Rattle.sign_core.proofs.ChainParts.{bound_tree, leaf_digest, key_chain, xmss_damaged, xmss_leaf_digest, xmss_leaf_inside, xmss_signed}
 
 -- ---- what is kept of a name
 
@@ -179,7 +179,7 @@ pub xmss_read : (key own : Key) (records : List Record) (name : List ℕ) (bindi
     (text digest : List ℕ) → IsXmssKey secret key → own ≡ key → digest ≡ xmss_digest_in secret own.root binding.leaf text
     → digest_at key records found.place found.bound.leaf found.bound.randomizer text ≡ digest
 xmss_read key own records name binding found secret text digest of_key same is =
-    xmss_digest_told records key secret found.place found.bound.leaf found.bound.randomizer text of_key
+    xmss_leaf_digest records key secret found.place found.bound.leaf found.bound.randomizer text of_key
     ∙ ap₂ (λ (k : Key) leaf. xmss_digest_in secret k.root leaf text) (sym same) (ap (λ (kept : Binding). kept.leaf) found.is) ∙ sym is
 
 -- the leaf is one of the tree's
@@ -251,7 +251,7 @@ pub chain_read : (key : Key) (records ledger : List Record) (name : List ℕ) (b
     → digest ≡ message_digest_of (secret_at trees ledger binding.tree).identifier binding.leaf binding.randomizer text
     → digest_at key records found.place found.bound.leaf found.bound.randomizer text ≡ digest
 chain_read key records ledger name binding found trees text digest keyed these same is =
-    digest_told records key trees found.place found.bound.leaf found.bound.randomizer text keyed these
+    leaf_digest records key trees found.place found.bound.leaf found.bound.randomizer text keyed these
     ∙ ap (λ (b : Binding). message_digest_of (secret_at trees records b.tree).identifier b.leaf b.randomizer text) found.is
     ∙ ap (λ l. message_digest_of (secret_at trees l binding.tree).identifier binding.leaf binding.randomizer text) (sym same) ∙ sym is
 

@@ -106,7 +106,7 @@ pub stands_after : (all : List Record) (first : Record) (rest : List Record) (i 
 stands_after all first rest i entry begins within is =
     ap (slice_get all) (add-one i) ∙ ap (λ l. slice_get l (suc i)) begins ∙ slice_get-get_or rest i entry within ∙ ap Some (sym is)
 
-pub told_err : {A : Type 0} (all : List Record) (fault : LedgerFault) (r : Result A LedgerFault) → IsErrAnd r (λ other. other ≡ fault)
+pub error_is : {A : Type 0} (all : List Record) (fault : LedgerFault) (r : Result A LedgerFault) → IsErrAnd r (λ other. other ≡ fault)
     → IsRefused all fault → IfErr r (IsRefused all)
-told_err all fault (Ok x) none refused = absurd none
-told_err all fault (Err other) same refused = subst (IsRefused all) (sym same) refused
+error_is all fault (Ok x) none refused = absurd none
+error_is all fault (Err other) same refused = subst (IsRefused all) (sym same) refused

@@ -34,17 +34,17 @@ use Rattle.sign_core.proofs.Refusals.{keeps_at_all, keeps_late, same_view}
 
 -- ---- requests, by what hinders them
 
-asked : (limit : ℕ) → State → Key → (name : List ℕ) → Chance → (closed moved : Bool) → Option (ℕ × Bound) → Outcome (List ℕ)
-asked limit state key name chance closed moved found =
+request_by : (limit : ℕ) → State → Key → (name : List ℕ) → Chance → (closed moved : Bool) → Option (ℕ × Bound) → Outcome (List ℕ)
+request_by limit state key name chance closed moved found =
     if closed then refused state Stopped
     else (if moved then refused state Moved else requested_of limit state key name chance found)
 
-asked_is : (limit : ℕ) (state : State) (key : Key) (name : List ℕ) (chance : Chance) (closed moved : Bool) (found : Option (ℕ × Bound))
+request_by_is : (limit : ℕ) (state : State) (key : Key) (name : List ℕ) (chance : Chance) (closed moved : Bool) (found : Option (ℕ × Bound))
     → key_in state.records ≡ Some key → not state.is_open ≡ closed → has_moved state.records ≡ moved → binding_in state.records name ≡ found
-    → requested limit state name chance ≡ asked limit state key name chance closed moved found
-unfolding asked
-asked_is limit state key name chance closed moved found keyed shut gone bound =
-    ap (requested_under limit state name chance) keyed ∙ (λ i. asked limit state key name chance (shut i) (gone i) (bound i))
+    → requested limit state name chance ≡ request_by limit state key name chance closed moved found
+unfolding request_by
+request_by_is limit state key name chance closed moved found keyed shut gone bound =
+    ap (requested_under limit state name chance) keyed ∙ (λ i. request_by limit state key name chance (shut i) (gone i) (bound i))
 
 anew : (state : State) → Key → (name : List ℕ) → Chance → (level : ℕ) → (full lacking : Bool) → Outcome (List ℕ)
 anew state key name chance level full lacking =
@@ -58,9 +58,9 @@ anew_is : (limit : ℕ) (state : State) (key : Key) (name : List ℕ) (chance : 
     → state.is_open ≡ true → has_moved state.records ≡ false → binding_in state.records name ≡ None → deepest key.secret state.records ≡ Some level
     → nat_lt limit (length state.records + wanted_count key.secret level) ≡ full → not chance.has_room ≡ lacking
     → requested limit state name chance ≡ anew state key name chance level full lacking
-unfolding asked anew
+unfolding request_by anew
 anew_is limit state key name chance level full lacking keyed opened stays unbound at is_full is_lacking =
-    asked_is limit state key name chance false false None keyed (ap not opened) stays unbound
+    request_by_is limit state key name chance false false None keyed (ap not opened) stays unbound
     ∙ ap (bound_anew limit state key name chance) at
     ∙ (λ i. anew state key name chance level (is_full i) (is_lacking i))
 
@@ -179,14 +179,14 @@ module _ {S R M : Type 0} (g : store.Ghosts S) (r : source.Ghosts R) (m : messag
   -- a call that is hindered at once
   pub hindered_signs : (v : View S R) (name : List ℕ) (before : M) (capacity : ℕ) (key : Key) (fault : SignFault) → IsSigner g v → LeavesItsList g v.store
       → key_in v.records ≡ Some key → Hinders v.is_open (has_moved v.records) fault → Signs g r m v v name before before capacity (Err fault)
-  unfolding asked
+  unfolding request_by
   hindered_signs v name before capacity key Stopped signer only keyed why =
       left_signs v v name before before capacity key (Err Stopped) true false None (same_view v) (omega arith) signer only keyed
-      (asked_is (g.most v.store) (state_of v) key name (repeat_chance true None) true (has_moved v.records) (binding_in v.records name) keyed (ap not why) refl refl)
+      (request_by_is (g.most v.store) (state_of v) key name (repeat_chance true None) true (has_moved v.records) (binding_in v.records name) keyed (ap not why) refl refl)
       refl (λ lacking. absurd (true≢false lacking)) (record { store = λ n. refl; random = λ n. refl; memory = λ n. refl })
   hindered_signs v name before capacity key Moved signer only keyed why =
       left_signs v v name before before capacity key (Err Moved) true false None (same_view v) (omega arith) signer only keyed
-      (asked_is (g.most v.store) (state_of v) key name (repeat_chance true None) false true (binding_in v.records name) keyed (ap not why.0) why.1 refl)
+      (request_by_is (g.most v.store) (state_of v) key name (repeat_chance true None) false true (binding_in v.records name) keyed (ap not why.0) why.1 refl)
       refl (λ lacking. absurd (true≢false lacking)) (record { store = λ n. refl; random = λ n. refl; memory = λ n. refl })
   hindered_signs v name before capacity key Changed signer only keyed why = absurd why
   hindered_signs v name before capacity key Exhausted signer only keyed why = absurd why
@@ -209,10 +209,10 @@ module _ {S R M : Type 0} (g : store.Ghosts S) (r : source.Ghosts R) (m : messag
   pub exhausted_signs : (v : View S R) (name : List ℕ) (before : M) (capacity : ℕ) (key : Key) → IsSigner g v → LeavesItsList g v.store
       → key_in v.records ≡ Some key → v.is_open ≡ true → has_moved v.records ≡ false → binding_in v.records name ≡ None → deepest key.secret v.records ≡ None
       → Signs g r m v v name before before capacity (Err Exhausted)
-  unfolding asked
+  unfolding request_by
   exhausted_signs v name before capacity key signer only keyed opened stays unbound none =
       left_signs v v name before before capacity key (Err Exhausted) true false None (same_view v) (omega arith) signer only keyed
-      (asked_is (g.most v.store) (state_of v) key name (repeat_chance true None) false false None keyed (ap not opened) stays unbound
+      (request_by_is (g.most v.store) (state_of v) key name (repeat_chance true None) false false None keyed (ap not opened) stays unbound
       ∙ ap (bound_anew (g.most v.store) (state_of v) key name (repeat_chance true None)) none)
       refl (λ lacking. absurd (true≢false lacking)) (record { store = λ n. refl; random = λ n. refl; memory = λ n. refl })
 
@@ -260,7 +260,7 @@ module _ {S R M : Type 0} (g : store.Ghosts S) (r : source.Ghosts R) (m : messag
       (answer : Result (List ℕ) SignFault) → IsSigner g v → LeavesItsList g v.store → key_in v.records ≡ Some key → v.is_open ≡ true
       → has_moved v.records ≡ false → IsBindingOf v.records binding key name → Repeats m v before after capacity answer key name
       → Signs g r m v v name before after capacity answer
-  unfolding asked
+  unfolding request_by
   repeats_signs v name before after capacity key binding answer signer only keyed opened stays is repeats =
       let ((k, bound), found) = some_mapped (kept_of key.secret v.records) (binding_in v.records name) binding is in
       let chance = repeat_chance repeats.has_room repeats.given in
@@ -269,7 +269,7 @@ module _ {S R M : Type 0} (g : store.Ghosts S) (r : source.Ghosts R) (m : messag
       let answer_is : (repeated (state_of v) key k bound chance repeats.given).answer ≡ answer =
       sym (ap (λ f. (requested_of limit (state_of v) key name chance f).answer) found) ∙ repeats.step limit in
       left_signs v v name before after capacity key answer repeats.has_room true repeats.given (same_view v) (omega arith) signer only keyed
-      (asked_is limit (state_of v) key name chance false false (Some (k, bound)) keyed (ap not opened) stays found
+      (request_by_is limit (state_of v) key name chance false false (Some (k, bound)) keyed (ap not opened) stays found
       ∙ whole.0 ∙ ap (λ a. kept (state_of v) a true) answer_is)
       repeats.message
       (λ lacking. subst (λ f. LacksMemory key.secret (wanted_by key.secret (deepest key.secret v.records)) f capacity v.spare) (sym found) (repeats.room lacking))

@@ -120,10 +120,10 @@ is_last level records j last = elim (found_last level 0 None records) [
 
 -- ---- current trees
 
-pub same_told : (a b : Option ℕ) → same_tree a b ≡ true → (tree : ℕ) × (a ≡ Some tree) × (b ≡ Some tree)
-same_told (Some a) (Some b) is = (a, refl, ap Some (sym (eqb-true a b is)))
-same_told (Some a) None is = absurd (true≢false (sym is))
-same_told None b is = absurd (true≢false (sym is))
+pub same_means : (a b : Option ℕ) → same_tree a b ≡ true → (tree : ℕ) × (a ≡ Some tree) × (b ≡ Some tree)
+same_means (Some a) (Some b) is = (a, refl, ap Some (sym (eqb-true a b is)))
+same_means (Some a) None is = absurd (true≢false (sym is))
+same_means None b is = absurd (true≢false (sym is))
 
 pub tell_same : (a b : Option ℕ) (tree : ℕ) → a ≡ Some tree → b ≡ Some tree → same_tree a b ≡ true
 tell_same a b tree first second =
@@ -154,7 +154,7 @@ current_below : (level : ℕ)
 current_below level above_is records tree None found is = absurd (none-some tree is)
 current_below level above_is records tree (Some j) found is =
     let (same, at) = cond_some (same_tree (current level (take j records)) (current level records)) j tree is in
-    let (above, there, here) = same_told (current level (take j records)) (current level records) same in
+    let (above, there, here) = same_means (current level (take j records)) (current level records) same in
     let last : IsLastExtend records (length records) (suc level) j = last_is (suc level) records j found in
     let back : IsCurrent records j level above =
     from_front records j level above (omega (arith, last.before)) (above_is (take j records) above there) in

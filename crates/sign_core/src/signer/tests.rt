@@ -13,9 +13,9 @@ const TWO: &str = "hss:H5/W8,H5/W8";
 
 const THREE: &str = "hss:H5/W8,H5/W8,H5/W8";
 
-type Held<'a> = Signer<MemoryStore, TapeSource<'a>>;
+type InMemory<'a> = Signer<MemoryStore, TapeSource<'a>>;
 
-type Filed<'a> = Signer<FileStore<MemoryDisk>, TapeSource<'a>>;
+type InFile<'a> = Signer<FileStore<MemoryDisk>, TapeSource<'a>>;
 
 // The bytes from this one on, each one above the one before, and 0 after 255.
 fn counting<const N: usize>(first: u8) -> [u8; N] {
@@ -29,14 +29,14 @@ fn counting<const N: usize>(first: u8) -> [u8; N] {
 }
 
 // A new key in a new file.
-fn filed<'a>(alloc: Global, text: &str, tape: &'a [u8]) -> Option<Filed<'a>> {
+fn in_file<'a>(alloc: Global, text: &str, tape: &'a [u8]) -> Option<InFile<'a>> {
     let disk = MemoryDisk::of(alloc, &[]).ok()?;
     let store = FileStore::format(disk).ok()?;
     Signer::create(alloc, Spec::parse(text).ok()?, store, TapeSource::new(tape)).ok()
 }
 
 // The file of a signer.
-fn file_of(signer: Filed<'_>) -> Option<Vec<u8>> {
+fn file_of(signer: InFile<'_>) -> Option<Vec<u8>> {
     file_in(signer.into_store())
 }
 
@@ -190,7 +190,7 @@ fn after_requests(
     messages: &[u8],
 ) -> Option<(Vec<u8>, Option<Result<Vec<u8>, SignFault>>)> {
     let tape = counting::<80>(0);
-    let mut signer = filed(alloc, LMS, &tape)?;
+    let mut signer = in_file(alloc, LMS, &tape)?;
     let mut last = None;
     for message in messages {
         last = Some(answer(alloc, &mut signer, b"fw-1", &[*message])?);
@@ -219,7 +219,7 @@ fn a_name_has_one_signature(rt: HostRuntime) {
 // Whether the records of a key of one tree keep what was drawn, in its order.
 fn keeps_what_was_drawn(alloc: Global) -> Option<bool> {
     let tape = counting::<80>(0);
-    let mut signer = filed(alloc, LMS, &tape)?;
+    let mut signer = in_file(alloc, LMS, &tape)?;
     answer(alloc, &mut signer, b"fw-1", &[1])?.ok()?;
     let key = key_at(&mut signer.store)?;
     let bound = bound_at(&mut signer.store, 1)?;
@@ -253,7 +253,7 @@ fn binds<S: Store, R: Source>(
 // Whether the first name of a key of two levels makes a tree and a binding, with what is drawn in its order.
 fn makes_the_lower_tree(alloc: Global) -> Option<bool> {
     let tape = counting::<160>(0);
-    let mut signer = filed(alloc, TWO, &tape)?;
+    let mut signer = in_file(alloc, TWO, &tape)?;
     let has_none = signer.left().as_slice() == [32, 0].as_slice();
     binds(alloc, &mut signer, 0..1)?;
     let has_fewer = signer.left().as_slice() == [31, 31].as_slice();
@@ -272,7 +272,7 @@ fn makes_the_lower_tree(alloc: Global) -> Option<bool> {
 // How long the file of a new key of two levels is.
 fn new_file_len(alloc: Global) -> Option<usize> {
     let tape = counting::<48>(0);
-    Some(file_of(filed(alloc, TWO, &tape)?)?.len())
+    Some(file_of(in_file(alloc, TWO, &tape)?)?.len())
 }
 
 #[test]
@@ -284,7 +284,7 @@ fn the_first_name_makes_the_lower_tree(rt: HostRuntime) {
 // Whether the 33rd name of a key of two levels makes the next lower tree.
 fn makes_the_next_tree(alloc: Global) -> Option<bool> {
     let tape = counting::<1264>(0);
-    let mut signer = filed(alloc, TWO, &tape)?;
+    let mut signer = in_file(alloc, TWO, &tape)?;
     binds(alloc, &mut signer, 0..33)?;
     let mut store = signer.into_store();
     let extend = extend_at(&mut store, 34)?;
@@ -302,7 +302,7 @@ fn the_next_name_of_a_full_tree_makes_another(rt: HostRuntime) {
 // Whether leaves are retired up to the last, and no further.
 fn retires_all(alloc: Global) -> Option<bool> {
     let tape = counting::<80>(0);
-    let mut signer = filed(alloc, LMS, &tape)?;
+    let mut signer = in_file(alloc, LMS, &tape)?;
     let is_refused = signer.retire(33) == Err(SignFault::RetireRange);
     let is_retired = signer.retire(32) == Ok(());
     let fault = fault_of(alloc, &mut signer, b"fw-1", &[1])?;
@@ -317,7 +317,7 @@ fn retired_leaves_sign_nothing(rt: HostRuntime) {
 }
 
 // A new key in a store in memory.
-fn held<'a>(alloc: Global, text: &str, store: MemoryStore, tape: &'a [u8]) -> Option<Held<'a>> {
+fn in_memory<'a>(alloc: Global, text: &str, store: MemoryStore, tape: &'a [u8]) -> Option<InMemory<'a>> {
     if store.limit() == 0 {
         return None;
     }
@@ -327,7 +327,7 @@ fn held<'a>(alloc: Global, text: &str, store: MemoryStore, tape: &'a [u8]) -> Op
 // Whether a first name that wants more records than the store takes changes nothing.
 fn keeps_a_full_store(alloc: Global) -> Option<bool> {
     let tape = counting::<160>(0);
-    let mut signer = held(alloc, TWO, MemoryStore::with_limit(alloc, 2), &tape)?;
+    let mut signer = in_memory(alloc, TWO, MemoryStore::with_limit(alloc, 2), &tape)?;
     let fault = fault_of(alloc, &mut signer, b"fw-1", &[1])?;
     let is_left = signer.left().as_slice() == [32, 0].as_slice();
     let has_one = signer.store.load(1) == Ok(None);
@@ -376,7 +376,7 @@ fn a_repeated_identifier_is_refused(rt: HostRuntime) {
 // Whether a source that ends after the lower tree leaves that tree for the next name.
 fn goes_on_with_the_tree(alloc: Global) -> Option<bool> {
     let tape = counting::<128>(0);
-    let mut signer = held(alloc, TWO, MemoryStore::with_limit(alloc, 100), &tape)?;
+    let mut signer = in_memory(alloc, TWO, MemoryStore::with_limit(alloc, 100), &tape)?;
     let fault = fault_of(alloc, &mut signer, b"fw-1", &[1])?;
     let is_left = signer.left().as_slice() == [31, 32].as_slice();
     let mut store = signer.into_store();
@@ -406,7 +406,7 @@ fn in_blocks<const N: usize>() -> [u8; N] {
 // Whether the first name of a key of three levels makes two trees and a binding.
 fn makes_two_trees(alloc: Global) -> Option<bool> {
     let tape = in_blocks::<240>();
-    let mut signer = filed(alloc, THREE, &tape)?;
+    let mut signer = in_file(alloc, THREE, &tape)?;
     binds(alloc, &mut signer, 0..1)?;
     let mut store = signer.into_store();
     let middle = extend_at(&mut store, 1)?;
@@ -420,7 +420,7 @@ fn makes_two_trees(alloc: Global) -> Option<bool> {
 // Whether the first name under a key of XMSS signs by leaf 0, and two records stand then.
 fn signs_by_the_first_leaf(alloc: Global) -> Option<bool> {
     let tape = counting::<96>(0);
-    let mut signer = held(alloc, "xmss:10", MemoryStore::with_limit(alloc, 100), &tape)?;
+    let mut signer = in_memory(alloc, "xmss:10", MemoryStore::with_limit(alloc, 100), &tape)?;
     let signature = answer(alloc, &mut signer, b"fw-1", &[1])?.ok()?;
     let is_first = signature.get(..4) == Some([0; 4].as_slice());
     let is_left = signer.left().as_slice() == [1023].as_slice();
@@ -440,7 +440,7 @@ fn a_key_of_three_levels_makes_two_trees(rt: HostRuntime) {
 }
 
 // Binds names, and retires the rest of the lowest tree after each.
-fn uses_up(alloc: Global, signer: &mut Filed<'_>, numbers: std::ops::Range<u8>) -> Option<()> {
+fn uses_up(alloc: Global, signer: &mut InFile<'_>, numbers: std::ops::Range<u8>) -> Option<()> {
     for number in numbers {
         answer(alloc, signer, &name_of(number), b"m")?.ok()?;
         signer.retire(32).ok()?;
@@ -451,7 +451,7 @@ fn uses_up(alloc: Global, signer: &mut Filed<'_>, numbers: std::ops::Range<u8>) 
 // Whether a key of three levels whose two lower trees are used up begins both anew.
 fn makes_both_anew(alloc: Global) -> Option<bool> {
     let tape = in_blocks::<3904>();
-    let mut signer = filed(alloc, THREE, &tape)?;
+    let mut signer = in_file(alloc, THREE, &tape)?;
     uses_up(alloc, &mut signer, 0..32)?;
     let is_used = signer.left().as_slice() == [31, 0, 0].as_slice() && signer.store.count() == 98;
     binds(alloc, &mut signer, 32..33)?;
@@ -477,7 +477,7 @@ fn cut_store(alloc: Global, cut: Cut) -> Option<MemoryStore> {
     let tape = counting::<112>(0);
     let mut store = MemoryStore::with_limit(alloc, 100);
     store.cut_at(3, cut);
-    let mut signer = held(alloc, LMS, store, &tape)?;
+    let mut signer = in_memory(alloc, LMS, store, &tape)?;
     answer(alloc, &mut signer, b"fw-1", &[1])?.ok()?;
     let first = fault_of(alloc, &mut signer, b"fw-2", &[2])?;
     let second = fault_of(alloc, &mut signer, b"fw-2", &[2])?;
@@ -646,7 +646,7 @@ impl Read for Failing {
 // What a new name answers whose message fails after so many bytes, and whether it uses nothing.
 fn of_failing(
     alloc: Global,
-    signer: &mut Held<'_>,
+    signer: &mut InMemory<'_>,
     count: usize,
 ) -> Option<(Option<SignFault>, bool)> {
     let mut message = Failing { left: count };
@@ -662,7 +662,7 @@ fn of_failing(
 // The first count of bytes from 0 to 20 after which a message that fails is answered otherwise, or 21.
 fn first_other_count(alloc: Global) -> Option<usize> {
     let tape = counting::<720>(0);
-    let mut signer = held(alloc, LMS, MemoryStore::with_limit(alloc, 100), &tape)?;
+    let mut signer = in_memory(alloc, LMS, MemoryStore::with_limit(alloc, 100), &tape)?;
     for count in 0..21 {
         if of_failing(alloc, &mut signer, count)? != (Some(SignFault::MessageRead), true) {
             return Some(count);

@@ -3,7 +3,7 @@ use Rattle.std.specs.List.{IsFirstAndRest}
 use Rattle.std.specs.Prelude.{MatchOption}
 use Rattle.state_file.specs.Laws.{IsLegal}
 use Rattle.sign_core.specs.Records.{key_in}
-use Rattle.sign_core.proofs.Replay.{holds_all, holds_first, holds_more, holds_refused, stands_after, told_err}
+use Rattle.sign_core.proofs.Replay.{holds_all, holds_first, holds_more, holds_refused, stands_after, error_is}
 use Rattle.sign_core.proofs.ledger.Ledger.replay.Goals.{After-loop-entry, In_ok-first}
 use Rattle.sign_core.proofs.ledger.Ledger.replay.Goals as goal
 
@@ -26,7 +26,7 @@ pub returns-in_err-take_up-clause-refused : goal.returns-in_err-take_up-clause-r
 returns-in_err-take_up-clause-refused c =
     let stands = stands_after c.args.records.now c.in_ok-first.first.now c.in_ok-first.rest.now c.loop-entry.entry-index c.entry-item.result
     (begins (goal.at.returns-in_err-take_up-clause-refused c).In_ok-first).0 c.loop-entry-test.true c.entry-item.is in
-    told_err c.args.records.now c.in_err-take_up.field-0.0 c.from_residual-in_err-take_up.result c.from_residual-in_err-take_up.ensures.1
+    error_is c.args.records.now c.in_err-take_up.field-0.0 c.from_residual-in_err-take_up.result c.from_residual-in_err-take_up.ensures.1
     (holds_refused c.args.records.now (c.loop-entry.entry-index + 1) c.loop-entry.ledger c.take_up.new.self c.entry-item.result
     c.in_err-take_up.field-0.0 c.loop-entry.invariant (omega arith) stands c.in_err-take_up.ensures)
 

@@ -8,7 +8,7 @@ use Rattle.sign_core.specs.Records.{key_in}
 use Rattle.sign_core.specs.Links.{trees_in}
 use Rattle.sign_core.specs.Signer.{signature_size}
 use Rattle.sign_core.specs.Signing.{Extends, Fulfils, IsReady}
-use Rattle.sign_core.proofs.Adding.{levels_told}
+use Rattle.sign_core.proofs.Adding.{levels_range}
 use Rattle.sign_core.proofs.Fulfils.{Recorded, fulfils_after, fulfils_refused, is_recorded, key_after, ready_after, unbound_after}
 use Rattle.sign_core.proofs.StandingChain.{few_levels}
 use Rattle.sign_core.proofs.signer.Signer.+fulfil.Goals as goal
@@ -70,7 +70,7 @@ fulfil-requires g t c κs within =
     (c.in_ok-made.ensures.step c.key.result.now own) in
     let next : key_in c.extend.new.self.records ≡ Some c.key.result.now =
     key_after g.S.Store a.self.now c.extend.new.self c.key.result.now after own in
-    let few = (levels_told _ _ _ c.key.ensures.sizes c.key.ensures.first c.levels.ensures).1 in
+    let few = (levels_range _ _ _ c.key.ensures.sizes c.key.ensures.first c.levels.ensures).1 in
     let count : length c.extend.new.above.items ≡ length a.above.now.items + 1 = c.in_ok-made.ensures.count in
     let low : length a.above.now.items + 1 < levels_of c.key.result.now.secret =
     omega (arith, c.if-len-from.false, c.from.ensures, c.levels.ensures, c.len.ensures.value) in

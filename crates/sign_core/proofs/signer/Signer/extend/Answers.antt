@@ -15,7 +15,7 @@ use Rattle.sign_core.specs.Links.{trees_in}
 use Rattle.sign_core.specs.Signer.{View, view_of}
 use Rattle.sign_core.specs.Signing.{Extends, Stands, StandsIn}
 use Rattle.sign_core.specs.Textbook.{lms_secret}
-use Rattle.sign_core.proofs.Adding.{levels_told}
+use Rattle.sign_core.proofs.Adding.{levels_range}
 use Rattle.sign_core.proofs.Extends.{Rests, added_records, drawn, undrawn}
 use Rattle.sign_core.proofs.Fulfilled.{next_extend}
 use Rattle.sign_core.proofs.StandingChain.{can_extend, entry_is, stands_grown}
@@ -109,7 +109,7 @@ push-requires g c =
     let i = c.self.inside in
     let own : key_in a.self.now.records ≡ Some i.ledger.key = ap (λ w. key_in w.records) (sym c.self.view_is) ∙ c.self.invariant.1 in
     let few = c.requires.below i.ledger.key own in
-    let most = (levels_told i.ledger.records i.ledger.key (levels_of i.ledger.key.secret) c.self.invariant.0.sizes c.self.invariant.1 refl).1 in
+    let most = (levels_range i.ledger.records i.ledger.key (levels_of i.ledger.key.secret) c.self.invariant.0.sizes c.self.invariant.1 refl).1 in
     (omega arith, omega (arith, few, most))
 
 pub returns-clause-step : goal.returns-clause-step

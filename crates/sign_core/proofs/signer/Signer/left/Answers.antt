@@ -5,7 +5,7 @@ use Rattle.std.proofs.lemmas.List.FromFn.{length-map-range_with_len, map-range_w
 use Rattle.std.proofs.lemmas.Option.{same_Some}
 use Rattle.state_file.specs.Laws.{levels_of}
 use Rattle.sign_core.specs.Records.{free_at, free_counts, key_in}
-use Rattle.sign_core.proofs.Adding.{levels_told}
+use Rattle.sign_core.proofs.Adding.{levels_range}
 use Rattle.sign_core.proofs.signer.Signer.left.Goals as goal
 
 pub loop-level-init : goal.loop-level-init
@@ -13,7 +13,7 @@ loop-level-init g c = c.new-counts.ensures
 
 pub push-requires : goal.push-requires
 push-requires g c =
-    let told = levels_told _ _ _ c.key.ensures.sizes c.key.ensures.first c.levels-level-end.ensures in
+    let told = levels_range _ _ _ c.key.ensures.sizes c.key.ensures.first c.levels-level-end.ensures in
     let many : length c.loop-level.counts.items ≡ c.loop-level.level =
     ap length c.loop-level.invariant ∙ length-map-range_with_len _ 0 c.loop-level.level in
     omega (arith, many, told.1, c.loop-level-test.true)
