@@ -93,15 +93,16 @@ pub kept_stands : (records : List Record) (tag : List ℕ) (state : DiskState) �
 kept_stands records tag state kept = file_stands records state.content kept.file
 
 -- a content stands for one list
-open_or_shut : (content : List ℕ) (k : ℕ) → IsOpen content k → IsClosed content k → ⊥
-open_or_shut content k is_open shut = shut.1 (open_byte content k is_open)
+-- a gate is open or closed, not both
+pub not_both : (content : List ℕ) (k : ℕ) → IsOpen content k → IsClosed content k → ⊥
+not_both content k is_open shut = shut.1 (open_byte content k is_open)
 
 spells_one : (a b : List Record) (content : List ℕ) → SpellsRecords content a → SpellsRecords content b → a ≡ b
 spells_one a b content first second =
     let len : length a ≡ length b = elim (cases_order (length a) (length b)) [
       | inl same ↦ same
-      | inr (inl below) ↦ absurd (open_or_shut content (length a) (second.opened (length a) below) first.closed)
-      | inr (inr above) ↦ absurd (open_or_shut content (length b) (first.opened (length b) above) second.closed)
+      | inr (inl below) ↦ absurd (not_both content (length a) (second.opened (length a) below) first.closed)
+      | inr (inr above) ↦ absurd (not_both content (length b) (first.opened (length b) above) second.closed)
     ] in
     same_lists a b len (λ k d below.
     let in_a = first.holds k (get_or a k d) (slice_get-get_or a k d below) in
@@ -114,7 +115,7 @@ no_key_spells content entry entries none spells =
     let long : 256 * length (entry ∷ entries) < length content = spells.closed.0 in
     ⊎_elim
     (λ (short : length content < 257). absurd (omega (arith, long)))
-    (λ shut. open_or_shut content 0 (spells.opened 0 (omega arith)) shut)
+    (λ shut. not_both content 0 (spells.opened 0 (omega arith)) shut)
     none
 
 pub stands_one : (a b : List Record) (content : List ℕ) → StandsFor a content → StandsFor b content → a ≡ b
