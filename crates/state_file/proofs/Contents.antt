@@ -12,18 +12,14 @@ use Rattle.state_file.specs.declared.record.Record.TheVariants.{Key as KeyRecord
 use Rattle.state_file.specs.declared.record.Version.{Version}
 use Rattle.state_file.specs.File.{Begins, HasNoKey, Holds, IsClosed, IsDamagedAt, IsOpen, IsWhole, MayHaveKey, SpellsRecords, begins_key, fields_at, most_records, open_value, previous_tag, tag_at, tag_of, version_of, StandsFor}
 use Rattle.state_file.specs.Opening.{Opening, OpensAs, damaged, no_key, no_key_file, spelled, unknown_version}
-use Rattle.state_file.specs.FileStore.{open_byte}
+use Rattle.state_file.specs.FileStore.{not_both}
 use Rattle.state_file.specs.Laws.{CanSign}
 use Rattle.state_file.specs.Slot.{slot_record}
 use Rattle.state_file.proofs.Shown.{key-begins, key-first}
 
 -- ---- slots
 
--- a gate is open or closed, not both
-pub not_both : (content : List ℕ) (k : ℕ) → IsOpen content k → IsClosed content k → ⊥
-not_both content k opened shut = shut.1 (open_byte content k opened)
-
--- and one of them where the content reaches so far
+-- a gate is open or closed where the content reaches so far
 pub open_or_closed : (content : List ℕ) (k : ℕ) → 256 * k < length content → IsOpen content k ⊎ IsClosed content k
 open_or_closed content k reaches =
     elim (slice_get_cases content (256 * k)).1 [
@@ -238,11 +234,11 @@ one_list content xs ys first second =
 
 -- where records are spelled, no slot is damaged
 spelled-whole : (content : List ℕ) (records : List Record) (k : ℕ) → SpellsRecords content records → IsDamagedAt content k → ⊥
-spelled-whole content records k is harm =
+spelled-whole content records k is is_damaged =
     elim (cases_order k (length records)) [
-      | inl same ↦ not_both content k harm.opened (subst (IsClosed content) (sym same) is.closed)
-      | inr (inl below) ↦ harm.damaged (begins-whole content records k (spelled-begins content records is) below)
-      | inr (inr above) ↦ not_both content (length records) (harm.before (length records) above).opened is.closed
+      | inl same ↦ not_both content k is_damaged.opened (subst (IsClosed content) (sym same) is.closed)
+      | inr (inl below) ↦ is_damaged.damaged (begins-whole content records k (spelled-begins content records is) below)
+      | inr (inr above) ↦ not_both content (length records) (is_damaged.before (length records) above).opened is.closed
     ]
 
 -- one slot is the first damaged one

@@ -59,8 +59,8 @@ module _ {D : Type 0} (state : D → DiskState) (moment : D → ℕ) (left_since
 pub gate_open : (content : List ℕ) (k : ℕ) → 256 * k < length content → slice_index content (256 * k) == 165 ≡ true → IsOpen content k
 gate_open content k within is = opened_by content k within (eqb-true (slice_index content (256 * k)) 165 is)
 
-pub gate_shut : (content : List ℕ) (k : ℕ) → 256 * k < length content → slice_index content (256 * k) == 165 ≡ false → IsClosed content k
-gate_shut content k within other = closed_gate content k within (λ is_open. true≢false (let clash : true ≡ false = cc in clash))
+pub gate_closed : (content : List ℕ) (k : ℕ) → 256 * k < length content → slice_index content (256 * k) == 165 ≡ false → IsClosed content k
+gate_closed content k within other = closed_gate content k within (λ is_open. true≢false (let clash : true ≡ false = cc in clash))
 
 -- ---- slots
 
@@ -89,9 +89,9 @@ pub holds_none : (content : List ℕ) (k : ℕ) (found : Option Record) → HasE
 holds_none content k found has is = subst (HasEntry content k) is has
 
 -- one whose bytes spell none isn't whole
-pub slot_harmed : (content previous fields tag : List ℕ) (k : ℕ) → previous ≡ previous_tag content k → fields ≡ fields_at content k → tag ≡ tag_at content k
+pub slot_damaged : (content previous fields tag : List ℕ) (k : ℕ) → previous ≡ previous_tag content k → fields ≡ fields_at content k → tag ≡ tag_at content k
     → ((entry : Record) → Spells slot_record entry fields → tag ≡ tag_of previous fields → ⊥) → IsWhole content k → ⊥
-slot_harmed content previous fields tag k before fields_are tag_is none whole =
+slot_damaged content previous fields tag k before fields_are tag_is none whole =
     none whole.entry (subst (Spells slot_record whole.entry) (sym fields_are) whole.holds.spelled)
     (tag_is ∙ whole.holds.tagged ∙ sym (ap (λ (l : List ℕ). tag_of l fields) before ∙ ap (λ (l : List ℕ). tag_of (previous_tag content k) l) fields_are))
 
@@ -125,12 +125,12 @@ found_all content count records tag found counted key closed = record {
 }
 
 -- where the next slot is open and isn't whole, it is damaged
-pub found_harm : (content : List ℕ) (count : ℕ) (records : List Record) (tag : List ℕ) (fault : OpenFault) → BeginsFound content count records tag → count ≡ length records → StartsWithKey content → IsOpen content count → ReportsSlot content count fault
+pub found_damaged : (content : List ℕ) (count : ℕ) (records : List Record) (tag : List ℕ) (fault : OpenFault) → BeginsFound content count records tag → count ≡ length records → StartsWithKey content → IsOpen content count → ReportsSlot content count fault
     → ReportsContent content fault
-found_harm content count records tag NoKey found counted key opened reported = absurd reported
-found_harm content count records tag NotKeyFile found counted key opened reported = absurd reported
-found_harm content count records tag VersionFault found counted key opened reported = absurd reported
-found_harm content count records tag (Damaged k) found counted key opened reported = subst (λ n. IsDamagedAt content n) (sym reported.0) (record {
+found_damaged content count records tag NoKey found counted key opened reported = absurd reported
+found_damaged content count records tag NotKeyFile found counted key opened reported = absurd reported
+found_damaged content count records tag VersionFault found counted key opened reported = absurd reported
+found_damaged content count records tag (Damaged k) found counted key opened reported = subst (λ n. IsDamagedAt content n) (sym reported.0) (record {
   may = key.may;
   key = key.key;
   version = key.version;
@@ -138,7 +138,7 @@ found_harm content count records tag (Damaged k) found counted key opened report
   opened = opened;
   damaged = reported.1;
 })
-found_harm content count records tag DeviceFailed found counted key opened reported = tt
+found_damaged content count records tag DeviceFailed found counted key opened reported = tt
 
 -- ---- the store
 
@@ -185,8 +185,8 @@ fault_reported P result fault is reported = subst (λ (r : Result _ OpenFault). 
 pub gate_within : (first now : DiskState) (count : ℕ) (records : List Record) (tag : List ℕ) → now ≡ first → count ≡ length records → BeginsFound first.content count records tag → 256 * count < length now.content
 gate_within first now count records tag same counted found = subst (λ (s : DiskState). 256 * count < length s.content) (sym same) (omega (arith, found.begins.ends, counted))
 
-pub open_gate : (first now : DiskState) (k : ℕ) (opened : Bool) → now ≡ first → 256 * k < length now.content → opened ≡ (slice_index now.content (256 * k) == 165) → opened ≡ true → IsOpen first.content k
-open_gate first now k opened same within gate is = subst (λ (s : DiskState). IsOpen s.content k) same (gate_open now.content k within (sym gate ∙ is))
+pub found_open : (first now : DiskState) (k : ℕ) (opened : Bool) → now ≡ first → 256 * k < length now.content → opened ≡ (slice_index now.content (256 * k) == 165) → opened ≡ true → IsOpen first.content k
+found_open first now k opened same within gate is = subst (λ (s : DiskState). IsOpen s.content k) same (gate_open now.content k within (sym gate ∙ is))
 
-pub shut_gate : (first now : DiskState) (k : ℕ) (opened : Bool) → now ≡ first → 256 * k < length now.content → opened ≡ (slice_index now.content (256 * k) == 165) → opened ≡ false → IsClosed first.content k
-shut_gate first now k opened same within gate is = subst (λ (s : DiskState). IsClosed s.content k) same (gate_shut now.content k within (sym gate ∙ is))
+pub found_closed : (first now : DiskState) (k : ℕ) (opened : Bool) → now ≡ first → 256 * k < length now.content → opened ≡ (slice_index now.content (256 * k) == 165) → opened ≡ false → IsClosed first.content k
+found_closed first now k opened same within gate is = subst (λ (s : DiskState). IsClosed s.content k) same (gate_closed now.content k within (sym gate ∙ is))

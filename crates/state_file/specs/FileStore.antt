@@ -1,6 +1,7 @@
 -- A store over a disk: what callers see of it, and what its promise rests on.
 use Rattle.std.specs.Prelude.{Bool, List, Result, Ok, Err, ◌≡◌, ◌≢◌, ◌⊎◌, ℕ, ◌+◌, ◌*◌, ◌<◌, ◌≤◌, true, [], ◌∷◌}
 use Rattle.std.specs.Prelude.{length, drop, slice_index, Some}
+use Rattle.state_file.specs.declared.disk.Disk as disk
 use Rattle.state_file.specs.declared.store.file_store.FileStore.{FileStore}
 use Rattle.state_file.specs.declared.record.Record.{Record}
 use Rattle.state_file.specs.declared.refused.Refused.{Refused}
@@ -11,8 +12,8 @@ use Rattle.std.proofs.lemmas.Option.{slice_get-get_or, slice_get_within, get_or_
 use Rattle.typecodes.proofs.Spelling.{one_value}
 use Rattle.typecodes.proofs.Steps.{ends-spelled}
 use Rattle.state_file.specs.File.{HasNoKey, IsClosed, IsOpen, SpellsRecords, fields_at, open_value, StandsFor, IsFileOf}
-use Rattle.state_file.specs.File.{IsSyncedFile}
-use Rattle.state_file.specs.Disk.{DiskState, MayLeave, settled}
+use Rattle.state_file.specs.File.{IsSyncedFile, LeftLists}
+use Rattle.state_file.specs.Disk.{DiskState, LeavesOnly, MayLeave, settled}
 use Rattle.state_file.specs.Slot.{slot_record}
 use Rattle.state_file.specs.Store.{is_key}
 use Rattle.state_file.specs.declared.record.Key.{Key}
@@ -29,6 +30,13 @@ records_of store = store.records
 -- whether a call has failed, so that it answers no more
 abbrev pub has_stopped : {D : Type 0} {bound : _} → FileStore D bound → Bool
 has_stopped store = store.stopped
+
+-- What a stop at any moment from the old store on leaves stands for lists that have P; one that stands for none counts
+-- as every list.
+abbrev pub LeavesLists : {D : Type 0} {bound : _} (d : disk.Ghosts D) (old new : FileStore D bound)
+    (P : List Record → Type 0) → Type 0
+LeavesLists d old new P =
+    LeavesOnly (λ store. d.moment (disk_of store)) (λ store. LeftLists (d.left_since (disk_of store))) old new P
 
 -- the slots that load has reported as unreadable, the last one first
 abbrev pub unreadable_of : {D : Type 0} {bound : _} → FileStore D bound → List ℕ
@@ -93,15 +101,16 @@ pub kept_stands : (records : List Record) (tag : List ℕ) (state : DiskState) �
 kept_stands records tag state kept = file_stands records state.content kept.file
 
 -- a content stands for one list
-open_or_shut : (content : List ℕ) (k : ℕ) → IsOpen content k → IsClosed content k → ⊥
-open_or_shut content k is_open shut = shut.1 (open_byte content k is_open)
+-- a gate is open or closed, not both
+pub not_both : (content : List ℕ) (k : ℕ) → IsOpen content k → IsClosed content k → ⊥
+not_both content k is_open shut = shut.1 (open_byte content k is_open)
 
 spells_one : (a b : List Record) (content : List ℕ) → SpellsRecords content a → SpellsRecords content b → a ≡ b
 spells_one a b content first second =
     let len : length a ≡ length b = elim (cases_order (length a) (length b)) [
       | inl same ↦ same
-      | inr (inl below) ↦ absurd (open_or_shut content (length a) (second.opened (length a) below) first.closed)
-      | inr (inr above) ↦ absurd (open_or_shut content (length b) (first.opened (length b) above) second.closed)
+      | inr (inl below) ↦ absurd (not_both content (length a) (second.opened (length a) below) first.closed)
+      | inr (inr above) ↦ absurd (not_both content (length b) (first.opened (length b) above) second.closed)
     ] in
     same_lists a b len (λ k d below.
     let in_a = first.holds k (get_or a k d) (slice_get-get_or a k d below) in
@@ -114,7 +123,7 @@ no_key_spells content entry entries none spells =
     let long : 256 * length (entry ∷ entries) < length content = spells.closed.0 in
     ⊎_elim
     (λ (short : length content < 257). absurd (omega (arith, long)))
-    (λ shut. open_or_shut content 0 (spells.opened 0 (omega arith)) shut)
+    (λ shut. not_both content 0 (spells.opened 0 (omega arith)) shut)
     none
 
 pub stands_one : (a b : List Record) (content : List ℕ) → StandsFor a content → StandsFor b content → a ≡ b

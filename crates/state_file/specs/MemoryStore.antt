@@ -4,6 +4,7 @@ use Rattle.std.specs.Prelude.{Some, None, Result, Ok, Err, ◌≤◌, length, ta
 use Rattle.state_file.specs.declared.store.memory_store.Cut.{Cut}
 use Rattle.state_file.specs.declared.store.memory_store.MemoryStore.{MemoryStore}
 use Rattle.state_file.specs.declared.record.Record.{Record}
+use Rattle.state_file.specs.Disk.{LeavesOnly}
 use Rattle.state_file.specs.declared.store.memory_store.Cut.TheVariants.{Old, New}
 use Rattle.state_file.specs.declared.store.StoreFault.{StoreFault}
 use Rattle.state_file.specs.declared.store.StoreFault.TheVariants.{DeviceFailed, OutOfMemory}
@@ -73,6 +74,10 @@ Cuts old_cut old entry new new_cut (Err _) = new_cut ≡ old_cut
 -- it was the list at some moment from the one of t records on
 abbrev pub HadBeen : List Record → ℕ → List Record → Type 0
 HadBeen records t left = (k : ℕ) × (t ≤ k) × (k ≤ length records) × (left ≡ take k records)
+
+-- What a stop at any moment from the old store on leaves is a list that has P.
+abbrev pub LeavesLists : (old new : MemoryStore) (P : List Record → Type 0) → Type 0
+LeavesLists old new P = LeavesOnly (λ store. length (records_of store)) (λ store. HadBeen (records_of store)) old new P
 
 pub had_been_all : (records : List Record) (t : ℕ) → t ≤ length records → HadBeen records t records
 had_been_all records t early =

@@ -1,10 +1,10 @@
 //! A disk in memory, to show what a stop may leave.
 
 ghost use Rattle.std.specs.Prelude.{if◌then◌else◌, nat_le, IsTrue, ◌-◌, ◌≡◌, ◌+◌, ◌≤◌, ◌<◌, length, slice_range};
-ghost use Rattle.std.specs.Prelude.{IfOk, IfErr, OnOk, OnErr, ◌≢◌, ℕ, List};
+ghost use Rattle.std.specs.Prelude.{IfOk, IfErr, OnOk, OnErr, ◌≢◌};
 ghost use Rattle.std.proofs.Props.{props};
-ghost use Rattle.state_file.specs.Disk.{DiskState, MayLeave, ChangesOnly, settled, WritesBytes, Syncs, Counts};
-ghost use Rattle.state_file.specs.Disk.{is_failure, is_past_end, TimePasses};
+ghost use Rattle.state_file.specs.Disk.{MayLeave, settled, WritesBytes, Syncs, Counts};
+ghost use Rattle.state_file.specs.Disk.{is_failure, is_past_end};
 ghost use Rattle.state_file.specs.Log.{LeftBy, left_now, left_only_now};
 
 use crate::disk::log::{Entry, base, keep, longest_left, part, write};

@@ -1,6 +1,6 @@
 //! Preparing a place for the records of a key.
 
-ghost use Rattle.std.specs.Prelude.{◌≡◌, IsTrue, OnErr};
+ghost use Rattle.std.specs.Prelude.{◌≡◌, IsTrue};
 ghost use Rattle.state_file.specs.Disk.{LeavesOnly};
 ghost use Rattle.state_file.specs.DiskCalls.{CountsFailures};
 ghost use Rattle.state_file.specs.Format.{Formats, LeftByFormat, is_failed_format};

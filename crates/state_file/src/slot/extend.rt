@@ -1,6 +1,6 @@
 //! The record of a new tree of HSS: how it is read and written.
 
-ghost use Rattle.std.specs.Prelude.{◌≡◌, ◌<◌, ◌≤◌, ◌+◌, ◌^◌, length, OnOk};
+ghost use Rattle.std.specs.Prelude.{◌≡◌, ◌<◌, ◌≤◌, ◌+◌, ◌^◌, OnOk};
 ghost use Rattle.arrayvec.specs.ArrayVec.{array_vec_len};
 ghost use Rattle.typecodes.specs.Cursor.{read, Gives};
 ghost use Rattle.state_file.specs.Fields.{AppendsSpelling};

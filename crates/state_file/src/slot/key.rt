@@ -5,7 +5,7 @@ ghost use Rattle.arrayvec.specs.ArrayVec.{array_vec_len};
 ghost use Rattle.typecodes.specs.Cursor.{read, Gives};
 ghost use Rattle.state_file.specs.Fields.{AppendsSpelling};
 ghost use Rattle.state_file.specs.File.{begins_key, version_of};
-ghost use Rattle.state_file.specs.Slot.{key_fields, version_code, version_field, versions};
+ghost use Rattle.state_file.specs.Slot.{key_fields, version_field};
 
 use crate::record::{Key, Record, Version};
 use crate::slot::fields::{

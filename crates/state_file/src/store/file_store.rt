@@ -1,18 +1,16 @@
 //! A store over a disk.
 
-ghost use Rattle.std.specs.Prelude.{◌≡◌, ◌≢◌, ◌⊎◌, ◌≤◌, ◌<◌, ◌+◌, ◌∷◌, ℕ, List, [], ◌++◌, true, false, IsTrue};
-ghost use Rattle.std.specs.Prelude.{IfOk, IfErr, OnOk, OnErr, MatchResult, length, max, replicate};
-ghost use Rattle.typecodes.specs.Layout.{Spells};
-ghost use Rattle.state_file.specs.Disk.{Elapses, LeavesOnly};
-ghost use Rattle.state_file.specs.Disk.{DiskState, settled, ChangesOnly, MayLeave, Counts};
-ghost use Rattle.state_file.specs.File.{SpellsRecords, fields_at, most_records, tag_at, tag_of};
+ghost use Rattle.std.specs.Prelude.{◌≡◌, ◌≢◌, ◌⊎◌, ◌≤◌, ◌<◌, ◌+◌, ◌∷◌, [], ◌++◌, true, false, IsTrue};
+ghost use Rattle.std.specs.Prelude.{IfOk, IfErr, OnOk, length, max};
+ghost use Rattle.state_file.specs.Disk.{LeavesOnly};
+ghost use Rattle.state_file.specs.Disk.{settled, ChangesOnly, MayLeave, Counts};
+ghost use Rattle.state_file.specs.File.{SpellsRecords, most_records, tag_at};
 ghost use Rattle.state_file.specs.DiskCalls.{CountsFailures, OnlyReads};
 ghost use Rattle.state_file.specs.File.{StandsFor, LeftLists, IsSyncedFile, IsSyncedFile-prop};
 ghost use Rattle.state_file.specs.Gates.{AddsSlot, slot_and_gate};
 ghost use Rattle.state_file.specs.Format.{is_failed_format, Formats, LeftByFormat};
 ghost use Rattle.state_file.specs.Opening.{is_failed_opening, Settles, ReportsContent};
 ghost use Rattle.std.proofs.Common.{inl};
-ghost use Rattle.state_file.specs.Slot.{slot_record};
 ghost use Rattle.state_file.specs.Store.{Appends, CanFollow, Collects, Loads, ReadsTag, is_out_of_memory};
 ghost use Rattle.state_file.specs.Store.{is_device_failure, unreadable_slot};
 
@@ -158,8 +156,8 @@ impl<D: Disk + Drop> FileStore<D> {
 }
 
 impl<D: Disk + Drop> Store for FileStore<D> {
-    ghost use Rattle.state_file.specs.FileStore.{disk_of, has_stopped, kept_list, kept_stands, records_of};
-    ghost use Rattle.state_file.specs.FileStore.{unreadable_of};
+    ghost use Rattle.state_file.specs.FileStore.{LeavesLists, disk_of, has_stopped, kept_list, kept_stands};
+    ghost use Rattle.state_file.specs.FileStore.{records_of, unreadable_of};
 
     ghost list = { λ store. records_of store };
 
@@ -205,8 +203,7 @@ impl<D: Disk + Drop> Store for FileStore<D> {
         ensures reads { IsTrue (D.honest (disk_of self.old)) → has_stopped self.old ≡ false →
             OnlyReads D.state D.moment D.left_since (disk_of self.old) (disk_of self.new) }
         ensures any_moment { IsTrue (D.honest (disk_of self.old)) → has_stopped self.old ≡ false →
-            LeavesOnly (λ store. D.moment (disk_of store)) (λ store. LeftLists (D.left_since (disk_of store)))
-            self.old self.new (λ left. left ≡ records_of self.old) }
+            LeavesLists D.Disk self.old self.new (λ left. left ≡ records_of self.old) }
         ensures stays { has_stopped self.old ≡ true → self.new ≡ self.old }
         ensures counts { CountsFailures D.Disk is_device_failure (disk_of self.old) (disk_of self.new) result }
     {
@@ -237,13 +234,11 @@ impl<D: Disk + Drop> Store for FileStore<D> {
     fn append(&mut self, new: &Record) -> Result<(), StoreFault>
         requires { CanFollow (records_of self.old) new.now }
         ensures any_moment { IsTrue (D.honest (disk_of self.old)) → has_stopped self.old ≡ false →
-            LeavesOnly (λ store. D.moment (disk_of store)) (λ store. LeftLists (D.left_since (disk_of store)))
-            self.old self.new
+            LeavesLists D.Disk self.old self.new
             (λ left. (left ≡ records_of self.old) ⊎ (left ≡ records_of self.old ++ new.now ∷ [])) }
         ensures refused { IsTrue (D.honest (disk_of self.old)) → has_stopped self.old ≡ false → IfErr result (λ fault.
             fault ≢ StoreFault.DeviceFailed →
-            LeavesOnly (λ store. D.moment (disk_of store)) (λ store. LeftLists (D.left_since (disk_of store)))
-            self.old self.new (λ left. left ≡ records_of self.old)) }
+            LeavesLists D.Disk self.old self.new (λ left. left ≡ records_of self.old)) }
         ensures stays { has_stopped self.old ≡ true → self.new ≡ self.old }
         ensures contents { IsTrue (D.honest (disk_of self.old)) → has_stopped self.old ≡ false →
             LeavesOnly D.moment D.left_since (disk_of self.old) (disk_of self.new)

@@ -1,8 +1,8 @@
 //! A store in memory.
 
-ghost use Rattle.std.specs.Prelude.{◌⊎◌, IsTrue, length, ◌≡◌, ◌≢◌, ◌≤◌, ◌<◌, ◌+◌, true, false, [], ◌∷◌, ◌++◌, IfErr};
+ghost use Rattle.std.specs.Prelude.{◌⊎◌, length, ◌≡◌, ◌≢◌, ◌≤◌, ◌<◌, ◌+◌, true, false, [], ◌∷◌, ◌++◌, IfErr};
 ghost use Rattle.std.specs.Prelude.{OnOk, OnErr, if◌then◌else◌, slice_get, vec_len, vec_capacity};
-ghost use Rattle.state_file.specs.Disk.{Counts, LeavesOnly};
+ghost use Rattle.state_file.specs.Disk.{Counts};
 ghost use Rattle.state_file.specs.Store.{Appends, Collects, Loads, is_out_of_memory, unreadable_slot};
 
 use crate::record::Record;
@@ -92,7 +92,7 @@ impl MemoryStore {
 }
 
 impl Store for MemoryStore {
-    ghost use Rattle.state_file.specs.MemoryStore.{Cuts, HadBeen, HasRoom, had_been_all, had_been_only};
+    ghost use Rattle.state_file.specs.MemoryStore.{Cuts, HadBeen, HasRoom, LeavesLists, had_been_all, had_been_only};
     ghost use Rattle.state_file.specs.MemoryStore.{cut_of, failures_of, has_stopped, limit_of};
     ghost use Rattle.state_file.specs.MemoryStore.{records_of, refusals_of};
 
@@ -129,9 +129,8 @@ impl Store for MemoryStore {
         ensures refusals { Counts is_out_of_memory (refusals_of self.old) (refusals_of self.new) result }
         ensures unreadable { Collects unreadable_slot [] [] result }
         ensures same { records_of self.new ≡ records_of self.old }
-        ensures any_moment { IsTrue true → has_stopped self.old ≡ false →
-            LeavesOnly (λ store. length (records_of store)) (λ store. HadBeen (records_of store)) self.old self.new
-            (λ left. left ≡ records_of self.old) }
+        ensures any_moment { has_stopped self.old ≡ false →
+            LeavesLists self.old self.new (λ left. left ≡ records_of self.old) }
         ensures stays { self.new ≡ self.old }
         ensures value { result ≡
             (if has_stopped self.old then Err StoreFault.Stopped else Ok (slice_get (records_of self.old) k)) }
@@ -151,13 +150,12 @@ impl Store for MemoryStore {
             (records_of self.new)
             (has_stopped self.new) (failures_of self.old) (failures_of self.new) result }
         ensures refusals { Counts is_out_of_memory (refusals_of self.old) (refusals_of self.new) result }
-        ensures any_moment { IsTrue true → has_stopped self.old ≡ false →
-            LeavesOnly (λ store. length (records_of store)) (λ store. HadBeen (records_of store)) self.old self.new
+        ensures any_moment { has_stopped self.old ≡ false →
+            LeavesLists self.old self.new
             (λ left. (left ≡ records_of self.old) ⊎ (left ≡ records_of self.old ++ new.now ∷ [])) }
-        ensures refused { IsTrue true → has_stopped self.old ≡ false → IfErr result (λ fault.
+        ensures refused { has_stopped self.old ≡ false → IfErr result (λ fault.
             fault ≢ StoreFault.DeviceFailed →
-            LeavesOnly (λ store. length (records_of store)) (λ store. HadBeen (records_of store)) self.old self.new
-            (λ left. left ≡ records_of self.old)) }
+            LeavesLists self.old self.new (λ left. left ≡ records_of self.old)) }
         ensures stays { has_stopped self.old ≡ true → self.new ≡ self.old }
         ensures limit { limit_of self.new ≡ limit_of self.old }
         ensures cut { Cuts (cut_of self.old) (records_of self.old) new.now (records_of self.new) (cut_of self.new)

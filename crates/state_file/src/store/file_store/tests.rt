@@ -1,9 +1,12 @@
 //! Stores over a disk that fails or stops, and what their files then open with.
 
+mod turning_disk;
+
 use crate::samples::{is_loaded, record};
 use crate::*;
 use sha2::{Digest, Sha256};
 use std::alloc::Global;
+use turning_disk::TurningDisk;
 
 const PICKS: [Pick; 5] = [
     Pick::Old,
@@ -263,7 +266,7 @@ fn gates_with_another_value(rt: HostRuntime) {
 }
 
 // The fault that a file opens with where a byte of a slot, but not of its gate, is changed.
-fn harm(offset: usize) -> Option<OpenFault> {
+fn fault_at(offset: usize) -> Option<OpenFault> {
     match offset {
         1..=9 => Some(OpenFault::NotKeyFile),
         10 | 11 => Some(OpenFault::Version),
@@ -272,12 +275,12 @@ fn harm(offset: usize) -> Option<OpenFault> {
 }
 
 // The first byte of the file of three records, but its gates, which changed doesn't give the fault.
-fn first_unharmed(alloc: Global) -> Option<Option<usize>> {
+fn first_that_opens_otherwise(alloc: Global) -> Option<Option<usize>> {
     let file = file_of(alloc, 3)?;
     for (offset, byte) in file.iter().enumerate() {
         for change in [0x01, 0x5A] {
             let found = opened_with(alloc, &file, offset, *byte ^ change)?;
-            if offset % 256 != 0 && found != Err(harm(offset)?) {
+            if offset % 256 != 0 && found != Err(fault_at(offset)?) {
                 return Some(Some(offset));
             }
         }
@@ -287,7 +290,7 @@ fn first_unharmed(alloc: Global) -> Option<Option<usize>> {
 
 #[test]
 fn each_byte_of_a_slot_changed(rt: HostRuntime) {
-    assert_eq!(rt; first_unharmed(rt.alloc()), Some(None));
+    assert_eq!(rt; first_that_opens_otherwise(rt.alloc()), Some(None));
 }
 
 // The first length at which the file of three records, cut short, opens otherwise than it has to.
@@ -529,4 +532,44 @@ fn stops(alloc: Global) -> Option<bool> {
 #[test]
 fn an_append_that_fails_stops_the_store(rt: HostRuntime) {
     assert_eq!(rt; stops(rt.alloc()), Some(true));
+}
+
+// Whether the records of a file of three are loaded so, where the disk shows the byte at this offset otherwise once the
+// file was opened.
+fn loads_so(
+    alloc: Global,
+    offset: u64,
+    wanted: [Result<Option<u32>, StoreFault>; 3],
+) -> Option<bool> {
+    let file = file_of(alloc, 3)?;
+    // an opening reads two times for the Key, and ten times for three slots and the gate after them
+    let disk = TurningDisk::of(MemoryDisk::of(alloc, &file).ok()?, 12, offset);
+    let mut store = FileStore::open(disk).ok()?;
+    for k in 0..3 {
+        if !is_loaded(&store.load(k), wanted[k as usize]) {
+            return Some(false);
+        }
+    }
+    Some(true)
+}
+
+// A load compares the tag of its slot with that of its fields after the slot before, and doesn't read the gate.
+#[test]
+fn loads_of_slots_that_changed(rt: HostRuntime) {
+    let all = [Ok(Some(0)), Ok(Some(1)), Ok(Some(2))];
+    let fields = [Ok(Some(0)), Err(StoreFault::Damaged(1)), Ok(Some(2))];
+    let tag = [
+        Ok(Some(0)),
+        Err(StoreFault::Damaged(1)),
+        Err(StoreFault::Damaged(2)),
+    ];
+    for (offset, wanted) in [
+        (256, all),
+        (257, fields),
+        (479, fields),
+        (480, tag),
+        (511, tag),
+    ] {
+        assert_eq!(rt; loads_so(rt.alloc(), offset, wanted), Some(true));
+    }
 }
