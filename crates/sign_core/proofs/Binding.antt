@@ -1,6 +1,6 @@
 -- What each end of a binding is: what was drawn, then what became of the message, and of the append of its record.
 use Rattle.std.proofs.Common.{◌≡◌, ◌∙◌, refl, sym, ap, ap₂, subst, ℕ, ◌+◌, ◌-◌, ◌<◌, ◌^◌, Bool, true, false, List, [], ◌∷◌, ◌++◌, length, map}
-use Rattle.std.proofs.Common.{Option, Some, None, Result, Ok, Err, MatchResult, IfErr, OnOk, IsErrAnd, append-nil, arith, IsTrue, true≢false}
+use Rattle.std.proofs.Common.{Option, Some, None, Result, Ok, Err, MatchResult, IfErr, OnOk, IsErrAnd, append-nil, arith, IsTrue}
 use Rattle.std.specs.Prelude.{not, is_some, replicate, unwrap_or, ◌&&◌}
 use Rattle.std.specs.List.{concat}
 use Rattle.std.specs.Cmp.Lexicographic.{bytes_decides}
@@ -37,19 +37,19 @@ use Rattle.sign_core.specs.Source.{DrawsBytes}
 use Rattle.sign_core.specs.Source.{Provides}
 use Rattle.sign_core.specs.Records.{binding_in, can_follow, current, free_at, has_moved, has_randomizer, is_free, key_in, next_at, next_in, next_of}
 use Rattle.sign_core.specs.Links.{AreMade, IsMade, signing_of_link, signings_of}
-use Rattle.sign_core.specs.Signer.{Adds, Ends, IsRead, IsTied, View, added, is_before_draws, is_out_of_memory, is_random_failed, is_store_failed, signature_size, state_of, view_of}
+use Rattle.sign_core.specs.Signer.{Adds, Ends, IsRead, IsTied, View, added, is_before_draws, is_of_append, is_out_of_memory, is_random_failed, is_store_failed, signature_size, state_of, view_of}
 use Rattle.sign_core.specs.Signing.{Binds, Does, Fulfils, IsXmssKey, Stands, WritesChain, pairs_of}
 use Rattle.sign_core.specs.Ledger.{Table}
 use Rattle.sign_core.specs.World.{Chance, Fate, Outcome, acked, answered, appended, bound_sound, bound_with, cut_new, cut_old, drawing, fulfilled, new_bound, no_memory}
 use Rattle.sign_core.specs.World.{open_on, randomizer_from, reading}
 use Rattle.sign_core.specs.Textbook.{Trees, damaged_in, digest_at, secret_at, signature_at, signing_of_bound, signings_above, tree_before, trees_of}
 use Rattle.sign_core.proofs.Draws.{draw_fails}
-use Rattle.sign_core.proofs.Adding.{length_one_more}
+use Rattle.sign_core.proofs.Appended.{added_records, counts_answered, ends_alike, is_late, is_tried, no_draw_fails, same_fault}
 use Rattle.sign_core.proofs.Append.{tree_within}
 use Rattle.sign_core.proofs.ChainParts.{all_pairs, leaf_digest, key_chain, xmss_leaf_digest}
 use Rattle.sign_core.proofs.Follow.{tell_free}
 use Rattle.sign_core.proofs.LinkParts.{more_made}
-use Rattle.sign_core.proofs.Refusals.{is_late, keeps_at_all, keeps_late, same_fault, same_view}
+use Rattle.sign_core.proofs.Refusals.{keeps_at_all, keeps_late, same_view}
 use Rattle.sign_core.proofs.Repeats.{fault_of, linked_ok}
 use Rattle.sign_core.proofs.Retiring.{beginning_kept}
 use Rattle.sign_core.proofs.Stays.{before_stays, key_stays, secret_stays, signings_stay, some_keyed}
@@ -108,142 +108,74 @@ module _ {S R M : Type 0} (g : store.Ghosts S) (r : source.Ghosts R) (m : messag
   append_so entry sign drawn fate =
       drawing drawn (reading (appended (open_on ledger.records) entry fate (λ records. answered (open_on records) (sign records))))
 
+  -- by its fate: the records that it adds, what is drawn, and that the message is read
+  more_by : Record → Fate → List Record
+  more_by entry acked = entry ∷ []
+  more_by entry cut_old = []
+  more_by entry cut_new = []
+  more_by entry no_memory = []
+
+  grown_by : (entry : Record) (sign : List Record → List ℕ) (drawn : List ℕ) (fate : Fate)
+      → (append_so entry sign drawn fate).acknowledged ≡ ledger.records ++ more_by entry fate
+  unfolding more_by
+  grown_by entry sign drawn acked = refl
+  grown_by entry sign drawn cut_old = sym (append-nil _)
+  grown_by entry sign drawn cut_new = sym (append-nil _)
+  grown_by entry sign drawn no_memory = sym (append-nil _)
+
+  drawn_by : (entry : Record) (sign : List Record → List ℕ) (drawn : List ℕ) (fate : Fate) → (append_so entry sign drawn fate).drawn ≡ drawn ++ []
+  drawn_by entry sign drawn acked = refl
+  drawn_by entry sign drawn cut_old = refl
+  drawn_by entry sign drawn cut_new = refl
+  drawn_by entry sign drawn no_memory = refl
+
+  read_by : (entry : Record) (sign : List Record → List ℕ) (drawn : List ℕ) (fate : Fate) → (append_so entry sign drawn fate).is_read ≡ true
+  read_by entry sign drawn acked = refl
+  read_by entry sign drawn cut_old = refl
+  read_by entry sign drawn cut_new = refl
+  read_by entry sign drawn no_memory = refl
+
+  -- and its end
+  ends_added : (new : View S R) (entry : Record) (sign : List Record → List ℕ) (drawn : List ℕ) (a : Result (Unit {0}) SignFault) (fate : Fate) → is_open ≡ true
+      → Ends g (view_of kept_in mid ledger is_open) new (added (state_of (view_of kept_in mid ledger is_open)) entry fate) a
+      → Ends g (view_of kept_in random ledger is_open) new (append_so entry sign drawn fate) (answered_with a (sign (ledger.records ++ entry ∷ [])))
+  ends_added new entry sign drawn a fate opened ends = by_fate fate ends
+    where
+      answers : {x : Result (Unit {0}) SignFault} → x ≡ a
+          → answered_with x (sign (ledger.records ++ entry ∷ [])) ≡ answered_with a (sign (ledger.records ++ entry ∷ []))
+      answers is = ap (λ x. answered_with x (sign (ledger.records ++ entry ∷ []))) is
+
+      by_fate : (fate : Fate) → Ends g (view_of kept_in mid ledger is_open) new (added (state_of (view_of kept_in mid ledger is_open)) entry fate) a
+          → Ends g (view_of kept_in random ledger is_open) new (append_so entry sign drawn fate) (answered_with a (sign (ledger.records ++ entry ∷ [])))
+      by_fate acked ends =
+          ends_alike g (view_of kept_in random ledger is_open) new mid _ _ a _ refl refl refl (answers ends.answer_is) (λ _ _ c. c) ends
+      by_fate cut_old ends =
+          ends_alike g (view_of kept_in random ledger is_open) new mid _ _ a _ refl refl refl (answers ends.answer_is) (λ _ _ c. c) ends
+      by_fate cut_new ends =
+          ends_alike g (view_of kept_in random ledger is_open) new mid _ _ a _ refl refl refl (answers ends.answer_is) (λ _ _ c. c) ends
+      by_fate no_memory ends =
+          ends_alike g (view_of kept_in random ledger is_open) new mid _ _ a _ (λ i. record { records = ledger.records; is_open = sym opened i }) refl refl
+          (answers ends.answer_is) (λ _ _ c. c) ends
+
   -- a call that draws, reads the message and appends a record
   pub does_added : (new : View S R) (entry : Record) (sign : List Record → List ℕ) (drawn text : List ℕ) (a : Result (Unit {0}) SignFault) → is_open ≡ true
       → (adds : Adds g (view_of kept_in mid ledger is_open) new entry a) → Provides (r.upcoming random) (drawn ++ []) (r.upcoming mid)
       → r.failures mid ≡ r.failures random → ReadWhole m.transition m.remaining text before after
       → Does g r m (view_of kept_in random ledger is_open) new before after (Some text) (append_so entry sign drawn adds.fate)
       (answered_with a (sign (ledger.records ++ entry ∷ [])))
-  does_added new entry sign drawn text a opened adds gives counted whole = by_fate adds.fate adds.ends
-    where
-      gave : Provides (r.upcoming random) (drawn ++ []) (r.upcoming new.random)
-      gave = subst (λ (x : R). Provides (r.upcoming random) (drawn ++ []) (r.upcoming x)) (sym adds.random) gives
-
-      count : r.failures new.random ≡ r.failures random
-      count = ap r.failures adds.random ∙ counted
-
-      by_fate : (fate : Fate) → Ends g (view_of kept_in mid ledger is_open) new (added (state_of (view_of kept_in mid ledger is_open)) entry fate) a
-          → Does g r m (view_of kept_in random ledger is_open) new before after (Some text) (append_so entry sign drawn fate)
-          (answered_with a (sign (ledger.records ++ entry ∷ [])))
-      by_fate acked ends =
-          subst (λ (x : Result (Unit {0}) SignFault). Counts is_out_of_memory (g.refusals kept_in) (g.refusals new.store) x
-          → Does g r m (view_of kept_in random ledger is_open) new before after (Some text) (append_so entry sign drawn acked)
-          (answered_with x (sign (ledger.records ++ entry ∷ [])))) ends.answer_is
-          (λ refusals. record {
-            ends = record {
-              answer_is = refl;
-              records = ends.records;
-              is_open = ends.is_open;
-              store = record {
-                list = ends.store.list;
-                moments = ends.store.moments;
-                failures = ends.store.failures;
-                honest = ends.store.honest;
-                most = ends.store.most;
-              };
-              unreadable = ends.unreadable;
-            };
-            more = entry ∷ [];
-            grown = refl;
-            source = gave;
-            failures = count;
-            message = whole;
-            refusals = refusals;
-            memory = adds.memory;
-            stays = λ same none. absurd (omega (arith, ap length same, ap length ends.records, length_one_more ledger.records entry));
-          }) adds.refusals
-      by_fate cut_old ends =
-          subst (λ (x : Result (Unit {0}) SignFault). Counts is_out_of_memory (g.refusals kept_in) (g.refusals new.store) x
-          → Does g r m (view_of kept_in random ledger is_open) new before after (Some text) (append_so entry sign drawn cut_old)
-          (answered_with x (sign (ledger.records ++ entry ∷ [])))) ends.answer_is
-          (λ refusals. record {
-            ends = record {
-              answer_is = refl;
-              records = ends.records;
-              is_open = ends.is_open;
-              store = record {
-                list = ends.store.list;
-                moments = ends.store.moments;
-                failures = ends.store.failures;
-                honest = ends.store.honest;
-                most = ends.store.most;
-              };
-              unreadable = ends.unreadable;
-            };
-            more = [];
-            grown = sym (append-nil _);
-            source = gave;
-            failures = count;
-            message = whole;
-            refusals = refusals;
-            memory = adds.memory;
-            stays = λ same none. absurd (true≢false none);
-          }) adds.refusals
-      by_fate cut_new ends =
-          subst (λ (x : Result (Unit {0}) SignFault). Counts is_out_of_memory (g.refusals kept_in) (g.refusals new.store) x
-          → Does g r m (view_of kept_in random ledger is_open) new before after (Some text) (append_so entry sign drawn cut_new)
-          (answered_with x (sign (ledger.records ++ entry ∷ [])))) ends.answer_is
-          (λ refusals. record {
-            ends = record {
-              answer_is = refl;
-              records = ends.records;
-              is_open = ends.is_open;
-              store = record {
-                list = ends.store.list;
-                moments = ends.store.moments;
-                failures = ends.store.failures;
-                honest = ends.store.honest;
-                most = ends.store.most;
-              };
-              unreadable = ends.unreadable;
-            };
-            more = [];
-            grown = sym (append-nil _);
-            source = gave;
-            failures = count;
-            message = whole;
-            refusals = refusals;
-            memory = adds.memory;
-            stays = λ same none. absurd (true≢false none);
-          }) adds.refusals
-      by_fate no_memory ends =
-          subst (λ (x : Result (Unit {0}) SignFault). Counts is_out_of_memory (g.refusals kept_in) (g.refusals new.store) x
-          → Does g r m (view_of kept_in random ledger is_open) new before after (Some text) (append_so entry sign drawn no_memory)
-          (answered_with x (sign (ledger.records ++ entry ∷ [])))) ends.answer_is
-          (λ refusals. record {
-            ends = record {
-              answer_is = refl;
-              records = ends.records;
-              is_open = ends.is_open ∙ opened;
-              store = record {
-                list = ends.store.list;
-                moments = ends.store.moments;
-                failures = ends.store.failures;
-                honest = ends.store.honest;
-                most = ends.store.most;
-              };
-              unreadable = ends.unreadable;
-            };
-            more = [];
-            grown = sym (append-nil _);
-            source = gave;
-            failures = count;
-            message = whole;
-            refusals = refusals;
-            memory = adds.memory;
-            stays = λ same none. absurd (true≢false none);
-          }) adds.refusals
-
--- a record that is added stands at the end
-pub added_records : {S R : Type 0} (g : store.Ghosts S) (old new : View S R) (entry : Record) (a : Result (Unit {0}) SignFault) (x : Unit {0})
-    → Adds g old new entry a → a ≡ Ok x → new.records ≡ old.records ++ entry ∷ []
-added_records {S = S} {R = R} g old new entry a x adds is = by_fate adds.fate adds.ends
-  where
-    by_fate : (fate : Fate) → Ends g old new (added (state_of old) entry fate) a → new.records ≡ old.records ++ entry ∷ []
-    by_fate acked ends = ends.records
-    by_fate cut_old ends = absurd (let same = ends.answer_is ∙ is in cc)
-    by_fate cut_new ends = absurd (let same = ends.answer_is ∙ is in cc)
-    by_fate no_memory ends = absurd (let same = ends.answer_is ∙ is in cc)
+  does_added new entry sign drawn text a opened adds gives counted whole = record {
+    ends = ends_added new entry sign drawn a adds.fate opened adds.ends;
+    more = more_by entry adds.fate;
+    grown = grown_by entry sign drawn adds.fate;
+    source = subst (λ (x : R). Provides (r.upcoming random) (append_so entry sign drawn adds.fate).drawn (r.upcoming x)) (sym adds.random)
+        (subst (λ bytes. Provides (r.upcoming random) bytes (r.upcoming mid)) (sym (drawn_by entry sign drawn adds.fate)) gives);
+    failures = counts_answered is_random_failed _ _ a _
+        (no_draw_fails g (view_of kept_in mid ledger is_open) new entry a adds _ _ (ap r.failures adds.random ∙ counted));
+    message = subst (λ is_read. IsRead m is_read (Some text) before after) (sym (read_by entry sign drawn adds.fate)) whole;
+    refusals = counts_answered is_out_of_memory _ _ a _ adds.refusals;
+    memory = adds.memory;
+    stays = λ same none. is_tried g (view_of kept_in mid ledger is_open) new entry a adds (new.store ≡ kept_in) same (sym (same_fault is_of_append a _) ∙ none);
+  }
 
 -- and the key stays
 pub key_of_added : {S R : Type 0} (g : store.Ghosts S) (old new : View S R) (entry : Record) (a : Result (Unit {0}) SignFault) (x : Unit {0}) (key own : Key)

@@ -24,12 +24,8 @@ use Rattle.sign_core.specs.Signing.{DrawsTree, Extends}
 use Rattle.sign_core.specs.World.{Fate, Outcome, acked, answered, appended, cut_new, cut_old, drawing, extended, no_memory}
 use Rattle.sign_core.specs.World.{open_on, refused}
 use Rattle.sign_core.specs.Textbook.{Trees, trees_of}
-use Rattle.sign_core.proofs.Refusals.{is_late, is_tried, same_fault}
+use Rattle.sign_core.proofs.Appended.{after_draw, counts_answered, ends_alike, is_late, is_tried, no_draw_fails, same_fault}
 use Rattle.sign_core.proofs.Fulfilled.{drawing_twice, extends_by, next_extend, whole_draw}
-
--- the signer after it drew: only its source has changed
-abbrev pub after_draw : {S R : Type 0} → View S R → R → View S R
-after_draw view random = record view { random = random }
 
 -- the records are a beginning of themselves
 all_left : (records left : List Record) → left ≡ records → IsBeginning (length records) (records ++ []) left
@@ -152,81 +148,24 @@ module _ {S R : Type 0} (g : store.Ghosts S) (r : source.Ghosts R) (level : ℕ)
 abbrev comes_to : List Record → Record → (bytes : List ℕ) → Fate → Outcome (List ℕ)
 comes_to records entry bytes fate = drawing bytes (appended (open_on records) entry fate (λ all. answered (open_on all) []))
 
+given : {a b : Result (Unit {0}) SignFault} → a ≡ b → answered_with {B = List ℕ} a [] ≡ answered_with b []
+given is = ap (λ r. answered_with r []) is
+
 -- a call that appends a record, and one that draws first, end alike
 ends_drawn : {S R : Type 0} (g : store.Ghosts S) (view new : View S R) (random : R) (entry : Record) (bytes : List ℕ) (fate : Fate)
     (answer : Result (Unit {0}) SignFault) → Ends g (after_draw view random) new (added (open_on view.records) entry fate) answer
     → Ends g view new (comes_to view.records entry bytes fate) (answered_with answer [])
-ends_drawn g view new random entry bytes acked answer ends = record {
-  answer_is = ap (λ a. answered_with a []) ends.answer_is;
-  records = ends.records;
-  is_open = ends.is_open;
-  store = record {
-    list = ends.store.list;
-    moments = ends.store.moments;
-    failures = ends.store.failures;
-    honest = ends.store.honest;
-    most = ends.store.most;
-  };
-  unreadable = ends.unreadable;
-}
-ends_drawn g view new random entry bytes cut_old answer ends = record {
-  answer_is = ap (λ a. answered_with a []) ends.answer_is;
-  records = ends.records;
-  is_open = ends.is_open;
-  store = record {
-    list = ends.store.list;
-    moments = ends.store.moments;
-    failures = ends.store.failures;
-    honest = ends.store.honest;
-    most = ends.store.most;
-  };
-  unreadable = ends.unreadable;
-}
-ends_drawn g view new random entry bytes cut_new answer ends = record {
-  answer_is = ap (λ a. answered_with a []) ends.answer_is;
-  records = ends.records;
-  is_open = ends.is_open;
-  store = record {
-    list = ends.store.list;
-    moments = ends.store.moments;
-    failures = ends.store.failures;
-    honest = ends.store.honest;
-    most = ends.store.most;
-  };
-  unreadable = ends.unreadable;
-}
-ends_drawn g view new random entry bytes no_memory answer ends = record {
-  answer_is = ap (λ a. answered_with a []) ends.answer_is;
-  records = ends.records;
-  is_open = ends.is_open;
-  store = record {
-    list = ends.store.list;
-    moments = ends.store.moments;
-    failures = ends.store.failures;
-    honest = ends.store.honest;
-    most = ends.store.most;
-  };
-  unreadable = ends.unreadable;
-}
+ends_drawn g view new random entry bytes acked answer ends = ends_alike g view new random _ _ answer _ refl refl refl (given ends.answer_is) (λ _ _ c. c) ends
+ends_drawn g view new random entry bytes cut_old answer ends = ends_alike g view new random _ _ answer _ refl refl refl (given ends.answer_is) (λ _ _ c. c) ends
+ends_drawn g view new random entry bytes cut_new answer ends = ends_alike g view new random _ _ answer _ refl refl refl (given ends.answer_is) (λ _ _ c. c) ends
+ends_drawn g view new random entry bytes no_memory answer ends = ends_alike g view new random _ _ answer _ refl refl refl (given ends.answer_is) (λ _ _ c. c) ends
 
--- an append draws nothing, and its answer isn't that the source failed
+-- an append draws nothing
 nothing_more : (records : List Record) (entry : Record) (bytes : List ℕ) (fate : Fate) → (comes_to records entry bytes fate).drawn ≡ bytes
 nothing_more records entry bytes acked = append-nil bytes
 nothing_more records entry bytes cut_old = append-nil bytes
 nothing_more records entry bytes cut_new = append-nil bytes
 nothing_more records entry bytes no_memory = append-nil bytes
-
-none_failed : (records : List Record) (entry : Record) (bytes : List ℕ) (fate : Fate) (before after : ℕ) → after ≡ before
-    → Counts is_random_failed before after (comes_to records entry bytes fate).answer
-none_failed records entry bytes acked before after same = same
-none_failed records entry bytes cut_old before after same = same
-none_failed records entry bytes cut_new before after same = same
-none_failed records entry bytes no_memory before after same = same
-
-refusals_answered : (before after : ℕ) (answer : Result (Unit {0}) SignFault) → Counts is_out_of_memory before after answer
-    → Counts is_out_of_memory before after (answered_with {B = List ℕ} answer [])
-refusals_answered before after (Ok done) counts = counts
-refusals_answered before after (Err fault) counts = counts
 
 -- The record of the draws is appended: the answer is that of the append.
 pub drawn : {S R : Type 0} (g : store.Ghosts S) (r : source.Ghosts R) (level : ℕ) (key : Key) (trees : Trees) (view new : View S R) (random : R)
@@ -254,25 +193,10 @@ drawn {S = S} {R = R} g r level key trees view new random seeds entry answer is_
       ends = ends;
       source = subst (λ (b : List ℕ). Provides (r.upcoming view.random) b (r.upcoming new.random))
           (sym (nothing_more view.records entry bytes adds.fate)) gives;
-      failures = subst (λ (a : Result (List ℕ) SignFault). Counts is_random_failed (r.failures view.random) (r.failures new.random) a) ends.answer_is
-          (none_failed view.records entry bytes adds.fate (r.failures view.random) (r.failures new.random) none);
-      refusals = refusals_answered (g.refusals view.store) (g.refusals new.store) answer adds.refusals;
+      failures = counts_answered is_random_failed _ _ answer [] (no_draw_fails g (after_draw view random) new entry answer adds _ _ none);
+      refusals = counts_answered is_out_of_memory _ _ answer [] adds.refusals;
       memory = adds.memory;
       stays = λ same none. is_tried g (after_draw view random) new entry answer adds (new.store ≡ view.store) same
           (sym (same_fault is_of_append answer []) ∙ none);
       late = same_fault is_before_draws answer [] ∙ is_late g (after_draw view random) new entry answer adds;
     }
-
-err≢ok : {A : Type 0} (fault : SignFault) (a : A) → Err fault ≡ Ok a → ⊥
-err≢ok fault a same = cc
-
--- What is added is appended to the records, where the answer is Ok.
-pub added_records : {S R : Type 0} (g : store.Ghosts S) (view new : View S R) (entry : Record) (answer : Result (Unit {0}) SignFault) (done : Unit {0})
-    → answer ≡ Ok done → Adds g view new entry answer → new.records ≡ view.records ++ entry ∷ []
-added_records g view new entry answer done is adds = by_fate adds.fate adds.ends
-  where
-    by_fate : (fate : Fate) → Ends g view new (added (state_of view) entry fate) answer → new.records ≡ view.records ++ entry ∷ []
-    by_fate acked ends = ends.records
-    by_fate cut_old ends = absurd (err≢ok StoreFailed done (ends.answer_is ∙ is))
-    by_fate cut_new ends = absurd (err≢ok StoreFailed done (ends.answer_is ∙ is))
-    by_fate no_memory ends = absurd (err≢ok OutOfMemory done (ends.answer_is ∙ is))

@@ -25,6 +25,7 @@ pub mod Follow
 pub mod Legal
 pub mod Illegal
 pub mod Append
+pub mod Appended
 pub mod Next
 pub mod Uses
 pub mod Kept

@@ -2,13 +2,11 @@
 
 ghost use Rattle.std.specs.Prelude.{◌≡◌, ◌<◌, ◌≤◌, ◌-◌, ◌^◌, ◌∷◌, [], true, false, Some, Ok, Err, length, IfErr, IfOk};
 ghost use Rattle.std.specs.Prelude.{IfSome, None, OnOk};
-ghost use Rattle.state_file.specs.Disk.{Counts};
 ghost use Rattle.state_file.specs.Store.{CanFollow, is_key};
 ghost use Rattle.sign_core.specs.Source.{DrawsBytes};
 ghost use Rattle.sign_core.specs.Once.{AreFields};
-ghost use Rattle.sign_core.specs.Signer.{AppendsTo, DrawsSecret, Hinders, IsMade, LeavesEither, LeavesOld};
+ghost use Rattle.sign_core.specs.Signer.{DrawsSecret, Hinders, IsAppended, IsMade};
 ghost use Rattle.sign_core.specs.Signer.{IsTakenUp, IsTied, LoadsAll, LoadsRecord, LooksForKey, MakesKey, TakesUp};
-ghost use Rattle.sign_core.specs.Signer.{is_out_of_memory};
 ghost use Rattle.sign_core.specs.Textbook.{HasSizes, SecretHasSizes, lms_secret, public_in, root_by};
 ghost use Rattle.state_file.specs.declared.record.Record.TheVariants.{Key as KeyRecord};
 ghost use Rattle.typecodes.specs.Layout.{AreBytes};
@@ -62,14 +60,7 @@ fn append<S: Store>(store: &mut S, entry: &Record) -> Result<(), SignFault>
     requires running { S.stopped store.old ≡ false }
     requires room { length (S.list store.old) < S.most store.old }
     requires key_first { CanFollow (S.list store.old) entry.now }
-    ensures stored { AppendsTo (S.list store.old) entry.now (S.list store.new) (S.stopped store.new)
-        (S.failures store.old) (S.failures store.new) result }
-    ensures any_moment { LeavesEither S.Store store.old store.new entry.now }
-    ensures refused { result ≡ Err SignFault.OutOfMemory → LeavesOld S.Store store.old store.new }
-    ensures refusals { Counts is_out_of_memory (S.refusals store.old) (S.refusals store.new) result }
-    ensures unreadable { S.unreadable store.new ≡ S.unreadable store.old }
-    ensures honest { S.honest store.new ≡ S.honest store.old }
-    ensures most { S.most store.new ≡ S.most store.old }
+    ensures { IsAppended S.Store store.old store.new entry.now result }
 {
     store.append(entry).map_err(|fault| match fault {
         StoreFault::OutOfMemory => SignFault::OutOfMemory,

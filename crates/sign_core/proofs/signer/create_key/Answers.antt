@@ -23,18 +23,7 @@ returns-in_err-append-clause-makes g c =
     let answer : c.from_residual-in_err-append.result ≡ Err c.in_err-append.field-0.0 = search rules in
     let key = new_key c.in_ok-secret.secret in
     let made : c.copied.result ≡ key = c.copied.ensures ∙ ap (λ r. record { version = One; secret = c.in_ok-secret.secret; root = r }) c.root_of.ensures in
-    let e = c.in_err-append.ensures in
-    let appended : IsAppended {A = Unit {0}} g.S.Store c.load_first.new.store c.append.new.store (KeyRecord c.copied.result) (Err c.in_err-append.field-0.0) =
-    record {
-      running = c.in_ok-load_first.ensures.finds.2;
-      stored = e.stored;
-      moments = e.any_moment;
-      refused = e.refused;
-      refusals = e.refusals;
-      unreadable = e.unreadable;
-      honest = e.honest;
-      most = e.most;
-    } in
+    let appended : IsAppended {A = Unit {0}} g.S.Store c.load_first.new.store c.append.new.store (KeyRecord c.copied.result) (Err c.in_err-append.field-0.0) = c.in_err-append.ensures in
     subst (λ a. MakesKey g.S.Store g.R.Source c.args.spec.now c.args.store.now c.append.new.store c.args.random.now c.draw_secret.new.random (IsMade a)) (sym answer)
     (unmade g.S.Store g.R.Source c.args.spec.now _ _ _ _ _ c.in_ok-secret.secret _ c.in_ok-secret.ensures (record {
       looked = c.in_ok-load_first.ensures;
@@ -46,18 +35,7 @@ returns-clause-makes g c =
     let key = new_key c.in_ok-secret.secret in
     let rooted : record { version = One; secret = c.in_ok-secret.secret; root = c.root_of.result } ≡ key =
     ap (λ r. record { version = One; secret = c.in_ok-secret.secret; root = r }) c.root_of.ensures in
-    let e = c.in_ok-append.ensures in
-    let appended : IsAppended {A = Unit {0}} g.S.Store c.load_first.new.store c.append.new.store (KeyRecord c.copied.result) (Ok tt) =
-    record {
-      running = c.in_ok-load_first.ensures.finds.2;
-      stored = e.stored;
-      moments = e.any_moment;
-      refused = e.refused;
-      refusals = e.refusals;
-      unreadable = e.unreadable;
-      honest = e.honest;
-      most = e.most;
-    } in
+    let appended : IsAppended {A = Unit {0}} g.S.Store c.load_first.new.store c.append.new.store (KeyRecord c.copied.result) (Ok tt) = c.in_ok-append.ensures in
     subst (λ k. MakesKey g.S.Store g.R.Source c.args.spec.now c.args.store.now c.append.new.store c.args.random.now c.draw_secret.new.random (IsMade (Ok k))) (sym rooted)
     (made g.S.Store g.R.Source c.args.spec.now _ _ _ _ _ c.in_ok-secret.secret c.requires.spec c.in_ok-secret.ensures (record {
       looked = c.in_ok-load_first.ensures;

@@ -1,4 +1,4 @@
-use Rattle.std.proofs.Common.{◌∙◌, ap}
+use Rattle.std.proofs.Common.{ap}
 use Rattle.std.specs.Prelude.{not}
 use Rattle.sign_core.proofs.Adding.{adds_in_err, adds_in_ok, signer_grown}
 use Rattle.sign_core.proofs.signer.Signer.add.Goals as goal
@@ -10,17 +10,7 @@ invariant_of-self g c =
     signer_grown g.S.Store i.store c.append.new.store i.random i.ledger c.push.new.self i.is_open c.args.entry c.args.self.now c.self.view_is
     c.self.invariant.0 c.self.invariant.1
     c.requires.open c.requires.follows c.requires.sizes
-    (record {
-      running = (c.self.invariant.0.tied (ap (λ w. w.is_open) c.self.view_is
-          ∙ c.requires.open)).running;
-      stored = e.stored;
-      moments = e.any_moment;
-      refused = e.refused;
-      refusals = e.refusals;
-      unreadable = e.unreadable;
-      honest = e.honest;
-      most = e.most;
-    })
+    e
     c.push.ensures.grows
 
 pub returns-in-Ok : goal.returns-in-Ok
@@ -29,17 +19,7 @@ returns-in-Ok g c =
     let e = c.in-Ok.ensures in
     adds_in_ok g.S.Store i.store c.append.new.store i.random i.ledger c.push.new.self i.is_open c.args.entry c.args.self.now c.self.view_is c.self.invariant.0
     c.requires.open
-    (record {
-      running = (c.self.invariant.0.tied (ap (λ w. w.is_open) c.self.view_is
-          ∙ c.requires.open)).running;
-      stored = e.stored;
-      moments = e.any_moment;
-      refused = e.refused;
-      refusals = e.refusals;
-      unreadable = e.unreadable;
-      honest = e.honest;
-      most = e.most;
-    })
+    e
     c.push.ensures.grows
 
 pub returns-in-Err : goal.returns-in-Err
@@ -49,14 +29,4 @@ returns-in-Err g c =
     adds_in_err g.S.Store i.store c.append.new.store i.random i.ledger i.is_open (not c.closes.result) c.args.entry c.in-Err.fault c.args.self.now
     c.self.view_is c.self.invariant.0 c.requires.open
     (ap not c.closes.ensures)
-    (record {
-      running = (c.self.invariant.0.tied (ap (λ w. w.is_open) c.self.view_is
-          ∙ c.requires.open)).running;
-      stored = e.stored;
-      moments = e.any_moment;
-      refused = e.refused;
-      refusals = e.refusals;
-      unreadable = e.unreadable;
-      honest = e.honest;
-      most = e.most;
-    })
+    e

@@ -16,7 +16,8 @@ use Rattle.sign_core.specs.Signer.{View, view_of}
 use Rattle.sign_core.specs.Signing.{Extends, Stands, StandsIn}
 use Rattle.sign_core.specs.Textbook.{lms_secret}
 use Rattle.sign_core.proofs.Adding.{levels_range}
-use Rattle.sign_core.proofs.Extends.{Rests, added_records, drawn, undrawn}
+use Rattle.sign_core.proofs.Appended.{added_records}
+use Rattle.sign_core.proofs.Extends.{Rests, drawn, undrawn}
 use Rattle.sign_core.proofs.Fulfilled.{next_extend}
 use Rattle.sign_core.proofs.StandingChain.{can_extend, entry_is, stands_grown}
 use Rattle.sign_core.proofs.Stays.{key_stays, some_keyed}
@@ -181,7 +182,7 @@ returns-clause-stands g c key keyed =
     c.signing.ensures.signed c.signing.ensures.made c.new-made.ensures.made (ap (λ s. s.leaf) c.new-made.ensures.signed ∙ c.unset.ensures) secret in
     let grown : c.add.new.self.records ≡ i.ledger.records ++ ExtendRecord extend ∷ [] =
     added_records g.S.Store (view_of i.store c.draw_tree.new.random i.ledger i.is_open) c.add.new.self (ExtendRecord extend) c.add.result c.in_ok-add.field-0
-    c.in_ok-add.was c.add.ensures in
+    c.add.ensures c.in_ok-add.was in
     let next : key_in c.add.new.self.records ≡ Some i.ledger.key =
     ap key_in grown ∙ key_stays i.ledger.records (ExtendRecord extend ∷ []) i.ledger.key c.self.invariant.1 in
     let same : i.ledger.key ≡ key = same_Some _ _ (sym next ∙ keyed) in

@@ -1,0 +1,93 @@
+-- What an append of a signer tells: what it adds, and how it can be refused.
+use Rattle.std.proofs.Common.{◌≡◌, ◌∙◌, ℕ, Bool, false, ◌∷◌, [], ◌++◌, length, Result, Ok, Err, refl, sym, ap, subst, arith, true≢false}
+use Rattle.std.specs.Option.{option_to_list}
+use Rattle.state_file.specs.declared.record.Record.{Record}
+use Rattle.state_file.specs.declared.store.Store as store
+use Rattle.state_file.specs.Disk.{Counts, LeavesOnly}
+use Rattle.sign_core.specs.declared.fault.SignFault.{SignFault}
+use Rattle.sign_core.specs.Once.{IsBeginning}
+use Rattle.sign_core.specs.Signer.{Adds, Ends, GrowsAlike, UnlessAppended, View, added, is_before_draws, is_fault, is_of_append, is_random_failed}
+use Rattle.sign_core.specs.Signer.{is_store_failed, state_of}
+use Rattle.sign_core.specs.Signing.{answered_with}
+use Rattle.sign_core.specs.World.{Fate, Outcome, State, acked, cut_new, cut_old, no_memory}
+use Rattle.sign_core.proofs.Adding.{length_one_more}
+
+-- the signer after it drew: only its source has changed
+abbrev pub after_draw : {S R : Type 0} → View S R → R → View S R
+after_draw view random = record view { random = random }
+
+-- An append that is acknowledged adds its record, and another one fails.
+pub is_tried : {S R : Type 0} (g : store.Ghosts S) (old new : View S R) (entry : Record) (answer : Result (Unit {0}) SignFault) → Adds g old new entry answer
+    → (Kept : Type 0) → UnlessAppended old new answer Kept
+is_tried {S = S} {R = R} g old new entry answer adds Kept = by_fate adds.fate adds.ends
+  where
+    by_fate : (fate : Fate) → Ends g old new (added (state_of old) entry fate) answer → UnlessAppended old new answer Kept
+    by_fate acked ends = λ same none. absurd (omega (arith, ap length same, ap length ends.records, length_one_more old.records entry))
+    by_fate cut_old ends = λ same none. absurd (true≢false (ap (is_fault is_of_append) ends.answer_is ∙ none))
+    by_fate cut_new ends = λ same none. absurd (true≢false (ap (is_fault is_of_append) ends.answer_is ∙ none))
+    by_fate no_memory ends = λ same none. absurd (true≢false (ap (is_fault is_of_append) ends.answer_is ∙ none))
+
+-- Its answer comes after all that is drawn.
+pub is_late : {S R : Type 0} (g : store.Ghosts S) (old new : View S R) (entry : Record) (answer : Result (Unit {0}) SignFault) → Adds g old new entry answer
+    → is_fault is_before_draws answer ≡ false
+is_late {S = S} {R = R} g old new entry answer adds = by_fate adds.fate adds.ends
+  where
+    by_fate : (fate : Fate) → Ends g old new (added (state_of old) entry fate) answer → is_fault is_before_draws answer ≡ false
+    by_fate acked ends = ap (is_fault is_before_draws) (sym ends.answer_is)
+    by_fate cut_old ends = ap (is_fault is_before_draws) (sym ends.answer_is)
+    by_fate cut_new ends = ap (is_fault is_before_draws) (sym ends.answer_is)
+    by_fate no_memory ends = ap (is_fault is_before_draws) (sym ends.answer_is)
+
+-- An answer with a value is a fault where it was one without.
+pub same_fault : {B : Type 0} (is_kind : SignFault → Bool) (answer : Result (Unit {0}) SignFault) (value : B)
+    → is_fault is_kind (answered_with answer value) ≡ is_fault is_kind answer
+same_fault is_kind (Ok done) value = refl
+same_fault is_kind (Err fault) value = refl
+
+-- Where it is Ok the record stands at the end.
+pub added_records : {S R : Type 0} (g : store.Ghosts S) (old new : View S R) (entry : Record) (answer : Result (Unit {0}) SignFault) (done : Unit {0})
+    → Adds g old new entry answer → answer ≡ Ok done → new.records ≡ old.records ++ entry ∷ []
+added_records {S = S} {R = R} g old new entry answer done adds is = by_fate adds.fate adds.ends
+  where
+    by_fate : (fate : Fate) → Ends g old new (added (state_of old) entry fate) answer → new.records ≡ old.records ++ entry ∷ []
+    by_fate acked ends = ends.records
+    by_fate cut_old ends = absurd (let same = ends.answer_is ∙ is in cc)
+    by_fate cut_new ends = absurd (let same = ends.answer_is ∙ is in cc)
+    by_fate no_memory ends = absurd (let same = ends.answer_is ∙ is in cc)
+
+-- It isn't that the source failed.
+pub no_draw_fails : {S R : Type 0} (g : store.Ghosts S) (old new : View S R) (entry : Record) (answer : Result (Unit {0}) SignFault) → Adds g old new entry answer
+    → (before after : ℕ) → after ≡ before → Counts is_random_failed before after answer
+no_draw_fails {S = S} {R = R} g old new entry answer adds before after same = by_fate adds.fate adds.ends
+  where
+    by_fate : (fate : Fate) → Ends g old new (added (state_of old) entry fate) answer → Counts is_random_failed before after answer
+    by_fate acked ends = subst (Counts is_random_failed before after) ends.answer_is same
+    by_fate cut_old ends = subst (Counts is_random_failed before after) ends.answer_is same
+    by_fate cut_new ends = subst (Counts is_random_failed before after) ends.answer_is same
+    by_fate no_memory ends = subst (Counts is_random_failed before after) ends.answer_is same
+
+-- An answer with a value counts as one without.
+pub counts_answered : {B : Type 0} (is_counted : SignFault → Bool) (before after : ℕ) (answer : Result (Unit {0}) SignFault) (value : B)
+    → Counts is_counted before after answer → Counts is_counted before after (answered_with answer value)
+counts_answered is_counted before after (Ok done) value counts = counts
+counts_answered is_counted before after (Err fault) value counts = counts
+
+-- A call that draws and appends ends as one that appends does: with another answer, and the same records.
+pub ends_alike : {S R A B : Type 0} (g : store.Ghosts S) (view new : View S R) (random : R) (one : Outcome A) (other : Outcome B) (answer : Result A SignFault)
+    (last : Result B SignFault) → other.state ≡ one.state → other.acknowledged ≡ one.acknowledged → other.failed ≡ one.failed → other.answer ≡ last
+    → ((before after : ℕ) → Counts is_store_failed before after one.answer → Counts is_store_failed before after other.answer)
+    → Ends g (after_draw view random) new one answer → Ends g view new other last
+ends_alike g view new random one other answer last state acknowledged failed answer_is counts ends = record {
+  answer_is = answer_is;
+  records = ends.records ∙ sym acknowledged;
+  is_open = ends.is_open ∙ ap (λ s. s.is_open) (sym state);
+  store = record {
+    list = subst (λ (s : State). GrowsAlike (g.list view.store) (g.list new.store) view.records s.records) (sym state) ends.store.list;
+    moments = λ honest running. subst (λ all. LeavesOnly g.moment g.left_since view.store new.store (IsBeginning (length view.records) all))
+        (λ i. sym acknowledged i ++ option_to_list (sym failed i)) (ends.store.moments honest running);
+    failures = counts _ _ ends.store.failures;
+    honest = ends.store.honest;
+    most = ends.store.most;
+  };
+  unreadable = ends.unreadable;
+}
