@@ -1,7 +1,8 @@
--- What a request draws: no more than its records want, and 24 comes only of an I that stands in the records.
+-- What a request draws, and that what it signs was read: it draws no more than its records want, and 24 comes only of
+-- an I that stands in the records.
 use Rattle.std.proofs.Common.{◌≡◌, ◌≢◌, refl, subst, ℕ, zero, suc, ◌+◌, ◌-◌, ◌*◌, ◌≤◌, List, [], ◌∷◌, ◌++◌}
-use Rattle.std.proofs.Common.{length, length-append, Option, Some, None, Err, arith}
-use Rattle.std.specs.Prelude.{if◌then◌else◌, nat_lt, not, slice_index_or, sum}
+use Rattle.std.proofs.Common.{length, length-append, Option, Some, None, Ok, Err, true, arith}
+use Rattle.std.specs.Prelude.{IsSome, if◌then◌else◌, nat_lt, not, slice_index_or, sum}
 use Rattle.std.specs.List.{AllByRecursion, concat}
 use Rattle.std.proofs.lemmas.List.{length_push}
 use Rattle.std.proofs.lemmas.List.Sums.{sum_by-cons}
@@ -24,13 +25,17 @@ use Rattle.sign_core.proofs.Requests.{first_drawn, later_drawn}
 
 -- ---- what comes before the wanted records
 
--- Q holds of refusals that aren't 24 and of answers, also once the message is read.
+-- Q holds of refusals that aren't 24.
+abbrev IsOfRefusals : (Outcome (List ℕ) → Type 0) → State → Type 0
+IsOfRefusals Q state = (fault : SignFault) → fault ≢ RandomRepeated → Q (refused state fault)
+
+-- .. and of answers, also once the message is read
 record IsSettled (Q : Outcome (List ℕ) → Type 0) (state : State) : Type 0 where
-  refused_for : (fault : SignFault) → fault ≢ RandomRepeated → Q (refused state fault)
+  refused_for : IsOfRefusals Q state
   gives : (signature : List ℕ) → Q (answered state signature)
   read : (outcome : Outcome (List ℕ)) → Q outcome → Q (reading outcome)
 
-module _ (Q : Outcome (List ℕ) → Type 0) (limit : ℕ) (state : State) (name : List ℕ) (chance : Chance) (settled : IsSettled Q state) where
+module _ (Q : Outcome (List ℕ) → Type 0) (state : State) (chance : Chance) (settled : IsSettled Q state) where
   settled_repeated_sound : (key : Key) (k : ℕ) (bound : Bound) (damaged : Option ℕ) → Q (repeated_sound state key k bound damaged)
   settled_repeated_sound key k bound (Some slot) = settled.refused_for (Damaged slot) (λ e. cc)
   settled_repeated_sound key k bound None = settled.gives _
@@ -43,34 +48,35 @@ module _ (Q : Outcome (List ℕ) → Type 0) (limit : ℕ) (state : State) (name
       (λ same. kept_choice Q (not chance.has_room) _ _ (λ none. settled.refused_for OutOfMemory (λ e. cc))
       (λ room. settled_repeated_sound key k bound _)))
 
+module _ (Q : Outcome (List ℕ) → Type 0) (limit : ℕ) (state : State) (name : List ℕ) (chance : Chance) (refuses : IsOfRefusals Q state) where
   settled_sound : (key : Key) (level : ℕ) (damaged : Option ℕ) → Q (fulfilled key name chance (bottom_of key.secret - level) chance.trees state.records)
       → Q (bound_sound state key name chance level damaged)
-  settled_sound key level (Some slot) rest = settled.refused_for (Damaged slot) (λ e. cc)
+  settled_sound key level (Some slot) rest = refuses (Damaged slot) (λ e. cc)
   settled_sound key level None rest = rest
 
   settled_anew : (key : Key) (level : Option ℕ)
       → ((deepest : ℕ) → Q (fulfilled key name chance (bottom_of key.secret - deepest) chance.trees state.records))
       → Q (bound_anew limit state key name chance level)
-  settled_anew key None rest = settled.refused_for Exhausted (λ e. cc)
+  settled_anew key None rest = refuses Exhausted (λ e. cc)
   settled_anew key (Some level) rest =
-      kept_choice Q (nat_lt limit (length state.records + wanted_count key.secret level)) _ _ (λ full. settled.refused_for LedgerFull (λ e. cc))
-      (λ fits. kept_choice Q (not chance.has_room) _ _ (λ none. settled.refused_for OutOfMemory (λ e. cc))
+      kept_choice Q (nat_lt limit (length state.records + wanted_count key.secret level)) _ _ (λ full. refuses LedgerFull (λ e. cc))
+      (λ fits. kept_choice Q (not chance.has_room) _ _ (λ none. refuses OutOfMemory (λ e. cc))
       (λ room. settled_sound key level (damaged_in key level state.records (tree_before level state.records (length state.records))) (rest level)))
 
-  settled_of : (key : Key) (found : Option (ℕ × Bound))
+  settled_of : (key : Key) (found : Option (ℕ × Bound)) → ((k : ℕ) (bound : Bound) → Q (repeated state key k bound chance chance.given))
       → ((deepest : ℕ) → Q (fulfilled key name chance (bottom_of key.secret - deepest) chance.trees state.records))
       → Q (requested_of limit state key name chance found)
-  settled_of key (Some (k, bound)) rest = settled_repeated key k bound chance.given
-  settled_of key None rest = settled_anew key (deepest key.secret state.records) rest
+  settled_of key (Some (k, bound)) again rest = again k bound
+  settled_of key None again rest = settled_anew key (deepest key.secret state.records) rest
 
-  settled_under : (found : Option Key)
+  settled_under : (found : Option Key) → ((key : Key) (k : ℕ) (bound : Bound) → Q (repeated state key k bound chance chance.given))
       → ((key : Key) (deepest : ℕ) → found ≡ Some key → Q (fulfilled key name chance (bottom_of key.secret - deepest) chance.trees state.records))
       → Q (requested_under limit state name chance found)
-  settled_under None rest = settled.refused_for Stopped (λ e. cc)
-  settled_under (Some key) rest =
-      kept_choice Q (not state.is_open) _ _ (λ closed. settled.refused_for Stopped (λ e. cc))
-      (λ open_now. kept_choice Q (has_moved state.records) _ _ (λ moved. settled.refused_for MovedAway (λ e. cc))
-      (λ stays. settled_of key (binding_in state.records name) (λ level. rest key level refl)))
+  settled_under None again rest = refuses Stopped (λ e. cc)
+  settled_under (Some key) again rest =
+      kept_choice Q (not state.is_open) _ _ (λ closed. refuses Stopped (λ e. cc))
+      (λ open_now. kept_choice Q (has_moved state.records) _ _ (λ moved. refuses MovedAway (λ e. cc))
+      (λ stays. settled_of key (binding_in state.records name) (again key) (λ level. rest key level refl)))
 
 -- ---- 24
 
@@ -161,9 +167,12 @@ repeats_fulfilled key name chance (suc below) (draw ∷ draws) records =
 pub drawn_again : (limit : ℕ) (state : State) (name : List ℕ) (chance : Chance) → (requested limit state name chance).answer ≡ Err RandomRepeated
     → DrewAgain state.records chance.trees (requested limit state name chance).state.records
 drawn_again limit state name chance =
-    settled_under (Repeats state.records chance.trees) limit state name chance
-    (record { refused_for = λ fault other is. absurd (other (cc)); gives = λ signature is. absurd (cc); read = λ outcome again. again })
-    (key_in state.records) (λ key level keyed. repeats_fulfilled key name chance (bottom_of key.secret - level) chance.trees state.records)
+    let all = Repeats state.records chance.trees in
+    let settled : IsSettled all state =
+    record { refused_for = λ fault other is. absurd (other (cc)); gives = λ signature is. absurd (cc); read = λ outcome again. again } in
+    settled_under all limit state name chance settled.refused_for (key_in state.records)
+    (λ key k bound. settled_repeated all state chance settled key k bound chance.given)
+    (λ key level keyed. repeats_fulfilled key name chance (bottom_of key.secret - level) chance.trees state.records)
 
 -- ---- how much is drawn
 
@@ -242,10 +251,72 @@ pub drawn_most : (limit : ℕ) (state : State) (key : Key) (name : List ℕ) (ch
     → length (requested limit state name chance).drawn ≤ sum tree_sizes * bottom_of key.secret + sum (randomizer_sizes key.secret)
 drawn_most limit state key name chance keyed drawn =
     let most = 80 * bottom_of key.secret + sum (randomizer_sizes key.secret) in
-    settled_under (DrawsMost most) limit state name chance
-    (record { refused_for = λ fault other. omega arith; gives = λ signature. omega arith; read = λ outcome draws. draws })
-    (key_in state.records)
+    let settled : IsSettled (DrawsMost most) state =
+    record { refused_for = λ fault other. omega arith; gives = λ signature. omega arith; read = λ outcome draws. draws } in
+    settled_under (DrawsMost most) limit state name chance settled.refused_for (key_in state.records)
+    (λ own k bound. settled_repeated (DrawsMost most) state chance settled own k bound chance.given)
     (λ own level is.
     let same : key ≡ own = cc in
     let inner = most_fulfilled key name chance (bottom_of key.secret - level) chance.trees state.records drawn.trees drawn.bound in
     subst (λ k. DrawsMost most (fulfilled k name chance (bottom_of k.secret - level) chance.trees state.records)) same (omega (arith, inner)))
+
+-- ---- what is signed was read
+
+-- Where a signature is answered, a message was given and read.
+abbrev IsRead : (given : Option (List ℕ)) → Outcome (List ℕ) → Type 0
+IsRead given outcome = (signature : List ℕ) → outcome.answer ≡ Ok signature → IsSome given × (outcome.is_read ≡ true)
+
+read_append : (given : Option (List ℕ)) (state : State) (entry : Record) (fate : Fate) (next : List Record → Outcome (List ℕ))
+    → ((all : List Record) → IsRead given (next all)) → IsRead given (appended state entry fate next)
+read_append given state entry acked next later = later (state.records ++ entry ∷ [])
+read_append given state entry cut_old next later = λ signature is. absurd (cc)
+read_append given state entry cut_new next later = λ signature is. absurd (cc)
+read_append given state entry no_memory next later = λ signature is. absurd (cc)
+
+read_bound : (state : State) (key : Key) (name : List ℕ) (randomizer given : Option (List ℕ)) (fate : Fate)
+    → IsRead given (bound_with state key name randomizer given fate)
+read_bound state key name None given fate signature is = absurd (cc)
+read_bound state key name (Some randomizer) None fate signature is = absurd (cc)
+read_bound state key name (Some randomizer) (Some message) fate signature is = (refl, refl)
+
+read_with : (given : Option (List ℕ)) (state : State) (trees : Trees) (level leaf : ℕ) (identifier : List ℕ) (fields : List (List ℕ)) (fate : Fate)
+    (next : List Record → Outcome (List ℕ)) → ((all : List Record) → IsRead given (next all))
+    → IsRead given (extended_with state trees level leaf identifier fields fate next)
+read_with given state trees level leaf identifier [] fate next later = λ signature is. absurd (cc)
+read_with given state trees level leaf identifier (seed ∷ []) fate next later = λ signature is. absurd (cc)
+read_with given state trees level leaf identifier (seed ∷ randomizer ∷ []) fate next later = read_append given state _ fate next later
+read_with given state trees level leaf identifier (seed ∷ randomizer ∷ more ∷ rest) fate next later = λ signature is. absurd (cc)
+
+read_by : (given : Option (List ℕ)) (state : State) (trees : Trees) (level leaf : ℕ) (fields : List (List ℕ)) (fate : Fate)
+    (next : List Record → Outcome (List ℕ)) → ((all : List Record) → IsRead given (next all))
+    → IsRead given (extended_by state trees level leaf fields fate next)
+read_by given state trees level leaf [] fate next later = λ signature is. absurd (cc)
+read_by given state trees level leaf (identifier ∷ fields) fate next later =
+    kept_choice (IsRead given) (has_identifier state.records identifier) _ _ (λ there signature is. absurd (cc))
+    (λ new. read_with given state trees level leaf identifier fields fate next later)
+
+read_extended : (given : Option (List ℕ)) (state : State) (key : Key) (level : ℕ) (trees : Option Trees) (draw : Draw)
+    (next : List Record → Outcome (List ℕ)) → ((all : List Record) → IsRead given (next all)) → IsRead given (extended state key level trees draw next)
+read_extended given state key level None draw next later = λ signature is. absurd (cc)
+read_extended given state key level (Some trees) draw next later =
+    read_by given state trees level (next_at key.secret state.records (level - 1)) draw.fields draw.fate next later
+
+read_fulfilled : (key : Key) (name : List ℕ) (chance : Chance) (below : ℕ) (draws : List Draw) (records : List Record)
+    → IsRead chance.given (fulfilled key name chance below draws records)
+read_fulfilled key name chance zero draws records =
+    read_bound (open_on records) key name (randomizer_from key.secret chance.bound.fields) chance.given chance.bound.fate
+read_fulfilled key name chance (suc below) draws records =
+    read_extended chance.given (open_on records) key (bottom_of key.secret - below) (trees_of key.secret) (first_draw draws)
+    (fulfilled key name chance below (later_draws draws)) (read_fulfilled key name chance below (later_draws draws))
+
+read_repeated : (state : State) (key : Key) (k : ℕ) (bound : Bound) (chance : Chance) (given : Option (List ℕ))
+    → IsRead given (repeated state key k bound chance given)
+read_repeated state key k bound chance None signature is = absurd (cc)
+read_repeated state key k bound chance (Some message) signature is = (refl, refl)
+
+pub signed_read : (limit : ℕ) (state : State) (name signature : List ℕ) (chance : Chance) → (requested limit state name chance).answer ≡ Ok signature
+    → IsSome chance.given × ((requested limit state name chance).is_read ≡ true)
+signed_read limit state name signature chance =
+    settled_under (IsRead chance.given) limit state name chance (λ fault other given is. absurd (cc)) (key_in state.records)
+    (λ key k bound. read_repeated state key k bound chance chance.given)
+    (λ key level keyed. read_fulfilled key name chance (bottom_of key.secret - level) chance.trees state.records) signature

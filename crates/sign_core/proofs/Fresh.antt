@@ -1,6 +1,6 @@
 -- A new name is signed where a leaf is free and nothing fails, but for an I that was drawn before.
 use Rattle.std.proofs.Common.{◌≡◌, ◌∙◌, refl, sym, ap, subst, ℕ, zero, suc, ◌+◌, ◌-◌, ◌<◌, ◌≤◌, ◌⊎◌, inl, inr, Bool, true, false, List, [], ◌∷◌, ◌++◌}
-use Rattle.std.proofs.Common.{length, map, take, Option, Some, Ok, Err, append_assoc, append-nil, arith}
+use Rattle.std.proofs.Common.{length, map, take, Option, Some, None, Ok, Err, append_assoc, append-nil, arith}
 use Rattle.std.specs.Prelude.{if◌then◌else◌, slice_get}
 use Rattle.std.specs.List.{concat}
 use Rattle.state_file.specs.Laws.{bottom_of}
@@ -66,6 +66,8 @@ pub record IsDone (key : Key) (name message : List ℕ) (chance : Chance) (below
   pub state : outcome.state ≡ open_on (records ++ trees ++ BoundRecord bound ∷ [])
   pub answer : outcome.answer ≡ Ok (signature_at key (records ++ trees ++ BoundRecord bound ∷ []) (length (records ++ trees)) bound)
   pub drawn : outcome.drawn ≡ bytes_of draws ++ concat chance.bound.fields
+  pub read : outcome.is_read ≡ true
+  pub uncut : outcome.failed ≡ None
 
 -- it is done, or an I was drawn before
 abbrev pub IsFine : Key → (name message : List ℕ) → Chance → (below : ℕ) → List Draw → List Record → Outcome (List ℕ) → Type 0
@@ -96,6 +98,8 @@ bound_done key name message drawn chance records given is acknowledged =
       answer = ap (λ (o : Outcome (List ℕ)). o.answer) came
           ∙ ap (λ all. Ok (signature_at key (all ++ BoundRecord bound ∷ []) (length all) bound)) (sym none);
       drawn = ap (λ (o : Outcome (List ℕ)). o.drawn) came ∙ append-nil (concat chance.bound.fields);
+      read = ap (λ (o : Outcome (List ℕ)). o.is_read) came;
+      uncut = ap (λ (o : Outcome (List ℕ)). o.failed) came;
     }
 
 extend_in : (key : Key) (trees : Trees) (records : List Record) (level : ℕ) (identifier seed randomizer : List ℕ)
@@ -155,6 +159,8 @@ tree_done key trees name message chance below draws records identifier seed rand
           ∙ ap (λ bytes. identifier ++ bytes) (sym (append_assoc seed (randomizer ++ []) _))
           ∙ sym (append_assoc identifier (seed ++ (randomizer ++ [])) _)
           ∙ sym (append_assoc fields (bytes_of draws) (concat chance.bound.fields));
+      read = done.read;
+      uncut = done.uncut;
     }
 
 -- all that is wanted

@@ -30,7 +30,7 @@ use Rattle.sign_core.proofs.Opened.{reopens}
 use Rattle.sign_core.proofs.Valid.{undamaged}
 use Rattle.sign_core.proofs.Ends.{Ends, IsDamaged, ended_anew, ended_request}
 use Rattle.sign_core.proofs.Fresh.{IsDone, fine_fulfilled, randomizer_drawn}
-use Rattle.sign_core.proofs.DrawnAgain.{drawn_again, drawn_most}
+use Rattle.sign_core.proofs.DrawnAgain.{drawn_again, drawn_most, signed_read}
 use Rattle.sign_core.proofs.Leaves.{deepest_is}
 use Rattle.sign_core.proofs.OnceKept.{IsKept, sound_with}
 use Rattle.sign_core.proofs.OneLeaf.{handed_valid, one_digest, one_name, one_signature}
@@ -56,6 +56,16 @@ open_request limit state key name chance found open_now stays keyed is =
     ap (requested_under limit state name chance) keyed
     ∙ ap (λ test. if not test then refused state Stopped else rest (has_moved state.records)) open_now
     ∙ ap rest stays ∙ ap (requested_of limit state key name chance) is
+
+-- or no record follows
+moved_request : (limit : ℕ) (state : State) (key : Key) (name : List ℕ) (chance : Chance) → state.is_open ≡ true → has_moved state.records ≡ true
+    → key_in state.records ≡ Some key → requested limit state name chance ≡ refused state MovedAway
+moved_request limit state key name chance open_now moved keyed =
+    let own = requested_of limit state key name chance (binding_in state.records name) in
+    let rest : Bool → Outcome (List ℕ) = λ moved. if moved then refused state MovedAway else own in
+    ap (requested_under limit state name chance) keyed
+    ∙ ap (λ test. if not test then refused state Stopped else rest (has_moved state.records)) open_now
+    ∙ ap rest moved
 
 -- ---- a name that is bound
 
@@ -125,6 +135,8 @@ signed_by key records level name message chance outcome inside done =
           ∙ omega (arith, length_push all (BoundRecord done.bound), length-append records done.trees, done.count, inside);
       answer = done.answer;
       drawn = done.drawn;
+      read = done.read;
+      uncut = done.uncut;
     }
 
 pub fresh_fine : (limit : ℕ) (state : State) (handed : List Handed) (key : Key) (level : ℕ) (name message : List ℕ) (chance : Chance)
@@ -316,8 +328,13 @@ once limit world kept = record {
   recorded = kept.recorded;
   valid = λ x there. handed_valid world x kept there;
   counted = λ name message signature chance. handed_out limit world name message signature chance;
+  read = λ name signature chance. signed_read limit world.state name signature chance;
   changed = λ key k bound name message chance. answers_changed limit world.state key k bound name message chance;
   repeated = λ key k bound name message chance. answers_repeated limit world.state world.handed key k bound name message chance kept;
+  unread = λ key k bound name chance open_now stays keyed named none.
+      open_request limit world.state key name chance (Some (k, bound)) open_now stays keyed named
+      ∙ ap (repeated world.state key k bound chance) none;
+  moved = λ key name chance open_now moved keyed. moved_request limit world.state key name chance open_now moved keyed;
   begins = λ spec secret chance can empty loaded drawn.
       let (public, is) = spec_public spec chance.fields secret can drawn in
       λ room fate. begins_key world.state spec secret chance public empty loaded drawn room fate is;

@@ -28,6 +28,7 @@ use Rattle.sign_core.specs.World.{randomizer_from, refused, reopen, repeated, re
 use Rattle.sign_core.specs.World.{retired_under, run, secret_from, stop}
 use Rattle.sign_core.specs.Textbook.{Trees, damaged_in, digest_at, public_in, signature_at, tree_before, trees_of}
 use Rattle.sign_core.proofs.Events.{retire_can}
+use Rattle.sign_core.proofs.DrawnAgain.{signed_read}
 use Rattle.sign_core.proofs.Follow.{key_first}
 use Rattle.sign_core.proofs.Illegal.{none_from_legal}
 use Rattle.sign_core.proofs.Leaves.{deepest_is}
@@ -350,4 +351,4 @@ run_valid limit world events x sized empty all there =
     record { public = public; keyed = ap public_of_key are.keyed ∙ is; verifies = right.valid x there }
 
 pub opened_law : OpenedLaw
-opened_law = record { reopens = reopens; legal = stays_legal; valid = request_valid; handed = run_valid }
+opened_law = record { reopens = reopens; legal = stays_legal; read = signed_read; valid = request_valid; handed = run_valid }

@@ -1,7 +1,7 @@
 -- The law over all runs: no leaf at any level signs two digests.
 use Rattle.std.specs.Prelude.{◌≡◌, ◌≢◌, ◌⊎◌, ◌↔◌, ℕ, ◌+◌, ◌-◌, ◌*◌, ◌≤◌, true, false, List, [], ◌∷◌, ◌++◌, Contains}
 use Rattle.std.specs.Prelude.{length, map, sum}
-use Rattle.std.specs.Prelude.{Option, Some, None, Ok, Err, if◌then◌else◌, slice_get, take}
+use Rattle.std.specs.Prelude.{IsSome, Option, Some, None, Ok, Err, if◌then◌else◌, slice_get, take}
 use Rattle.std.specs.List.{AllByRecursion, concat}
 use Rattle.std.specs.Option.{option_to_list}
 use Rattle.typecodes.specs.declared.spec.Spec.{Spec}
@@ -19,7 +19,7 @@ use Rattle.state_file.specs.declared.record.Secret.{Secret}
 use Rattle.state_file.specs.declared.record.Secret.TheVariants.{Lms as LmsSecret, Hss as HssSecret, Xmss as XmssSecret}
 use Rattle.sign_core.specs.declared.key.AnyPublic.{AnyPublic}
 use Rattle.sign_core.specs.declared.fault.SignFault.{SignFault}
-use Rattle.sign_core.specs.declared.fault.SignFault.TheVariants.{Changed, Damaged, Exhausted, Illegal, OutOfMemory}
+use Rattle.sign_core.specs.declared.fault.SignFault.TheVariants.{Changed, Damaged, Exhausted, Illegal, MessageRead, Moved, OutOfMemory}
 use Rattle.sign_core.specs.declared.fault.SignFault.TheVariants.{Stopped, StoreFailed, Unreadable}
 use Rattle.sign_core.specs.declared.fault.SignFault.TheVariants.{DeviceFailed, NoMemoryToOpen, RandomRepeated}
 use Rattle.sign_core.specs.Key.{KeyVerdict}
@@ -189,6 +189,8 @@ pub record IsSigned (key : Key) (records : List Record) (level : ℕ) (name mess
   pub answer : outcome.answer
       ≡ Ok (signature_at key (records ++ trees ++ BoundRecord bound ∷ []) (length (records ++ trees)) bound)
   pub drawn : outcome.drawn ≡ all_drawn chance
+  pub read : outcome.is_read ≡ true
+  pub uncut : outcome.failed ≡ None
 
 -- With these records there was one more draw for a new tree, after so many had been begun, and its I stands in them.
 pub record DrewAgain (before : List Record) (draws : List Draw) (left : List Record) : Type 0 where
@@ -239,6 +241,10 @@ pub record IsOnce (limit : ℕ) (world : World) : Type 0 where
       → (requested limit world.state name chance).answer ≡ Ok signature
       → Contains (after limit world (request name chance)).handed
       (record { name = name; message = message; signature = signature })
+  -- and the message that it was signed for was read
+  pub read : (name signature : List ℕ) (chance : Chance)
+      → (requested limit world.state name chance).answer ≡ Ok signature
+      → IsSome chance.given × ((requested limit world.state name chance).is_read ≡ true)
   -- a request to an open signer whose name is bound to another digest is refused as changed, and changes nothing; no
   -- record follows a Moved
   pub changed : (key : Key) (k : ℕ) (bound : Bound) (name message : List ℕ) (chance : Chance)
@@ -253,6 +259,15 @@ pub record IsOnce (limit : ℕ) (world : World) : Type 0 where
       → requested limit world.state name chance
       ≡ reading (if chance.has_room then answered world.state (signature_at key world.state.records k bound)
       else refused world.state OutOfMemory)
+  -- one whose message can't be read is refused, and changes nothing
+  pub unread : (key : Key) (k : ℕ) (bound : Bound) (name : List ℕ) (chance : Chance)
+      → world.state.is_open ≡ true → has_moved world.state.records ≡ false → key_in world.state.records ≡ Some key
+      → binding_in world.state.records name ≡ Some (k, bound) → chance.given ≡ None
+      → requested limit world.state name chance ≡ reading (refused world.state MessageRead)
+  -- after a Moved every request is refused, and changes nothing
+  pub moved : (key : Key) (name : List ℕ) (chance : Chance) → world.state.is_open ≡ true
+      → has_moved world.state.records ≡ true → key_in world.state.records ≡ Some key
+      → requested limit world.state name chance ≡ refused world.state Moved
   -- a create where no record stands begins a key and answers its public key, where nothing fails
   pub begins : (spec : Spec) (secret : Secret) (chance : Creation) → IsSpec spec → world.state.records ≡ []
       → chance.failed_load ≡ None → secret_from spec chance.fields ≡ Some secret → chance.has_room ≡ true

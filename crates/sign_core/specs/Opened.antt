@@ -1,5 +1,5 @@
 -- What holds of any legal records whose parts have their sizes, whoever wrote them.
-use Rattle.std.specs.Prelude.{◌≡◌, ℕ, List, [], Contains, Some, Ok}
+use Rattle.std.specs.Prelude.{◌≡◌, ℕ, List, [], Contains, IsSome, Some, Ok, true}
 use Rattle.state_file.specs.Laws.{IsLegal}
 use Rattle.state_file.specs.declared.record.Record.{Record}
 use Rattle.sign_core.specs.declared.key.AnyPublic.{AnyPublic}
@@ -26,6 +26,10 @@ pub record OpenedLaw : Type 0 where
   -- each event leaves legal records
   pub legal : (limit : ℕ) (world : World) (event : Event) → IsEvent event → AreWellFormed world.state.records
       → AreWellFormed (after limit world event).state.records
+  -- where a request gives a signature, its message was read
+  pub read : (limit : ℕ) (state : State) (name signature : List ℕ) (chance : Chance)
+      → (requested limit state name chance).answer ≡ Ok signature
+      → IsSome chance.given × ((requested limit state name chance).is_read ≡ true)
   -- a signature that a request gives, under a new name or a bound one, is valid for the message that was read
   pub valid : (limit : ℕ) (state : State) (name message signature : List ℕ) (chance : Chance)
       → AreWellFormed state.records → AreDraws chance → chance.given ≡ Some message

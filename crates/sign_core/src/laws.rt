@@ -82,6 +82,7 @@ pub fn textbook_laws()
 ///   signature uses, and for which digests, is read off the bytes that were handed out, the message and the public key.
 /// - One name has one signature.
 /// - Every signature that was handed out is the one that the records say, and it is valid for its message under the key.
+///   That message was read.
 /// - Of an open signer, a request for a bound name and another digest is refused as changed, and one for the bound
 ///   digest gets the recorded signature, unless memory is refused or the message can't be read. Neither changes anything.
 /// - A request for a new name gets the next leaf, if one is left, the store isn't full and nothing fails.
