@@ -1,6 +1,6 @@
 -- A disk in memory: what callers see of it, and what its calls do.
 use Rattle.std.specs.Prelude.{◌≡◌, ℕ, zero, suc, ◌-◌, List, ◌∷◌, length, take, Option, Some, None, Result, Ok}
-use Rattle.std.specs.Prelude.{Err, ◌/◌, ◌↔◌, Bool, true}
+use Rattle.std.specs.Prelude.{Err, ◌/◌, ◌↔◌}
 use Rattle.state_file.specs.Disk.{range_of, Counts, DiskState, TimePasses, is_failure, settled}
 use Rattle.state_file.specs.declared.disk.DiskFault.{DiskFault}
 use Rattle.state_file.specs.declared.disk.DiskFault.TheVariants.{Failed, OutOfMemory}
@@ -112,10 +112,6 @@ pub record CallComes {A : Type 0} (old new : MemoryDisk) (answer : Result A Disk
   pub time : TimePasses state_in moment_in left_in old new
   pub failures : Counts is_failure (failures_in old) (failures_in new) answer
   pub plan : PlanAfterCall old new
-
--- It keeps the promises of a disk.
-abbrev pub is_honest : MemoryDisk → Bool
-is_honest disk = true
 
 -- No call came in between: reads give the same, it is the same moment, a stop since one leaves the same, and no more
 -- calls are refused.

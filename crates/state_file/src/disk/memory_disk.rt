@@ -1,6 +1,6 @@
 //! A disk in memory, to show what a stop may leave.
 
-ghost use Rattle.std.specs.Prelude.{if◌then◌else◌, nat_le, IsTrue, ◌-◌, ◌≡◌, ◌+◌, ◌≤◌, ◌<◌, length, slice_range};
+ghost use Rattle.std.specs.Prelude.{if◌then◌else◌, nat_le, true, ◌-◌, ◌≡◌, ◌+◌, ◌≤◌, ◌<◌, length, slice_range};
 ghost use Rattle.std.specs.Prelude.{IfOk, IfErr, OnOk, OnErr, ◌≢◌};
 ghost use Rattle.std.proofs.Props.{props};
 ghost use Rattle.state_file.specs.Disk.{MayLeave, settled, WritesBytes, Syncs, Counts};
@@ -156,7 +156,7 @@ impl MemoryDisk {
 
 impl Disk for MemoryDisk {
     ghost use Rattle.state_file.specs.MemoryDisk.{CallComes, SyncsInMemory, WritesInMemory, answer_of};
-    ghost use Rattle.state_file.specs.MemoryDisk.{is_honest, left_in, moment_in, state_in};
+    ghost use Rattle.state_file.specs.MemoryDisk.{left_in, moment_in, state_in};
     ghost use Rattle.state_file.specs.MemoryDisk.{failures_in, next_fate, past_ends_in};
 
     ghost state = { state_in };
@@ -169,7 +169,7 @@ impl Disk for MemoryDisk {
 
     ghost past_ends = { past_ends_in };
 
-    ghost honest = { is_honest };
+    ghost honest = { λ _. true };
 
     ghost shows = { λ disk _. disk.shows };
 
@@ -179,8 +179,8 @@ impl Disk for MemoryDisk {
 
     fn len(&mut self) -> Result<u64, DiskFault>
         ensures value { result ≡ answer_of (next_fate self.old) (Ok (length (state_in self.old).content)) }
-        ensures length { IsTrue (is_honest self.old) → IfOk result (λ n. n ≡ length (state_in self.old).content) }
-        ensures stays { IsTrue (is_honest self.old) → state_in self.new ≡ state_in self.old }
+        ensures length { IfOk result (λ n. n ≡ length (state_in self.old).content) }
+        ensures stays { state_in self.new ≡ state_in self.old }
         ensures past_ends { past_ends_in self.new ≡ past_ends_in self.old }
         ensures call { CallComes self.old self.new result }
     {
@@ -192,14 +192,12 @@ impl Disk for MemoryDisk {
         ensures value { result ≡ answer_of (next_fate self.old)
             (if nat_le (at + length into.old) (length (state_in self.old).content) then Ok tt else Err
             DiskFault.PastEnd) }
-        ensures within { IsTrue (is_honest self.old) →
-            OnOk result (at + length into.old ≤ length (state_in self.old).content) }
-        ensures bytes { IsTrue (is_honest self.old) →
-            OnOk result (into.new ≡ slice_range (state_in self.old).content at (at + length into.old)) }
-        ensures past_end { IsTrue (is_honest self.old) → result ≡ Err DiskFault.PastEnd →
+        ensures within { OnOk result (at + length into.old ≤ length (state_in self.old).content) }
+        ensures bytes { OnOk result (into.new ≡ slice_range (state_in self.old).content at (at + length into.old)) }
+        ensures past_end { result ≡ Err DiskFault.PastEnd →
             length (state_in self.old).content < at + length into.old }
         ensures past_ends { Counts is_past_end (past_ends_in self.old) (past_ends_in self.new) result }
-        ensures stays { IsTrue (is_honest self.old) → state_in self.new ≡ state_in self.old }
+        ensures stays { state_in self.new ≡ state_in self.old }
         ensures call { CallComes self.old self.new result }
     {
         self.plan.admit(&mut self.failures)?;
@@ -218,8 +216,7 @@ impl Disk for MemoryDisk {
     fn write_at(&mut self, at: u64, bytes: &[u8]) -> Result<(), DiskFault>
         ensures stores { WritesInMemory at bytes.now (state_in self.old) (state_in self.new) (next_fate self.old)
             result }
-        ensures written { IsTrue (is_honest self.old) →
-            WritesBytes at bytes.now (state_in self.old) (state_in self.new) result }
+        ensures written { WritesBytes at bytes.now (state_in self.old) (state_in self.new) result }
         ensures past_ends { past_ends_in self.new ≡ past_ends_in self.old }
         ensures call { CallComes self.old self.new result }
     {
@@ -244,7 +241,7 @@ impl Disk for MemoryDisk {
 
     fn sync(&mut self) -> Result<(), DiskFault>
         ensures flushes { SyncsInMemory (state_in self.old) (state_in self.new) (next_fate self.old) result }
-        ensures synced { IsTrue (is_honest self.old) → Syncs (state_in self.old) (state_in self.new) result }
+        ensures synced { Syncs (state_in self.old) (state_in self.new) result }
         ensures past_ends { past_ends_in self.new ≡ past_ends_in self.old }
         ensures call { CallComes self.old self.new result }
     {

@@ -6,7 +6,7 @@ use Rattle.state_file.proofs.Log.{elapses_more, opens, overlays_bytes}
 use Rattle.state_file.proofs.disk.memory_disk.MemoryDiskDisk.write_at.Goals as goal
 
 pub returns-in-Ok-clause-written : goal.returns-in-Ok-clause-written
-returns-in-Ok-clause-written c h =
+returns-in-Ok-clause-written c =
     let at = c.args.at in
     let bytes = c.args.bytes.now in
     let old = c.args.self.now.content.items in
