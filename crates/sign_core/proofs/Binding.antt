@@ -38,7 +38,7 @@ use Rattle.sign_core.specs.Source.{Provides}
 use Rattle.sign_core.specs.Records.{binding_in, can_follow, current, free_at, has_moved, has_randomizer, is_free, key_in, next_at, next_in, next_of}
 use Rattle.sign_core.specs.Links.{AreMade, IsMade, signing_of_link, signings_of}
 use Rattle.sign_core.specs.Signer.{Adds, Ends, IsRead, IsTied, View, added, is_before_draws, is_of_append, is_out_of_memory, is_random_failed, is_store_failed, signature_size, state_of, view_of}
-use Rattle.sign_core.specs.Signing.{Binds, Does, Fulfils, IsXmssKey, Stands, WritesChain, pairs_of}
+use Rattle.sign_core.specs.Signing.{Binds, Does, Fulfils, IsXmssKey, Stands, StandsIn, WritesChain, pairs_of}
 use Rattle.sign_core.specs.Ledger.{Table}
 use Rattle.sign_core.specs.World.{Chance, Fate, Outcome, acked, answered, appended, bound_sound, bound_with, cut_new, cut_old, drawing, fulfilled, new_bound, no_memory}
 use Rattle.sign_core.specs.World.{open_on, randomizer_from, reading}
@@ -333,6 +333,26 @@ module _ {S R M : Type 0} (g : store.Ghosts S) (r : source.Ghosts R) (m : messag
             (one_field (r.upcoming random) (r.upcoming mid) randomizer draws.1) draws.0 whole;
         late = same_fault is_before_draws a _ ∙ is_late g (view_of kept_in mid ledger is_open) new (BoundRecord bound) a adds;
       })
+
+-- The record that binds a name to the next leaf of a standing chain is the world's, and is appended, or its append fails.
+pub bound_below : {S R M : Type 0} (g : store.Ghosts S) (r : source.Ghosts R) (m : message.Ghosts M) (name : List ℕ) (kept_in : S) (random mid : R)
+    (ledger : Table) (is_open : Bool) (before after : M) (key : Key) (trees : Trees) (v new : View S R) (above : List Link) (last : Link) (bound : Bound)
+    (text : List ℕ) (a : Result (Unit {0}) SignFault) (answer : Result (List ℕ) SignFault) → view_of kept_in random ledger is_open ≡ v → v.is_open ≡ true
+    → key_in v.records ≡ Some key → StandsIn trees v.records above last key → length above ≡ bottom_of key.secret → bound.name ≡ name
+    → bound.leaf ≡ last.signed.leaf → bound.digest ≡ message_digest_of last.secret.identifier last.signed.leaf bound.randomizer text
+    → DrawsBytes (r.failures random) (r.failures mid) (r.upcoming random) (r.upcoming mid) (Ok bound.randomizer) → length bound.randomizer ≡ 32
+    → AreBytes bound.randomizer → ReadWhole m.transition m.remaining text before after → Adds g (view_of kept_in mid ledger is_open) new (BoundRecord bound) a
+    → answer ≡ answered_with a (signature_at key (ledger.records ++ BoundRecord bound ∷ []) (length ledger.records) bound)
+    → Fulfils g r m name 0 v new before after answer key
+bound_below {S = S} {R = R} {M = M} g r m name kept_in random mid ledger is_open before after key trees v new above last bound text a answer is opened keyed
+    standing bottom named leaf digest draws sized bytes whole adds answers =
+    let (these, stands_at) = subst (λ (w : View S R). StandsIn trees w.records above last key) (sym is) standing in
+    let stands = subst (λ n. Stands key trees ledger.records n above last) bottom stands_at in
+    let first = ap (λ w. key_in w.records) is ∙ keyed in
+    let made = bound_of_chain ledger.records key trees above last name bound text first these stands named leaf digest in
+    subst (λ (w : View S R). Fulfils g r m name 0 w new before after answer key) is
+    (bound_added g r m name kept_in random mid ledger is_open before after key trees these new bound text a answer (ap (λ w. w.is_open) is ∙ opened) draws
+    sized bytes whole made adds answers)
 
 -- ---- the links of a signature
 

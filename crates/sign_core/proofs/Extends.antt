@@ -1,6 +1,6 @@
 -- What each end of an extend is: one new tree, by some draw.
 use Rattle.std.proofs.Common.{◌≡◌, ◌∙◌, ℕ, ◌+◌, ◌<◌, true, false, List, [], ◌∷◌, ◌++◌, length, take, Some, Result, Ok, Err, refl, sym, ap, subst, append-nil, arith, IsTrue}
-use Rattle.std.specs.Prelude.{if◌then◌else◌}
+use Rattle.std.specs.Prelude.{Bool, if◌then◌else◌, slice_index_or}
 use Rattle.std.specs.List.{concat}
 use Rattle.std.proofs.Math.Seq.{take-length}
 use Rattle.state_file.proofs.Moments.{started}
@@ -13,14 +13,23 @@ use Rattle.sign_core.specs.declared.fault.SignFault.TheVariants.{Changed, Device
 use Rattle.sign_core.specs.declared.fault.SignFault.TheVariants.{NoKey, NoMemoryToOpen, OutOfMemory, RandomFailed, RandomRepeated, RetireRange}
 use Rattle.sign_core.specs.declared.fault.SignFault.TheVariants.{Damaged, Stopped, StoreFailed, Unreadable}
 use Rattle.sign_core.specs.declared.source.Source as source
+use Rattle.typecodes.specs.declared.types.LmsPair.{LmsPair}
+use Rattle.lmots.specs.Key.{message_digest_of}
+use Rattle.lms.specs.declared.key.LmsPublic.{LmsPublic}
+use Rattle.lms.specs.Secret.{public_of}
+use Rattle.lms.specs.Writing.{public_bytes}
+use Rattle.sign_core.specs.declared.links.Link.{Link}
+use Rattle.sign_core.specs.Ledger.{Table}
+use Rattle.state_file.specs.declared.record.Record.TheVariants.{Extend as ExtendRecord}
+use Rattle.sign_core.proofs.StandingChain.{entry_is}
 use Rattle.sign_core.specs.declared.signer.signing.TreeSeeds.{TreeSeeds}
 use Rattle.sign_core.specs.Signing.{answered_with}
 use Rattle.sign_core.specs.Source.{Provides}
 use Rattle.sign_core.specs.Records.{has_identifier}
 use Rattle.sign_core.specs.Once.{IsBeginning}
 use Rattle.sign_core.specs.Signer.{Adds, Ends, IsTied, View, added, is_before_draws, is_fault, is_of_append, is_out_of_memory, is_random_failed}
-use Rattle.sign_core.specs.Signer.{is_store_failed, state_of}
-use Rattle.sign_core.specs.Signing.{DrawsTree, Extends}
+use Rattle.sign_core.specs.Signer.{is_store_failed, state_of, view_of}
+use Rattle.sign_core.specs.Signing.{DrawsTree, Extends, StandsIn}
 use Rattle.sign_core.specs.World.{Fate, Outcome, acked, answered, appended, cut_new, cut_old, drawing, extended, no_memory}
 use Rattle.sign_core.specs.World.{open_on, refused}
 use Rattle.sign_core.specs.Textbook.{Trees, trees_of}
@@ -200,3 +209,29 @@ drawn {S = S} {R = R} g r level key trees view new random seeds entry answer is_
           (sym (same_fault is_of_append answer []) ∙ none);
       late = same_fault is_before_draws answer [] ∙ is_late g (after_draw view random) new entry answer adds;
     }
+
+-- The tree that was drawn below a standing chain: its record is the world's, and is appended.
+pub drawn_below : {S R : Type 0} (g : store.Ghosts S) (r : source.Ghosts R) (key : Key) (trees : Trees) (kept_in : S) (random after : R) (ledger : Table)
+    (is_open : Bool) (v new : View S R) (above : List Link) (last : Link) (seeds : TreeSeeds) (pair : LmsPair) (public : LmsPublic) (level : ℕ)
+    (digest root : List ℕ) (answer : Result (Unit {0}) SignFault) → view_of kept_in random ledger is_open ≡ v → v.is_open ≡ true
+    → StandsIn trees v.records above last key → level ≡ length above + 1 → pair ≡ slice_index_or trees.pairs level trees.top.pair
+    → public ≡ public_of (record { pair = pair; identifier = seeds.identifier; seed = seeds.seed })
+    → digest ≡ message_digest_of last.secret.identifier last.signed.leaf seeds.randomizer (public_bytes public) → root ≡ public.root
+    → DrawsTree ledger.records (r.failures random) (r.failures after) (r.upcoming random) (r.upcoming after) (Ok seeds)
+    → Adds g (view_of kept_in after ledger is_open) new (ExtendRecord (record {
+      level = level;
+      parent_leaf = last.signed.leaf;
+      identifier = seeds.identifier;
+      seed = seeds.seed;
+      randomizer = seeds.randomizer;
+      digest = digest;
+      root = root;
+    })) answer → Extends g r (length above + 1) v new (answered_with answer []) key
+drawn_below {S = S} {R = R} g r key trees kept_in random after ledger is_open v new above last seeds pair public level digest root answer is opened standing
+    count paired made digested rooted draws adds =
+    let view = view_of kept_in random ledger is_open in
+    let (these, stands) = subst (λ (w : View S R). StandsIn trees w.records above last key) (sym is) standing in
+    let entry = entry_is key trees ledger.records above last (record { pair = pair; identifier = seeds.identifier; seed = seeds.seed }) public _ stands count
+    refl refl refl made digested rooted (paired ∙ ap (λ n. slice_index_or trees.pairs n trees.top.pair) count) in
+    subst (λ (w : View S R). Extends g r (length above + 1) w new (answered_with answer []) key) is
+    (drawn g r (length above + 1) key trees view new after seeds _ answer these (ap (λ w. w.is_open) is ∙ opened) draws entry adds)

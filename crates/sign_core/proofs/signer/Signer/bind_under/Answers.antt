@@ -1,4 +1,4 @@
-use Rattle.std.proofs.Common.{rules, ◌≡◌, ◌∙◌, ◌∷◌, [], ◌++◌, length, take, drop, Some, Ok, Err, true, refl, sym, ap, subst, arith}
+use Rattle.std.proofs.Common.{rules, ◌≡◌, ◌∙◌, ◌∷◌, [], ◌++◌, length, Some, Ok, Err, true, refl, sym, ap, subst, arith}
 use Rattle.std.proofs.lemmas.List.{take_at}
 use Rattle.typecodes.specs.Layout.{AreBytes}
 use Rattle.state_file.specs.Laws.{bottom_of}
@@ -10,7 +10,7 @@ use Rattle.sign_core.specs.Links.{trees_in}
 use Rattle.sign_core.specs.Signer.{view_of}
 use Rattle.sign_core.specs.Signing.{Fulfils, Stands, StandsIn, UnderKey}
 use Rattle.sign_core.specs.Textbook.{signature_at, trees_of}
-use Rattle.sign_core.proofs.Binding.{bound_added, bound_of_chain, chain_follows_bound, key_of_added, standing_made, standing_pairs, standing_signs, undrawn, unread_bound}
+use Rattle.sign_core.proofs.Binding.{bound_below, chain_follows_bound, key_of_added, standing_made, standing_pairs, standing_signs, undrawn, unread_bound}
 use Rattle.sign_core.proofs.LedgerReading.{key_levels}
 use Rattle.sign_core.proofs.signer.Signer.bind_under.Goals as goal
 
@@ -63,14 +63,9 @@ add-requires-clause-follows g c =
 pub returns-in_err-add-clause-step : goal.returns-in_err-add-clause-step
 returns-in_err-add-clause-step g c key keyed =
     let i = c.self.inside in
-    let T = trees_in c.args.trees.now in
     let records = i.ledger.records in
     let bytes : AreBytes c.in_ok-randomizer.randomizer = search rules in
-    let opened : i.is_open ≡ true = ap (λ w. w.is_open) c.self.view_is ∙ c.requires.ready.is_open in
-    let first : key_in records ≡ Some key = ap (λ w. key_in w.records) c.self.view_is ∙ keyed in
     let (text, whole, digest_is) = c.in_ok-digest.ensures.ok in
-    let (these, standing) = subst (λ w. StandsIn T w.records c.args.above.now.items c.args.last key) (sym c.self.view_is) (c.requires.stands key keyed) in
-    let stands = subst (λ n. Stands key T records n c.args.above.now.items c.args.last) (c.requires.bottom key keyed) standing in
     let bound : Bound = record {
       name = c.copied.result;
       leaf = c.args.last.signed.leaf;
@@ -78,14 +73,12 @@ returns-in_err-add-clause-step g c key keyed =
       digest = c.in_ok-digest.digest;
     } in
     let sig = signature_at key (records ++ BoundRecord bound ∷ []) (length records) bound in
-    let is = bound_of_chain records key T c.args.above.now.items c.args.last c.args.name.now bound text first these stands c.copied.ensures refl digest_is in
     let answer : c.from_residual-in_err-add.result ≡ Err c.in_err-add.field-0.0 = search rules in
-    subst (λ w. Fulfils g.S.Store g.R.Source g.M.Message c.args.name.now 0 w c.add.new.self c.args.message.now c.read_digest.new.message
-    (answered_with c.from_residual-in_err-add.result c.args.out.now.items) key) c.self.view_is
-    (bound_added g.S.Store g.R.Source g.M.Message c.args.name.now i.store i.random c.draw.new.random i.ledger i.is_open c.args.message.now
-    c.read_digest.new.message key T these c.add.new.self bound text c.add.result (answered_with c.from_residual-in_err-add.result c.args.out.now.items) opened
-    c.in_ok-randomizer.ensures.drawn c.in_ok-randomizer.ensures.len bytes whole is c.add.ensures
-    (ap (λ a. answered_with a c.args.out.now.items) answer ∙ ap (λ a. answered_with a sig) (sym c.in_err-add.was)))
+    bound_below g.S.Store g.R.Source g.M.Message c.args.name.now i.store i.random c.draw.new.random i.ledger i.is_open c.args.message.now
+    c.read_digest.new.message key (trees_in c.args.trees.now) c.args.self.now c.add.new.self c.args.above.now.items c.args.last bound text c.add.result
+    (answered_with c.from_residual-in_err-add.result c.args.out.now.items) c.self.view_is c.requires.ready.is_open keyed (c.requires.stands key keyed)
+    (c.requires.bottom key keyed) c.copied.ensures refl digest_is c.in_ok-randomizer.ensures.drawn c.in_ok-randomizer.ensures.len bytes whole c.add.ensures
+    (ap (λ a. answered_with a c.args.out.now.items) answer ∙ ap (λ a. answered_with a sig) (sym c.in_err-add.was))
 
 pub push-requires : goal.push-requires
 push-requires g c =
@@ -140,7 +133,6 @@ returns-clause-step g c key keyed =
     let T = trees_in c.args.trees.now in
     let records = i.ledger.records in
     let bytes : AreBytes c.in_ok-randomizer.randomizer = search rules in
-    let opened : i.is_open ≡ true = ap (λ w. w.is_open) c.self.view_is ∙ c.requires.ready.is_open in
     let first : key_in records ≡ Some key = ap (λ w. key_in w.records) c.self.view_is ∙ keyed in
     let (text, whole, digest_is) = c.in_ok-digest.ensures.ok in
     let (these, standing) = subst (λ w. StandsIn T w.records c.args.above.now.items c.args.last key) (sym c.self.view_is) (c.requires.stands key keyed) in
@@ -152,15 +144,13 @@ returns-clause-step g c key keyed =
       digest = c.in_ok-digest.digest;
     } in
     let sig = signature_at key (records ++ BoundRecord bound ∷ []) (length records) bound in
-    let is = bound_of_chain records key T c.args.above.now.items c.args.last c.args.name.now bound text first these stands c.copied.ensures refl digest_is in
     let own = key_of_added g.S.Store (view_of i.store c.draw.new.random i.ledger i.is_open) c.add.new.self _ c.add.result c.in_ok-add.field-0 key
     c.key.result.now c.add.ensures c.in_ok-add.was first (ap (λ w. key_in w.records) (sym c.self-2.view_is) ∙ c.key.ensures.first) in
     let fits : length c.write_chain.new.into ≡ c.args.out.now.len = search rules in
     let signs = standing_signs records key c.key.result.now T c.args.above.now.items c.deref.result.now c.args.last c.signing.result bound c.write_chain.new.into
     first own these stands (c.deref.ensures.0 ∙ c.push.ensures.items) c.signing.ensures.secret c.signing.ensures.signed c.write_chain.ensures in
-    subst (λ w. Fulfils g.S.Store g.R.Source g.M.Message c.args.name.now 0 w c.add.new.self c.args.message.now c.read_digest.new.message
-    (Ok (take c.args.out.now.len (c.write_chain.new.into ++ drop (length c.write_chain.new.into) c.args.out.now.items))) key) c.self.view_is
-    (bound_added g.S.Store g.R.Source g.M.Message c.args.name.now i.store i.random c.draw.new.random i.ledger i.is_open c.args.message.now
-    c.read_digest.new.message key T these c.add.new.self bound text c.add.result _ opened
-    c.in_ok-randomizer.ensures.drawn c.in_ok-randomizer.ensures.len bytes whole is c.add.ensures
-    (ap Ok (take_at c.write_chain.new.into _ c.args.out.now.len fits ∙ signs) ∙ ap (λ a. answered_with a sig) (sym c.in_ok-add.was)))
+    bound_below g.S.Store g.R.Source g.M.Message c.args.name.now i.store i.random c.draw.new.random i.ledger i.is_open c.args.message.now
+    c.read_digest.new.message key T c.args.self.now c.add.new.self c.args.above.now.items c.args.last bound text c.add.result _ c.self.view_is
+    c.requires.ready.is_open keyed (c.requires.stands key keyed) (c.requires.bottom key keyed) c.copied.ensures refl digest_is
+    c.in_ok-randomizer.ensures.drawn c.in_ok-randomizer.ensures.len bytes whole c.add.ensures
+    (ap Ok (take_at c.write_chain.new.into _ c.args.out.now.len fits ∙ signs) ∙ ap (λ a. answered_with a sig) (sym c.in_ok-add.was))

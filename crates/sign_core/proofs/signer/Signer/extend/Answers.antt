@@ -1,7 +1,6 @@
 use Rattle.std.proofs.Common.{rules, ◌≡◌, ◌∙◌, ℕ, ◌+◌, true, false, List, [], ◌∷◌, ◌++◌, length, Some, Ok, Err, Result, refl, sym, ap, subst, arith}
 use Rattle.std.specs.Prelude.{slice_index_or}
 use Rattle.std.proofs.lemmas.Option.{same_Some}
-use Rattle.lms.specs.declared.secret.LmsSecret.{LmsSecret}
 use Rattle.lms.specs.Secret.{public_of}
 use Rattle.state_file.specs.Laws.{levels_of}
 use Rattle.state_file.specs.declared.record.Extend.{Extend}
@@ -17,9 +16,8 @@ use Rattle.sign_core.specs.Signing.{Extends, Stands, StandsIn}
 use Rattle.sign_core.specs.Textbook.{lms_secret}
 use Rattle.sign_core.proofs.Adding.{levels_range}
 use Rattle.sign_core.proofs.Appended.{added_records}
-use Rattle.sign_core.proofs.Extends.{Rests, drawn, undrawn}
-use Rattle.sign_core.proofs.Fulfilled.{next_extend}
-use Rattle.sign_core.proofs.StandingChain.{can_extend, entry_is, stands_grown}
+use Rattle.sign_core.proofs.Extends.{Rests, drawn_below, undrawn}
+use Rattle.sign_core.proofs.StandingChain.{can_extend, stands_grown}
 use Rattle.sign_core.proofs.Stays.{key_stays, some_keyed}
 use Rattle.sign_core.proofs.signer.Signer.extend.Goals as goal
 
@@ -69,34 +67,11 @@ pub returns-in_err-add-clause-step : goal.returns-in_err-add-clause-step
 returns-in_err-add-clause-step g c key keyed =
     let a = c.args in
     let i = c.self.inside in
-    let seeds = c.in_ok-identifier.field-0 in
-    let extend : Extend = record {
-      level = c.len.result + 1;
-      parent_leaf = a.last.signed.leaf;
-      identifier = seeds.identifier;
-      seed = seeds.seed;
-      randomizer = seeds.randomizer;
-      digest = c.digest_of-digest.result;
-      root = c.new-made.result.root;
-    } in
-    let secret : LmsSecret = record { pair = c.pair.result; identifier = seeds.identifier; seed = seeds.seed } in
-    let count : c.len.result + 1 ≡ length a.above.now.items + 1 = omega (arith, c.len.ensures.value) in
-    let pair : c.pair.result ≡ slice_index_or a.trees.now.pairs.now (length a.above.now.items + 1) a.trees.now.top.pair =
-    c.pair.ensures ∙ ap (λ n. slice_index_or a.trees.now.pairs.now n a.trees.now.top.pair) count in
-    let stands : Stands key (trees_in a.trees.now) i.ledger.records (length a.above.now.items) a.above.now.items a.last =
-    subst (λ (w : View g.row.S.Denot g.row.R.Denot).
-    Stands key (trees_in a.trees.now) w.records (length a.above.now.items) a.above.now.items a.last)
-    (sym c.self.view_is) (c.requires.stands key keyed).1 in
-    let entry : ExtendRecord extend
-    ≡ next_extend key (trees_in a.trees.now) i.ledger.records (length a.above.now.items + 1) seeds.identifier seeds.seed seeds.randomizer =
-    entry_is key (trees_in a.trees.now) i.ledger.records a.above.now.items a.last secret c.public.result extend stands count refl refl refl
-    (c.public.ensures.made c.new-made.ensures.made ∙ ap public_of c.new-made.ensures.secret) c.digest_of-digest.ensures (sym c.public.ensures.root) pair in
-    let opened : i.is_open ≡ true = ap (λ w. w.is_open) c.self.view_is ∙ c.requires.ready.is_open in
-    let step : Extends g.S.Store g.R.Source (length a.above.now.items + 1) a.self.now c.add.new.self (answered_with c.add.result []) key =
-    subst (λ (w : View g.row.S.Denot g.row.R.Denot).
-    Extends g.S.Store g.R.Source (length a.above.now.items + 1) w c.add.new.self (answered_with c.add.result []) key) c.self.view_is
-    (drawn g.S.Store g.R.Source (length a.above.now.items + 1) key (trees_in a.trees.now) (view_of i.store i.random i.ledger i.is_open) c.add.new.self
-    c.draw_tree.new.random seeds (ExtendRecord extend) c.add.result (c.requires.stands key keyed).0 opened c.in_ok-identifier.ensures entry c.add.ensures) in
+    let step = drawn_below g.S.Store g.R.Source key (trees_in a.trees.now) i.store i.random c.draw_tree.new.random i.ledger i.is_open a.self.now c.add.new.self
+    a.above.now.items a.last c.in_ok-identifier.field-0 c.pair.result c.public.result (c.len.result + 1) c.digest_of-digest.result c.new-made.result.root
+    c.add.result c.self.view_is c.requires.ready.is_open (c.requires.stands key keyed) (omega (arith, c.len.ensures.value)) c.pair.ensures
+    (c.public.ensures.made c.new-made.ensures.made ∙ ap public_of c.new-made.ensures.secret) c.digest_of-digest.ensures (sym c.public.ensures.root)
+    c.in_ok-identifier.ensures c.add.ensures in
     let fault : SignFault = c.in_err-add.field-0.0 in
     let failed : c.from_residual-in_err-add.result ≡ Err fault = search rules in
     let was : c.add.result ≡ Err fault = c.in_err-add.was in
@@ -117,34 +92,11 @@ pub returns-clause-step : goal.returns-clause-step
 returns-clause-step g c key keyed =
     let a = c.args in
     let i = c.self.inside in
-    let seeds = c.in_ok-identifier.field-0 in
-    let extend : Extend = record {
-      level = c.len.result + 1;
-      parent_leaf = a.last.signed.leaf;
-      identifier = seeds.identifier;
-      seed = seeds.seed;
-      randomizer = seeds.randomizer;
-      digest = c.digest_of-digest.result;
-      root = c.new-made.result.root;
-    } in
-    let secret : LmsSecret = record { pair = c.pair.result; identifier = seeds.identifier; seed = seeds.seed } in
-    let count : c.len.result + 1 ≡ length a.above.now.items + 1 = omega (arith, c.len.ensures.value) in
-    let pair : c.pair.result ≡ slice_index_or a.trees.now.pairs.now (length a.above.now.items + 1) a.trees.now.top.pair =
-    c.pair.ensures ∙ ap (λ n. slice_index_or a.trees.now.pairs.now n a.trees.now.top.pair) count in
-    let stands : Stands key (trees_in a.trees.now) i.ledger.records (length a.above.now.items) a.above.now.items a.last =
-    subst (λ (w : View g.row.S.Denot g.row.R.Denot).
-    Stands key (trees_in a.trees.now) w.records (length a.above.now.items) a.above.now.items a.last)
-    (sym c.self.view_is) (c.requires.stands key keyed).1 in
-    let entry : ExtendRecord extend
-    ≡ next_extend key (trees_in a.trees.now) i.ledger.records (length a.above.now.items + 1) seeds.identifier seeds.seed seeds.randomizer =
-    entry_is key (trees_in a.trees.now) i.ledger.records a.above.now.items a.last secret c.public.result extend stands count refl refl refl
-    (c.public.ensures.made c.new-made.ensures.made ∙ ap public_of c.new-made.ensures.secret) c.digest_of-digest.ensures (sym c.public.ensures.root) pair in
-    let opened : i.is_open ≡ true = ap (λ w. w.is_open) c.self.view_is ∙ c.requires.ready.is_open in
-    let step : Extends g.S.Store g.R.Source (length a.above.now.items + 1) a.self.now c.add.new.self (answered_with c.add.result []) key =
-    subst (λ (w : View g.row.S.Denot g.row.R.Denot).
-    Extends g.S.Store g.R.Source (length a.above.now.items + 1) w c.add.new.self (answered_with c.add.result []) key) c.self.view_is
-    (drawn g.S.Store g.R.Source (length a.above.now.items + 1) key (trees_in a.trees.now) (view_of i.store i.random i.ledger i.is_open) c.add.new.self
-    c.draw_tree.new.random seeds (ExtendRecord extend) c.add.result (c.requires.stands key keyed).0 opened c.in_ok-identifier.ensures entry c.add.ensures) in
+    let step = drawn_below g.S.Store g.R.Source key (trees_in a.trees.now) i.store i.random c.draw_tree.new.random i.ledger i.is_open a.self.now c.add.new.self
+    a.above.now.items a.last c.in_ok-identifier.field-0 c.pair.result c.public.result (c.len.result + 1) c.digest_of-digest.result c.new-made.result.root
+    c.add.result c.self.view_is c.requires.ready.is_open (c.requires.stands key keyed) (omega (arith, c.len.ensures.value)) c.pair.ensures
+    (c.public.ensures.made c.new-made.ensures.made ∙ ap public_of c.new-made.ensures.secret) c.digest_of-digest.ensures (sym c.public.ensures.root)
+    c.in_ok-identifier.ensures c.add.ensures in
     let was : c.add.result ≡ Ok c.in_ok-add.field-0 = c.in_ok-add.was in
     subst (λ (r : Result (List ℕ) SignFault). Extends g.S.Store g.R.Source (length a.above.now.items + 1) a.self.now c.add.new.self r key)
     (ap (λ r. answered_with {B = List ℕ} r []) was) step
