@@ -154,7 +154,8 @@ pub fn stopped_law<S: Store>()
     ensures stopped { StoppedLaw S.Store }
 {}
 
-/// Over an honest store each call of an open signer is an event of the world that `once_law` speaks of.
+/// Over an honest store each call of an open signer, each create and each opening is an event of the world that
+/// `once_law` speaks of.
 ///
 /// A stop at any moment of the call leaves what a stop of the event leaves; after it the signer is open as the world is,
 /// and then on the same records; and what it answers is what the event hands out, for the message that was read.
