@@ -29,7 +29,7 @@ opened_on_reaches : (records : List Record) (found : Option Key) → reached (op
 opened_on_reaches records None = append-nil records
 opened_on_reaches records (Some key) = published_reaches records (public_in key)
 
-opened_reaches : (state : State) (chance : Opening) (illegal : Option ℕ) → reached (opened_by state chance illegal) ≡ state.records
+pub opened_reaches : (state : State) (chance : Opening) (illegal : Option ℕ) → reached (opened_by state chance illegal) ≡ state.records
 opened_reaches state None None = opened_on_reaches state.records (key_in state.records)
 opened_reaches state None (Some k) = append-nil state.records
 opened_reaches state (Some (slot, fault)) None = append-nil state.records

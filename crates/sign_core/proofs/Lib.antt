@@ -35,6 +35,7 @@ pub mod Stops
 pub mod SoundChains
 pub mod Opened
 pub mod Calls
+pub mod SignerCalls
 pub mod Acknowledged
 pub mod Sound
 pub mod LedgerReading

@@ -7,6 +7,7 @@ pub mod Uses
 pub mod Once
 pub mod Opened
 pub mod Calls
+pub mod SignerCalls
 pub mod Source
 pub mod Fault
 pub mod Signing

@@ -16,9 +16,12 @@ ghost use Rattle.sign_core.specs.Records.{has_identifier, key_in, next_in};
 ghost use Rattle.sign_core.specs.Once.{CutLaw, IsBoundTo, LastingLaw, OnceLaw, SoundLaw, StopLaw, Verifies};
 ghost use Rattle.sign_core.specs.Calls.{CallsLaw, StoppedLaw};
 ghost use Rattle.sign_core.specs.Opened.{OpenedLaw};
+ghost use Rattle.sign_core.specs.SignerCalls.{SignerLaw};
 ghost use Rattle.sign_core.specs.Textbook.{AllHaveSizes, AreSound, damaged_in, public_in, signature_at, tree_before};
 
+use crate::source::Source;
 use state_file::Store;
+use typecodes::Message;
 
 /// What holds of the records of a key, in the words of legal lists.
 ///
@@ -149,4 +152,13 @@ pub fn calls_law()
 /// before, of those that the event reaches; or it leaves the store as it was.
 pub fn stopped_law<S: Store>()
     ensures stopped { StoppedLaw S.Store }
+{}
+
+/// Over an honest store each call of an open signer, each create and each opening is an event of the world that
+/// `once_law` speaks of.
+///
+/// A stop at any moment of the call leaves what a stop of the event leaves; after it the signer is open as the world is,
+/// and then on the same records; and what it answers is what the event hands out, for the message that was read.
+pub fn signer_law<S: Store, R: Source, M: Message>()
+    ensures signer { SignerLaw S.Store R.Source M.Message }
 {}

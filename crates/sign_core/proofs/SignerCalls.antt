@@ -1,0 +1,271 @@
+-- The calls of a signer over an honest store are calls of the world's.
+use Rattle.std.proofs.Common.{◌≡◌, ◌∙◌, refl, sym, ap, subst, ℕ, inl, inr, Bool, true, false, List, [], ◌∷◌, ◌++◌, length, take, Option, Some, None}
+use Rattle.std.proofs.Common.{Result, Ok, Err, append-nil, arith}
+use Rattle.std.specs.Prelude.{IsSome, if◌then◌else◌, nat_le, nat_lt}
+use Rattle.std.proofs.lemmas.List.{take_all}
+use Rattle.typecodes.specs.declared.message.Message as message
+use Rattle.typecodes.specs.declared.spec.Spec.{Spec}
+use Rattle.typecodes.specs.Message.{ReadWhole}
+use Rattle.typecodes.specs.Name.{IsName}
+use Rattle.typecodes.specs.Spec.{IsSpec}
+use Rattle.state_file.specs.declared.refused.Refused.{Refused}
+use Rattle.state_file.specs.declared.record.Key.{Key}
+use Rattle.state_file.specs.declared.record.Record.{Record}
+use Rattle.state_file.specs.declared.record.Record.TheVariants.{Key as KeyRecord}
+use Rattle.state_file.specs.declared.record.Secret.{Secret}
+use Rattle.state_file.specs.declared.store.Store as store
+use Rattle.state_file.specs.Disk.{LeavesOnly}
+use Rattle.state_file.proofs.Moments.{weaker}
+use Rattle.sign_core.specs.declared.key.AnyPublic.{AnyPublic}
+use Rattle.sign_core.specs.declared.fault.SignFault.{SignFault}
+use Rattle.sign_core.specs.declared.fault.SignFault.TheVariants.{Changed, Damaged, DeviceFailed, Exhausted, Illegal, KeyThere, LedgerFull, MessageRead}
+use Rattle.sign_core.specs.declared.fault.SignFault.TheVariants.{NoKey, NoMemoryToOpen, OutOfMemory, RandomFailed, RandomRepeated, RetireRange}
+use Rattle.sign_core.specs.declared.fault.SignFault.TheVariants.{Stopped, StoreFailed, Unreadable}
+use Rattle.sign_core.specs.declared.fault.SignFault.TheVariants.{Moved as MovedAway}
+use Rattle.sign_core.specs.declared.source.Source as source
+use Rattle.sign_core.specs.Once.{CanFailLoad, CanStopOpening, IsBeginning, reached}
+use Rattle.sign_core.specs.Records.{first_illegal, key_in}
+use Rattle.sign_core.specs.Signer.{Creates, IsAnswered, IsRead, LoadFails, Opens, Retires, Signs, StopsOpening, View, state_of, store_after}
+use Rattle.sign_core.specs.SignerCalls.{HandsOut, IsAfter, IsOpenSigner, IsRunning, OpensIn, OpensInWorld, RetiresInWorld, SignerLaw, SignsInWorld, world_of}
+use Rattle.sign_core.specs.Textbook.{public_in}
+use Rattle.sign_core.specs.World.{Creation, Fate, Handed, Opening, Outcome, State, World, acked, after, appended, begun, closed_on, create, created}
+use Rattle.sign_core.specs.World.{created_after, cut_new, cut_old, handed_with, new_key, no_memory, opened, opened_by, opened_on, published, refused}
+use Rattle.sign_core.specs.World.{reopen, request, requested, retire, retired, secret_from}
+use Rattle.sign_core.proofs.Acknowledged.{open_acknowledged}
+use Rattle.sign_core.proofs.Calls.{opened_reaches}
+use Rattle.sign_core.proofs.DrawnAgain.{signed_read}
+
+-- a state is its parts
+state_is : {S R : Type 0} (new : View S R) (state : State) → state.records ≡ new.records → state.is_open ≡ new.is_open → state ≡ state_of new
+state_is new state records is_open = λ i. record { records = records i; is_open = is_open i }
+
+-- an outcome's state and acknowledged records are those of the call
+is_after : {S R A : Type 0} (new : View S R) (left : World) (mine outcome : Outcome A) → mine ≡ outcome → left.state ≡ mine.state
+    → (left.state.is_open ≡ true → mine.acknowledged ≡ left.state.records) → new.records ≡ outcome.acknowledged → new.is_open ≡ outcome.state.is_open
+    → IsAfter new left
+is_after new left mine outcome same state all records is_open =
+    let open_is : left.state.is_open ≡ new.is_open = ap (λ (s : State). s.is_open) state ∙ ap (λ (o : Outcome _). o.state.is_open) same ∙ sym is_open in
+    record {
+      is_open = open_is;
+      state = λ is. state_is new left.state
+          (sym (all (open_is ∙ is)) ∙ ap (λ (o : Outcome _). o.acknowledged) same ∙ sym records) open_is;
+    }
+
+-- ---- what is handed out
+
+-- the text that was read
+text_read : {M : Type 0} (m : message.Ghosts M) (is_read : Bool) (given : Option (List ℕ)) (before later : M) → IsSome given → is_read ≡ true
+    → IsRead m is_read given before later → (text : List ℕ) × (given ≡ Some text) × ReadWhole m.transition m.remaining text before later
+text_read m true (Some text) before later some is read = (text, refl, read)
+text_read m true None before later some is read = absurd (cc)
+text_read m false given before later some is read = absurd (cc)
+
+hands_out : {M : Type 0} (m : message.Ghosts M) (name : List ℕ) (given : Option (List ℕ)) (is_read : Bool) (before later : M)
+    (answer : Result (List ℕ) SignFault) (handed : List Handed)
+    → ((signature : List ℕ) → answer ≡ Ok signature → IsSome given × (is_read ≡ true)) → IsRead m is_read given before later
+    → HandsOut m name before later answer handed (handed ++ handed_with name given answer)
+hands_out m name given is_read before later (Ok signature) handed reads read =
+    let (some, is) = reads signature refl in
+    let (text, same, whole) = text_read m is_read given before later some is read in
+    (text, whole, ap (λ g. handed ++ handed_with name g (Ok signature)) same)
+hands_out m name None is_read before later (Err fault) handed reads read = append-nil handed
+hands_out m name (Some text) is_read before later (Err fault) handed reads read = append-nil handed
+
+-- ---- each call
+
+signs_in : {S R M : Type 0} (g : store.Ghosts S) (r : source.Ghosts R) (m : message.Ghosts M) (old new : View S R) (name : List ℕ) (before later : M)
+    (capacity : ℕ) (answer : Result (List ℕ) SignFault) (handed : List Handed) → IsOpenSigner g old → IsName name
+    → Signs g r m old new name before later capacity answer → SignsInWorld g m handed old new name before later answer
+signs_in g r m old new name before later capacity answer handed signer is_name signs =
+    let limit = g.most old.store in
+    let world = world_of (state_of old) handed in
+    let event = request name signs.chance in
+    let mine = requested limit (state_of old) name signs.chance in
+    let moments = signs.ends.store.moments signer.honest (signer.signer.tied signer.is_open).running in
+    let leaves = subst (λ (o : Outcome (List ℕ)). LeavesOnly g.moment g.left_since old.store new.store (IsBeginning (length old.records) (reached o)))
+    (sym signs.step) moments in
+    let answers : mine.answer ≡ answer = ap (λ (o : Outcome (List ℕ)). o.answer) signs.step ∙ signs.ends.answer_is in
+    let out = hands_out m name signs.chance.given mine.is_read before later mine.answer handed
+    (λ signature is. signed_read limit (state_of old) name signature signs.chance is)
+    (subst (λ (o : Outcome (List ℕ)). IsRead m o.is_read signs.chance.given before later) (sym signs.step) signs.message) in
+    record {
+      is = record { event = event; is_call = record { possible = (is_name, signs.possible); leaves = inl leaves } };
+      leaves = is_after new (after limit world event) mine signs.outcome signs.step refl (open_acknowledged limit world event) signs.ends.records
+          signs.ends.is_open;
+      hands = subst (λ a. HandsOut m name before later a handed (handed ++ handed_with name signs.chance.given mine.answer)) answers out;
+    }
+
+retires_in : {S R : Type 0} (g : store.Ghosts S) (old new : View S R) (upto : ℕ) (answer : Result (Unit {0}) SignFault) (handed : List Handed)
+    → IsOpenSigner g old → Retires g old new upto answer → RetiresInWorld g handed old new
+retires_in g old new upto answer handed signer retires =
+    let limit = g.most old.store in
+    let world = world_of (state_of old) handed in
+    let event = retire upto retires.fate in
+    let mine = retired limit (state_of old) upto retires.fate in
+    let moments = retires.ends.store.moments signer.honest (signer.signer.tied signer.is_open).running in
+    let leaves = subst (λ (o : Outcome (Unit {0})). LeavesOnly g.moment g.left_since old.store new.store (IsBeginning (length old.records) (reached o)))
+    (sym retires.step) moments in
+    record {
+      is = record { event = event; is_call = record { possible = tt; leaves = inl leaves } };
+      leaves = is_after new (after limit world event) mine retires.outcome retires.step refl (open_acknowledged limit world event) retires.ends.records
+          retires.ends.is_open;
+      hands = refl;
+    }
+
+-- ---- creates and openings
+
+-- An outcome is open where it answers Ok, and only there.
+abbrev OpenBy : {A : Type 0} → Outcome A → Type 0
+OpenBy outcome = ((a : _) → outcome.answer ≡ Ok a → outcome.state.is_open ≡ true)
+    × ((fault : SignFault) → outcome.answer ≡ Err fault → outcome.state.is_open ≡ false)
+
+open_refused : {A : Type 0} (records : List Record) (fault : SignFault) → OpenBy {A = A} (refused (closed_on records) fault)
+open_refused records fault = (λ a is. absurd (cc), λ other is. refl)
+
+open_published : (records : List Record) (public : Option AnyPublic) → OpenBy (published records public)
+open_published records (Some public) = (λ a is. refl, λ fault is. absurd (cc))
+open_published records None = open_refused records NoKey
+
+open_choice : {A : Type 0} (test : Bool) (x y : Outcome A) → OpenBy x → OpenBy y → OpenBy (if test then x else y)
+open_choice true x y first second = first
+open_choice false x y first second = second
+
+open_append : {A : Type 0} (records : List Record) (entry : Record) (fate : Fate) (next : List Record → Outcome A) → ((all : List Record) → OpenBy (next all))
+    → OpenBy (appended (closed_on records) entry fate next)
+open_append records entry acked next later = later (records ++ entry ∷ [])
+open_append records entry cut_old next later = (λ a is. absurd (cc), λ other is. refl)
+open_append records entry cut_new next later = (λ a is. absurd (cc), λ other is. refl)
+open_append records entry no_memory next later = open_refused records OutOfMemory
+
+open_begun : (records : List Record) (chance : Creation) (secret : Option Secret) → OpenBy (begun (closed_on records) chance secret)
+open_begun records chance None = open_refused records RandomFailed
+open_begun records chance (Some secret) = open_choice chance.has_room _ _
+    (open_append records (KeyRecord (new_key secret)) chance.fate _ (λ all. open_published all (public_in (new_key secret))))
+    (open_refused records OutOfMemory)
+
+open_created : (failed : Option SignFault) (records : List Record) (spec : Spec) (chance : Creation) → OpenBy (created_after failed (closed_on records) spec chance)
+open_created (Some fault) records spec chance = open_refused records fault
+open_created None records spec chance = open_choice (nat_le 1 (length records)) _ _ (open_refused records KeyThere)
+    (open_begun records chance (secret_from spec chance.fields))
+
+open_on_key : (records : List Record) (found : Option Key) → OpenBy (opened_on records found)
+open_on_key records None = open_refused records NoKey
+open_on_key records (Some key) = open_published records (public_in key)
+
+open_opened : (records : List Record) (chance : Opening) (illegal : Option ℕ) → OpenBy (opened_by (closed_on records) chance illegal)
+open_opened records None None = open_on_key records (key_in records)
+open_opened records None (Some k) = open_refused records (Illegal k)
+open_opened records (Some (slot, fault)) None = open_refused records fault
+open_opened records (Some (slot, fault)) (Some k) = open_refused records (if nat_lt k slot then Illegal k else fault)
+
+opens_in : {S R : Type 0} (result : Result (View S R) (Refused (S × R) SignFault)) (left : World) (mine outcome : Outcome AnyPublic) → mine ≡ outcome
+    → left.state ≡ mine.state → OpenBy mine → (left.state.is_open ≡ true → mine.acknowledged ≡ left.state.records) → IsAnswered result outcome
+    → OpensIn result left
+opens_in (Ok signer) left mine outcome same state opens all (public, answer, keyed, records, is_open) =
+    let open_is : outcome.state.is_open ≡ true = subst (λ (o : Outcome AnyPublic). o.state.is_open ≡ true) same
+    (opens.0 public (ap (λ (o : Outcome AnyPublic). o.answer) same ∙ answer)) in
+    is_after signer left mine outcome same state all records (is_open ∙ sym open_is)
+opens_in (Err refused) left mine outcome same state opens all answer =
+    ap (λ (s : State). s.is_open) state ∙ opens.1 refused.fault (ap (λ (o : Outcome AnyPublic). o.answer) same ∙ answer)
+
+-- what a load can fail with
+can_fail : (failed : Option SignFault) (list : List Record) (stopped honest : Bool) → LoadFails failed list stopped honest → CanFailLoad failed
+can_fail None list stopped honest fails = tt
+can_fail (Some Stopped) list stopped honest fails = inl refl
+can_fail (Some (Unreadable slot)) list stopped honest fails = inr (inl (ap Unreadable fails.2))
+can_fail (Some StoreFailed) list stopped honest fails = inr (inr (inl refl))
+can_fail (Some OutOfMemory) list stopped honest fails = inr (inr (inr refl))
+can_fail (Some Changed) list stopped honest fails = absurd fails
+can_fail (Some Exhausted) list stopped honest fails = absurd fails
+can_fail (Some RandomFailed) list stopped honest fails = absurd fails
+can_fail (Some RandomRepeated) list stopped honest fails = absurd fails
+can_fail (Some MessageRead) list stopped honest fails = absurd fails
+can_fail (Some (Damaged k)) list stopped honest fails = absurd fails
+can_fail (Some LedgerFull) list stopped honest fails = absurd fails
+can_fail (Some MovedAway) list stopped honest fails = absurd fails
+can_fail (Some RetireRange) list stopped honest fails = absurd fails
+can_fail (Some NoKey) list stopped honest fails = absurd fails
+can_fail (Some (Illegal k)) list stopped honest fails = absurd fails
+can_fail (Some DeviceFailed) list stopped honest fails = absurd fails
+can_fail (Some NoMemoryToOpen) list stopped honest fails = absurd fails
+can_fail (Some KeyThere) list stopped honest fails = absurd fails
+
+can_stop : (chance : Opening) (list : List Record) (stopped honest : Bool) → StopsOpening chance list stopped honest → CanStopOpening chance
+can_stop None list stopped honest stops = tt
+can_stop (Some (slot, Stopped)) list stopped honest stops = inl refl
+can_stop (Some (slot, Unreadable k)) list stopped honest stops = inr (inl (ap Unreadable stops.2))
+can_stop (Some (slot, DeviceFailed)) list stopped honest stops = inr (inr (inl refl))
+can_stop (Some (slot, NoMemoryToOpen)) list stopped honest stops = inr (inr (inr refl))
+can_stop (Some (slot, Changed)) list stopped honest stops = absurd stops
+can_stop (Some (slot, Exhausted)) list stopped honest stops = absurd stops
+can_stop (Some (slot, RandomFailed)) list stopped honest stops = absurd stops
+can_stop (Some (slot, RandomRepeated)) list stopped honest stops = absurd stops
+can_stop (Some (slot, MessageRead)) list stopped honest stops = absurd stops
+can_stop (Some (slot, Damaged k)) list stopped honest stops = absurd stops
+can_stop (Some (slot, LedgerFull)) list stopped honest stops = absurd stops
+can_stop (Some (slot, MovedAway)) list stopped honest stops = absurd stops
+can_stop (Some (slot, RetireRange)) list stopped honest stops = absurd stops
+can_stop (Some (slot, NoKey)) list stopped honest stops = absurd stops
+can_stop (Some (slot, Illegal k)) list stopped honest stops = absurd stops
+can_stop (Some (slot, StoreFailed)) list stopped honest stops = absurd stops
+can_stop (Some (slot, OutOfMemory)) list stopped honest stops = absurd stops
+can_stop (Some (slot, KeyThere)) list stopped honest stops = absurd stops
+
+creates_in : {S R : Type 0} (g : store.Ghosts S) (r : source.Ghosts R) (spec : Spec) (kept_in : S) (random : R)
+    (result : Result (View S R) (Refused (S × R) SignFault)) (handed : List Handed) → IsRunning g kept_in → IsSpec spec
+    → Creates g r spec kept_in random result → OpensInWorld g (g.list kept_in) handed kept_in result
+creates_in g r spec kept_in random result handed is can creates =
+    let limit = g.most kept_in in
+    let list = g.list kept_in in
+    let world = world_of (closed_on list) handed in
+    let event = create spec creates.chance in
+    let mine = created (closed_on list) spec creates.chance in
+    let leaves = subst (λ (o : Outcome AnyPublic). LeavesOnly g.moment g.left_since kept_in (store_after result) (IsBeginning (length list) (reached o)))
+    (sym creates.step) (creates.store.moments is.honest is.running) in
+    record {
+      is = record {
+        event = event;
+        is_call = record {
+          possible = (can, can_fail creates.chance.failed_load list (g.stopped kept_in) (g.honest kept_in) creates.load, creates.possible);
+          leaves = inl leaves;
+        };
+      };
+      leaves = opens_in result (after limit world event) mine creates.outcome creates.step refl
+          (open_created creates.chance.failed_load list spec creates.chance) (open_acknowledged limit world event) creates.answer;
+      hands = refl;
+    }
+
+opens_again : {S R : Type 0} (g : store.Ghosts S) (kept_in : S) (random : R) (result : Result (View S R) (Refused (S × R) SignFault)) (handed : List Handed)
+    → IsRunning g kept_in → Opens g kept_in random result → OpensInWorld g (g.list kept_in) handed kept_in result
+opens_again g kept_in random result handed is opens =
+    let limit = g.most kept_in in
+    let list = g.list kept_in in
+    let loads = opens.loads in
+    let world = world_of (closed_on list) handed in
+    let event = reopen loads.chance in
+    let mine = opened (closed_on list) loads.chance in
+    let same : mine ≡ loads.outcome = ap (λ l. opened (closed_on l) loads.chance) (sym (loads.same is.honest)) ∙ loads.step in
+    let whole = opened_reaches (closed_on list) loads.chance (first_illegal list) in
+    let leaves = weaker g.moment g.left_since kept_in (store_after result) (λ left. left ≡ list) (IsBeginning (length list) (reached mine))
+    (λ left old. record { count = length list; enough = omega arith; beginning = old ∙ sym (ap (take (length list)) whole ∙ take_all (length list) list (omega arith)) })
+    (loads.moments is.honest is.running) in
+    record {
+      is = record {
+        event = event;
+        is_call = record {
+          possible = can_stop loads.chance list (g.stopped kept_in) (g.honest kept_in) loads.load;
+          leaves = inl leaves;
+        };
+      };
+      leaves = opens_in result (after limit world event) mine loads.outcome same refl (open_opened list loads.chance (first_illegal list))
+          (open_acknowledged limit world event) loads.answer;
+      hands = refl;
+    }
+
+pub signer_law : {S R M : Type 0} (g : store.Ghosts S) (r : source.Ghosts R) (m : message.Ghosts M) → SignerLaw g r m
+signer_law g r m = record {
+  signs = signs_in g r m;
+  retires = retires_in g;
+  creates = creates_in g r;
+  opens = opens_again g;
+}

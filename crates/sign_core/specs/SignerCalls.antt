@@ -1,0 +1,89 @@
+-- The calls of a signer over an honest store are calls of the world's: what each leaves, hands out and may be stopped in.
+use Rattle.std.specs.Prelude.{◌≡◌, ℕ, IsTrue, true, false, List, [], ◌∷◌, ◌++◌, Result, Ok, Err}
+use Rattle.typecodes.specs.declared.message.Message as message
+use Rattle.typecodes.specs.Message.{ReadWhole}
+use Rattle.typecodes.specs.Name.{IsName}
+use Rattle.typecodes.specs.declared.spec.Spec.{Spec}
+use Rattle.typecodes.specs.Spec.{IsSpec}
+use Rattle.state_file.specs.declared.refused.Refused.{Refused}
+use Rattle.state_file.specs.declared.record.Record.{Record}
+use Rattle.state_file.specs.declared.store.Store as store
+use Rattle.sign_core.specs.declared.fault.SignFault.{SignFault}
+use Rattle.sign_core.specs.declared.source.Source as source
+use Rattle.sign_core.specs.Calls.{IsCall}
+use Rattle.sign_core.specs.Signer.{Creates, IsSigner, Opens, Retires, Signs, View, state_of, store_after}
+use Rattle.sign_core.specs.World.{Event, Handed, State, World, after, closed_on}
+
+-- a state of the world in which this was handed out
+abbrev pub world_of : State → List Handed → World
+world_of state handed = record { state = state; handed = handed }
+
+-- An event that can come is this call on the store: a stop at any moment of it leaves what a stop of the event leaves.
+pub record IsEventOf {S : Type 0} (g : store.Ghosts S) (limit : ℕ) (world : World) (old new : S) : Type 0 where
+  pub event : Event
+  pub is_call : IsCall g.moment g.left_since limit world old (record { event = event; store = new })
+
+-- the signer is open after it as the world is, and then on the same records
+pub record IsAfter {S R : Type 0} (new : View S R) (left : World) : Type 0 where
+  pub is_open : left.state.is_open ≡ new.is_open
+  pub state : new.is_open ≡ true → left.state ≡ state_of new
+
+-- What a request hands out: on Ok its signature, for the message that was read to its end.
+abbrev pub HandsOut : {M : Type 0} → message.Ghosts M → (name : List ℕ) → (before after : M)
+    → Result (List ℕ) SignFault → (old new : List Handed) → Type 0
+HandsOut m name before after (Ok signature) old new = (text : List ℕ)
+    × ReadWhole m.transition m.remaining text before after
+    × (new ≡ old ++ record { name = name; message = text; signature = signature } ∷ [])
+HandsOut m name before after (Err fault) old new = new ≡ old
+
+-- a call of sign
+pub record SignsInWorld {S R M : Type 0} (g : store.Ghosts S) (m : message.Ghosts M) (handed : List Handed)
+    (old new : View S R) (name : List ℕ) (before later : M) (answer : Result (List ℕ) SignFault) : Type 0 where
+  pub is : IsEventOf g (g.most old.store) (world_of (state_of old) handed) old.store new.store
+  pub leaves : IsAfter new (after (g.most old.store) (world_of (state_of old) handed) is.event)
+  pub hands : HandsOut m name before later answer handed
+      (after (g.most old.store) (world_of (state_of old) handed) is.event).handed
+
+-- .. and of retire
+pub record RetiresInWorld {S R : Type 0} (g : store.Ghosts S) (handed : List Handed) (old new : View S R)
+    : Type 0 where
+  pub is : IsEventOf g (g.most old.store) (world_of (state_of old) handed) old.store new.store
+  pub leaves : IsAfter new (after (g.most old.store) (world_of (state_of old) handed) is.event)
+  pub hands : (after (g.most old.store) (world_of (state_of old) handed) is.event).handed ≡ handed
+
+-- what a create or an opening leaves: a signer that is open on the world's records; or none, and the world has none open
+abbrev pub OpensIn : {S R : Type 0} → Result (View S R) (Refused (S × R) SignFault) → World → Type 0
+OpensIn (Ok signer) left = IsAfter signer left
+OpensIn (Err refused) left = left.state.is_open ≡ false
+
+-- A create or an opening of a store whose records these are, with no signer open.
+pub record OpensInWorld {S R : Type 0} (g : store.Ghosts S) (records : List Record) (handed : List Handed)
+    (kept_in : S) (result : Result (View S R) (Refused (S × R) SignFault)) : Type 0 where
+  pub is : IsEventOf g (g.most kept_in) (world_of (closed_on records) handed) kept_in (store_after result)
+  pub leaves : OpensIn result (after (g.most kept_in) (world_of (closed_on records) handed) is.event)
+  pub hands : (after (g.most kept_in) (world_of (closed_on records) handed) is.event).handed ≡ handed
+
+-- The store runs, and keeps what was synced.
+pub record IsRunning {S : Type 0} (g : store.Ghosts S) (kept_in : S) : Type 0 where
+  pub running : g.stopped kept_in ≡ false
+  pub honest : IsTrue (g.honest kept_in)
+
+-- The signer is open, and its store keeps what was synced.
+pub record IsOpenSigner {S R : Type 0} (g : store.Ghosts S) (view : View S R) : Type 0 where
+  pub signer : IsSigner g view
+  pub is_open : view.is_open ≡ true
+  pub honest : IsTrue (g.honest view.store)
+
+-- Over an honest store each call of an open signer is an event of the world, and so is each create and opening.
+pub record SignerLaw {S R M : Type 0} (g : store.Ghosts S) (r : source.Ghosts R) (m : message.Ghosts M) : Type 0 where
+  pub signs : (old new : View S R) (name : List ℕ) (before later : M) (capacity : ℕ)
+      (answer : Result (List ℕ) SignFault) (handed : List Handed) → IsOpenSigner g old → IsName name
+      → Signs g r m old new name before later capacity answer → SignsInWorld g m handed old new name before later answer
+  pub retires : (old new : View S R) (upto : ℕ) (answer : Result (Unit {0}) SignFault) (handed : List Handed)
+      → IsOpenSigner g old → Retires g old new upto answer → RetiresInWorld g handed old new
+  pub creates : (spec : Spec) (kept_in : S) (random : R) (result : Result (View S R) (Refused (S × R) SignFault))
+      (handed : List Handed) → IsRunning g kept_in → IsSpec spec → Creates g r spec kept_in random result
+      → OpensInWorld g (g.list kept_in) handed kept_in result
+  pub opens : (kept_in : S) (random : R) (result : Result (View S R) (Refused (S × R) SignFault))
+      (handed : List Handed) → IsRunning g kept_in → Opens g kept_in random result
+      → OpensInWorld g (g.list kept_in) handed kept_in result
