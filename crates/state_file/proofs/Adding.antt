@@ -5,7 +5,7 @@ use Rattle.std.specs.Prelude.{max}
 use Rattle.state_file.specs.File.{HasNoKey}
 use Rattle.state_file.specs.Disk.{DiskState, ChangesOnly, range_of, IsSynced}
 use Rattle.state_file.specs.FileStore.{closed_gate}
-use Rattle.state_file.specs.Format.{Prepares}
+use Rattle.state_file.specs.Format.{PreparesPlace}
 use Rattle.state_file.specs.Gates.{AddsSlot, slot_and_gate}
 
 -- the first write, and what both change
@@ -51,7 +51,7 @@ slot_added k body bytes content mid new body_len is first put synced second =
     }
 
 -- a place that was prepared is as long as it was, and has a byte
-pub prepared_len : (content : List ℕ) (new : DiskState) → Prepares content new → length new.content ≡ max (length content) 1
+pub prepared_len : (content : List ℕ) (new : DiskState) → PreparesPlace content new → length new.content ≡ max (length content) 1
 prepared_len content new (rest, inl (short, put, changes)) = omega (arith, rest.ends.closed.0, changes.no_shorter, changes.no_longer)
 prepared_len content new (rest, inr (long, closed, same)) = omega (arith, ap length same)
 

@@ -11,7 +11,7 @@ use Rattle.state_file.specs.declared.record.Record.{Record}
 use Rattle.state_file.specs.declared.record.Record.TheVariants.{Key as KeyRecord}
 use Rattle.state_file.specs.declared.record.Version.{Version}
 use Rattle.state_file.specs.File.{Begins, HasNoKey, Holds, IsClosed, IsDamagedAt, IsOpen, IsWhole, MayHaveKey, SpellsRecords, begins_key, fields_at, most_records, open_value, previous_tag, tag_at, tag_of, version_of, StandsFor}
-use Rattle.state_file.specs.Opening.{Opening, OpensAs, damaged, no_key, no_key_file, spelled, unknown_version}
+use Rattle.state_file.specs.Opening.{ContentKind, OpensAs, damaged, no_key, no_key_file, spelled, unknown_version}
 use Rattle.state_file.specs.FileStore.{not_both}
 use Rattle.state_file.specs.Laws.{CanSign}
 use Rattle.state_file.specs.Slot.{slot_record}
@@ -144,7 +144,7 @@ spelled-begins content records is = record {
 
 -- what the next gate says, where a whole slot leads on
 judged : (content : List ℕ) (records : List Record) → Begins content records → MayHaveKey content → begins_key (fields_at content 0) ≡ true
-    → ((version : Version) × (version_of (fields_at content 0) ≡ Some version)) → (IsWhole content (length records) → (opening : Opening) × OpensAs content opening) → (opening : Opening) × OpensAs content opening
+    → ((version : Version) × (version_of (fields_at content 0) ≡ Some version)) → (IsWhole content (length records) → (opening : ContentKind) × OpensAs content opening) → (opening : ContentKind) × OpensAs content opening
 judged content records begins may key version more =
     elim (open_or_closed content (length records) begins.ends) [
       | inr closed ↦ (spelled records, begins-all content records begins may key closed)
@@ -166,17 +166,17 @@ judged content records begins may key version more =
 
 -- so from whole slot to whole slot, up to the most
 opening_from : (content : List ℕ) (left : ℕ) (records : List Record) → left + length records ≡ most_records → Begins content records → MayHaveKey content → begins_key (fields_at content 0) ≡ true
-    → ((version : Version) × (version_of (fields_at content 0) ≡ Some version)) → (opening : Opening) × OpensAs content opening
+    → ((version : Version) × (version_of (fields_at content 0) ≡ Some version)) → (opening : ContentKind) × OpensAs content opening
 opening_from content zero records count begins may key version = judged content records begins may key version (λ whole. absurd (omega (arith, count, whole.few)))
 opening_from content (suc left) records count begins may key version =
     judged content records begins may key version (λ whole.
     opening_from content left (records ++ whole.entry ∷ []) (omega (arith, count, length-append records (whole.entry ∷ []))) (begins-more content records begins whole) may key version)
 
-opening_by_version : (content : List ℕ) → MayHaveKey content → begins_key (fields_at content 0) ≡ true → (found : Option Version) → version_of (fields_at content 0) ≡ found → (opening : Opening) × OpensAs content opening
+opening_by_version : (content : List ℕ) → MayHaveKey content → begins_key (fields_at content 0) ≡ true → (found : Option Version) → version_of (fields_at content 0) ≡ found → (opening : ContentKind) × OpensAs content opening
 opening_by_version content may key None is = (unknown_version, record { may = may; key = key; other = is })
 opening_by_version content may key (Some version) is = opening_from content most_records [] (omega arith) (begins-none content may) may key (version, is)
 
-opening_with_key : (content : List ℕ) → MayHaveKey content → (opening : Opening) × OpensAs content opening
+opening_with_key : (content : List ℕ) → MayHaveKey content → (opening : ContentKind) × OpensAs content opening
 opening_with_key content may =
     elim (cases_Bool (begins_key (fields_at content 0))) [
       | inl key ↦ opening_by_version content may key (version_of (fields_at content 0)) refl
@@ -184,7 +184,7 @@ opening_with_key content may =
     ]
 
 -- every content opens as something
-pub some_opening : (content : List ℕ) → (opening : Opening) × OpensAs content opening
+pub some_opening : (content : List ℕ) → (opening : ContentKind) × OpensAs content opening
 some_opening content =
     elim (cases_lt (length content) 257) [
       | inl short ↦ (no_key, inl short)
@@ -254,7 +254,7 @@ one_damaged content j k first second =
 known_or_not : (found : Option Version) (version : Version) → found ≡ Some version → found ≡ None → ⊥
 known_or_not found version known unknown = absurd (let clash = sym known ∙ unknown in cc)
 
-pub one_opening : (content : List ℕ) (opening other : Opening) → OpensAs content opening → OpensAs content other → opening ≡ other
+pub one_opening : (content : List ℕ) (opening other : ContentKind) → OpensAs content opening → OpensAs content other → opening ≡ other
 one_opening content (spelled xs) (spelled ys) a b = ap spelled (one_list content xs ys a b)
 one_opening content (spelled xs) no_key a b = absurd (no_key_may content b (spelled-may content xs a))
 one_opening content (spelled xs) no_key_file a b = absurd (true≢false (sym (spelled-key content xs a).0 ∙ b.other))
@@ -282,7 +282,7 @@ one_opening content (damaged j) unknown_version a b = absurd (known_or_not _ a.v
 one_opening content (damaged j) (damaged k) a b = ap damaged (one_damaged content j k a b)
 
 -- a content that stands for a list spells it, or has no key
-pub standing : (records : List Record) (content : List ℕ) (opening : Opening) → StandsFor records content → OpensAs content opening → (opening ≡ no_key) ⊎ (opening ≡ spelled records)
+pub standing : (records : List Record) (content : List ℕ) (opening : ContentKind) → StandsFor records content → OpensAs content opening → (opening ≡ no_key) ⊎ (opening ≡ spelled records)
 standing [] content opening none opens = inl (one_opening content opening no_key opens none)
 standing (entry ∷ entries) content opening spells opens = inr (one_opening content opening (spelled (entry ∷ entries)) opens spells)
 

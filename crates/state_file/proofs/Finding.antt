@@ -5,7 +5,7 @@ use Rattle.std.proofs.lemmas.Option.{slice_get-get_or, slice_get_within}
 use Rattle.typecodes.specs.Layout.{Spells}
 use Rattle.state_file.specs.File.{Begins, Holds, IsClosed, IsDamagedAt, IsOpen, IsWhole, SpellsRecords, fields_at, most_records, previous_tag, tag_at, tag_of, IsFileOf, IsSyncedFile}
 use Rattle.state_file.specs.Disk.{DiskState, MayLeave, settled, Elapses, LeavesOnly}
-use Rattle.state_file.specs.FileStore.{closed_gate, fields_length, opened_by}
+use Rattle.state_file.specs.FileStore.{closed_gate, fields_length, open_by_byte}
 use Rattle.state_file.specs.DiskCalls.{OnlyReads}
 use Rattle.state_file.specs.Opening.{HasEntry, HasSlot, IsFound, StartsWithKey, ReportsContent, ReportsSlot}
 use Rattle.state_file.specs.Slot.{slot_record}
@@ -57,7 +57,7 @@ module _ {D : Type 0} (state : D → DiskState) (moment : D → ℕ) (left_since
 -- ---- gates
 
 pub gate_open : (content : List ℕ) (k : ℕ) → 256 * k < length content → slice_index content (256 * k) == 165 ≡ true → IsOpen content k
-gate_open content k within is = opened_by content k within (eqb-true (slice_index content (256 * k)) 165 is)
+gate_open content k within is = open_by_byte content k within (eqb-true (slice_index content (256 * k)) 165 is)
 
 pub gate_closed : (content : List ℕ) (k : ℕ) → 256 * k < length content → slice_index content (256 * k) == 165 ≡ false → IsClosed content k
 gate_closed content k within other = closed_gate content k within (λ is_open. true≢false (let clash : true ≡ false = cc in clash))

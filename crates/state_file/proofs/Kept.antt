@@ -8,7 +8,7 @@ use Rattle.typecodes.proofs.Steps.{ends-spelled}
 use Rattle.typecodes.specs.Layout.{Spells}
 use Rattle.typecodes.specs.Cursor.{read}
 use Rattle.state_file.specs.File.{Holds, fields_at, tag_at, previous_tag, tag_of, most_records, StandsFor, IsFileOf, IsSyncedFile}
-use Rattle.state_file.specs.FileStore.{fields_length, file_stands, open_byte, opened_by}
+use Rattle.state_file.specs.FileStore.{fields_length, file_stands, open_byte, open_by_byte}
 use Rattle.state_file.specs.Store.{begins_with_key, is_key}
 use Rattle.state_file.specs.Disk.{DiskState, LeavesOnly}
 use Rattle.state_file.specs.Gates.{IsClosedAfter, IsAtRest}
@@ -47,7 +47,7 @@ file_stays records content c file ends =
     record {
       few = file.few;
       first = file.first;
-      opened = λ k below. opened_by c k (omega (arith, len, ends.closed.0)) (same_byte n (256 * k) c content same (omega arith) ∙ open_byte content k (file.opened k below));
+      opened = λ k below. open_by_byte c k (omega (arith, len, ends.closed.0)) (same_byte n (256 * k) c content same (omega arith) ∙ open_byte content k (file.opened k below));
       closed = (omega (arith, len, ends.closed.0), λ is_open. ends.closed.1 (ap (λ m. slice_index c m) len ∙ is_open));
       spelled = λ k entry is.
           let below : k < length records = slice_get_within records k entry is in
@@ -168,8 +168,8 @@ module _ (records : List Record) (content c : List ℕ) (entry : Record) (fields
     few = omega (arith, count);
     first = key;
     opened = λ k below. elim (old_or_new k below) [
-      | inl old ↦ opened_by c k (omega (arith, new_within, n-is)) (same_byte n (256 * k) c content same_front (omega (arith, n-is)) ∙ open_byte content k (file.opened k old))
-      | inr new ↦ opened_by c k (omega (arith, new_within, n-is)) (ap (λ (m : ℕ). slice_index c (256 * m)) new ∙ ap (λ (m : ℕ). slice_index c m) (sym n-is) ∙ new_gate)
+      | inl old ↦ open_by_byte c k (omega (arith, new_within, n-is)) (same_byte n (256 * k) c content same_front (omega (arith, n-is)) ∙ open_byte content k (file.opened k old))
+      | inr new ↦ open_by_byte c k (omega (arith, new_within, n-is)) (ap (λ (m : ℕ). slice_index c (256 * m)) new ∙ ap (λ (m : ℕ). slice_index c m) (sym n-is) ∙ new_gate)
     ];
     closed = (omega (arith, new_within, count, n-is), λ is_open. let same : 256 * length (records ++ entry ∷ []) ≡ n + 256 = omega (arith, count, n-is) in new_closed (ap (λ m. slice_index c m) (sym same) ∙ is_open));
     spelled = λ k one is. elim (old_or_new k (slice_get_within (records ++ entry ∷ []) k one is)) [
@@ -192,8 +192,8 @@ module _ (records : List Record) (content c : List ℕ) (entry : Record) (fields
 
 -- a list that begins with a Key goes on so
 pub follows_key : (records : List Record) (entry : Record) → begins_with_key records ≡ true → (length records ≡ 0 → is_key entry ≡ true) → begins_with_key (records ++ entry ∷ []) ≡ true
-follows_key [] entry begins first = first refl
-follows_key (one ∷ rest) entry begins first = begins
+follows_key [] entry keyed first = first refl
+follows_key (one ∷ rest) entry keyed first = keyed
 
 -- a record's bytes are read as it
 pub read_record : (entry : Record) (fields : List ℕ) → length fields ≡ 223 → Spells slot_record entry fields → read slot_record fields 0 ≡ Ok (entry, 223)

@@ -63,9 +63,9 @@ pub open_byte : (content : List ℕ) (k : ℕ) → IsOpen content k → slice_in
 open_byte content k is_open = get_or_from_slice_get content (256 * k) open_value 0 is_open
 
 -- a gate that has this byte is open
-pub opened_by : (content : List ℕ) (k : ℕ) → 256 * k < length content → slice_index content (256 * k) ≡ open_value
+pub open_by_byte : (content : List ℕ) (k : ℕ) → 256 * k < length content → slice_index content (256 * k) ≡ open_value
     → IsOpen content k
-opened_by content k within is = slice_get-get_or content (256 * k) 0 within ∙ ap Some is
+open_by_byte content k within is = slice_get-get_or content (256 * k) 0 within ∙ ap Some is
 
 pub closed_gate : (content : List ℕ) (k : ℕ) → 256 * k < length content → slice_index content (256 * k) ≢ open_value
     → IsClosed content k

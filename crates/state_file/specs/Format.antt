@@ -8,8 +8,8 @@ use Rattle.state_file.specs.declared.file.format.FormatFault.{FormatFault}
 use Rattle.state_file.specs.declared.file.format.FormatFault.TheVariants.{NotKeyFile, DeviceFailed, KeyThere}
 
 -- What preparing leaves: of under 257 bytes the first is zero and no other has changed, and of 257 none has.
-abbrev pub Prepares : (content : List ℕ) (new : DiskState) → Type 0
-Prepares content new =
+abbrev pub PreparesPlace : (content : List ℕ) (new : DiskState) → Type 0
+PreparesPlace content new =
     IsAtRest [] new
     × (((length content < 257) × (slice_range new.content 0 1 ≡ 0 ∷ [])
     × ChangesOnly (range_of 0 (0 ∷ []) ∷ []) content new.content)
@@ -23,7 +23,7 @@ RefusesFormat content new NotKeyFile = (257 < length content) × IsClosed conten
 RefusesFormat content new DeviceFailed = Unit {0}
 
 abbrev pub Formats : {A : Type 0} (content : List ℕ) (new : DiskState) → Result A FormatFault → Type 0
-Formats content new (Ok _) = Prepares content new
+Formats content new (Ok _) = PreparesPlace content new
 Formats content new (Err fault) = RefusesFormat content new fault
 
 -- What a stop in it may leave: what it might leave before, or, of a content of under 257 bytes, this one with any first

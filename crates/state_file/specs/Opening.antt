@@ -13,16 +13,16 @@ use Rattle.state_file.specs.declared.record.Version.{Version}
 
 -- ---- what opening finds
 
--- the records of a key, or why there are none
-pub data Opening : Type 0 where
-  spelled : List Record → Opening
-  no_key : Opening
-  no_key_file : Opening
-  unknown_version : Opening
-  damaged : ℕ → Opening
+-- what a content has: the records of a key, or a reason why there are none
+pub data ContentKind : Type 0 where
+  spelled : List Record → ContentKind
+  no_key : ContentKind
+  no_key_file : ContentKind
+  unknown_version : ContentKind
+  damaged : ℕ → ContentKind
 
 -- what opening a content finds
-abbrev pub OpensAs : List ℕ → Opening → Type 0
+abbrev pub OpensAs : List ℕ → ContentKind → Type 0
 OpensAs content (spelled records) = SpellsRecords content records
 OpensAs content no_key = HasNoKey content
 OpensAs content no_key_file = IsNoKeyFile content

@@ -5,7 +5,7 @@ ghost use Rattle.std.specs.Prelude.{◌≡◌, ◌⊎◌, ◌<◌, ◌≤◌, �
 ghost use Rattle.typecodes.specs.Layout.{Spells, OneSpelling};
 ghost use Rattle.state_file.specs.declared.record.Record.{Record};
 ghost use Rattle.state_file.specs.File.{HasNoKey};
-ghost use Rattle.state_file.specs.Opening.{Opening, OpensAs, no_key, spelled};
+ghost use Rattle.state_file.specs.Opening.{ContentKind, OpensAs, no_key, spelled};
 ghost use Rattle.state_file.specs.Laws.{CanSign, IsCurrent, IsLegal};
 ghost use Rattle.state_file.specs.Disk.{ChangesOnly, range_of};
 ghost use Rattle.state_file.specs.File.{StandsFor};
@@ -24,11 +24,11 @@ pub fn slot_laws()
 /// key (`standing`): opening it reports none of 41 to 43. Nor has one a key that a stop leaves while a place of
 /// under 257 bytes is prepared (`prepared`).
 pub fn content_laws()
-    ensures some { (content : List ℕ) → (opening : Opening) × OpensAs content opening }
-    ensures once { (content : List ℕ) (opening other : Opening) → OpensAs content opening → OpensAs content other →
-        opening ≡ other }
-    ensures standing { (records : List Record) (content : List ℕ) (opening : Opening) → StandsFor records content →
-        OpensAs content opening → (opening ≡ no_key) ⊎ (opening ≡ spelled records) }
+    ensures some { (content : List ℕ) → (kind : ContentKind) × OpensAs content kind }
+    ensures once { (content : List ℕ) (kind other : ContentKind) → OpensAs content kind → OpensAs content other →
+        kind ≡ other }
+    ensures standing { (records : List Record) (content : List ℕ) (kind : ContentKind) → StandsFor records content →
+        OpensAs content kind → (kind ≡ no_key) ⊎ (kind ≡ spelled records) }
     ensures prepared { (content c : List ℕ) → length content < 257 →
         ChangesOnly (range_of 0 (0 ∷ []) ∷ []) content c → HasNoKey c }
 {}
