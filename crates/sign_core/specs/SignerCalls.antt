@@ -1,4 +1,5 @@
--- The calls of a signer over an honest store are calls of the world's: what each leaves, hands out and may be stopped in.
+-- The calls of a signer over an honest store are calls of the world's: what each leaves and hands out, and what a stop
+-- in it leaves.
 use Rattle.std.specs.Prelude.{◌≡◌, ℕ, IsTrue, true, false, List, [], ◌∷◌, ◌++◌, Result, Ok, Err}
 use Rattle.typecodes.specs.declared.message.Message as message
 use Rattle.typecodes.specs.Message.{ReadWhole}
@@ -51,7 +52,8 @@ pub record RetiresInWorld {S R : Type 0} (g : store.Ghosts S) (handed : List Han
   pub leaves : IsAfter new (after (g.most old.store) (world_of (state_of old) handed) is.event)
   pub hands : (after (g.most old.store) (world_of (state_of old) handed) is.event).handed ≡ handed
 
--- what a create or an opening leaves: a signer that is open on the world's records; or none, and the world has none open
+-- what a create or an opening leaves: a signer that is open on the world's records; or none, and the world has none
+-- open
 abbrev pub OpensIn : {S R : Type 0} → Result (View S R) (Refused (S × R) SignFault) → World → Type 0
 OpensIn (Ok signer) left = IsAfter signer left
 OpensIn (Err refused) left = left.state.is_open ≡ false
