@@ -89,3 +89,8 @@ pub record SignerLaw {S R M : Type 0} (g : store.Ghosts S) (r : source.Ghosts R)
   pub opens : (kept_in : S) (random : R) (result : Result (View S R) (Refused (S × R) SignFault))
       (handed : List Handed) → IsRunning g kept_in → Opens g kept_in random result
       → OpensInWorld g (g.list kept_in) handed kept_in result
+  -- before a first call a stop leaves the records: of an open signer, and of a store that runs
+  pub settled : (view : View S R) (left : List Record) → IsOpenSigner g view
+      → g.left_since view.store (g.moment view.store) left → left ≡ view.records
+  pub running : (kept_in : S) (left : List Record) → IsRunning g kept_in
+      → g.left_since kept_in (g.moment kept_in) left → left ≡ g.list kept_in
