@@ -3,7 +3,7 @@ use Rattle.std.proofs.Common.{◌≡◌, ◌≢◌, ◌∙◌, ◌↔◌, refl, 
 use Rattle.std.proofs.Common.{length, length-append, take, ◌<◌, Option, Some, None, Ok, Err, arith}
 use Rattle.std.specs.Prelude.{Contains, if◌then◌else◌, nat_le, nat_lt, not}
 use Rattle.std.specs.Cmp.Lexicographic.{bytes_decides}
-use Rattle.std.proofs.lemmas.Bool.{le-ltb}
+use Rattle.std.proofs.lemmas.Bool.{le-ltb, lt-leb}
 use Rattle.std.proofs.lemmas.List.{length_push}
 use Rattle.std.proofs.lemmas.List.Elements.{Contains-push}
 use Rattle.typecodes.specs.declared.spec.Spec.{Spec}
@@ -15,12 +15,12 @@ use Rattle.state_file.specs.declared.record.Record.TheVariants.{Bound as BoundRe
 use Rattle.state_file.specs.declared.record.Secret.{Secret}
 use Rattle.sign_core.specs.declared.key.AnyPublic.{AnyPublic}
 use Rattle.sign_core.specs.declared.fault.SignFault.TheVariants.{Changed, Damaged, Exhausted, Illegal, LedgerFull, OutOfMemory, Stopped, StoreFailed}
-use Rattle.sign_core.specs.declared.fault.SignFault.TheVariants.{RandomRepeated}
+use Rattle.sign_core.specs.declared.fault.SignFault.TheVariants.{RandomRepeated, RetireRange}
 use Rattle.sign_core.specs.declared.fault.SignFault.TheVariants.{Moved as MovedAway}
 use Rattle.sign_core.specs.Records.{are_same, binding_in, deepest, first_illegal, has_moved, key_in, leaves_of_current, next_at, wanted_count}
 use Rattle.sign_core.specs.Once.{AreComplete, BeginsKey, BeginsTree, CanStopOpening, IsBoundTo, IsOnce, IsSigned, Reopens}
 use Rattle.sign_core.specs.World.{Chance, Creation, Handed, Opening, Fate, Outcome, State, World, acked, after, answered, appended, bound_anew, bound_sound, cut_new, cut_old, no_memory}
-use Rattle.sign_core.specs.World.{retired_under}
+use Rattle.sign_core.specs.World.{retired, retired_under}
 use Rattle.sign_core.specs.World.{fulfilled, handed_with, new_key, open_on, opened}
 use Rattle.sign_core.specs.World.{opened_by, opened_on, published, reading, refused, repeated, repeated_sound, request, requested, requested_of}
 use Rattle.sign_core.specs.World.{requested_under, secret_from}
@@ -313,6 +313,24 @@ retiring_shuts limit state upto fate (Some key) =
     (shuts_choice (nat_le upto (next_at key.secret state.records (bottom_of key.secret))) _ _ (λ is. absurd (cc))
     (shuts_choice (nat_lt limit (length state.records + 1)) _ _ (λ is. absurd (cc)) (shuts_append state (Retire upto) fate)))))
 
+pub retires_beyond : (limit : ℕ) (state : State) (key : Key) (upto : ℕ) → state.is_open ≡ true → has_moved state.records ≡ false
+    → key_in state.records ≡ Some key → upto ≤ leaves_of_current key.secret state.records (bottom_of key.secret)
+    → next_at key.secret state.records (bottom_of key.secret) < upto → length state.records + 1 ≤ limit
+    → retired limit state upto acked ≡ answered (open_on (state.records ++ Retire upto ∷ [])) tt
+retires_beyond limit state key upto open_now stays keyed inside beyond fits =
+    let bottom = bottom_of key.secret in
+    let leaves = leaves_of_current key.secret state.records bottom in
+    let next = next_at key.secret state.records bottom in
+    let done : Outcome (Unit {0}) = answered (open_on (state.records ++ Retire upto ∷ [])) tt in
+    let fourth : Bool → Outcome (Unit {0}) = λ full. if full then refused state LedgerFull else done in
+    let third : Bool → Outcome (Unit {0}) = λ past. if past then answered state tt else fourth (nat_lt limit (length state.records + 1)) in
+    let second : Bool → Outcome (Unit {0}) = λ outside. if outside then refused state RetireRange else third (nat_le upto next) in
+    let first : Bool → Outcome (Unit {0}) = λ moved. if moved then refused state MovedAway else second (nat_lt leaves upto) in
+    ap (retired_under limit state upto acked) keyed
+    ∙ ap (λ test. if not test then refused state Stopped else first (has_moved state.records)) open_now
+    ∙ ap first stays ∙ ap second (le-ltb leaves upto inside) ∙ ap third (lt-leb upto next beyond)
+    ∙ ap fourth (le-ltb limit (length state.records + 1) fits)
+
 pub closed_retires : (limit : ℕ) (state : State) (upto : ℕ) (fate : Fate) (found : Option Key) → state.is_open ≡ false
     → retired_under limit state upto fate found ≡ refused state Stopped
 closed_retires limit state upto fate (Some key) closed = rw closed refl
@@ -341,6 +359,7 @@ once limit world kept = record {
   fresh = λ key level name message chance. fresh_fine limit world.state world.handed key level name message chance kept;
   again = λ name chance. drawn_again limit world.state name chance;
   draws = λ key name chance keyed drawn. drawn_most limit world.state key name chance keyed drawn;
+  retires = λ key upto. retires_beyond limit world.state key upto;
   exhausted = λ key name chance. exhausted_exactly limit world.state key name chance;
   sound = kept.ground;
   undamaged = λ name chance slot. answers_whole limit world.state world.handed name chance slot kept;

@@ -1,7 +1,7 @@
 -- The calls of a signer over an honest store are calls of the world's.
 use Rattle.std.proofs.Common.{◌≡◌, ◌∙◌, refl, sym, ap, subst, ℕ, inl, inr, Bool, true, false, List, [], ◌∷◌, ◌++◌, length, take, Option, Some, None}
 use Rattle.std.proofs.Common.{Result, Ok, Err, append-nil, arith}
-use Rattle.std.specs.Prelude.{IsSome, if◌then◌else◌, nat_le, nat_lt}
+use Rattle.std.specs.Prelude.{IsSome, IsTrue, if◌then◌else◌, nat_le, nat_lt}
 use Rattle.std.proofs.lemmas.List.{take_all}
 use Rattle.typecodes.specs.declared.message.Message as message
 use Rattle.typecodes.specs.declared.spec.Spec.{Spec}
@@ -262,10 +262,17 @@ opens_again g kept_in random result handed is opens =
       hands = refl;
     }
 
-pub signer_law : {S R M : Type 0} (g : store.Ghosts S) (r : source.Ghosts R) (m : message.Ghosts M) → SignerLaw g r m
-signer_law g r m = record {
+pub signer_law : {S R M : Type 0} (g : store.Ghosts S) (r : source.Ghosts R) (m : message.Ghosts M)
+    → ((kept_in : S) (left : List Record) → IsTrue (g.honest kept_in) → g.stopped kept_in ≡ false → g.left_since kept_in (g.moment kept_in) left
+    → left ≡ g.list kept_in)
+    → SignerLaw g r m
+signer_law g r m nothing_else = record {
   signs = signs_in g r m;
   retires = retires_in g;
   creates = creates_in g r;
   opens = opens_again g;
+  settled = λ view left signer is.
+      let tied = signer.signer.tied signer.is_open in
+      nothing_else view.store left signer.honest tied.running is ∙ tied.same signer.honest;
+  running = λ kept_in left stands is. nothing_else kept_in left stands.honest stands.running is;
 }

@@ -1,5 +1,5 @@
 -- The law over all runs: no leaf at any level signs two digests.
-use Rattle.std.specs.Prelude.{◌≡◌, ◌≢◌, ◌⊎◌, ◌↔◌, ℕ, ◌+◌, ◌-◌, ◌*◌, ◌≤◌, true, false, List, [], ◌∷◌, ◌++◌, Contains}
+use Rattle.std.specs.Prelude.{◌≡◌, ◌≢◌, ◌⊎◌, ◌↔◌, ℕ, ◌+◌, ◌-◌, ◌*◌, ◌<◌, ◌≤◌, true, false, List, [], ◌∷◌, ◌++◌, Contains}
 use Rattle.std.specs.Prelude.{length, map, sum}
 use Rattle.std.specs.Prelude.{IsSome, Option, Some, None, Ok, Err, if◌then◌else◌, slice_get, take}
 use Rattle.std.specs.List.{AllByRecursion, concat}
@@ -14,16 +14,19 @@ use Rattle.state_file.specs.declared.record.Bound.{Bound}
 use Rattle.state_file.specs.declared.record.Extend.{Extend}
 use Rattle.state_file.specs.declared.record.Key.{Key}
 use Rattle.state_file.specs.declared.record.Record.{Record}
-use Rattle.state_file.specs.declared.record.Record.TheVariants.{Bound as BoundRecord, Extend as ExtendRecord, Key as KeyRecord}
+use Rattle.state_file.specs.declared.record.Record.TheVariants.{Bound as BoundRecord, Extend as ExtendRecord}
+use Rattle.state_file.specs.declared.record.Record.TheVariants.{Key as KeyRecord, Retire}
 use Rattle.state_file.specs.declared.record.Secret.{Secret}
 use Rattle.state_file.specs.declared.record.Secret.TheVariants.{Lms as LmsSecret, Hss as HssSecret, Xmss as XmssSecret}
 use Rattle.sign_core.specs.declared.key.AnyPublic.{AnyPublic}
 use Rattle.sign_core.specs.declared.fault.SignFault.{SignFault}
-use Rattle.sign_core.specs.declared.fault.SignFault.TheVariants.{Changed, Damaged, Exhausted, Illegal, MessageRead, Moved, OutOfMemory}
+use Rattle.sign_core.specs.declared.fault.SignFault.TheVariants.{Changed, Damaged, Exhausted, Illegal, MessageRead}
+use Rattle.sign_core.specs.declared.fault.SignFault.TheVariants.{Moved, OutOfMemory}
 use Rattle.sign_core.specs.declared.fault.SignFault.TheVariants.{Stopped, StoreFailed, Unreadable}
 use Rattle.sign_core.specs.declared.fault.SignFault.TheVariants.{DeviceFailed, NoMemoryToOpen, RandomRepeated}
 use Rattle.sign_core.specs.Key.{KeyVerdict}
-use Rattle.sign_core.specs.Records.{binding_in, deepest, has_identifier, has_moved, key_in, next_at, wanted_count}
+use Rattle.sign_core.specs.Records.{binding_in, deepest, has_identifier, has_moved, key_in, leaves_of_current, next_at}
+use Rattle.sign_core.specs.Records.{wanted_count}
 use Rattle.sign_core.specs.Uses.{LeafUse, MakesUses}
 use Rattle.sign_core.specs.World.{Chance, Creation, Draw, Event, Fate, Handed, Opening, Outcome, State, World}
 use Rattle.sign_core.specs.World.{acked, cut_new, cut_old, no_memory, create, reopen, request, retire, stop}
@@ -291,6 +294,14 @@ pub record IsOnce (limit : ℕ) (world : World) : Type 0 where
       → AreDrawsOf key.secret chance
       → length (requested limit world.state name chance).drawn
       ≤ sum tree_sizes * bottom_of key.secret + sum (randomizer_sizes key.secret)
+  -- a retiring up to a leaf beyond the next one is recorded, where the tree has these leaves, the store has room and
+  -- nothing fails
+  pub retires : (key : Key) (upto : ℕ) → world.state.is_open ≡ true → has_moved world.state.records ≡ false
+      → key_in world.state.records ≡ Some key
+      → upto ≤ leaves_of_current key.secret world.state.records (bottom_of key.secret)
+      → next_at key.secret world.state.records (bottom_of key.secret) < upto
+      → length world.state.records + 1 ≤ limit
+      → retired limit world.state upto acked ≡ answered (open_on (world.state.records ++ Retire upto ∷ [])) tt
   -- 22 comes exactly where no leaf is free at any level
   pub exhausted : (key : Key) (name : List ℕ) (chance : Chance) → world.state.is_open ≡ true
       → has_moved world.state.records ≡ false → key_in world.state.records ≡ Some key

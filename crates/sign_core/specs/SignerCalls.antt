@@ -1,4 +1,5 @@
--- The calls of a signer over an honest store are calls of the world's: what each leaves, hands out and may be stopped in.
+-- The calls of a signer over an honest store are calls of the world's: what each leaves and hands out, and what a stop
+-- in it leaves.
 use Rattle.std.specs.Prelude.{◌≡◌, ℕ, IsTrue, true, false, List, [], ◌∷◌, ◌++◌, Result, Ok, Err}
 use Rattle.typecodes.specs.declared.message.Message as message
 use Rattle.typecodes.specs.Message.{ReadWhole}
@@ -51,7 +52,8 @@ pub record RetiresInWorld {S R : Type 0} (g : store.Ghosts S) (handed : List Han
   pub leaves : IsAfter new (after (g.most old.store) (world_of (state_of old) handed) is.event)
   pub hands : (after (g.most old.store) (world_of (state_of old) handed) is.event).handed ≡ handed
 
--- what a create or an opening leaves: a signer that is open on the world's records; or none, and the world has none open
+-- what a create or an opening leaves: a signer that is open on the world's records; or none, and the world has none
+-- open
 abbrev pub OpensIn : {S R : Type 0} → Result (View S R) (Refused (S × R) SignFault) → World → Type 0
 OpensIn (Ok signer) left = IsAfter signer left
 OpensIn (Err refused) left = left.state.is_open ≡ false
@@ -87,3 +89,8 @@ pub record SignerLaw {S R M : Type 0} (g : store.Ghosts S) (r : source.Ghosts R)
   pub opens : (kept_in : S) (random : R) (result : Result (View S R) (Refused (S × R) SignFault))
       (handed : List Handed) → IsRunning g kept_in → Opens g kept_in random result
       → OpensInWorld g (g.list kept_in) handed kept_in result
+  -- before a first call a stop leaves the records: of an open signer, and of a store that runs
+  pub settled : (view : View S R) (left : List Record) → IsOpenSigner g view
+      → g.left_since view.store (g.moment view.store) left → left ≡ view.records
+  pub running : (kept_in : S) (left : List Record) → IsRunning g kept_in
+      → g.left_since kept_in (g.moment kept_in) left → left ≡ g.list kept_in

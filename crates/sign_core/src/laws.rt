@@ -148,8 +148,8 @@ pub fn calls_law()
 /// What the power's going leaves of a store, at any moment since the first of some calls on it, is what a run of the
 /// world leaves: so many of the calls come to their end, and then events that can come leave it.
 ///
-/// Each call is an event, and by its contract a stop at any moment of it leaves a beginning, no shorter than the records
-/// before, of those that the event reaches; or it leaves the store as it was.
+/// Each call is an event, and by its contract a stop at any moment of it leaves a beginning, no shorter than the
+/// records before, of those that the event reaches; or it leaves the store as it was.
 pub fn stopped_law<S: Store>()
     ensures stopped { StoppedLaw S.Store }
 {}
@@ -157,8 +157,8 @@ pub fn stopped_law<S: Store>()
 /// Over an honest store each call of an open signer, each create and each opening is an event of the world that
 /// `once_law` speaks of.
 ///
-/// A stop at any moment of the call leaves what a stop of the event leaves; after it the signer is open as the world is,
-/// and then on the same records; and what it answers is what the event hands out, for the message that was read.
+/// A stop at any moment of the call leaves what a stop of the event leaves; after it the signer is open as the world
+/// is, and then on the same records; and what it answers is what the event hands out, for the message that was read.
 pub fn signer_law<S: Store, R: Source, M: Message>()
     ensures signer { SignerLaw S.Store R.Source M.Message }
 {}
