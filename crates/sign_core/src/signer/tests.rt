@@ -7,6 +7,8 @@ use std::io::Read;
 use std::test::*;
 use typecodes::{LmsType, Name, OtsType};
 
+mod known_answers;
+
 const LMS: &str = "lms:H5/W8";
 
 const TWO: &str = "hss:H5/W8,H5/W8";
