@@ -8,6 +8,9 @@ use std::test::*;
 use typecodes::{LmsType, Name, OtsType};
 
 mod known_answers;
+mod messages;
+mod moved;
+mod sources;
 
 const LMS: &str = "lms:H5/W8";
 
