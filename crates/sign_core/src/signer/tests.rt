@@ -8,6 +8,7 @@ use std::test::*;
 use typecodes::{LmsType, Name, OtsType};
 
 mod known_answers;
+mod memory;
 mod messages;
 mod moved;
 mod sources;
