@@ -11,6 +11,7 @@ mod known_answers;
 mod memory;
 mod messages;
 mod moved;
+mod opening;
 mod sources;
 
 const LMS: &str = "lms:H5/W8";
