@@ -7,17 +7,17 @@ mod bouncy_castle;
 
 // A key: its name, its type, what it drew, and its public key. Bytes are hexadecimal digits, in parts.
 #[derive(Clone, Copy)]
-pub(super) struct Known<'a> {
-    pub(super) name: &'a str,
-    pub(super) spec: &'a str,
-    pub(super) drawn: &'a [&'a str],
-    pub(super) public: &'a [&'a str],
+struct Known<'a> {
+    name: &'a str,
+    spec: &'a str,
+    drawn: &'a [&'a str],
+    public: &'a [&'a str],
 }
 
 // What is done with a key: a message of so many bytes is signed under a new name, with these bytes drawn for it, and
 // the signature has this digest; or leaves are retired.
 #[derive(Clone, Copy)]
-pub(super) enum Step<'a> {
+enum Step<'a> {
     Sign {
         number: u8,
         len: usize,
@@ -92,7 +92,7 @@ fn goes_on(alloc: Global, disk: MemoryDisk, name: &str, step: &Step<'_>) -> Opti
 }
 
 // The first step after which not all is as it is known, and the count of steps where there is none.
-pub(super) fn first_other(alloc: Global, key: &Known<'_>, steps: &[Step<'_>]) -> Option<usize> {
+fn first_other(alloc: Global, key: &Known<'_>, steps: &[Step<'_>]) -> Option<usize> {
     let mut disk = makes(alloc, key)?;
     for (i, step) in steps.iter().enumerate() {
         match goes_on(alloc, disk, key.name, step) {
