@@ -1,7 +1,18 @@
-/* Refuses one growth of memory, that of the number in REFUSE: loaded before a program (LD_PRELOAD). */
+/* Refuses one growth of memory, that of the number in REFUSE: loaded before a program (LD_PRELOAD). The file that
+   REFUSED names is made when it is refused. */
 #define _GNU_SOURCE
 #include <dlfcn.h>
+#include <fcntl.h>
 #include <stdlib.h>
+#include <unistd.h>
+
+static void report(void)
+{
+    const char *path = getenv("REFUSED");
+    int file = path ? open(path, O_WRONLY | O_CREAT, 0666) : -1;
+    if (file >= 0)
+        close(file);
+}
 
 static int is_refused(void)
 {
@@ -11,7 +22,10 @@ static int is_refused(void)
         const char *word = getenv("REFUSE");
         wanted = word ? atol(word) : 0;
     }
-    return wanted > 0 && ++count == wanted;
+    if (wanted == 0 || ++count != wanted)
+        return 0;
+    report();
+    return 1;
 }
 
 void *malloc(size_t size)

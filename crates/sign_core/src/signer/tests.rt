@@ -7,6 +7,13 @@ use std::io::Read;
 use std::test::*;
 use typecodes::{LmsType, Name, OtsType};
 
+mod known_answers;
+mod memory;
+mod messages;
+mod moved;
+mod opening;
+mod sources;
+
 const LMS: &str = "lms:H5/W8";
 
 const TWO: &str = "hss:H5/W8,H5/W8";

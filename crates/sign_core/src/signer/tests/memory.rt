@@ -1,0 +1,268 @@
+//! Files whose calls are answered at the second try where memory is refused at the first. `tests/run` runs these with
+//! each growth of memory refused in turn.
+
+use super::*;
+use state_file::{Disk, FormatFault, OpenFault};
+
+// A source that gives one number in each byte of a draw, and the next one at the next draw.
+#[derive(Drop)]
+struct Numbers {
+    next: u8,
+}
+
+impl Source for Numbers {
+    ghost use Rattle.std.specs.Prelude.{None};
+
+    ghost failures = { λ _. 0 };
+
+    ghost upcoming = { λ _. None };
+
+    fn fill(&mut self, into: &mut [u8]) -> Result<(), SourceFault> {
+        into.fill(self.next);
+        self.next = self.next.wrapping_add(1);
+        Ok(())
+    }
+}
+
+type Numbered = Signer<FileStore<MemoryDisk>, Numbers>;
+
+fn empty_disk(alloc: Global) -> Option<MemoryDisk> {
+    match MemoryDisk::of(alloc, &[]) {
+        Ok(disk) => Some(disk),
+        Err(_) => MemoryDisk::of(alloc, &[]).ok(),
+    }
+}
+
+fn formatted(disk: MemoryDisk) -> Option<FileStore<MemoryDisk>> {
+    match FileStore::format(disk) {
+        Ok(store) => Some(store),
+        Err(refused) => match refused.fault {
+            FormatFault::DeviceFailed => FileStore::format(refused.given).ok(),
+            FormatFault::NotKeyFile | FormatFault::KeyThere => None,
+        },
+    }
+}
+
+fn store_of(disk: MemoryDisk) -> Option<FileStore<MemoryDisk>> {
+    match FileStore::open(disk) {
+        Ok(store) => Some(store),
+        Err(refused) => match refused.fault {
+            OpenFault::DeviceFailed => FileStore::open(refused.given).ok(),
+            _ => None,
+        },
+    }
+}
+
+// The signer of a store, whose source begins with this number.
+fn opened_on(alloc: Global, store: FileStore<MemoryDisk>, next: u8) -> Option<Numbered> {
+    match Signer::open(alloc, store, Numbers { next }) {
+        Ok(signer) => Some(signer),
+        Err(refused) => match refused.fault {
+            SignFault::NoMemoryToOpen => {
+                let (store, random) = refused.given;
+                Signer::open(alloc, store, random).ok()
+            }
+            _ => None,
+        },
+    }
+}
+
+// Closes a signer, and opens its file again.
+fn reopened(alloc: Global, signer: Numbered, next: u8) -> Option<Numbered> {
+    opened_on(alloc, store_of(signer.into_store().into_disk())?, next)
+}
+
+fn create_on(alloc: Global, text: &str, store: FileStore<MemoryDisk>) -> Option<Numbered> {
+    let spec = Spec::parse(text).ok()?;
+    Signer::create(alloc, spec, store, Numbers { next: 10 }).ok()
+}
+
+// The key after its create was refused for the device: the one that stands, or a new one.
+fn created_after(alloc: Global, text: &str, disk: MemoryDisk) -> Option<Numbered> {
+    match FileStore::open(disk) {
+        Ok(store) => Signer::open(alloc, store, Numbers { next: 10 }).ok(),
+        Err(refused) => match refused.fault {
+            OpenFault::NoKey => create_on(alloc, text, FileStore::format(refused.given).ok()?),
+            _ => None,
+        },
+    }
+}
+
+// A new key in a new file.
+fn created(alloc: Global, text: &str) -> Option<Numbered> {
+    let store = formatted(empty_disk(alloc)?)?;
+    let spec = Spec::parse(text).ok()?;
+    match Signer::create(alloc, spec, store, Numbers { next: 0 }) {
+        Ok(signer) => Some(signer),
+        Err(refused) => {
+            let (store, _) = refused.given;
+            match refused.fault {
+                SignFault::OutOfMemory => create_on(alloc, text, store),
+                SignFault::StoreFailed => created_after(alloc, text, store.into_disk()),
+                _ => None,
+            }
+        }
+    }
+}
+
+// A request of one byte, which leaves no byte where it is refused.
+fn request(
+    signer: &mut Numbered,
+    name: &Name,
+    message: u8,
+    out: &mut Vec<u8>,
+) -> Option<Result<(), SignFault>> {
+    let answer = signer.sign(name, &mut [message].as_slice(), out);
+    let is_kept = match answer {
+        Ok(()) => verify_any(&signer.public_key(), &mut [message].as_slice(), out).is_ok(),
+        Err(_) => out.is_empty(),
+    };
+    if !is_kept {
+        return None;
+    }
+    Some(answer)
+}
+
+// The signer after a request and its answer, at the second try where memory was refused at the first: then no name was
+// bound, and a signer whose store failed is closed until it is opened again.
+fn answered(
+    alloc: Global,
+    signer: Numbered,
+    message: u8,
+    out: &mut Vec<u8>,
+) -> Option<(Numbered, Result<(), SignFault>)> {
+    let mut signer = signer;
+    let name = Name::new(b"fw-1").ok()?;
+    let was_bound = signer.ledger.find(&name).is_some();
+    let mut answer = request(&mut signer, &name, message, out)?;
+    if answer == Err(SignFault::OutOfMemory) {
+        if signer.ledger.find(&name).is_some() != was_bound {
+            return None;
+        }
+        answer = request(&mut signer, &name, message, out)?;
+    }
+    if answer == Err(SignFault::StoreFailed) {
+        if request(&mut signer, &name, message, out)? != Err(SignFault::Stopped) {
+            return None;
+        }
+        signer = reopened(alloc, signer, 100)?;
+        answer = request(&mut signer, &name, message, out)?;
+    }
+    Some((signer, answer))
+}
+
+// The length of a signer's file.
+fn len_of(signer: Numbered) -> Option<u64> {
+    signer.into_store().into_disk().len().ok()
+}
+
+// Whether a key of one tree signs, repeats and refuses, closed and opened again between.
+fn signs_and_repeats(alloc: Global) -> Option<bool> {
+    let mut first = Vec::new(alloc);
+    let mut second = Vec::new(alloc);
+    let mut third = Vec::new(alloc);
+    let signer = reopened(alloc, created(alloc, LMS)?, 50)?;
+    let (signer, signed) = answered(alloc, signer, 1, &mut first)?;
+    let signer = reopened(alloc, signer, 60)?;
+    let (signer, repeated) = answered(alloc, signer, 1, &mut second)?;
+    let (signer, changed) = answered(alloc, signer, 2, &mut third)?;
+    let is_signed = signed == Ok(()) && repeated == Ok(()) && first == second;
+    let is_refused = changed == Err(SignFault::Changed);
+    Some(is_signed && is_refused && first.len() == 1292 && len_of(signer)? == 513)
+}
+
+#[test]
+fn one_tree_signs_at_last(rt: HostRuntime) {
+    assert_eq!(rt; signs_and_repeats(rt.alloc()), Some(true));
+}
+
+// Whether the first name of a key of more levels makes its trees, and the file is so long then.
+fn makes_trees(alloc: Global, text: &str, size: usize, len: u64) -> Option<bool> {
+    let mut out = Vec::new(alloc);
+    let signer = reopened(alloc, created(alloc, text)?, 50)?;
+    let (signer, signed) = answered(alloc, signer, 1, &mut out)?;
+    let signer = reopened(alloc, signer, 150)?;
+    let is_left = signer.left().as_slice().iter().all(|left| *left == 31);
+    Some(signed == Ok(()) && is_left && out.len() == size && len_of(signer)? == len)
+}
+
+#[test]
+fn two_levels_sign_at_last(rt: HostRuntime) {
+    assert_eq!(rt; makes_trees(rt.alloc(), TWO, 2644, 769), Some(true));
+}
+
+#[test]
+fn three_levels_sign_at_last(rt: HostRuntime) {
+    assert_eq!(rt; makes_trees(rt.alloc(), THREE, 3992, 1025), Some(true));
+}
+
+// The signer after its leaves are retired, at the second try where the store failed at the first.
+fn retired(
+    alloc: Global,
+    signer: Numbered,
+    upto: u32,
+) -> Option<(Numbered, Result<(), SignFault>)> {
+    let mut signer = signer;
+    let mut answer = signer.retire(upto);
+    if answer == Err(SignFault::StoreFailed) {
+        if signer.retire(upto) != Err(SignFault::Stopped) {
+            return None;
+        }
+        signer = reopened(alloc, signer, 100)?;
+        answer = signer.retire(upto);
+    }
+    Some((signer, answer))
+}
+
+// Whether retired leaves stay so, in a file of two records.
+fn retires_at_last(alloc: Global) -> Option<bool> {
+    let mut out = Vec::new(alloc);
+    let signer = reopened(alloc, created(alloc, LMS)?, 50)?;
+    let (signer, beyond) = retired(alloc, signer, 33)?;
+    let (signer, all) = retired(alloc, signer, 32)?;
+    let signer = reopened(alloc, signer, 60)?;
+    let (signer, signed) = answered(alloc, signer, 1, &mut out)?;
+    let (signer, again) = retired(alloc, signer, 5)?;
+    let is_refused = beyond == Err(SignFault::RetireRange) && signed == Err(SignFault::Exhausted);
+    Some(is_refused && all == Ok(()) && again == Ok(()) && len_of(signer)? == 513)
+}
+
+#[test]
+fn leaves_are_retired_at_last(rt: HostRuntime) {
+    assert_eq!(rt; retires_at_last(rt.alloc()), Some(true));
+}
+
+// A store of a key whose root isn't that of its tree.
+fn other_root(alloc: Global) -> Option<MemoryStore> {
+    match listed(alloc, &[]) {
+        Some(store) => Some(store),
+        None => listed(alloc, &[]),
+    }
+}
+
+// What the first request of a new name answers under such a key, and where memory is refused for it, the second.
+fn of_other_root_twice(alloc: Global) -> Option<(SignFault, Option<SignFault>)> {
+    let tape = counting::<32>(0);
+    let mut signer = Signer::open(alloc, other_root(alloc)?, TapeSource::new(&tape)).ok()?;
+    let first = fault_of(alloc, &mut signer, b"fw-1", &[1])??;
+    if first != SignFault::OutOfMemory {
+        return Some((first, None));
+    }
+    Some((first, fault_of(alloc, &mut signer, b"fw-1", &[1])?))
+}
+
+// Want of memory comes before what is wrong in the records, and the next request says that.
+#[test]
+fn a_changed_root_is_found_at_last(rt: HostRuntime) {
+    let found = SignFault::Damaged(0);
+    let answers = of_other_root_twice(rt.alloc());
+    let is_second = answers == Some((SignFault::OutOfMemory, Some(found)));
+    assert!(rt; is_second || answers == Some((found, None)));
+}
+
+// This one passes only where no growth of the first request is refused.
+#[test]
+fn a_changed_root_is_found_at_first(rt: HostRuntime) {
+    let found = (SignFault::Damaged(0), None);
+    assert_eq!(rt; of_other_root_twice(rt.alloc()), Some(found));
+}
