@@ -56,7 +56,7 @@ fn message_of(alloc: Global, name: &str, number: u8, len: usize) -> Option<Vec<u
 // The file of a new key, where its public key is the known one.
 fn makes(alloc: Global, key: &Known<'_>) -> Option<MemoryDisk> {
     let tape = bytes_in(alloc, key.drawn)?;
-    let signer = filed(alloc, key.spec, &tape)?;
+    let signer = in_file(alloc, key.spec, &tape)?;
     if signer.public_key().write().as_slice() != bytes_in(alloc, key.public)?.as_slice() {
         return None;
     }

@@ -18,7 +18,7 @@ fn fails_after<S: Store, R: Source>(
 // Whether a first message that fails leaves the lower tree, and no failed message afterwards leaves more.
 fn leaves_the_tree(alloc: Global) -> Option<bool> {
     let tape = counting::<320>(0);
-    let mut signer = held(alloc, TWO, MemoryStore::with_limit(alloc, 100), &tape)?;
+    let mut signer = in_memory(alloc, TWO, MemoryStore::with_limit(alloc, 100), &tape)?;
     for count in [0, 1, 63, 64, 65] {
         let is_refused = fails_after(alloc, &mut signer, b"fw-1", count)?;
         let is_left = signer.left().as_slice() == [31, 32].as_slice();
@@ -40,7 +40,7 @@ fn a_failed_message_leaves_the_lower_tree(rt: HostRuntime) {
 // Whether failed messages under a key of XMSS use no leaf.
 fn uses_no_leaf(alloc: Global) -> Option<bool> {
     let tape = counting::<96>(0);
-    let mut signer = held(alloc, "xmss:10", MemoryStore::with_limit(alloc, 100), &tape)?;
+    let mut signer = in_memory(alloc, "xmss:10", MemoryStore::with_limit(alloc, 100), &tape)?;
     for count in [0, 1, 65] {
         let is_refused = fails_after(alloc, &mut signer, b"fw-1", count)?;
         if !is_refused || signer.left().as_slice() != [1024].as_slice() {
@@ -59,7 +59,7 @@ fn a_failed_message_uses_no_xmss_leaf(rt: HostRuntime) {
 // Whether a name that is bound keeps its signature after messages that fail.
 fn keeps_its_signature(alloc: Global) -> Option<bool> {
     let tape = counting::<80>(0);
-    let mut signer = held(alloc, LMS, MemoryStore::with_limit(alloc, 100), &tape)?;
+    let mut signer = in_memory(alloc, LMS, MemoryStore::with_limit(alloc, 100), &tape)?;
     let first = answer(alloc, &mut signer, b"fw-1", &[0; 3])?.ok()?;
     for count in 0..5 {
         if !fails_after(alloc, &mut signer, b"fw-1", count)? {
@@ -98,7 +98,7 @@ impl Read for Pieces<'_> {
 }
 
 // The signature of a message that is given in pieces of this size.
-fn in_pieces(alloc: Global, signer: &mut Held<'_>, text: &[u8], size: usize) -> Option<Vec<u8>> {
+fn in_pieces(alloc: Global, signer: &mut InMemory<'_>, text: &[u8], size: usize) -> Option<Vec<u8>> {
     let mut message = Pieces {
         rest: text,
         size,
@@ -116,7 +116,7 @@ fn in_pieces(alloc: Global, signer: &mut Held<'_>, text: &[u8], size: usize) -> 
 fn is_one_however_cut(alloc: Global) -> Option<bool> {
     let tape = counting::<80>(0);
     let text = counting::<200>(7);
-    let mut signer = held(alloc, LMS, MemoryStore::with_limit(alloc, 100), &tape)?;
+    let mut signer = in_memory(alloc, LMS, MemoryStore::with_limit(alloc, 100), &tape)?;
     let first = in_pieces(alloc, &mut signer, &text, 1)?;
     for size in [63, 64, 65, 200, 1000] {
         if in_pieces(alloc, &mut signer, &text, size)? != first {

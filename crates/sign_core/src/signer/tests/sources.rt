@@ -203,7 +203,7 @@ fn with_block_again<const N: usize>(place: usize, again: usize) -> [u8; N] {
 // Whether a repeated I is refused, and the next request draws what stands behind it.
 fn draws_behind_it(alloc: Global) -> Option<bool> {
     let tape = with_block_again::<176>(0, 3);
-    let mut signer = held(alloc, TWO, MemoryStore::with_limit(alloc, 100), &tape)?;
+    let mut signer = in_memory(alloc, TWO, MemoryStore::with_limit(alloc, 100), &tape)?;
     let first = fault_of(alloc, &mut signer, b"fw-1", &[1])?;
     let has_one = signer.left().as_slice() == [32, 0].as_slice()
         && signer.store.load(1) == Ok(None);
@@ -217,7 +217,7 @@ fn draws_behind_it(alloc: Global) -> Option<bool> {
 // The same of the I of a lower tree.
 fn draws_behind_the_lower(alloc: Global) -> Option<bool> {
     let tape = with_block_again::<256>(3, 8);
-    let mut signer = held(alloc, THREE, MemoryStore::with_limit(alloc, 100), &tape)?;
+    let mut signer = in_memory(alloc, THREE, MemoryStore::with_limit(alloc, 100), &tape)?;
     let first = fault_of(alloc, &mut signer, b"fw-1", &[1])?;
     let is_left = signer.left().as_slice() == [31, 32, 0].as_slice();
     let has_two = signer.store.load(2) == Ok(None);
