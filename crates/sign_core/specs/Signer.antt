@@ -191,7 +191,7 @@ is_of_append StoreFailed = true
 is_of_append OutOfMemory = true
 is_of_append _ = false
 
--- Where no record was added, and none tried, it is so.
+-- It is so unless a record was added, or its append failed.
 abbrev pub UnlessAppended : {S R A : Type 0} → (old new : View S R) → Result A SignFault → Type 0 → Type 0
 UnlessAppended old new answer Kept = new.records ≡ old.records → is_fault is_of_append answer ≡ false → Kept
 

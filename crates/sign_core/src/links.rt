@@ -1,7 +1,7 @@
 //! The trees of a chain, from the Key's down, with what a leaf of each signs; and what they sign with it.
 
 ghost use Rattle.std.specs.Prelude.{◌≡◌, ◌<◌, ◌+◌, ◌^◌, ◌∷◌, [], ◌++◌, Some, None, true, false, length};
-ghost use Rattle.std.specs.Prelude.{option_map, slice_index_or, IfErr, OnOk};
+ghost use Rattle.std.specs.Prelude.{slice_index_or, IfErr, OnOk};
 ghost use Rattle.arrayvec.specs.ArrayVec.{array_vec_len};
 ghost use Rattle.typecodes.specs.Types.{height_of};
 ghost use Rattle.lmots.specs.Key.{message_digest_of};
@@ -14,8 +14,7 @@ use arrayvec::ArrayVec;
 use hss::Level;
 use lmots::LmOts;
 use lms::{LmsPublic, LmsSecret, write_public};
-use state_file::{Extend, Secret};
-use std::slice;
+use state_file::Extend;
 use typecodes::{LmsPair, LmsType, OtsType};
 
 /// The LMS trees of a key: the top tree's secret, and the types of each level's trees.
@@ -31,32 +30,6 @@ impl<'a> KeyTrees<'a> {
     ghost use Rattle.sign_core.specs.Records.{key_in};
     ghost use Rattle.sign_core.specs.Links.{AreMade, IsMade, IsTreeAt, signing_with, signings_of, trees_in};
     ghost use Rattle.sign_core.specs.Textbook.{damaged_in, is_sound_at, secret_at, secret_by, signings_above, trees_of};
-
-    /// Those of a key's secret; XMSS has none.
-    pub(crate) fn of(secret: &'a Secret) -> Option<Self>
-        ensures { option_map trees_in result ≡ trees_of secret.now }
-    {
-        let (pairs, identifier, seed) = match secret {
-            Secret::Lms {
-                pair,
-                identifier,
-                seed,
-            } => (slice::from_ref(pair), *identifier, *seed),
-            Secret::Hss {
-                levels,
-                identifier,
-                seed,
-            } => (levels.as_slice(), *identifier, *seed),
-            Secret::Xmss { .. } => return None,
-        };
-        let pair = *pairs.first()?;
-        let top = LmsSecret {
-            pair,
-            identifier,
-            seed,
-        };
-        Some(KeyTrees { top, pairs })
-    }
 
     /// The types of a level's trees; the top tree's, where there is no such level.
     pub(crate) fn pair(&self, level: u8) -> LmsPair
