@@ -1,6 +1,6 @@
 //! What comes of a line that requests nothing of the program's commands.
 
-ghost use Rattle.std.specs.Prelude.{◌≡◌, ◌≢◌, ◌<◌, ◌⊎◌, IfOk, IsTrue, length, string_bytes};
+ghost use Rattle.std.specs.Prelude.{◌≡◌, ◌≢◌, ◌<◌, ◌↔◌, ◌⊎◌, IfOk, IsTrue, length, string_bytes};
 ghost use Rattle.clap.specs.Words.{kind_of};
 ghost use Rattle.command.specs.Output.{CountsFailure};
 ghost use Rattle.command.specs.LineFault.{BeginsWithCapital, CountsFault, HasText, IsFaultOf, IsHelp};
@@ -70,6 +70,7 @@ impl LineFault {
 #[tactic(auto, unfolding(crate::specs::LineFault::has_lowercase_line))]
 fn help_or_usage<T: TextMaker>(texts: &mut T, text: String) -> Result<String, AllocError>
     ensures help { IfOk result (λ help. IsHelp (string_bytes help)) }
+    ensures kept { IsHelp (string_bytes text) → IfOk result (λ help. string_bytes help ≡ string_bytes text) }
     ensures counts { CountsFailure result (T.refusals texts.old) (T.refusals texts.new) }
 {
     if begins_with_capital(text.as_str()) && !has_lowercase_line(text.as_bytes()) {
@@ -81,7 +82,7 @@ fn help_or_usage<T: TextMaker>(texts: &mut T, text: String) -> Result<String, Al
 
 // Whether a text begins with a capital letter.
 fn begins_with_capital(text: &str) -> bool
-    ensures { IsTrue result → BeginsWithCapital text.now }
+    ensures { IsTrue result ↔ BeginsWithCapital text.now }
 {
     matches!(text.as_bytes().first(), Some(b'A'..=b'Z'))
 }
