@@ -1,4 +1,5 @@
 pub mod Answer
+pub mod FileDisk
 pub mod Files
 pub mod Line
 pub mod LineFault

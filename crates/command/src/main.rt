@@ -14,6 +14,7 @@
 #![tactic(auto)]
 
 mod answer;
+mod file_disk;
 mod files;
 mod line;
 mod line_fault;

@@ -1,3 +1,4 @@
+mod disks;
 mod failures;
 mod lines;
 mod place;
