@@ -54,7 +54,8 @@ IsBeyond at size old new = (2 ^ 64 ≤ at + size) × (new ≡ old)
 -- ---- the calls of the disk
 
 -- These bytes were read at a place. Or the file ended before them, where a read gave nothing; or reading broke off.
-abbrev pub ReadsAt : {A : Type 0} → (at : ℕ) (bytes : List ℕ) → Result A DiskFault → (old new : List Happening) → Type 0
+abbrev pub ReadsAt : {A : Type 0} → (at : ℕ) (bytes : List ℕ) → Result A DiskFault → (old new : List Happening)
+    → Type 0
 ReadsAt at bytes (Ok _) old new =
     GivesText (ReadsRest at (length bytes)) bytes (0, old) (length bytes, new)
 ReadsAt at bytes (Err PastEnd) old new = IsBeyond at (length bytes) old new
@@ -64,7 +65,8 @@ ReadsAt at bytes (Err Failed) old new =
 ReadsAt at bytes (Err OutOfMemory) old new = ⊥
 
 -- These bytes were written at a place. Or a write took nothing, or writing broke off.
-abbrev pub WritesAt : {A : Type 0} → (at : ℕ) (bytes : List ℕ) → Result A DiskFault → (old new : List Happening) → Type 0
+abbrev pub WritesAt : {A : Type 0} → (at : ℕ) (bytes : List ℕ) → Result A DiskFault → (old new : List Happening)
+    → Type 0
 WritesAt at bytes (Ok _) old new = GivesText (WritesRest at bytes) bytes (0, old) (length bytes, new)
 WritesAt at bytes (Err Failed) old new = IsBeyond at (length bytes) old new
     ⊎ ((done : ℕ) × (first : List ℕ) × GivesAll (WritesRest at bytes) first (0, old) (done, new))
