@@ -6,5 +6,6 @@ pub mod LineFault
 pub mod Output
 pub mod Program
 pub mod Refusal
+pub mod Signing
 pub mod Trace
 pub mod Verify

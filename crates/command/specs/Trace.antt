@@ -19,6 +19,8 @@ pub data Happening : Type 0 where
   read_at : (at room : ℕ) → ReadOutcome → Happening
   written_at : (at : ℕ) (bytes : List ℕ) → ReadOutcome → Happening
   synced : Result Unit ErrorKind → Happening
+  written : Role → (path bytes : List ℕ) → Happening
+  not_written : Role → (path : List ℕ) → Happening
 
 abbrev pub happening_of : Event → Happening
 happening_of (event.Opened role path) = opened role path.now
@@ -31,6 +33,8 @@ happening_of (event.ReadAt at room (Err kind)) = read_at at room (Err kind)
 happening_of (event.WrittenAt at bytes (Ok first)) = written_at at bytes.now (Ok first.now)
 happening_of (event.WrittenAt at bytes (Err kind)) = written_at at bytes.now (Err kind)
 happening_of (event.Synced answer) = synced answer
+happening_of (event.Written role path bytes) = written role path.now bytes.now
+happening_of (event.NotWritten role path) = not_written role path.now
 
 -- what a call that opens a file does to it
 abbrev pub opening : {A E : Type 0} → Role → List ℕ → Result A E → Happening

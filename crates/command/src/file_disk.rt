@@ -1,18 +1,21 @@
 //! A disk over a file of the machine.
 
 ghost use Rattle.std.specs.Prelude.{◌≡◌, ◌++◌, ◌∷◌, ◌<◌, ◌≤◌, [], ℕ, List, false, length, ⊤};
+ghost use Rattle.std.specs.Prelude.{◌⊎◌, IfErr, IfOk};
 ghost use Rattle.std.specs.Io.{ReadsAtMost, WritesAtMost};
 ghost use Rattle.state_file.specs.Disk.{Counts, is_failure, is_past_end, settled};
 ghost use Rattle.typecodes.specs.Message.{read_outcome};
 ghost use Rattle.command.specs.Trace.{Happening, measured, read_at, synced, written_at};
 ghost use Rattle.command.specs.FileDisk.{Measures, ReadsAt, SyncsAll, WritesAt, kept, never};
 
+use crate::refusal::Refusal;
 use crate::trace::{Event, Trace};
 use state_file::{Disk, DiskFault};
-use std::fs::File;
-use std::io;
+use std::fs::{File, Files, Metadata, OpenOptions, TryLockError};
 use std::io::ErrorKind;
-use std::os::unix::fs::FileExt;
+use std::os::unix::fs::{FileExt, OpenOptionsExt};
+use std::path::Path;
+use std::{fs, io};
 use typecodes::Count;
 
 /// A file that is read and written at places. Each method is one call of the system.
@@ -49,6 +52,49 @@ pub struct StateFile {
 }
 
 impl StateFile {
+    /// Opens the state file at this path for reading and writing, and locks it without waiting. It has to be a regular
+    /// file, and is never made.
+    pub fn open<R: Files<File = File>>(rt: &R, path: &str) -> Result<Self, Refusal>
+        ensures untouched { IfOk result (λ file. file.trace.events ≡ []) }
+        ensures err { IfErr result (λ refusal. (refusal ≡ Refusal.FileFailed) ⊎ (refusal ≡ Refusal.Locked)) }
+    {
+        // It is looked at before it is opened, too: opening a device may do something.
+        if !is_regular(&fs::metadata(rt, path)) {
+            return Err(Refusal::FileFailed);
+        }
+        match OpenOptions::new().read(true).write(true).open(rt, path) {
+            Ok(file) => locked(file),
+            Err(_) => Err(Refusal::FileFailed),
+        }
+    }
+
+    /// The same, but that a file is made where there is none, which its owner alone may read and write. In both cases
+    /// the folder is synced, so that the file's name stays: it may have been made by a run that was stopped.
+    pub fn open_or_make<R: Files<File = File>>(rt: &R, path: &str) -> Result<Self, Refusal>
+        ensures untouched { IfOk result (λ file. file.trace.events ≡ []) }
+        ensures err { IfErr result (λ refusal. (refusal ≡ Refusal.FileFailed) ⊎ (refusal ≡ Refusal.Locked)) }
+    {
+        let made = OpenOptions::new()
+            .read(true)
+            .write(true)
+            .create_new(true)
+            .mode(0o600)
+            .open(rt, path);
+        let file = match made {
+            Ok(file) => locked(file)?,
+            Err(error) => {
+                if error.kind() != ErrorKind::AlreadyExists {
+                    return Err(Refusal::FileFailed);
+                }
+                StateFile::open(rt, path)?
+            }
+        };
+        match sync_folder(rt, path) {
+            Ok(()) => Ok(file),
+            Err(_) => Err(Refusal::FileFailed),
+        }
+    }
+
     /// The file, to which nothing happened yet.
     pub fn new(file: File) -> Self
         ensures { result.trace.events ≡ [] }
@@ -97,6 +143,39 @@ impl PlacedFile for StateFile {
         self.trace.note(&Event::Synced(kind_kept(&answer)));
         answer
     }
+}
+
+// Whether this is a regular file, and no folder, device or pipe.
+fn is_regular(metadata: &io::Result<Metadata>) -> bool {
+    match metadata {
+        Ok(metadata) => metadata.is_file(),
+        Err(_) => false,
+    }
+}
+
+// The file that was opened, locked for this process alone.
+fn locked(file: File) -> Result<StateFile, Refusal>
+    ensures untouched { IfOk result (λ file. file.trace.events ≡ []) }
+    ensures err { IfErr result (λ refusal. (refusal ≡ Refusal.FileFailed) ⊎ (refusal ≡ Refusal.Locked)) }
+{
+    if !is_regular(&file.metadata()) {
+        return Err(Refusal::FileFailed);
+    }
+    match file.try_lock() {
+        Ok(()) => Ok(StateFile::new(file)),
+        Err(TryLockError::WouldBlock) => Err(Refusal::Locked),
+        Err(TryLockError::Error(_)) => Err(Refusal::FileFailed),
+    }
+}
+
+// Syncs the folder in which the file of this path stands.
+fn sync_folder<R: Files<File = File>>(rt: &R, path: &str) -> io::Result<()> {
+    let folder = match Path::new(path).parent() {
+        Some(folder) => folder.as_str(),
+        None => "",
+    };
+    let folder = if folder.is_empty() { "." } else { folder };
+    File::open(rt, folder)?.sync_all()
 }
 
 // The answer, of whose error the kind alone is kept.

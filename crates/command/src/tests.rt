@@ -4,4 +4,6 @@ mod lines;
 mod place;
 mod sample;
 mod shelf;
+mod signing;
+mod states;
 mod verdicts;

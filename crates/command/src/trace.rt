@@ -39,6 +39,10 @@ pub enum Event<'a> {
     WrittenAt(u64, &'a [u8], Result<&'a [u8], ErrorKind>),
     /// What was written is synced.
     Synced(Result<(), ErrorKind>),
+    /// The file of this path has these bytes and no others.
+    Written(Role, &'a str, &'a [u8]),
+    /// It can't be opened or written. What it has isn't known.
+    NotWritten(Role, &'a str),
 }
 
 /// What happened to files, in order. Contracts alone see it.
