@@ -32,6 +32,7 @@ use Rattle.sign_core.specs.Key.{KeyVerdict}
 use Rattle.command.specs.Verify.{Decides, Judgement, decisive}
 use Rattle.command.specs.declared.refusal.Refusal.{Refusal}
 use Rattle.command.specs.declared.refusal.Refusal.TheVariants.{Key, Signature, OutOfMemory, FileFailed}
+use Rattle.command.specs.declared.refusal.Refusal.TheVariants.{Signer, Opening, Preparing, Locked}
 use Rattle.command.proofs.Taking.{TakesAtMost, Any, most-greater, most-bind, most-if, most-done, most-refuse, most-number, most-block, most-typed, most-values, spells-first, fault-first}
 
 -- ---- LMS: 4 + 4 + 32 + 265 * 32 + 4 + 25 * 32 bytes
@@ -219,6 +220,10 @@ decided_by count public message signature (Err (Signature refusal)) less (key, s
     (key, spelled, verdict_decided {A = ⊤} count key message signature (Err refusal) less verdict)
 decided_by count public message signature (Err OutOfMemory) less never = absurd never
 decided_by count public message signature (Err FileFailed) less never = absurd never
+decided_by count public message signature (Err (Signer fault)) less never = absurd never
+decided_by count public message signature (Err (Opening fault)) less never = absurd never
+decided_by count public message signature (Err (Preparing fault)) less never = absurd never
+decided_by count public message signature (Err Locked) less never = absurd never
 
 pub decisive_is : 74989 ≡ decisive
 unfolding decisive

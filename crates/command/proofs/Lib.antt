@@ -5,6 +5,7 @@ pub mod Explaining
 pub mod Finding
 pub mod Judging
 pub mod Reading
+pub mod Placing
 pub mod LowercaseLines
 pub mod Taking
 pub mod Visiting

@@ -12,6 +12,7 @@ use Rattle.command.specs.Trace.{Happening, ReadsOnce, nothing_known}
 use Rattle.command.specs.Verify.{AnswerLeaves}
 use Rattle.command.specs.declared.refusal.Refusal.{Refusal}
 use Rattle.command.specs.declared.refusal.Refusal.TheVariants.{Key, Signature, OutOfMemory, FileFailed}
+use Rattle.command.specs.declared.refusal.Refusal.TheVariants.{Signer, Opening, Preparing, Locked}
 use Rattle.command.specs.declared.trace.Role.{Role}
 
 -- a key that can't be read leaves the message
@@ -70,6 +71,10 @@ answer-carried step remaining other left public text old new before after (Err (
     (key, spelled, key-carried {A = ⊤} step remaining other left key text old new before after (Err refusal) to leaves)
 answer-carried step remaining other left public text old new before after (Err OutOfMemory) to never = absurd never
 answer-carried step remaining other left public text old new before after (Err FileFailed) to never = absurd never
+answer-carried step remaining other left public text old new before after (Err (Signer fault)) to never = absurd never
+answer-carried step remaining other left public text old new before after (Err (Opening fault)) to never = absurd never
+answer-carried step remaining other left public text old new before after (Err (Preparing fault)) to never = absurd never
+answer-carried step remaining other left public text old new before after (Err Locked) to never = absurd never
 
 -- ---- from the message to its file
 
@@ -160,6 +165,10 @@ answer-ends step remaining public text old new (Err (Signature refusal)) (key, s
     key-ends {A = ⊤} step remaining key text old new (Err refusal) leaves
 answer-ends step remaining public text old new (Err OutOfMemory) never = absurd never
 answer-ends step remaining public text old new (Err FileFailed) never = absurd never
+answer-ends step remaining public text old new (Err (Signer fault)) never = absurd never
+answer-ends step remaining public text old new (Err (Opening fault)) never = absurd never
+answer-ends step remaining public text old new (Err (Preparing fault)) never = absurd never
+answer-ends step remaining public text old new (Err Locked) never = absurd never
 
 ends-stays : {M X : Type 0} (step : Transition M) (remaining : M → Option (List ℕ)) (part : M → X)
     → ((old : M) (outcome : ReadOutcome) (new : M) → step old outcome new → part new ≡ part old)

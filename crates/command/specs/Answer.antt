@@ -5,7 +5,11 @@ use Rattle.std.specs.Prelude.{ℕ, List, [], ◌∷◌, codes, ◌++◌, Result,
 use Rattle.command.specs.declared.answer.Done.{Done}
 use Rattle.command.specs.declared.answer.Done.TheVariants.{Verified}
 use Rattle.command.specs.declared.refusal.Refusal.{Refusal}
-use Rattle.command.specs.declared.refusal.Refusal.TheVariants.{Key, Signature, OutOfMemory, FileFailed}
+use Rattle.command.specs.declared.refusal.Refusal.TheVariants.{Signature, OutOfMemory, FileFailed}
+use Rattle.command.specs.declared.refusal.Refusal.TheVariants.{Signer, Opening, Preparing}
+use Rattle.sign_core.specs.declared.fault.SignFault.TheVariants as sign
+use Rattle.state_file.specs.declared.file.opening.OpenFault.TheVariants as opening
+use Rattle.state_file.specs.declared.file.format.FormatFault.TheVariants as preparing
 use Rattle.typecodes.specs.declared.refusal.Refusal.TheVariants.{MessageRead}
 use Rattle.command.specs.LineFault.{BeginsWithCapital, IsHelp, has_lowercase_line}
 use Rattle.command.specs.Refusal.{refusal_line}
@@ -24,9 +28,16 @@ abbrev pub status_of : Result Done Refusal → ℕ
 status_of (Ok done) = 0
 status_of (Err OutOfMemory) = 3
 status_of (Err FileFailed) = 3
-status_of (Err (Key fault)) = 1
 status_of (Err (Signature MessageRead)) = 3
-status_of (Err (Signature refusal)) = 1
+status_of (Err (Opening opening.DeviceFailed)) = 3
+status_of (Err (Preparing preparing.DeviceFailed)) = 3
+status_of (Err (Signer sign.RandomFailed)) = 3
+status_of (Err (Signer sign.StoreFailed)) = 3
+status_of (Err (Signer sign.MessageRead)) = 3
+status_of (Err (Signer sign.OutOfMemory)) = 3
+status_of (Err (Signer sign.DeviceFailed)) = 3
+status_of (Err (Signer sign.NoMemoryToOpen)) = 3
+status_of (Err _) = 1
 
 -- The answer was reported: its line was written, and the status is its own; or the output failed, and the status
 -- is 3. What an output has taken stands before and after.

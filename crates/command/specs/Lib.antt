@@ -1,9 +1,11 @@
 pub mod Answer
+pub mod FileDisk
 pub mod Files
 pub mod Line
 pub mod LineFault
 pub mod Output
 pub mod Program
 pub mod Refusal
+pub mod Signing
 pub mod Trace
 pub mod Verify

@@ -7,18 +7,34 @@ use Rattle.command.specs.declared.trace.Event.TheVariants as event
 use Rattle.std.specs.declared.io.ErrorKind.TheVariants.{Interrupted}
 use Rattle.typecodes.specs.Message.{Gave, GivesText, GivesAll, ReadOutcome, Transitions, Transition, interruptions}
 
--- A file was opened by this path, or couldn't be; a read of it gave these bytes, or failed.
+-- A file was opened by this path, or couldn't be; a read of it gave these bytes, or failed. Of a file that is read and
+-- written at places: its length was asked for; a read at a place, for so many bytes, gave these; a write of bytes at a
+-- place took these, which are the first of them; it was synced.
 pub data Happening : Type 0 where
   opened : Role → List ℕ → Happening
   not_opened : Role → List ℕ → Happening
   given : Role → List ℕ → Happening
   failed : Role → ErrorKind → Happening
+  measured : Result ℕ ErrorKind → Happening
+  read_at : (at room : ℕ) → ReadOutcome → Happening
+  written_at : (at : ℕ) (bytes : List ℕ) → ReadOutcome → Happening
+  synced : Result Unit ErrorKind → Happening
+  written : Role → (path bytes : List ℕ) → Happening
+  not_written : Role → (path : List ℕ) → Happening
 
 abbrev pub happening_of : Event → Happening
 happening_of (event.Opened role path) = opened role path.now
 happening_of (event.NotOpened role path) = not_opened role path.now
 happening_of (event.Given role bytes) = given role bytes.now
 happening_of (event.Failed role kind) = failed role kind
+happening_of (event.Measured length) = measured length
+happening_of (event.ReadAt at room (Ok bytes)) = read_at at room (Ok bytes.now)
+happening_of (event.ReadAt at room (Err kind)) = read_at at room (Err kind)
+happening_of (event.WrittenAt at bytes (Ok first)) = written_at at bytes.now (Ok first.now)
+happening_of (event.WrittenAt at bytes (Err kind)) = written_at at bytes.now (Err kind)
+happening_of (event.Synced answer) = synced answer
+happening_of (event.Written role path bytes) = written role path.now bytes.now
+happening_of (event.NotWritten role path) = not_written role path.now
 
 -- what a call that opens a file does to it
 abbrev pub opening : {A E : Type 0} → Role → List ℕ → Result A E → Happening

@@ -6,6 +6,7 @@ use Rattle.sign_core.specs.declared.key.AnyPublic.{AnyPublic}
 use Rattle.sign_core.specs.Key.{KeyHasFault, KeyLeavesMessage, KeyVerdict, SpellsKey}
 use Rattle.command.specs.declared.refusal.Refusal.{Refusal}
 use Rattle.command.specs.declared.refusal.Refusal.TheVariants.{Key, Signature, OutOfMemory, FileFailed}
+use Rattle.command.specs.declared.refusal.Refusal.TheVariants.{Signer, Opening, Preparing, Locked}
 use Rattle.std.specs.declared.io.ErrorKind.{ErrorKind}
 use Rattle.command.specs.declared.trace.Role.{Role}
 use Rattle.command.specs.Refusal.{refusal_of}
@@ -52,6 +53,10 @@ Judgement public message signature (Err (Signature refusal)) =
     (key : AnyPublic) × SpellsKey key public × KeyVerdict {A = ⊤} key message signature (Err refusal)
 Judgement public message signature (Err OutOfMemory) = ⊥
 Judgement public message signature (Err FileFailed) = ⊥
+Judgement public message signature (Err (Signer fault)) = ⊥
+Judgement public message signature (Err (Opening fault)) = ⊥
+Judgement public message signature (Err (Preparing fault)) = ⊥
+Judgement public message signature (Err Locked) = ⊥
 
 -- The same of files: opening or reading one may also fail.
 abbrev pub Answers : {A : Type 0} → List ℕ → List ℕ → List ℕ → Result A Refusal → Type 0
@@ -61,6 +66,10 @@ Answers public message signature (Err (Signature refusal)) =
     Judgement {A = ⊤} public message signature (Err (Signature refusal))
 Answers public message signature (Err OutOfMemory) = ⊤
 Answers public message signature (Err FileFailed) = ⊤
+Answers public message signature (Err (Signer fault)) = ⊥
+Answers public message signature (Err (Opening fault)) = ⊥
+Answers public message signature (Err (Preparing fault)) = ⊥
+Answers public message signature (Err Locked) = ⊥
 
 -- Of what is known of three files, this is the answer for some contents that fit: for the contents, where all are
 -- known.
@@ -89,6 +98,10 @@ AnswerLeaves step remaining public text old new (Err (Signature refusal)) =
     (key : AnyPublic) × SpellsKey key public × KeyLeavesMessage {A = ⊤} step remaining key text old new (Err refusal)
 AnswerLeaves step remaining public text old new (Err OutOfMemory) = ⊥
 AnswerLeaves step remaining public text old new (Err FileFailed) = ⊥
+AnswerLeaves step remaining public text old new (Err (Signer fault)) = ⊥
+AnswerLeaves step remaining public text old new (Err (Opening fault)) = ⊥
+AnswerLeaves step remaining public text old new (Err (Preparing fault)) = ⊥
+AnswerLeaves step remaining public text old new (Err Locked) = ⊥
 
 -- The answer is this failure, reported by its number.
 abbrev pub IsRefusalOf : {A : Type 0} → ErrorKind → Result A Refusal → Type 0

@@ -5,6 +5,8 @@ ghost use Rattle.command.specs.Answer.{Reports, done_line, status_of};
 
 use crate::output::{Output, Part};
 use crate::refusal::Refusal;
+use sign_core::SignFault;
+use state_file::{FormatFault, OpenFault};
 use typecodes::Refusal as SignatureRefusal;
 
 /// What a command has done.
@@ -54,7 +56,17 @@ fn status(answer: &Answer) -> u8
         Err(
             Refusal::OutOfMemory
             | Refusal::FileFailed
-            | Refusal::Signature(SignatureRefusal::MessageRead),
+            | Refusal::Signature(SignatureRefusal::MessageRead)
+            | Refusal::Opening(OpenFault::DeviceFailed)
+            | Refusal::Preparing(FormatFault::DeviceFailed)
+            | Refusal::Signer(
+                SignFault::RandomFailed
+                | SignFault::StoreFailed
+                | SignFault::MessageRead
+                | SignFault::OutOfMemory
+                | SignFault::DeviceFailed
+                | SignFault::NoMemoryToOpen,
+            ),
         ) => 3,
         Err(_) => 1,
     }

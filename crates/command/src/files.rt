@@ -1,4 +1,4 @@
-//! The files that a line names: how they are opened, and what is read of them.
+//! The files that a line names: how they are opened and written, and what is read of them.
 
 ghost use Rattle.std.specs.Prelude.{◌≡◌, ◌++◌, ◌∷◌, ◌<◌, ◌≤◌, ◌^◌, [], ℕ, List, None, length, take, IfErr, IfOk};
 ghost use Rattle.std.specs.Io.{ReadsAtMost};
@@ -10,7 +10,8 @@ ghost use Rattle.command.specs.Trace.{Happening, ReadsOnce, opening};
 ghost use Rattle.command.specs.declared.trace.Role.{Role as FileRole};
 
 use crate::refusal::Refusal;
-use crate::trace::{Role, Trace};
+use crate::signing::Outlet;
+use crate::trace::{Event, Role, Trace};
 use sign_core::{AnyPublic, KeyFault};
 use std::fs::Files;
 use std::io::{ErrorKind, Read};
@@ -113,6 +114,23 @@ impl<R: Files> Folder for Machine<R> {
     fn read(&mut self, file: &mut MachineFile<R::File>, buffer: &mut [u8]) -> io::Result<usize> {
         let answer = file.file.read(buffer);
         self.trace.note_read(file.role, answer, buffer)
+    }
+}
+
+impl<R: Files> Outlet for Machine<R> {
+    ghost trace = { λ machine. machine };
+
+    fn write(&mut self, role: Role, path: &str, bytes: &[u8]) -> Result<(), Refusal> {
+        match fs::write(&self.rt, path, bytes) {
+            Ok(()) => {
+                self.trace.note(&Event::Written(role, path, bytes));
+                Ok(())
+            }
+            Err(_) => {
+                self.trace.note(&Event::NotWritten(role, path));
+                Err(Refusal::FileFailed)
+            }
+        }
     }
 }
 

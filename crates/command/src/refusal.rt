@@ -4,9 +4,12 @@ ghost use Rattle.std.specs.Prelude.{◌≡◌, ◌++◌, codes};
 ghost use Rattle.std.specs.IoError.{error_kind};
 ghost use Rattle.command.specs.Output.{text_of};
 ghost use Rattle.command.specs.Refusal.{detail_of, fault_name_of, name_of, number_of, refusal_line, refusal_of};
+ghost use Rattle.command.specs.Refusal.{format_name_of, format_number_of, open_name_of, open_number_of};
+ghost use Rattle.command.specs.Refusal.{signer_name_of, signer_number_of};
 
 use crate::output::Part;
-use sign_core::KeyFault;
+use sign_core::{KeyFault, SignFault};
+use state_file::{FormatFault, OpenFault};
 use std::io;
 use std::io::ErrorKind;
 use typecodes::{Cause, Refusal as SignatureRefusal};
@@ -18,10 +21,18 @@ pub enum Refusal {
     Key(KeyFault),
     /// 1 to 5, 10 to 12 and 14: a signature isn't verified.
     Signature(SignatureRefusal),
+    /// 21 to 32, 40, 43 to 46 and 50: the signer refuses.
+    Signer(SignFault),
+    /// 40 to 43 and 45: the state file's records can't be found.
+    Opening(OpenFault),
+    /// 41, 45 and 50: the state file isn't prepared for a key.
+    Preparing(FormatFault),
     /// 46: there is no memory.
     OutOfMemory,
     /// 53: a file can't be opened, or the key's or the signature's can't be read.
     FileFailed,
+    /// 54: the state file is locked.
+    Locked,
 }
 
 impl Refusal {
@@ -33,8 +44,12 @@ impl Refusal {
             Refusal::Key(KeyFault::Length(_)) => 6,
             Refusal::Key(KeyFault::Unreadable(fault)) => fault.cause.number(),
             Refusal::Signature(refusal) => refusal.number(),
+            Refusal::Signer(fault) => signer_number(*fault),
+            Refusal::Opening(fault) => open_number(*fault),
+            Refusal::Preparing(fault) => format_number(*fault),
             Refusal::OutOfMemory => 46,
             Refusal::FileFailed => 53,
+            Refusal::Locked => 54,
         }
     }
 
@@ -50,8 +65,12 @@ impl Refusal {
             Refusal::Signature(SignatureRefusal::LevelMismatch) => "LevelMismatch",
             Refusal::Signature(SignatureRefusal::RootMismatch(_)) => "RootMismatch",
             Refusal::Signature(SignatureRefusal::MessageRead) => "MessageRead",
+            Refusal::Signer(fault) => signer_name(*fault),
+            Refusal::Opening(fault) => open_name(*fault),
+            Refusal::Preparing(fault) => format_name(*fault),
             Refusal::OutOfMemory => "OutOfMemory",
             Refusal::FileFailed => "FileFailed",
+            Refusal::Locked => "Locked",
         }
     }
     // What follows the name: a word and a number, or nothing.
@@ -70,9 +89,13 @@ impl Refusal {
             Refusal::Signature(
                 SignatureRefusal::TypeMismatch(level) | SignatureRefusal::RootMismatch(level),
             ) => [Part::Text(" level "), Part::Number(u64::from(*level))],
-            Refusal::Signature(SignatureRefusal::LevelMismatch | SignatureRefusal::MessageRead)
-            | Refusal::OutOfMemory
-            | Refusal::FileFailed => [Part::Text(""), Part::Text("")],
+            Refusal::Signer(
+                SignFault::Damaged(slot) | SignFault::Unreadable(slot) | SignFault::Illegal(slot),
+            )
+            | Refusal::Opening(OpenFault::Damaged(slot)) => {
+                [Part::Text(" slot "), Part::Number(u64::from(*slot))]
+            }
+            _ => [Part::Text(""), Part::Text("")],
         }
     }
 
@@ -90,6 +113,104 @@ impl Refusal {
             number,
             Part::Text("\n"),
         ]
+    }
+}
+
+// The number of a signer's fault.
+fn signer_number(fault: SignFault) -> u8
+    ensures { result ≡ signer_number_of fault }
+{
+    match fault {
+        SignFault::Changed => 21,
+        SignFault::Exhausted => 22,
+        SignFault::RandomFailed => 23,
+        SignFault::RandomRepeated => 24,
+        SignFault::StoreFailed => 25,
+        SignFault::Stopped => 26,
+        SignFault::MessageRead => 27,
+        SignFault::Damaged(_) => 28,
+        SignFault::OutOfMemory => 29,
+        SignFault::LedgerFull => 30,
+        SignFault::Moved => 31,
+        SignFault::RetireRange => 32,
+        SignFault::NoKey => 40,
+        SignFault::Unreadable(_) => 43,
+        SignFault::Illegal(_) => 44,
+        SignFault::DeviceFailed => 45,
+        SignFault::NoMemoryToOpen => 46,
+        SignFault::KeyThere => 50,
+    }
+}
+
+// The name of a signer's fault.
+fn signer_name(fault: SignFault) -> &'static str
+    ensures { result.now ≡ signer_name_of fault }
+{
+    match fault {
+        SignFault::Changed => "Changed",
+        SignFault::Exhausted => "Exhausted",
+        SignFault::RandomFailed => "RandomFailed",
+        SignFault::RandomRepeated => "RandomRepeated",
+        SignFault::StoreFailed => "StoreFailed",
+        SignFault::Stopped => "Stopped",
+        SignFault::MessageRead => "MessageRead",
+        SignFault::Damaged(_) | SignFault::Unreadable(_) => "Damaged",
+        SignFault::OutOfMemory | SignFault::NoMemoryToOpen => "OutOfMemory",
+        SignFault::LedgerFull => "LedgerFull",
+        SignFault::Moved => "Moved",
+        SignFault::RetireRange => "RetireRange",
+        SignFault::NoKey => "NoKey",
+        SignFault::Illegal(_) => "Illegal",
+        SignFault::DeviceFailed => "DeviceFailed",
+        SignFault::KeyThere => "KeyThere",
+    }
+}
+
+// The number of a fault of finding a state file's records.
+fn open_number(fault: OpenFault) -> u8
+    ensures { result ≡ open_number_of fault }
+{
+    match fault {
+        OpenFault::NoKey => 40,
+        OpenFault::NotKeyFile => 41,
+        OpenFault::Version => 42,
+        OpenFault::Damaged(_) => 43,
+        OpenFault::DeviceFailed => 45,
+    }
+}
+
+// The name of a fault of finding a state file's records.
+fn open_name(fault: OpenFault) -> &'static str
+    ensures { result.now ≡ open_name_of fault }
+{
+    match fault {
+        OpenFault::NoKey => "NoKey",
+        OpenFault::NotKeyFile => "NotKeyFile",
+        OpenFault::Version => "Version",
+        OpenFault::Damaged(_) => "Damaged",
+        OpenFault::DeviceFailed => "DeviceFailed",
+    }
+}
+
+// The number of a fault of preparing a state file.
+fn format_number(fault: FormatFault) -> u8
+    ensures { result ≡ format_number_of fault }
+{
+    match fault {
+        FormatFault::NotKeyFile => 41,
+        FormatFault::DeviceFailed => 45,
+        FormatFault::KeyThere => 50,
+    }
+}
+
+// The name of a fault of preparing a state file.
+fn format_name(fault: FormatFault) -> &'static str
+    ensures { result.now ≡ format_name_of fault }
+{
+    match fault {
+        FormatFault::NotKeyFile => "NotKeyFile",
+        FormatFault::DeviceFailed => "DeviceFailed",
+        FormatFault::KeyThere => "KeyThere",
     }
 }
 

@@ -1,6 +1,9 @@
+mod disks;
 mod failures;
 mod lines;
 mod place;
 mod sample;
 mod shelf;
+mod signing;
+mod states;
 mod verdicts;

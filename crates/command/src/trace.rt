@@ -31,6 +31,18 @@ pub enum Event<'a> {
     Given(Role, &'a [u8]),
     /// A read fails.
     Failed(Role, ErrorKind),
+    /// The length is asked for.
+    Measured(Result<u64, ErrorKind>),
+    /// A read at this place, for so many bytes, gives these.
+    ReadAt(u64, usize, Result<&'a [u8], ErrorKind>),
+    /// A write of these bytes at this place takes the first of them.
+    WrittenAt(u64, &'a [u8], Result<&'a [u8], ErrorKind>),
+    /// What was written is synced.
+    Synced(Result<(), ErrorKind>),
+    /// The file of this path has these bytes and no others.
+    Written(Role, &'a str, &'a [u8]),
+    /// It can't be opened or written. What it has isn't known.
+    NotWritten(Role, &'a str),
 }
 
 /// What happened to files, in order. Contracts alone see it.
@@ -60,6 +72,13 @@ impl Trace {
         ensures { result.events ≡ self.now.events ++ happening_of _event.now ∷ [] }
     {
         Trace {}
+    }
+
+    /// Notes this event.
+    pub fn note(&mut self, event: &Event<'_>)
+        ensures { self.new.events ≡ self.old.events ++ happening_of event.now ∷ [] }
+    {
+        *self = self.and(event);
     }
 
     /// Notes how a file was opened, and gives this answer.

@@ -1,0 +1,94 @@
+-- How a disk reads and writes a file of the machine: by calls, each of which may do a part of what is asked.
+use Rattle.std.specs.Prelude.{ℕ, List, ◌≡◌, ◌+◌, ◌-◌, [], ◌∷◌, ◌++◌, ◌≤◌, ◌^◌, ◌⊎◌, length, drop, Result, Ok, Err}
+use Rattle.std.proofs.Common.{subst}
+use Rattle.std.specs.Prelude.{Bool, true, false, IsTrue}
+use Rattle.std.specs.IoError.{error_kind}
+use Rattle.std.specs.declared.io.Error.{Error}
+use Rattle.std.specs.declared.io.ErrorKind.{ErrorKind}
+use Rattle.state_file.specs.declared.disk.DiskFault.{DiskFault}
+use Rattle.state_file.specs.declared.disk.DiskFault.TheVariants.{Failed, PastEnd, OutOfMemory}
+use Rattle.typecodes.specs.Message.{Gave, GivesAll, GivesText, ReadFails, ReadOutcome, Transition, Transitions}
+use Rattle.typecodes.specs.Message.{interruptions}
+use Rattle.command.specs.Trace.{Happening, measured, read_at, synced, written_at}
+
+-- an answer, of whose error the kind alone is kept
+abbrev pub kept : {A : Type 0} → Result A Error → Result A ErrorKind
+kept (Ok value) = Ok value
+kept (Err error) = Err (error_kind error)
+
+-- ---- a part of the bytes, and then the rest
+
+-- how many of the bytes are done, and what happened to the file
+abbrev pub Stage : Type 0
+Stage = ℕ × List Happening
+
+-- how many bytes a call gave or took
+abbrev pub size_of : ReadOutcome → ℕ
+size_of (Ok bytes) = length bytes
+size_of (Err kind) = 0
+
+-- A read at the place where the rest of the bytes stands asks for the rest, and for no more.
+abbrev pub ReadsRest : (at room : ℕ) → Transition Stage
+ReadsRest at room (done, old) outcome (after, new) =
+    (after ≡ done + size_of outcome) × (new ≡ old ++ read_at (at + done) (room - done) outcome ∷ [])
+
+-- A write of the rest of the bytes, at the place where it belongs.
+abbrev pub WritesRest : (at : ℕ) (bytes : List ℕ) → Transition Stage
+WritesRest at bytes (done, old) outcome (after, new) =
+    (after ≡ done + size_of outcome) × (new ≡ old ++ written_at (at + done) (drop done bytes) outcome ∷ [])
+
+-- Calls went on, each of which did a byte at least or was interrupted; of both there were 2^20, and it was given up.
+abbrev pub GivesUp : Transition Stage → Stage → Stage → Type 0
+GivesUp step old new =
+    (outcomes : List ReadOutcome) × (bytes : List ℕ) × Transitions step outcomes old new × Gave outcomes bytes
+    × (2 ^ 20 ≤ interruptions outcomes + length bytes)
+
+-- A call failed and wasn't interrupted, or it was given up.
+abbrev pub Breaks : Transition Stage → Stage → Stage → Type 0
+Breaks step old new = ReadFails step old new ⊎ GivesUp step old new
+
+-- The range has no end: there is no place of 2^64 or more, and the file was left alone.
+abbrev pub IsBeyond : (at size : ℕ) (old new : List Happening) → Type 0
+IsBeyond at size old new = (2 ^ 64 ≤ at + size) × (new ≡ old)
+
+-- ---- the calls of the disk
+
+-- These bytes were read at a place. Or the file ended before them, where a read gave nothing; or reading broke off.
+abbrev pub ReadsAt : {A : Type 0} → (at : ℕ) (bytes : List ℕ) → Result A DiskFault → (old new : List Happening)
+    → Type 0
+ReadsAt at bytes (Ok _) old new =
+    GivesText (ReadsRest at (length bytes)) bytes (0, old) (length bytes, new)
+ReadsAt at bytes (Err PastEnd) old new = IsBeyond at (length bytes) old new
+    ⊎ ((done : ℕ) × (first : List ℕ) × GivesAll (ReadsRest at (length bytes)) first (0, old) (done, new))
+ReadsAt at bytes (Err Failed) old new =
+    (done : ℕ) × Breaks (ReadsRest at (length bytes)) (0, old) (done, new)
+ReadsAt at bytes (Err OutOfMemory) old new = ⊥
+
+-- These bytes were written at a place. Or a write took nothing, or writing broke off.
+abbrev pub WritesAt : {A : Type 0} → (at : ℕ) (bytes : List ℕ) → Result A DiskFault → (old new : List Happening)
+    → Type 0
+WritesAt at bytes (Ok _) old new = GivesText (WritesRest at bytes) bytes (0, old) (length bytes, new)
+WritesAt at bytes (Err Failed) old new = IsBeyond at (length bytes) old new
+    ⊎ ((done : ℕ) × (first : List ℕ) × GivesAll (WritesRest at bytes) first (0, old) (done, new))
+    ⊎ ((done : ℕ) × Breaks (WritesRest at bytes) (0, old) (done, new))
+WritesAt at bytes (Err PastEnd) old new = ⊥
+WritesAt at bytes (Err OutOfMemory) old new = ⊥
+
+-- The file was asked for its length, once, and this is the answer.
+abbrev pub Measures : Result ℕ DiskFault → (old new : List Happening) → Type 0
+Measures (Ok n) old new = new ≡ old ++ measured (Ok n) ∷ []
+Measures (Err fault) old new = (fault ≡ Failed) × (kind : ErrorKind) × (new ≡ old ++ measured (Err kind) ∷ [])
+
+-- The file was synced, once: all that was written to it, and its length.
+abbrev pub SyncsAll : Result Unit DiskFault → (old new : List Happening) → Type 0
+SyncsAll (Ok _) old new = new ≡ old ++ synced (Ok tt) ∷ []
+SyncsAll (Err fault) old new = (fault ≡ Failed) × (kind : ErrorKind) × (new ≡ old ++ synced (Err kind) ∷ [])
+
+-- true of false alone
+abbrev pub IsNotTrue : Bool → Type 0
+IsNotTrue true = ⊥
+IsNotTrue false = Unit {0}
+
+-- a disk that isn't honest makes no promise
+pub never : {A : Type 0} → IsTrue false → A
+never honest = absurd (subst IsNotTrue honest tt)

@@ -1,0 +1,57 @@
+-- What a command does with a signer: a step of the signer first, and only after its Ok a file is written.
+use Rattle.std.specs.Prelude.{ℕ, List, ◌≡◌, [], ◌∷◌, ◌++◌, length, Result, Ok, Err, Option, Some}
+use Rattle.typecodes.specs.declared.message.Message as message
+use Rattle.state_file.specs.declared.record.Key.{Key}
+use Rattle.state_file.specs.declared.store.Store as store
+use Rattle.sign_core.specs.declared.fault.SignFault.{SignFault}
+use Rattle.sign_core.specs.declared.key.AnyPublic.{AnyPublic}
+use Rattle.sign_core.specs.declared.source.Source as source
+use Rattle.sign_core.specs.Key.{SpellsKey}
+use Rattle.sign_core.specs.Once.{public_of_key}
+use Rattle.sign_core.specs.Signer.{Retires, Signs, View}
+use Rattle.command.specs.declared.refusal.Refusal.{Refusal}
+use Rattle.command.specs.declared.refusal.Refusal.TheVariants.{FileFailed, Signer}
+use Rattle.command.specs.declared.trace.Role.{Role}
+use Rattle.command.specs.declared.trace.Role.TheVariants as role
+use Rattle.command.specs.Trace.{Happening, not_written, written}
+
+-- what a call that writes these bytes to a file does
+abbrev pub writing : {A E : Type 0} → Role → (path bytes : List ℕ) → Result A E → Happening
+writing role path bytes (Ok _) = written role path bytes
+writing role path bytes (Err _) = not_written role path
+
+-- A signature was handed out or refused. A refusal is reported, and no file was opened. A signature is written to its
+-- file, whole, and its size is the answer; or the file can't be written, which is reported.
+abbrev pub Delivers : Result (List ℕ) SignFault → (path : List ℕ) → (old new : List Happening) → Result ℕ Refusal
+    → Type 0
+Delivers (Err fault) path old new answer = (answer ≡ Err (Signer fault)) × (new ≡ old)
+Delivers (Ok signature) path old new (Ok size) =
+    (size ≡ length signature) × (new ≡ old ++ written role.Signature path signature ∷ [])
+Delivers (Ok signature) path old new (Err refusal) =
+    (refusal ≡ FileFailed) × (new ≡ old ++ not_written role.Signature path ∷ [])
+
+-- The signer made a step of signing this name's message, and what it answered was delivered.
+abbrev pub SignsInto : {S R M : Type 0} → store.Ghosts S → source.Ghosts R → message.Ghosts M → (old new : View S R)
+    → (name : List ℕ) → (before after : M) → (capacity : ℕ) → (path : List ℕ) → (was now : List Happening)
+    → Result ℕ Refusal → Type 0
+SignsInto g r m old new name before after capacity path was now answer =
+    (signed : Result (List ℕ) SignFault) × Signs g r m old new name before after capacity signed
+    × Delivers signed path was now answer
+
+-- A public key was written to its file, as its spelling and nothing else; or the file can't be written.
+abbrev pub Publishes : Option Key → (path : List ℕ) → (old new : List Happening) → Result AnyPublic Refusal → Type 0
+Publishes key path old new (Ok public) = (public_of_key key ≡ Some public)
+    × ((bytes : List ℕ) × SpellsKey public bytes × (new ≡ old ++ written role.Public path bytes ∷ []))
+Publishes key path old new (Err refusal) =
+    (refusal ≡ FileFailed) × (new ≡ old ++ not_written role.Public path ∷ [])
+
+-- what the signer refused, as the command reports it
+abbrev pub reported : {A : Type 0} → Result A SignFault → Result A Refusal
+reported (Ok value) = Ok value
+reported (Err fault) = Err (Signer fault)
+
+-- The signer made a step of retiring the leaves below a number, and what it answered is reported.
+abbrev pub RetiresBelow : {S R : Type 0} → store.Ghosts S → (old new : View S R) → (upto : ℕ) → Result Unit Refusal
+    → Type 0
+RetiresBelow g old new upto answer =
+    (retired : Result Unit SignFault) × Retires g old new upto retired × (answer ≡ reported retired)
