@@ -33,7 +33,7 @@ use Rattle.sign_core.specs.World.{Chance, Creation, Fate, Handed, Opening, Outco
 use Rattle.sign_core.specs.World.{created_after, cut_new, cut_old, handed_with, new_key, no_memory, opened, opened_by, opened_on, published, refused}
 use Rattle.sign_core.specs.World.{reopen, request, requested, retire, retired, secret_from}
 use Rattle.sign_core.proofs.Acknowledged.{open_acknowledged}
-use Rattle.sign_core.proofs.Calls.{opened_reaches}
+use Rattle.sign_core.proofs.Calls.{draws_of, opened_reaches}
 use Rattle.sign_core.proofs.DrawnAgain.{signed_read}
 use Rattle.sign_core.proofs.OnceParts.{closed_retires, closed_under}
 
@@ -91,7 +91,7 @@ signs_in g r m old new name before later capacity answer handed signer is_name s
     (λ signature is. signed_read limit (state_of old) name signature signs.chance is)
     (subst (λ (o : Outcome (List ℕ)). IsRead m o.is_read signs.chance.given before later) (sym signs.step) signs.message) in
     record {
-      is = record { event = event; is_call = record { possible = (is_name, signs.possible); leaves = inl leaves } };
+      is = record { event = event; is_call = record { possible = (is_name, draws_of signs.key.secret signs.chance signs.possible); leaves = inl leaves } };
       leaves = is_after new (after limit world event) mine signs.outcome signs.step refl (open_acknowledged limit world event) signs.ends.records
           signs.ends.is_open;
       hands = subst (λ a. HandsOut m name before later a handed (handed ++ handed_with name signs.chance.given mine.answer)) answers out;
@@ -147,7 +147,7 @@ refuses_in g r m old new name before later capacity answer world closed is_name 
       answer_is = answer_is;
       is_open = keeps.is_open ∙ closed.is_closed;
       store = keeps.store;
-      is_call = record { possible = (is_name, signs.possible); leaves = inr keeps.store };
+      is_call = record { possible = (is_name, draws_of signs.key.secret signs.chance signs.possible); leaves = inr keeps.store };
       stays = request_stays limit world name signs.chance closed.none_open;
     }
 
