@@ -6,7 +6,7 @@ use Rattle.std.specs.List.{concat}
 use Rattle.std.specs.Cmp.Lexicographic.{bytes_decides}
 use Rattle.std.proofs.Math.Seq.{take-length}
 use Rattle.std.proofs.lemmas.List.{map-append}
-use Rattle.std.proofs.lemmas.Option.{same_Some}
+use Rattle.std.proofs.lemmas.Option.{none-some, same_Some}
 use Rattle.typecodes.specs.declared.message.Message as message
 use Rattle.typecodes.specs.declared.types.LmsPair.{LmsPair}
 use Rattle.typecodes.specs.Layout.{AreBytes}
@@ -32,6 +32,7 @@ use Rattle.sign_core.specs.declared.fault.SignFault.TheVariants.{Damaged, Messag
 use Rattle.sign_core.specs.declared.source.Source as source
 use Rattle.sign_core.specs.declared.links.Link.{Link}
 use Rattle.sign_core.specs.declared.links.Signed.{Signed}
+use Rattle.sign_core.specs.Once.{AreFields, randomizer_sizes}
 use Rattle.sign_core.specs.Signing.{answered_with}
 use Rattle.sign_core.specs.Source.{DrawsBytes}
 use Rattle.sign_core.specs.Source.{Provides}
@@ -264,6 +265,13 @@ chain_follows_bound records key trees above last name bound keyed these stays st
 
 -- ---- a binding under LMS or HSS
 
+-- a key of LMS or HSS draws C for a binding
+chain_sizes : (secret : Secret) (trees : Trees) (randomizer : List ℕ) → trees_of secret ≡ Some trees → length randomizer ≡ 32 → AreBytes randomizer
+    → AreFields (randomizer_sizes secret) (randomizer ∷ [])
+chain_sizes (Lms pair identifier seed) trees randomizer these sized bytes = (sized, bytes, tt)
+chain_sizes (Hss levels identifier seed) trees randomizer these sized bytes = (sized, bytes, tt)
+chain_sizes (Xmss tree secret_seed prf_key public_seed) trees randomizer these sized bytes = absurd (none-some _ these)
+
 module _ {S R M : Type 0} (g : store.Ghosts S) (r : source.Ghosts R) (m : message.Ghosts M) (name : List ℕ) (kept_in : S) (random mid : R) (ledger : Table)
     (is_open : Bool) (before after : M) (key : Key) (trees : Trees) (these : trees_of key.secret ≡ Some trees) where
   -- the source fails
@@ -301,7 +309,7 @@ module _ {S R M : Type 0} (g : store.Ghosts S) (r : source.Ghosts R) (m : messag
     step = λ all. ap (λ o. drawing (concat (randomizer ∷ [])) (bound_with (open_on ledger.records) key name o None acked))
         (drawn_randomizer key.secret trees randomizer these).0;
     trees_possible = tt;
-    bound_possible = (sized, bytes, tt);
+    bound_possible = chain_sizes key.secret trees randomizer these sized bytes;
     does = does_kept g r m kept_in random mid ledger is_open before after {A = List ℕ} true MessageRead (concat (randomizer ∷ []) ++ []) true None opened tied only
         (λ n. refl) (λ n. refl) (one_field (r.upcoming random) (r.upcoming mid) randomizer draws.1) draws.0 fails;
     late = refl;
@@ -328,7 +336,7 @@ module _ {S R M : Type 0} (g : store.Ghosts S) (r : source.Ghosts R) (m : messag
             ∙ ap (λ (b : Bound). append_so g r m kept_in random mid ledger is_open before after (BoundRecord b) (sign b) (concat (randomizer ∷ [])) adds.fate)
             (sym is);
         trees_possible = tt;
-        bound_possible = (sized, bytes, tt);
+        bound_possible = chain_sizes key.secret trees randomizer these sized bytes;
         does = does_added g r m kept_in random mid ledger is_open before after new (BoundRecord bound) (sign bound) (concat (randomizer ∷ [])) text a opened adds
             (one_field (r.upcoming random) (r.upcoming mid) randomizer draws.1) draws.0 whole;
         late = same_fault is_before_draws a _ ∙ is_late g (view_of kept_in mid ledger is_open) new (BoundRecord bound) a adds;

@@ -9,10 +9,10 @@ use Rattle.state_file.specs.declared.store.Store as store
 use Rattle.sign_core.specs.declared.key.AnyPublic.{AnyPublic}
 use Rattle.sign_core.specs.Calls.{AreCalls, AreSteps, Call, CallsLaw, IsRun, IsStep, IsStoppedIn, Step, StoppedLaw, after_steps, ends, events_of}
 use Rattle.sign_core.specs.Calls.{reached_by, stepped, stops, store_after}
-use Rattle.sign_core.specs.Once.{AllEvents, AreFields, IsBeginning, IsEvent, IsLeftBy, IsOnce, randomizer_sizes, reached}
+use Rattle.sign_core.specs.Once.{AllEvents, AreDraws, AreDrawsOf, AreFields, IsBeginning, IsEvent, IsLeftBy, IsOnce, randomizer_sizes, reached}
 use Rattle.sign_core.specs.Records.{first_illegal, key_in}
 use Rattle.sign_core.specs.Textbook.{public_in}
-use Rattle.sign_core.specs.World.{Event, Opening, State, World, after, beginning, create, opened_by, opened_on, published, reopen}
+use Rattle.sign_core.specs.World.{Chance, Event, Opening, State, World, after, beginning, create, opened_by, opened_on, published, reopen}
 use Rattle.sign_core.specs.World.{request, retire, run, stop}
 use Rattle.sign_core.proofs.Acknowledged.{open_acknowledged}
 use Rattle.sign_core.proofs.Events.{kept_by_run}
@@ -91,12 +91,16 @@ randomizer_fields (Hss levels identifier seed) fields are = are
 randomizer_fields (Xmss tree secret_seed prf_key public_seed) [] are = tt
 randomizer_fields (Xmss tree secret_seed prf_key public_seed) (field ∷ fields) are = absurd are
 
+-- the draws of a key's request are those of an event's
+pub draws_of : (secret : Secret) (chance : Chance) → AreDrawsOf secret chance → AreDraws chance
+draws_of secret chance drawn = record { trees = drawn.trees; bound = randomizer_fields secret chance.bound.fields drawn.bound }
+
 pub calls_law : CallsLaw
 calls_law = record {
   runs = steps_run;
   once = steps_once;
   acknowledged = open_acknowledged;
-  draws = λ secret chance drawn. record { trees = drawn.trees; bound = randomizer_fields secret chance.bound.fields drawn.bound };
+  draws = draws_of;
 }
 
 -- ---- calls on a store

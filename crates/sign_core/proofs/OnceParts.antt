@@ -233,7 +233,7 @@ pub failed_closes : (limit : ℕ) (state : State) (name : List ℕ) (chance : Ch
 failed_closes limit state name chance =
     ended_request Closes ends_closed limit state name chance (λ key keyed level tree slot damaged is. absurd (cc)) (λ is. absurd (cc))
 
-closed_under : (limit : ℕ) (state : State) (name : List ℕ) (chance : Chance) (found : Option Key) → state.is_open ≡ false
+pub closed_under : (limit : ℕ) (state : State) (name : List ℕ) (chance : Chance) (found : Option Key) → state.is_open ≡ false
     → requested_under limit state name chance found ≡ refused state Stopped
 closed_under limit state name chance (Some key) closed = rw closed refl
 closed_under limit state name chance None closed = refl

@@ -25,15 +25,17 @@ use Rattle.sign_core.specs.declared.fault.SignFault.TheVariants.{Moved as MovedA
 use Rattle.sign_core.specs.declared.source.Source as source
 use Rattle.sign_core.specs.Once.{CanFailLoad, CanStopOpening, IsBeginning, reached}
 use Rattle.sign_core.specs.Records.{first_illegal, key_in}
-use Rattle.sign_core.specs.Signer.{Creates, IsAnswered, IsRead, LoadFails, Opens, Retires, Signs, StopsOpening, View, state_of, store_after}
-use Rattle.sign_core.specs.SignerCalls.{HandsOut, IsAfter, IsOpenSigner, IsRunning, OpensIn, OpensInWorld, RetiresInWorld, SignerLaw, SignsInWorld, world_of}
+use Rattle.sign_core.specs.Signer.{Creates, IsAnswered, IsRead, LoadFails, Opens, Retires, Signs, StopsOpening, View, is_before_draws, is_fault, is_of_append}
+use Rattle.sign_core.specs.Signer.{state_of, store_after}
+use Rattle.sign_core.specs.SignerCalls.{AreClosed, HandsOut, IsAfter, IsOpenSigner, IsRefused, IsRunning, OpensIn, OpensInWorld, RetiresInWorld, SignerLaw, SignsInWorld, world_of}
 use Rattle.sign_core.specs.Textbook.{public_in}
-use Rattle.sign_core.specs.World.{Creation, Fate, Handed, Opening, Outcome, State, World, acked, after, appended, begun, closed_on, create, created}
+use Rattle.sign_core.specs.World.{Chance, Creation, Fate, Handed, Opening, Outcome, State, World, acked, after, appended, begun, closed_on, create, created}
 use Rattle.sign_core.specs.World.{created_after, cut_new, cut_old, handed_with, new_key, no_memory, opened, opened_by, opened_on, published, refused}
 use Rattle.sign_core.specs.World.{reopen, request, requested, retire, retired, secret_from}
 use Rattle.sign_core.proofs.Acknowledged.{open_acknowledged}
-use Rattle.sign_core.proofs.Calls.{opened_reaches}
+use Rattle.sign_core.proofs.Calls.{draws_of, opened_reaches}
 use Rattle.sign_core.proofs.DrawnAgain.{signed_read}
+use Rattle.sign_core.proofs.OnceParts.{closed_retires, closed_under}
 
 -- a state is its parts
 state_is : {S R : Type 0} (new : View S R) (state : State) → state.records ≡ new.records → state.is_open ≡ new.is_open → state ≡ state_of new
@@ -89,7 +91,7 @@ signs_in g r m old new name before later capacity answer handed signer is_name s
     (λ signature is. signed_read limit (state_of old) name signature signs.chance is)
     (subst (λ (o : Outcome (List ℕ)). IsRead m o.is_read signs.chance.given before later) (sym signs.step) signs.message) in
     record {
-      is = record { event = event; is_call = record { possible = (is_name, signs.possible); leaves = inl leaves } };
+      is = record { event = event; is_call = record { possible = (is_name, draws_of signs.key.secret signs.chance signs.possible); leaves = inl leaves } };
       leaves = is_after new (after limit world event) mine signs.outcome signs.step refl (open_acknowledged limit world event) signs.ends.records
           signs.ends.is_open;
       hands = subst (λ a. HandsOut m name before later a handed (handed ++ handed_with name signs.chance.given mine.answer)) answers out;
@@ -110,6 +112,61 @@ retires_in g old new upto answer handed signer retires =
       leaves = is_after new (after limit world event) mine retires.outcome retires.step refl (open_acknowledged limit world event) retires.ends.records
           retires.ends.is_open;
       hands = refl;
+    }
+
+-- ---- calls of a closed signer
+
+nothing_handed : (handed : List Handed) (name : List ℕ) (given : Option (List ℕ)) (fault : SignFault)
+    → handed ++ handed_with name given (Err fault) ≡ handed
+nothing_handed handed name None fault = append-nil handed
+nothing_handed handed name (Some text) fault = append-nil handed
+
+-- a request leaves a world in which no signer is open
+request_stays : (limit : ℕ) (world : World) (name : List ℕ) (chance : Chance) → world.state.is_open ≡ false
+    → after limit world (request name chance) ≡ world
+request_stays limit world name chance closed =
+    ap (λ (o : Outcome (List ℕ)). record { state = o.state; handed = world.handed ++ handed_with name chance.given o.answer })
+    (closed_under limit world.state name chance (key_in world.state.records) closed)
+    ∙ ap (λ handed. record { state = world.state; handed = handed }) (nothing_handed world.handed name chance.given Stopped)
+
+retire_stays : (limit : ℕ) (world : World) (upto : ℕ) (fate : Fate) → world.state.is_open ≡ false → after limit world (retire upto fate) ≡ world
+retire_stays limit world upto fate closed =
+    ap (λ (o : Outcome (Unit {0})). record { state = o.state; handed = world.handed })
+    (closed_retires limit world.state upto fate (key_in world.state.records) closed)
+
+refuses_in : {S R M : Type 0} (g : store.Ghosts S) (r : source.Ghosts R) (m : message.Ghosts M) (old new : View S R) (name : List ℕ) (before later : M)
+    (capacity : ℕ) (answer : Result (List ℕ) SignFault) (world : World) → AreClosed old world → IsName name
+    → (signs : Signs g r m old new name before later capacity answer) → IsRefused g world (request name signs.chance) old new answer
+refuses_in g r m old new name before later capacity answer world closed is_name signs =
+    let limit = g.most old.store in
+    let is : refused (state_of old) Stopped ≡ signs.outcome =
+    sym (closed_under limit (state_of old) name signs.chance (key_in old.records) closed.is_closed) ∙ signs.step in
+    let answer_is : answer ≡ Err Stopped = sym (ap (λ (o : Outcome (List ℕ)). o.answer) is ∙ signs.ends.answer_is) in
+    let keeps = signs.keeps.at_once (ap (is_fault is_before_draws) answer_is) in
+    record {
+      answer_is = answer_is;
+      is_open = keeps.is_open ∙ closed.is_closed;
+      store = keeps.store;
+      is_call = record { possible = (is_name, draws_of signs.key.secret signs.chance signs.possible); leaves = inr keeps.store };
+      stays = request_stays limit world name signs.chance closed.none_open;
+    }
+
+refuses_to_retire : {S R : Type 0} (g : store.Ghosts S) (old new : View S R) (upto : ℕ) (answer : Result (Unit {0}) SignFault) (world : World)
+    → AreClosed old world → (retires : Retires g old new upto answer) → IsRefused g world (retire upto retires.fate) old new answer
+refuses_to_retire g old new upto answer world closed retires =
+    let limit = g.most old.store in
+    let is : refused (state_of old) Stopped ≡ retires.outcome =
+    sym (closed_retires limit (state_of old) upto retires.fate (key_in old.records) closed.is_closed) ∙ retires.step in
+    let answer_is : answer ≡ Err Stopped = sym (ap (λ (o : Outcome (Unit {0})). o.answer) is ∙ retires.ends.answer_is) in
+    let records : new.records ≡ old.records = retires.ends.records ∙ sym (ap (λ (o : Outcome (Unit {0})). o.acknowledged) is) in
+    let same : new ≡ old = retires.stays records (ap (is_fault is_of_append) answer_is) in
+    let store : new.store ≡ old.store = ap (λ (v : View _ _). v.store) same in
+    record {
+      answer_is = answer_is;
+      is_open = ap (λ (v : View _ _). v.is_open) same ∙ closed.is_closed;
+      store = store;
+      is_call = record { possible = tt; leaves = inr store };
+      stays = retire_stays limit world upto retires.fate closed.none_open;
     }
 
 -- ---- creates and openings
@@ -269,6 +326,8 @@ pub signer_law : {S R M : Type 0} (g : store.Ghosts S) (r : source.Ghosts R) (m 
 signer_law g r m nothing_else = record {
   signs = signs_in g r m;
   retires = retires_in g;
+  refuses = refuses_in g r m;
+  refuses_retiring = refuses_to_retire g;
   creates = creates_in g r;
   opens = opens_again g;
   settled = λ view left signer is.

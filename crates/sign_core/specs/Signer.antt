@@ -29,7 +29,7 @@ use Rattle.sign_core.specs.declared.source.Source as source
 use Rattle.sign_core.specs.Source.{Provides}
 use Rattle.sign_core.specs.Records.{binding_in, can_follow, deepest, key_in, leaves_of_current, next_at}
 use Rattle.sign_core.specs.Records.{wanted_count}
-use Rattle.sign_core.specs.Once.{AreDraws, AreFields, IsBeginning, key_sizes}
+use Rattle.sign_core.specs.Once.{AreDrawsOf, AreFields, IsBeginning, key_sizes}
 use Rattle.sign_core.specs.Once.{public_of_key, reached}
 use Rattle.sign_core.specs.World.{Chance, Creation, Fate, Opening, Outcome, State}
 use Rattle.sign_core.specs.World.{answered, appended, closed_on, created, open_on, opened, requested}
@@ -258,8 +258,8 @@ pub record KeepsAtRefusal {S R A : Type 0} (g : store.Ghosts S) (old new : View 
   pub uncounted : answer ≡ Err OutOfMemory → g.refusals new.store ≡ g.refusals old.store → KeepsAll old new
   pub store : UnlessAppended old new answer (new.store ≡ old.store)
 
--- A call of sign is a step of the world, by some chance: the bytes that are drawn are those that the source gave; the
--- message is read or as it was; and memory is refused only where it is lacking.
+-- A call of sign is a step of the world, by some chance, whose draws are those of the key's scheme: the bytes that are
+-- drawn are those that the source gave; the message is read or as it was; and memory is refused only where it is lacking.
 pub record Signs {S R M : Type 0} (g : store.Ghosts S) (r : source.Ghosts R) (m : message.Ghosts M)
     (old new : View S R) (name : List ℕ) (before after : M) (capacity : ℕ) (answer : Result (List ℕ) SignFault)
     : Type 0 where
@@ -269,7 +269,7 @@ pub record Signs {S R M : Type 0} (g : store.Ghosts S) (r : source.Ghosts R) (m 
   pub outcome : Outcome (List ℕ)
   pub step : requested (g.most old.store) (state_of old) name chance ≡ outcome
   pub ends : Ends g old new outcome answer
-  pub possible : AreDraws chance
+  pub possible : AreDrawsOf key.secret chance
   pub source : Provides (r.upcoming old.random) outcome.drawn (r.upcoming new.random)
   pub failures : Counts is_random_failed (r.failures old.random) (r.failures new.random) answer
   pub message : IsRead m outcome.is_read chance.given before after

@@ -10,10 +10,11 @@ use Rattle.state_file.specs.declared.refused.Refused.{Refused}
 use Rattle.state_file.specs.declared.record.Record.{Record}
 use Rattle.state_file.specs.declared.store.Store as store
 use Rattle.sign_core.specs.declared.fault.SignFault.{SignFault}
+use Rattle.sign_core.specs.declared.fault.SignFault.TheVariants.{Stopped}
 use Rattle.sign_core.specs.declared.source.Source as source
 use Rattle.sign_core.specs.Calls.{IsCall}
 use Rattle.sign_core.specs.Signer.{Creates, IsSigner, Opens, Retires, Signs, View, state_of, store_after}
-use Rattle.sign_core.specs.World.{Event, Handed, State, World, after, closed_on}
+use Rattle.sign_core.specs.World.{Event, Handed, State, World, after, closed_on, request, retire}
 
 -- a state of the world in which this was handed out
 abbrev pub world_of : State → List Handed → World
@@ -76,13 +77,38 @@ pub record IsOpenSigner {S R : Type 0} (g : store.Ghosts S) (view : View S R) : 
   pub is_open : view.is_open ≡ true
   pub honest : IsTrue (g.honest view.store)
 
--- Over an honest store each call of an open signer is an event of the world, and so is each create and opening.
+-- Neither the signer nor the world's is open.
+pub record AreClosed {S R : Type 0} (view : View S R) (world : World) : Type 0 where
+  pub is_closed : view.is_open ≡ false
+  pub none_open : world.state.is_open ≡ false
+
+-- A call of a closed signer answers 26 and leaves it closed and its store as it was. It is this event, which leaves the
+-- world as it was, and so hands nothing out.
+pub record IsRefused {S R A : Type 0} (g : store.Ghosts S) (world : World) (event : Event) (old new : View S R)
+    (answer : Result A SignFault) : Type 0 where
+  pub answer_is : answer ≡ Err Stopped
+  pub is_open : new.is_open ≡ false
+  pub store : new.store ≡ old.store
+  pub is_call : IsCall g.moment g.left_since (g.most old.store) world old.store
+      (record { event = event; store = new.store })
+  pub stays : after (g.most old.store) world event ≡ world
+
+-- Over an honest store each call of an open signer is an event of the world, and so is each create and opening. Over any
+-- store a call of a closed one is an event that leaves the world as it was.
 pub record SignerLaw {S R M : Type 0} (g : store.Ghosts S) (r : source.Ghosts R) (m : message.Ghosts M) : Type 0 where
   pub signs : (old new : View S R) (name : List ℕ) (before later : M) (capacity : ℕ)
       (answer : Result (List ℕ) SignFault) (handed : List Handed) → IsOpenSigner g old → IsName name
       → Signs g r m old new name before later capacity answer → SignsInWorld g m handed old new name before later answer
   pub retires : (old new : View S R) (upto : ℕ) (answer : Result (Unit {0}) SignFault) (handed : List Handed)
       → IsOpenSigner g old → Retires g old new upto answer → RetiresInWorld g handed old new
+  -- of a closed signer, where the world has none open, whatever records that has
+  pub refuses : (old new : View S R) (name : List ℕ) (before later : M) (capacity : ℕ)
+      (answer : Result (List ℕ) SignFault) (world : World) → AreClosed old world → IsName name
+      → (signs : Signs g r m old new name before later capacity answer)
+      → IsRefused g world (request name signs.chance) old new answer
+  pub refuses_retiring : (old new : View S R) (upto : ℕ) (answer : Result (Unit {0}) SignFault) (world : World)
+      → AreClosed old world → (retires : Retires g old new upto answer)
+      → IsRefused g world (retire upto retires.fate) old new answer
   pub creates : (spec : Spec) (kept_in : S) (random : R) (result : Result (View S R) (Refused (S × R) SignFault))
       (handed : List Handed) → IsRunning g kept_in → IsSpec spec → Creates g r spec kept_in random result
       → OpensInWorld g (g.list kept_in) handed kept_in result

@@ -19,7 +19,7 @@ use Rattle.sign_core.specs.declared.signer.signing.TreeSeeds.{TreeSeeds}
 use Rattle.sign_core.specs.Source.{Provides}
 use Rattle.sign_core.specs.Records.{binding_in, current, has_identifier, has_moved, key_in, next_at}
 use Rattle.sign_core.specs.Links.{AreMade, IsMade, signings_of}
-use Rattle.sign_core.specs.Once.{AreDraws, AreFields, IsTreeDraw, tree_sizes}
+use Rattle.sign_core.specs.Once.{AreDrawsOf, AreFields, IsTreeDraw, randomizer_sizes, tree_sizes}
 use Rattle.sign_core.specs.Signer.{Ends, IsRead, KeepsAtRefusal, UnlessAppended, UsesMemory, View, is_before_draws, is_fault}
 use Rattle.sign_core.specs.Signer.{is_out_of_memory, is_random_failed, signature_size, state_of}
 use Rattle.sign_core.specs.World.{Chance, Draw, Outcome, acked, answered, bound_sound, extended, fulfilled}
@@ -141,7 +141,7 @@ pub record Fulfils {S R M : Type 0} (g : store.Ghosts S) (r : source.Ghosts R) (
       → fulfilled key name (record { has_room = true; trees = all; bound = bound; given = given }) below trees
       old.records ≡ outcome
   pub trees_possible : AllByRecursion IsTreeDraw trees
-  pub bound_possible : AreFields (32 ∷ []) bound.fields
+  pub bound_possible : AreFields (randomizer_sizes key.secret) bound.fields
   pub does : Does g r m old new before after given outcome answer
   pub late : is_fault is_before_draws answer ≡ false
 
@@ -152,7 +152,7 @@ pub record Binds {S R M : Type 0} (g : store.Ghosts S) (r : source.Ghosts R) (m 
   pub outcome : Outcome (List ℕ)
   pub step : bound_sound (state_of old) key name chance level
       (damaged_in key level old.records (tree_before level old.records (length old.records))) ≡ outcome
-  pub possible : AreDraws chance
+  pub possible : AreDrawsOf key.secret chance
   pub room : chance.has_room ≡ true
   pub does : Does g r m old new before after chance.given outcome answer
   pub keeps : KeepsAtRefusal g old new answer

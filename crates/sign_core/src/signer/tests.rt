@@ -324,7 +324,12 @@ fn retired_leaves_sign_nothing(rt: HostRuntime) {
 }
 
 // A new key in a store in memory.
-fn in_memory<'a>(alloc: Global, text: &str, store: MemoryStore, tape: &'a [u8]) -> Option<InMemory<'a>> {
+fn in_memory<'a>(
+    alloc: Global,
+    text: &str,
+    store: MemoryStore,
+    tape: &'a [u8],
+) -> Option<InMemory<'a>> {
     if store.limit() == 0 {
         return None;
     }

@@ -98,7 +98,12 @@ impl Read for Pieces<'_> {
 }
 
 // The signature of a message that is given in pieces of this size.
-fn in_pieces(alloc: Global, signer: &mut InMemory<'_>, text: &[u8], size: usize) -> Option<Vec<u8>> {
+fn in_pieces(
+    alloc: Global,
+    signer: &mut InMemory<'_>,
+    text: &[u8],
+    size: usize,
+) -> Option<Vec<u8>> {
     let mut message = Pieces {
         rest: text,
         size,
