@@ -93,8 +93,8 @@ pub record IsRefused {S R A : Type 0} (g : store.Ghosts S) (world : World) (even
       (record { event = event; store = new.store })
   pub stays : after (g.most old.store) world event ≡ world
 
--- Over an honest store each call of an open signer is an event of the world, and so is each create and opening. Over any
--- store a call of a closed one is an event that leaves the world as it was.
+-- Over an honest store each call of an open signer is an event of the world, and so is each create and opening. Over
+-- any store a call of a closed one is an event that leaves the world as it was.
 pub record SignerLaw {S R M : Type 0} (g : store.Ghosts S) (r : source.Ghosts R) (m : message.Ghosts M) : Type 0 where
   pub signs : (old new : View S R) (name : List ℕ) (before later : M) (capacity : ℕ)
       (answer : Result (List ℕ) SignFault) (handed : List Handed) → IsOpenSigner g old → IsName name
