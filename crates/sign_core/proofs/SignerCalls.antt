@@ -215,15 +215,32 @@ open_opened records None (Some k) = open_refused records (Illegal k)
 open_opened records (Some (slot, fault)) None = open_refused records fault
 open_opened records (Some (slot, fault)) (Some k) = open_refused records (if nat_lt k slot then Illegal k else fault)
 
-opens_in : {S R : Type 0} (result : Result (View S R) (Refused (S × R) SignFault)) (left : World) (mine outcome : Outcome AnyPublic) → mine ≡ outcome
-    → left.state ≡ mine.state → OpenBy mine → (left.state.is_open ≡ true → mine.acknowledged ≡ left.state.records) → IsAnswered result outcome
-    → OpensIn result left
-opens_in (Ok signer) left mine outcome same state opens all (public, answer, keyed, records, is_open) =
+-- an opening leaves the records
+opened_keeps : (records : List Record) (chance : Opening) (illegal : Option ℕ) → (opened_by (closed_on records) chance illegal).state.records ≡ records
+opened_keeps records None None = key_keeps (key_in records)
+  where
+    published_keeps : (public : Option AnyPublic) → (published records public).state.records ≡ records
+    published_keeps (Some public) = refl
+    published_keeps None = refl
+
+    key_keeps : (found : Option Key) → (opened_on records found).state.records ≡ records
+    key_keeps None = refl
+    key_keeps (Some key) = published_keeps (public_in key)
+opened_keeps records None (Some k) = refl
+opened_keeps records (Some (slot, fault)) None = refl
+opened_keeps records (Some (slot, fault)) (Some k) = refl
+
+opens_in : {S R : Type 0} (g : store.Ghosts S) (result : Result (View S R) (Refused (S × R) SignFault)) (left : World) (mine outcome : Outcome AnyPublic)
+    → mine ≡ outcome → left.state ≡ mine.state → OpenBy mine → (left.state.is_open ≡ true → mine.acknowledged ≡ left.state.records)
+    → left.state.records ≡ g.list (store_after result) → IsAnswered result outcome → OpensIn g result left
+opens_in g (Ok signer) left mine outcome same state opens all listed (public, answer, keyed, records, is_open) =
     let open_is : outcome.state.is_open ≡ true = subst (λ (o : Outcome AnyPublic). o.state.is_open ≡ true) same
     (opens.0 public (ap (λ (o : Outcome AnyPublic). o.answer) same ∙ answer)) in
     is_after signer left mine outcome same state all records (is_open ∙ sym open_is)
-opens_in (Err refused) left mine outcome same state opens all answer =
-    ap (λ (s : State). s.is_open) state ∙ opens.1 refused.fault (ap (λ (o : Outcome AnyPublic). o.answer) same ∙ answer)
+opens_in g (Err refused) left mine outcome same state opens all listed answer =
+    let closed : left.state.is_open ≡ false =
+    ap (λ (s : State). s.is_open) state ∙ opens.1 refused.fault (ap (λ (o : Outcome AnyPublic). o.answer) same ∙ answer) in
+    λ i. record { records = listed i; is_open = closed i }
 
 -- what a load can fail with
 can_fail : (failed : Option SignFault) (list : List Record) (stopped honest : Bool) → LoadFails failed list stopped honest → CanFailLoad failed
@@ -287,8 +304,9 @@ creates_in g r spec kept_in random result handed is can creates =
           leaves = inl leaves;
         };
       };
-      leaves = opens_in result (after limit world event) mine creates.outcome creates.step refl
-          (open_created creates.chance.failed_load list spec creates.chance) (open_acknowledged limit world event) creates.answer;
+      leaves = opens_in g result (after limit world event) mine creates.outcome creates.step refl
+          (open_created creates.chance.failed_load list spec creates.chance) (open_acknowledged limit world event)
+          (ap (λ (o : Outcome AnyPublic). o.state.records) creates.step ∙ creates.store.list.records ∙ sym creates.store.list.list) creates.answer;
       hands = refl;
     }
 
@@ -314,8 +332,8 @@ opens_again g kept_in random result handed is opens =
           leaves = inl leaves;
         };
       };
-      leaves = opens_in result (after limit world event) mine loads.outcome same refl (open_opened list loads.chance (first_illegal list))
-          (open_acknowledged limit world event) loads.answer;
+      leaves = opens_in g result (after limit world event) mine loads.outcome same refl (open_opened list loads.chance (first_illegal list))
+          (open_acknowledged limit world event) (opened_keeps list loads.chance (first_illegal list) ∙ sym loads.list) loads.answer;
       hands = refl;
     }
 

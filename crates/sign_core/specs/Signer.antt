@@ -259,7 +259,8 @@ pub record KeepsAtRefusal {S R A : Type 0} (g : store.Ghosts S) (old new : View 
   pub store : UnlessAppended old new answer (new.store ≡ old.store)
 
 -- A call of sign is a step of the world, by some chance, whose draws are those of the key's scheme: the bytes that are
--- drawn are those that the source gave; the message is read or as it was; and memory is refused only where it is lacking.
+-- drawn are those that the source gave; the message is read or as it was; and memory is refused only where it is
+-- lacking.
 pub record Signs {S R M : Type 0} (g : store.Ghosts S) (r : source.Ghosts R) (m : message.Ghosts M)
     (old new : View S R) (name : List ℕ) (before after : M) (capacity : ℕ) (answer : Result (List ℕ) SignFault)
     : Type 0 where

@@ -54,16 +54,16 @@ pub record RetiresInWorld {S R : Type 0} (g : store.Ghosts S) (handed : List Han
   pub hands : (after (g.most old.store) (world_of (state_of old) handed) is.event).handed ≡ handed
 
 -- what a create or an opening leaves: a signer that is open on the world's records; or none, and the world has none
--- open
-abbrev pub OpensIn : {S R : Type 0} → Result (View S R) (Refused (S × R) SignFault) → World → Type 0
-OpensIn (Ok signer) left = IsAfter signer left
-OpensIn (Err refused) left = left.state.is_open ≡ false
+-- open, on the records of the store that is handed back
+abbrev pub OpensIn : {S R : Type 0} → store.Ghosts S → Result (View S R) (Refused (S × R) SignFault) → World → Type 0
+OpensIn g (Ok signer) left = IsAfter signer left
+OpensIn g (Err refused) left = left.state ≡ closed_on (g.list refused.given.0)
 
 -- A create or an opening of a store whose records these are, with no signer open.
 pub record OpensInWorld {S R : Type 0} (g : store.Ghosts S) (records : List Record) (handed : List Handed)
     (kept_in : S) (result : Result (View S R) (Refused (S × R) SignFault)) : Type 0 where
   pub is : IsEventOf g (g.most kept_in) (world_of (closed_on records) handed) kept_in (store_after result)
-  pub leaves : OpensIn result (after (g.most kept_in) (world_of (closed_on records) handed) is.event)
+  pub leaves : OpensIn g result (after (g.most kept_in) (world_of (closed_on records) handed) is.event)
   pub hands : (after (g.most kept_in) (world_of (closed_on records) handed) is.event).handed ≡ handed
 
 -- The store runs, and keeps what was synced.
@@ -93,8 +93,8 @@ pub record IsRefused {S R A : Type 0} (g : store.Ghosts S) (world : World) (even
       (record { event = event; store = new.store })
   pub stays : after (g.most old.store) world event ≡ world
 
--- Over an honest store each call of an open signer is an event of the world, and so is each create and opening. Over any
--- store a call of a closed one is an event that leaves the world as it was.
+-- Over an honest store each call of an open signer is an event of the world, and so is each create and opening. Over
+-- any store a call of a closed one is an event that leaves the world as it was.
 pub record SignerLaw {S R M : Type 0} (g : store.Ghosts S) (r : source.Ghosts R) (m : message.Ghosts M) : Type 0 where
   pub signs : (old new : View S R) (name : List ℕ) (before later : M) (capacity : ℕ)
       (answer : Result (List ℕ) SignFault) (handed : List Handed) → IsOpenSigner g old → IsName name

@@ -160,8 +160,9 @@ pub fn stopped_law<S: Store>()
 ///
 /// A stop at any moment of the call leaves what a stop of the event leaves; after it the signer is open as the world
 /// is, and then on the same records; and what it answers is what the event hands out, for the message that was read.
-/// A call of a closed signer leaves the store as it was, and hands nothing out. So all calls of one signer from its
-/// create or opening on, whatever they answer, are a chain of calls as `stopped_law` speaks of one.
+/// A create or an opening that is refused leaves no signer open, and the world on the records of the store that is
+/// handed back. A call of a closed signer leaves the store as it was, and hands nothing out. So all calls of one signer
+/// from its create or opening on, whatever they answer, are a chain of calls as `stopped_law` speaks of one.
 pub fn signer_law<S: Store, R: Source, M: Message>()
     ensures signer { SignerLaw S.Store R.Source M.Message }
 {}
