@@ -250,8 +250,8 @@ is_before_draws LedgerFull = true
 is_before_draws Moved = true
 is_before_draws _ = false
 
--- What an answer keeps as it was: 22, 26, 28, 30 and 31 keep all but the memory, and so does 29 where the store counts no
--- refusal; and each answer keeps the store, unless a record was added or its append failed.
+-- What an answer keeps as it was: 22, 26, 28, 30 and 31 keep all but the memory, and so does 29 where the store
+-- counts no refusal; and each answer keeps the store, unless a record was added or its append failed.
 pub record KeepsAtRefusal {S R A : Type 0} (g : store.Ghosts S) (old new : View S R) (answer : Result A SignFault)
     : Type 0 where
   pub at_once : is_fault is_before_draws answer ≡ true → KeepsAll old new
@@ -421,8 +421,8 @@ StopsOpening (Some (slot, DeviceFailed)) list stopped honest = (stopped ≡ fals
 StopsOpening (Some (slot, NoMemoryToOpen)) list stopped honest = (stopped ≡ false) × (slot ≤ length list)
 StopsOpening (Some (slot, _)) list stopped honest = ⊥
 
--- Where an opening lacks memory, its store was refused some, and counts it, or one of the records that it goes over takes
--- some.
+-- Where an opening lacks memory, its store was refused some, and counts it, or one of the records that it goes over
+-- takes some.
 abbrev pub RefusesToOpen : {A : Type 0} → List Record → Result A SignFault → (before after : ℕ) → Type 0
 RefusesToOpen records (Err NoMemoryToOpen) before after =
     (after ≡ before + 1) ⊎ ((after ≡ before) × RunsOutOfMemory records)

@@ -75,8 +75,8 @@ pub fn textbook_laws()
 
 /// No leaf of a key signs twice.
 ///
-/// The law is about every run that begins with no records: any creates, openings, requests, retirings and stops, as many
-/// as there are and in any order. A request may come again, as after an answer that was lost, or come with another
+/// The law is about every run that begins with no records: any creates, openings, requests, retirings and stops, as
+/// many as there are and in any order. A request may come again, as after an answer that was lost, or come with another
 /// message under the same name. In each event a load, the random source, memory, the message or the store may fail. An
 /// append that is cut leaves the old records, or the new one as well, and closes the signer until it is opened again.
 /// Whatever has come, these hold after it:
@@ -84,10 +84,11 @@ pub fn textbook_laws()
 /// - No leaf at any level signs two digests, and none of the bottom level signs under two names. Which leaves a
 ///   signature uses, and for which digests, is read off the bytes that were handed out, the message and the public key.
 /// - One name has one signature.
-/// - Every signature that was handed out is the one that the records say, and it is valid for its message under the key.
-///   That message was read.
+/// - Every signature that was handed out is the one that the records say, and it is valid for its message under the
+///   key. That message was read.
 /// - Of an open signer, a request for a bound name and another digest is refused as changed, and one for the bound
-///   digest gets the recorded signature, unless memory is refused or the message can't be read. Neither changes anything.
+///   digest gets the recorded signature, unless memory is refused or the message can't be read. Neither changes
+///   anything.
 /// - A request for a new name gets the next leaf, if one is left, the store isn't full and nothing fails.
 /// - The recorded root is that of the recorded secret, so no request is answered that a record is damaged.
 ///
