@@ -21,7 +21,8 @@ use Rattle.sign_core.specs.Records.{binding_in, current, has_identifier, has_mov
 use Rattle.sign_core.specs.Links.{AreMade, IsMade, signings_of}
 use Rattle.sign_core.specs.Once.{AreDrawsOf, AreFields, IsTreeDraw, randomizer_sizes, tree_sizes}
 use Rattle.sign_core.specs.Signer.{Ends, IsRead, KeepsAtRefusal, UnlessAppended, UsesMemory, View}
-use Rattle.sign_core.specs.Signer.{is_before_draws, is_fault, is_out_of_memory, is_random_failed, signature_size, state_of}
+use Rattle.sign_core.specs.Signer.{is_before_draws, is_fault, is_out_of_memory, is_random_failed, signature_size}
+use Rattle.sign_core.specs.Signer.{state_of}
 use Rattle.sign_core.specs.World.{Chance, Draw, Outcome, acked, answered, bound_sound, extended, fulfilled}
 use Rattle.sign_core.specs.World.{open_on, requested_of}
 use Rattle.sign_core.specs.Textbook.{Trees, damaged_in, secret_at, signature_by, signing_of_bound, signings_above}
