@@ -45,10 +45,10 @@ none_drawn r random = record { source = provides_none (r.upcoming random); failu
 pub more_drawn : {R : Type 0} (r : source.Ghosts R) (old mid new : R) (fields : List (List ℕ)) (field : List ℕ) → HasDrawn r old mid fields
     → Draws r mid new (Ok field) → HasDrawn r old new (fields ++ field ∷ [])
 more_drawn r old mid new fields field so_far more =
-    let joined : concat (fields ++ field ∷ []) ≡ concat fields ++ field =
+    let one_more : concat (fields ++ field ∷ []) ≡ concat fields ++ field =
     concat-append fields (field ∷ []) ∙ ap (λ l. concat fields ++ l) (append-nil field) in
     record {
-      source = subst (λ bytes. Provides (r.upcoming old) bytes (r.upcoming new)) (sym joined)
+      source = subst (λ bytes. Provides (r.upcoming old) bytes (r.upcoming new)) (sym one_more)
           (provides_both _ (concat fields) _ field _ so_far.source more.1);
       failures = more.0 ∙ so_far.failures;
     }

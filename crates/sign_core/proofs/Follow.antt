@@ -180,11 +180,11 @@ bound_means secret before bound is =
     let (two, random) = and_parts (is_free secret before (bottom_of secret) bound.leaf && not (is_some (binding_in before bound.name)))
     (has_randomizer secret bound.randomizer) is in
     let (free, new) = and_parts (is_free secret before (bottom_of secret) bound.leaf) (not (is_some (binding_in before bound.name))) two in
-    (free, none_told (binding_in before bound.name) new, randomizer_means secret bound.randomizer random)
+    (free, none_means (binding_in before bound.name) new, randomizer_means secret bound.randomizer random)
   where
-    none_told : (found : Option (ℕ × Bound)) → not (is_some found) ≡ true → found ≡ None
-    none_told None is = refl
-    none_told (Some found) is = absurd (true≢false (sym is))
+    none_means : (found : Option (ℕ × Bound)) → not (is_some found) ≡ true → found ≡ None
+    none_means None is = refl
+    none_means (Some found) is = absurd (true≢false (sym is))
 
 -- what is current at the end of a list is so in a longer one
 still_current : (before more : List Record) (level tree : ℕ) → current level before ≡ Some tree → IsCurrent (before ++ more) (length before) level tree

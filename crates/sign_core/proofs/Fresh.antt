@@ -140,7 +140,7 @@ tree_done key trees name message chance below draws records identifier seed rand
     let level = bottom_of key.secret - below in
     let entry = next_extend key trees records level identifier seed randomizer in
     let first = extend_in key trees records level identifier seed randomizer new in
-    let joined : records ++ entry ∷ [] ++ done.trees ≡ records ++ (entry ∷ done.trees) = append_assoc records (entry ∷ []) done.trees in
+    let all_records : records ++ entry ∷ [] ++ done.trees ≡ records ++ (entry ∷ done.trees) = append_assoc records (entry ∷ []) done.trees in
     let fields : List ℕ = identifier ++ (seed ++ (randomizer ++ [])) in
     record {
       trees = entry ∷ done.trees;
@@ -148,11 +148,11 @@ tree_done key trees name message chance below draws records identifier seed rand
       count = ap suc done.count;
       each = each_more key below records entry done.trees (whole_draw identifier seed randomizer acked) draws inside first done.each;
       named = done.named;
-      leaf = done.leaf ∙ ap (λ all. next_at key.secret all (bottom_of key.secret)) joined;
+      leaf = done.leaf ∙ ap (λ all. next_at key.secret all (bottom_of key.secret)) all_records;
       randomizer = done.randomizer;
-      digest = done.digest ∙ ap (λ all. digest_at key all (length all) done.bound.leaf done.bound.randomizer message) joined;
-      state = done.state ∙ ap (λ all. open_on (all ++ BoundRecord done.bound ∷ [])) joined;
-      answer = done.answer ∙ ap (λ all. Ok (signature_at key (all ++ BoundRecord done.bound ∷ []) (length all) done.bound)) joined;
+      digest = done.digest ∙ ap (λ all. digest_at key all (length all) done.bound.leaf done.bound.randomizer message) all_records;
+      state = done.state ∙ ap (λ all. open_on (all ++ BoundRecord done.bound ∷ [])) all_records;
+      answer = done.answer ∙ ap (λ all. Ok (signature_at key (all ++ BoundRecord done.bound ∷ []) (length all) done.bound)) all_records;
       drawn = ap (λ bytes. identifier ++ ((seed ++ randomizer) ++ bytes)) done.drawn
           ∙ ap (λ bytes. identifier ++ bytes) (append_assoc seed randomizer _)
           ∙ ap (λ bytes. identifier ++ (seed ++ (bytes ++ (bytes_of draws ++ concat chance.bound.fields)))) (sym (append-nil randomizer))

@@ -34,8 +34,8 @@ use Rattle.sign_core.proofs.LedgerSteps.{kept_other, made_other, moved_last, not
 
 -- what is ensured of an Ok, of an answer that is one
 pub on_ok : {T E P : Type 0} (r : Result T E) → IsOk r → OnOk r P → P
-on_ok (Ok x) is held = held
-on_ok (Err e) is held = absurd (true≢false (sym is))
+on_ok (Ok x) is holds = holds
+on_ok (Err e) is holds = absurd (true≢false (sym is))
 
 -- ---- how many leaves a tree has
 

@@ -148,11 +148,11 @@ module _ {S R M : Type 0} (m : message.Ghosts M) (view : View S R) (before after
 pub recorded_digest : (key : Key) (records : List Record) (name : List ℕ) (binding : Binding) (found : IsFound key records name binding) (digest : List ℕ)
     → not (are_same digest binding.digest) ≡ false → digest ≡ found.bound.digest
 recorded_digest key records name binding found digest same =
-    (bytes_decides digest binding.digest).0 (told (are_same digest binding.digest) same) ∙ sym (ap (λ (kept : Binding). kept.digest) found.is)
+    (bytes_decides digest binding.digest).0 (means_same (are_same digest binding.digest) same) ∙ sym (ap (λ (kept : Binding). kept.digest) found.is)
   where
-    told : (same : Bool) → not same ≡ false → same ≡ true
-    told true is = refl
-    told false is = absurd (true≢false is)
+    means_same : (same : Bool) → not same ≡ false → same ≡ true
+    means_same true is = refl
+    means_same false is = absurd (true≢false is)
 
 pub same_size : (own key : Key) (capacity : ℕ) → own ≡ key → capacity < signature_size own.secret → capacity < signature_size key.secret
 same_size own key capacity is = subst (λ (k : Key). capacity < signature_size k.secret) is

@@ -58,41 +58,41 @@ holds_first all first rest table begins alone keyed =
 
 legal_with : (all : List Record) (n : ℕ) (old : Table) (entry : Record) → Holds all n old → can_follow (Some old.key) old.records entry ≡ true
     → IsLegal (old.records ++ entry ∷ [])
-legal_with all n old entry held follows = grows old.records entry held.legal (ap (λ o. can_follow o old.records entry) held.keyed ∙ follows)
+legal_with all n old entry so_far follows = grows old.records entry so_far.legal (ap (λ o. can_follow o old.records entry) so_far.keyed ∙ follows)
 
 -- one more record of the list
 pub holds_more : (all : List Record) (n : ℕ) (old new : Table) (entry : Record) (done : Unit {0}) → Holds all n old → slice_get all n ≡ Some entry
     → TakesUp old new entry (Ok done) → Holds all (n + 1) new
-holds_more all n old new entry done held stands (follows, grown) =
-    let some : 0 < length old.records = slice_get_within old.records 0 (KeyRecord old.key) (key_stands old.records old.key held.keyed) in
+holds_more all n old new entry done so_far stands (follows, grown) =
+    let some : 0 < length old.records = slice_get_within old.records 0 (KeyRecord old.key) (key_stands old.records old.key so_far.keyed) in
     record {
-      taken = grown.records ∙ ap (λ l. l ++ entry ∷ []) held.taken ∙ sym (take_with_next all n entry stands) ∙ ap (λ m. take m all) (sym (add-one n));
-      keyed = ap key_in grown.records ∙ key_stays old.records (entry ∷ []) some ∙ held.keyed ∙ ap Some (sym grown.key);
-      legal = subst IsLegal (sym grown.records) (legal_with all n old entry held follows);
+      taken = grown.records ∙ ap (λ l. l ++ entry ∷ []) so_far.taken ∙ sym (take_with_next all n entry stands) ∙ ap (λ m. take m all) (sym (add-one n));
+      keyed = ap key_in grown.records ∙ key_stays old.records (entry ∷ []) some ∙ so_far.keyed ∙ ap Some (sym grown.key);
+      legal = subst IsLegal (sym grown.records) (legal_with all n old entry so_far follows);
     }
 
 -- the whole list
 pub holds_all : (all : List Record) (n : ℕ) (table : Table) → Holds all n table → length all ≤ n → table.records ≡ all
-holds_all all n table held end = held.taken ∙ take_all n all end
+holds_all all n table so_far end = so_far.taken ∙ take_all n all end
 
 -- and a record that isn't taken up
 pub holds_refused : (all : List Record) (n : ℕ) (old new : Table) (entry : Record) (fault : LedgerFault) → Holds all n old → 0 < n
     → slice_get all n ≡ Some entry → TakesUp old new entry (Err fault) → IsRefused all fault
-holds_refused all n old new entry Empty held some stands none = absurd none
-holds_refused all n old new entry (Illegal k) held some stands (not, is, stays) =
+holds_refused all n old new entry Empty so_far some stands none = absurd none
+holds_refused all n old new entry (Illegal k) so_far some stands (not, is, stays) =
     let fails : can_follow (key_in (take n all)) (take n all) entry ≡ false =
-    subst (λ l. can_follow (key_in l) l entry ≡ false) held.taken (ap (λ o. can_follow o old.records entry) held.keyed ∙ not) in
-    first_illegal_there all n entry stands (subst IsLegal held.taken held.legal) fails ∙ ap (λ l. Some (length l)) (sym held.taken) ∙ ap Some (sym is)
-holds_refused all n old new entry OutOfMemory held some stands (follows, lacking, stays) =
+    subst (λ l. can_follow (key_in l) l entry ≡ false) so_far.taken (ap (λ o. can_follow o old.records entry) so_far.keyed ∙ not) in
+    first_illegal_there all n entry stands (subst IsLegal so_far.taken so_far.legal) fails ∙ ap (λ l. Some (length l)) (sym so_far.taken) ∙ ap Some (sym is)
+holds_refused all n old new entry OutOfMemory so_far some stands (follows, lacking, stays) =
     let within : n < length all = slice_get_within all n entry stands in
-    let long : length old.records ≡ n = ap length held.taken ∙ length-take-le n all (omega (arith, within)) in
+    let long : length old.records ≡ n = ap length so_far.taken ∙ length-take-le n all (omega (arith, within)) in
     record {
       place = n;
       entry = entry;
       stands = stands;
       legal = subst IsLegal
-          (ap (λ l. l ++ entry ∷ []) held.taken ∙ sym (take_with_next all n entry stands) ∙ ap (λ m. take m all) (sym (add-one n)))
-          (legal_with all n old entry held follows);
+          (ap (λ l. l ++ entry ∷ []) so_far.taken ∙ sym (take_with_next all n entry stands) ∙ ap (λ m. take m all) (sym (add-one n)))
+          (legal_with all n old entry so_far follows);
       later = some;
       lacking = elim lacking [
         | inl (takes, none) ↦ inl takes

@@ -70,7 +70,7 @@ entry_is key trees records above last secret public extend stands level leaf ide
     stands.secret ∙ ap (secret_at trees records) (sym (before_end (length above) records stands.tree stands.current_is)
     ∙ ap (λ n. tree_before n records (length records)) down) in
     let next : last.signed.leaf ≡ next_at key.secret records (length above + 1 - 1) = stands.leaf ∙ ap (next_at key.secret records) down in
-    let told : extend.digest ≡ message_digest_of (secret_at trees records (tree_before (length above + 1 - 1) records (length records))).identifier
+    let digest_is : extend.digest ≡ message_digest_of (secret_at trees records (tree_before (length above + 1 - 1) records (length records))).identifier
     (next_at key.secret records (length above + 1 - 1)) extend.randomizer
     (public_bytes (public_of (lms_secret (slice_index_or trees.pairs (length above + 1) trees.top.pair) secret.identifier secret.seed))) =
     digest ∙ (λ i. message_digest_of (parent i).identifier (next i) extend.randomizer (public_bytes (own i))) in
@@ -82,7 +82,7 @@ entry_is key trees records above last secret public extend stands level leaf ide
       identifier = identifier i;
       seed = seed i;
       randomizer = extend.randomizer;
-      digest = told i;
+      digest = digest_is i;
       root = from i;
     })
 

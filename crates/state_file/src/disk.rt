@@ -74,7 +74,7 @@ pub trait Disk {
         ensures failures { Counts is_failure (failures self.old) (failures self.new) result }
         ensures honest { honest self.new ≡ honest self.old };
 
-    /// WritesBytes these bytes, one at least, over what is there and past the end. Until a sync succeeds, a stop may
+    /// Writes these bytes, one at least, over what is there and past the end. Until a sync succeeds, a stop may
     /// leave any bytes in the range.
     fn write_at(&mut self, at: u64, bytes: &[u8]) -> Result<(), DiskFault>
         requires { 0 < length bytes.now }

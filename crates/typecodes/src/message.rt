@@ -1,4 +1,4 @@
-//! Messages, which are read in pieces and held nowhere whole.
+//! Messages, which are read in pieces and kept nowhere whole.
 
 ghost use Rattle.std.specs.Prelude.{◌<◌, ◌≤◌, ◌^◌, ℕ, List, ⊤, length, IfOk};
 ghost use Rattle.std.specs.Io.{ReadsAtMost};

@@ -239,7 +239,7 @@ fn answers(
 }
 
 #[test]
-fn a_failure_is_told(rt: HostRuntime) {
+fn a_failure_is_reported(rt: HostRuntime) {
     let failed = DiskFault::Failed;
     assert_eq!(rt; answers(&rt, WHOLE, Ok(4), Ok(())), Some(true));
     assert_eq!(rt;

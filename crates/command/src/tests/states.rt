@@ -23,8 +23,8 @@ fn a_state_file_is_made_for_its_owner_and_locked(rt: HostRuntime) -> Result<(), 
     let path = folder.path.join(rt.alloc(), "state")?;
     let path = path.as_str();
     assert_eq!(rt; refusal(&rt, path, false), Some(Refusal::FileFailed));
-    let held = StateFile::open_or_make(&rt, path);
-    assert!(rt; held.is_ok());
+    let locked = StateFile::open_or_make(&rt, path);
+    assert!(rt; locked.is_ok());
     let found = fs::metadata(&rt, path)?;
     assert_eq!(rt;
         (found.len(), found.permissions().mode() & 0o777),
@@ -32,7 +32,7 @@ fn a_state_file_is_made_for_its_owner_and_locked(rt: HostRuntime) -> Result<(), 
     );
     assert_eq!(rt; refusal(&rt, path, false), Some(Refusal::Locked));
     assert_eq!(rt; refusal(&rt, path, true), Some(Refusal::Locked));
-    drop(held);
+    drop(locked);
     assert_eq!(rt; refusal(&rt, path, false), None);
     assert_eq!(rt; refusal(&rt, path, true), None);
     folder.remove(&rt)

@@ -66,7 +66,7 @@ fn nothing_follows_a_moved(rt: HostRuntime) {
     assert_eq!(rt; after_moved(rt.alloc()), Some(SignFault::Illegal(3)));
 }
 
-// The fault of these records as a ledger's, if any; with a Moved behind them where that is wanted.
+// The fault of these records as a ledger's, if any; with a Moved after them where that is wanted.
 fn replayed(alloc: Global, entries: &[Entry], ends: bool) -> Option<Option<LedgerFault>> {
     let mut records = Vec::new(alloc);
     for entry in entries {

@@ -200,8 +200,8 @@ fn with_block_again<const N: usize>(place: usize, again: usize) -> [u8; N] {
     bytes
 }
 
-// Whether a repeated I is refused, and the next request draws what stands behind it.
-fn draws_behind_it(alloc: Global) -> Option<bool> {
+// Whether a repeated I is refused, and the next request draws what follows it.
+fn draws_what_follows(alloc: Global) -> Option<bool> {
     let tape = with_block_again::<176>(0, 3);
     let mut signer = in_memory(alloc, TWO, MemoryStore::with_limit(alloc, 100), &tape)?;
     let first = fault_of(alloc, &mut signer, b"fw-1", &[1])?;
@@ -215,7 +215,7 @@ fn draws_behind_it(alloc: Global) -> Option<bool> {
 }
 
 // The same of the I of a lower tree.
-fn draws_behind_the_lower(alloc: Global) -> Option<bool> {
+fn draws_after_the_lower(alloc: Global) -> Option<bool> {
     let tape = with_block_again::<256>(3, 8);
     let mut signer = in_memory(alloc, THREE, MemoryStore::with_limit(alloc, 100), &tape)?;
     let first = fault_of(alloc, &mut signer, b"fw-1", &[1])?;
@@ -232,6 +232,6 @@ fn draws_behind_the_lower(alloc: Global) -> Option<bool> {
 
 #[test]
 fn a_repeated_identifier_is_drawn_alone(rt: HostRuntime) {
-    assert_eq!(rt; draws_behind_it(rt.alloc()), Some(true));
-    assert_eq!(rt; draws_behind_the_lower(rt.alloc()), Some(true));
+    assert_eq!(rt; draws_what_follows(rt.alloc()), Some(true));
+    assert_eq!(rt; draws_after_the_lower(rt.alloc()), Some(true));
 }

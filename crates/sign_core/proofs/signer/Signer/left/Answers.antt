@@ -13,10 +13,10 @@ loop-level-init g c = c.new-counts.ensures
 
 pub push-requires : goal.push-requires
 push-requires g c =
-    let told = levels_range _ _ _ c.key.ensures.sizes c.key.ensures.first c.levels-level-end.ensures in
+    let range = levels_range _ _ _ c.key.ensures.sizes c.key.ensures.first c.levels-level-end.ensures in
     let many : length c.loop-level.counts.items ≡ c.loop-level.level =
     ap length c.loop-level.invariant ∙ length-map-range_with_len _ 0 c.loop-level.level in
-    omega (arith, many, told.1, c.loop-level-test.true)
+    omega (arith, many, range.1, c.loop-level-test.true)
 
 pub loop-level-preserved : goal.loop-level-preserved
 loop-level-preserved g c =
