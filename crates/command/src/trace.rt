@@ -20,8 +20,8 @@ pub enum Role {
     Signature,
 }
 
-/// What happens to a file.
-#[derive(Clone, Copy, Debug)]
+/// What happens to a file. It may lend the bytes of a state file, and isn't printed.
+#[derive(Clone, Copy)]
 pub enum Event<'a> {
     /// It is opened, by this path.
     Opened(Role, &'a str),

@@ -207,6 +207,16 @@ fn lms_root_of(pair: LmsPair, identifier: &[u8; 16], seed: &[u8; 32]) -> [u8; 32
     root(&mut LmsTree::new(secret), pair.tree.height())
 }
 
+// How many levels a key of the spec has, which are 1 to 8 by their type.
+fn level_count(spec: &Spec) -> usize
+    ensures { IsSpec spec.now }
+{
+    match spec {
+        Spec::Lms(_) | Spec::Xmss(_) => 1,
+        Spec::Hss(levels) => levels.as_slice().len(),
+    }
+}
+
 // Makes a key where no record stands, and appends its record.
 fn create_key<S: Store, R: Source>(
     spec: &Spec,
@@ -214,7 +224,6 @@ fn create_key<S: Store, R: Source>(
     random: &mut R,
 ) -> Result<Key, SignFault>
     requires room { 1 ≤ S.most store.old }
-    requires spec { IsSpec spec.now }
     ensures makes { MakesKey S.Store R.Source spec.now store.old store.new random.old random.new (IsMade result) }
     ensures sizes { IfOk result (λ key. HasSizes (KeyRecord key)) }
     ensures list { IfOk result (λ key. S.list store.new ≡ KeyRecord key ∷ []) }
@@ -222,6 +231,8 @@ fn create_key<S: Store, R: Source>(
 {
     load_first(store)?;
     let secret = draw_secret(spec, random)?;
+    // Its levels are 1 to 8.
+    prove!(level_count(spec) <= 8);
     let key = Key {
         version: Version::One,
         root: root_of(&secret),
@@ -312,7 +323,6 @@ impl<S: Store, R: Source> Signer<S, R> {
         random: R,
     ) -> Result<Self, Refused<(S, R), SignFault>>
         requires room { 1 ≤ S.most store }
-        requires spec { IsSpec spec }
         ensures { Creates S.Store R.Source spec store random result }
     {
         let mut store = store;
