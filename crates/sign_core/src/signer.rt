@@ -209,7 +209,8 @@ fn lms_root_of(pair: LmsPair, identifier: &[u8; 16], seed: &[u8; 32]) -> [u8; 32
 
 // How many levels a key of the spec has, which are 1 to 8 by their type.
 fn level_count(spec: &Spec) -> usize
-    ensures { IsSpec spec.now }
+    ensures spec { IsSpec spec.now }
+    ensures few { result ≤ 8 }
 {
     match spec {
         Spec::Lms(_) | Spec::Xmss(_) => 1,

@@ -37,7 +37,7 @@ returns-clause-makes g c =
     ap (λ r. record { version = One; secret = c.in_ok-secret.secret; root = r }) c.root_of.ensures in
     let appended : IsAppended {A = Unit {0}} g.S.Store c.load_first.new.store c.append.new.store (KeyRecord c.copied.result) (Ok tt) = c.in_ok-append.ensures in
     subst (λ k. MakesKey g.S.Store g.R.Source c.args.spec.now c.args.store.now c.append.new.store c.args.random.now c.draw_secret.new.random (IsMade (Ok k))) (sym rooted)
-    (made g.S.Store g.R.Source c.args.spec.now _ _ _ _ _ c.in_ok-secret.secret c.level_count.ensures c.in_ok-secret.ensures (record {
+    (made g.S.Store g.R.Source c.args.spec.now _ _ _ _ _ c.in_ok-secret.secret c.level_count.ensures.spec c.in_ok-secret.ensures (record {
       looked = c.in_ok-load_first.ensures;
       appended = subst (λ k. IsAppended {A = Unit {0}} g.S.Store c.load_first.new.store c.append.new.store (KeyRecord k) (Ok tt)) (c.copied.ensures ∙ rooted) appended;
     }))
