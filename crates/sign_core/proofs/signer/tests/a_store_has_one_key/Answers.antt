@@ -3,8 +3,8 @@ use Rattle.state_file.specs.declared.store.memory_store.MemoryStore.{MemoryStore
 use Rattle.sign_core.specs.Signer.{store_after}
 use Rattle.sign_core.proofs.signer.tests.a_store_has_one_key.Goals as goal
 
-pub create-requires-clause-room : goal.create-requires-clause-room
-create-requires-clause-room g c =
+pub create-requires : goal.create-requires
+create-requires g c =
     let made : c.create-made.result ≡ Ok c.in_ok-signer.signer = search rules in
     omega (
       arith,
