@@ -235,3 +235,56 @@ fn a_repeated_identifier_is_drawn_alone(rt: HostRuntime) {
     assert_eq!(rt; draws_what_follows(rt.alloc()), Some(true));
     assert_eq!(rt; draws_after_the_lower(rt.alloc()), Some(true));
 }
+
+// Whether the key of XMSS keeps what was drawn, in its order, and a first name draws nothing more: the tape has no
+// more.
+fn keeps_the_draws_of_xmss(alloc: Global) -> Option<bool> {
+    let tape = counting::<96>(0);
+    let mut signer = in_memory(alloc, XMSS, MemoryStore::with_limit(alloc, 100), &tape)?;
+    let signature = answer(alloc, &mut signer, b"fw-1", &[1])?.ok()?;
+    let key = key_at(&mut signer.store)?;
+    let bound = bound_at(&mut signer.store, 1)?;
+    let has_seeds = match &key.secret {
+        Secret::Xmss {
+            secret_seed,
+            prf_key,
+            public_seed,
+            ..
+        } => *secret_seed == counting(0)
+            && *prf_key == counting(0x20)
+            && *public_seed == counting(0x40),
+        _ => false,
+    };
+    let has_none = bound.leaf == 0 && bound.randomizer == [0; 32];
+    Some(has_seeds && has_none && signature.len() == 2500)
+}
+
+#[test]
+fn what_xmss_draws_is_recorded(rt: HostRuntime) {
+    assert_eq!(rt; keeps_the_draws_of_xmss(rt.alloc()), Some(true));
+}
+
+// What a store that has stopped at its first append is answered, by open and by a new create.
+fn of_stopped(alloc: Global) -> Option<(SignFault, SignFault)> {
+    let mut store = MemoryStore::with_limit(alloc, 100);
+    store.cut_at(1, Cut::Old);
+    let tape = counting::<48>(0);
+    let spec = Spec::parse(LMS).ok()?;
+    let refused = Signer::create(alloc, spec, store, TapeSource::new(&tape)).err()?;
+    let (store, _random) = refused.given;
+    let refused = Signer::open(alloc, store, TapeSource::new(&[])).err()?;
+    let opened = refused.fault;
+    let (store, _random) = refused.given;
+    if store.limit() == 0 {
+        return None;
+    }
+    let spec = Spec::parse(LMS).ok()?;
+    let refused = Signer::create(alloc, spec, store, TapeSource::new(&tape)).err()?;
+    Some((opened, refused.fault))
+}
+
+#[test]
+fn a_stopped_store_makes_and_opens_nothing(rt: HostRuntime) {
+    let wanted = (SignFault::Stopped, SignFault::Stopped);
+    assert_eq!(rt; of_stopped(rt.alloc()), Some(wanted));
+}
