@@ -8,7 +8,7 @@ use Rattle.state_file.specs.declared.record.Secret.TheVariants.{Lms, Hss, Xmss}
 use Rattle.state_file.specs.declared.store.Store as store
 use Rattle.sign_core.specs.declared.key.AnyPublic.{AnyPublic}
 use Rattle.sign_core.specs.Calls.{AreCalls, AreSteps, Call, CallsLaw, IsRun, IsStep, IsStoppedIn, Step, StoppedLaw, after_steps, ends, events_of}
-use Rattle.sign_core.specs.Calls.{reached_by, stepped, stops, store_after}
+use Rattle.sign_core.specs.Calls.{reached_by, stepped, stops, store_after_calls}
 use Rattle.sign_core.specs.Once.{AllEvents, AreDraws, AreDrawsOf, AreFields, IsBeginning, IsEvent, IsLeftBy, IsOnce, randomizer_sizes, reached}
 use Rattle.sign_core.specs.Records.{first_illegal, key_in}
 use Rattle.sign_core.specs.Textbook.{public_in}
@@ -121,7 +121,7 @@ module _ {S : Type 0} (moment : S → ℕ) (left_since : S → ℕ → List Reco
   -- what is left by the calls so far, and by those to come
   calls_stop : (t : ℕ) (world : World) (old : S) (calls : List (Call S)) (left : List Record) (P : Type 0) → t ≤ moment old
       → (left_since old t left → P) → (IsStoppedIn limit world (events_of calls) left → P) → AreCalls moment left_since limit world old calls
-      → left_since (store_after old calls) t left → P
+      → left_since (store_after_calls old calls) t left → P
   calls_stop t world old [] left P low before later are is = before is
   calls_stop t world old (call ∷ calls) left P low before later are is = elim are.0.leaves as (λ u. P) [
     | inl leaves ↦

@@ -21,7 +21,7 @@ use Rattle.sign_core.specs.declared.fault.SignFault.TheVariants.{Unreadable, Key
 use Rattle.sign_core.specs.declared.source.Source as source
 use Rattle.sign_core.specs.Source.{Provides}
 use Rattle.sign_core.specs.Once.{IsBeginning}
-use Rattle.sign_core.specs.Signer.{DrawsSecret, IsAppended, IsMade, KeepsStore, LeavesOld, LeavesSource, LoadFails, LooksForKey, MakesKey}
+use Rattle.sign_core.specs.Signer.{DrawsSecret, IsAppended, IsAnsweredByKey, KeepsStore, LeavesOld, LeavesSource, LoadFails, LooksForKey, MakesKey}
 use Rattle.sign_core.specs.Signer.{is_fault, is_store_failed, is_random_failed, is_out_of_memory, unreadable_slot}
 use Rattle.sign_core.specs.World.{Creation, Fate, Outcome, acked, answered, appended, begun, closed_on, created, cut, cut_new, cut_old, drawing}
 use Rattle.sign_core.specs.World.{new_key, no_memory, open_on, published, refused, secret_from}
@@ -61,7 +61,7 @@ refused_first : {S R : Type 0} (g : store.Ghosts S) (r : source.Ghosts R) (spec 
     ≡ refused (closed_on (g.list old)) fault
     → Counts {A = AnyPublic} is_store_failed (g.failures old) (g.failures new) (Err fault)
     → Counts {A = AnyPublic} is_random_failed (r.failures random) (r.failures random) (Err fault)
-    → MakesKey g r spec old new random random (IsMade (Err fault))
+    → MakesKey g r spec old new random random (IsAnsweredByKey (Err fault))
 refused_first g r spec old new random fault failed is load step failures unfailed = record {
   chance = record { failed_load = failed; fields = []; has_room = true; fate = acked };
   outcome = refused (closed_on (g.list old)) fault;
@@ -88,7 +88,7 @@ there_step list spec some =
     ap (λ (is : Bool). if is then refused {A = AnyPublic} state KeyThere else drawing [] (begun state chance (secret_from spec []))) there
 
 pub looked : {S R : Type 0} (g : store.Ghosts S) (r : source.Ghosts R) (spec : Spec) (old new : S) (random : R) (fault : SignFault)
-    → LooksForKey {A = Unit {0}} g old new (Err fault) → MakesKey g r spec old new random random (IsMade (Err fault))
+    → LooksForKey {A = Unit {0}} g old new (Err fault) → MakesKey g r spec old new random random (IsAnsweredByKey (Err fault))
 looked g r spec old new random KeyThere is =
     refused_first g r spec old new random KeyThere None is is.finds.0 (there_step (g.list old) spec is.finds.1) is.finds.2 refl
 looked g r spec old new random Stopped is = refused_first g r spec old new random Stopped (Some Stopped) is is.finds.0 refl is.finds.1 refl
@@ -124,7 +124,7 @@ empty_step (first ∷ rest) spec fields fate secret none is = absurd (omega (ari
 -- a create where the source fails
 undrawn_random : {S R : Type 0} (g : store.Ghosts S) (r : source.Ghosts R) (spec : Spec) (old mid : S) (before after : R)
     → LooksForKey {A = Unit {0}} g old mid (Ok tt) → DrawsSecret r spec before after (Err RandomFailed)
-    → MakesKey g r spec old mid before after (IsMade (Err RandomFailed))
+    → MakesKey g r spec old mid before after (IsAnsweredByKey (Err RandomFailed))
 undrawn_random g r spec old mid before after is draws = record {
   chance = record { failed_load = None; fields = draws.fields; has_room = true; fate = acked };
   outcome = drawing (concat draws.fields) (refused (closed_on (g.list old)) RandomFailed);
@@ -144,7 +144,7 @@ undrawn_random g r spec old mid before after is draws = record {
 
 pub undrawn : {S R : Type 0} (g : store.Ghosts S) (r : source.Ghosts R) (spec : Spec) (old mid : S) (before after : R) (fault : SignFault)
     → LooksForKey {A = Unit {0}} g old mid (Ok tt) → DrawsSecret r spec before after (Err fault)
-    → MakesKey g r spec old mid before after (IsMade (Err fault))
+    → MakesKey g r spec old mid before after (IsAnsweredByKey (Err fault))
 undrawn g r spec old mid before after RandomFailed is draws = undrawn_random g r spec old mid before after is draws
 undrawn g r spec old mid before after Changed is draws = absurd draws.drawn
 undrawn g r spec old mid before after Exhausted is draws = absurd draws.drawn
@@ -225,14 +225,14 @@ alone (first ∷ rest) entry none = absurd (omega (arith, none))
 
 pub made : {S R : Type 0} (g : store.Ghosts S) (r : source.Ghosts R) (spec : Spec) (old mid new : S) (before after : R) (secret : Secret) → IsSpec spec
     → DrawsSecret r spec before after (Ok secret) → HasAppended {A = Unit {0}} g old mid new (KeyRecord (new_key secret)) (Ok tt)
-    → MakesKey g r spec old new before after (IsMade (Ok (new_key secret)))
+    → MakesKey g r spec old new before after (IsAnsweredByKey (Ok (new_key secret)))
 made g r spec old mid new before after secret can draws has =
     let entry = KeyRecord (new_key secret) in
     let list = g.list old ++ entry ∷ [] in
     let (public, is) = spec_public spec draws.fields secret can draws.drawn in
     let loaded = has.looked in
     let stored = has.appended in
-    made_by_fate g r spec old mid new before after secret acked (answered (open_on list) public) (Ok tt) (IsMade (Ok (new_key secret))) has draws
+    made_by_fate g r spec old mid new before after secret acked (answered (open_on list) public) (Ok tt) (IsAnsweredByKey (Ok (new_key secret))) has draws
     (ap (published list) is) refl (public, refl, is, alone (g.list old) entry loaded.finds.1)
     (record {
       list = record { more = entry ∷ []; list = stored.stored.0 ∙ ap (λ l. l ++ entry ∷ []) loaded.list; records = refl };
@@ -245,12 +245,12 @@ made g r spec old mid new before after secret can draws has =
 made_cut : {S R : Type 0} (g : store.Ghosts S) (r : source.Ghosts R) (spec : Spec) (old mid new : S) (before after : R) (secret : Secret)
     → (draws : DrawsSecret r spec before after (Ok secret)) → (has : HasAppended {A = Unit {0}} g old mid new (KeyRecord (new_key secret)) (Err StoreFailed))
     → (g.list new ≡ g.list mid) ⊎ (g.list new ≡ g.list mid ++ KeyRecord (new_key secret) ∷ [])
-    → MakesKey g r spec old new before after (IsMade (Err StoreFailed))
+    → MakesKey g r spec old new before after (IsAnsweredByKey (Err StoreFailed))
 made_cut g r spec old mid new before after secret draws has (inl same) =
     let entry = KeyRecord (new_key secret) in
     let loaded = has.looked in
     let stored = has.appended in
-    made_by_fate g r spec old mid new before after secret cut_old (cut (g.list old) entry (g.list old)) (Err StoreFailed) (IsMade (Err StoreFailed)) has draws
+    made_by_fate g r spec old mid new before after secret cut_old (cut (g.list old) entry (g.list old)) (Err StoreFailed) (IsAnsweredByKey (Err StoreFailed)) has draws
     refl refl refl
     (record {
       list = record { more = []; list = same ∙ loaded.list ∙ sym (append-nil _); records = sym (append-nil _) };
@@ -264,7 +264,7 @@ made_cut g r spec old mid new before after secret draws has (inr more) =
     let loaded = has.looked in
     let stored = has.appended in
     made_by_fate g r spec old mid new before after secret cut_new (cut (g.list old) entry (g.list old ++ entry ∷ [])) (Err StoreFailed)
-    (IsMade (Err StoreFailed)) has draws refl refl refl
+    (IsAnsweredByKey (Err StoreFailed)) has draws refl refl refl
     (record {
       list = record { more = entry ∷ []; list = more ∙ ap (λ l. l ++ entry ∷ []) loaded.list; records = refl };
       moments = both_moments g old mid new entry (Err StoreFailed) _ has refl;
@@ -275,7 +275,7 @@ made_cut g r spec old mid new before after secret draws has (inr more) =
 
 pub unmade : {S R : Type 0} (g : store.Ghosts S) (r : source.Ghosts R) (spec : Spec) (old mid new : S) (before after : R) (secret : Secret) (fault : SignFault)
     → DrawsSecret r spec before after (Ok secret) → HasAppended {A = Unit {0}} g old mid new (KeyRecord (new_key secret)) (Err fault)
-    → MakesKey g r spec old new before after (IsMade (Err fault))
+    → MakesKey g r spec old new before after (IsAnsweredByKey (Err fault))
 unmade g r spec old mid new before after secret StoreFailed draws has =
     made_cut g r spec old mid new before after secret draws has has.appended.stored.0
 unmade g r spec old mid new before after secret OutOfMemory draws has =
@@ -283,7 +283,7 @@ unmade g r spec old mid new before after secret OutOfMemory draws has =
     let loaded = has.looked in
     let stored = has.appended in
     made_by_fate g r spec old mid new before after secret no_memory (refused (closed_on (g.list old)) OutOfMemory) (Err OutOfMemory)
-    (IsMade (Err OutOfMemory)) has draws refl refl refl
+    (IsAnsweredByKey (Err OutOfMemory)) has draws refl refl refl
     (record {
       list = record { more = []; list = stored.stored.0 ∙ loaded.list ∙ sym (append-nil _); records = sym (append-nil _) };
       moments = old_moments g old mid new entry (Err OutOfMemory) has (stored.refused refl) _ refl;

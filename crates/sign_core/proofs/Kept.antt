@@ -12,7 +12,7 @@ use Rattle.state_file.specs.declared.record.Record.TheVariants.{Key as KeyRecord
 use Rattle.state_file.specs.declared.record.Secret.{Secret}
 use Rattle.state_file.specs.Laws.{bottom_of}
 use Rattle.sign_core.specs.Records.{current, in_tree, next_in, number_in, reaches}
-use Rattle.sign_core.specs.Trees.{AreAbove, FollowsBound, FollowsExtend, FollowsRetire, HasTrees, IsMade, IsRaised, kept_at, raised, tree_at, with_next}
+use Rattle.sign_core.specs.Trees.{AreAbove, FollowsBound, FollowsExtend, FollowsRetire, HasTrees, IsBegun, IsRaised, kept_at, raised, tree_at, with_next}
 use Rattle.sign_core.specs.declared.trees.Tree.{Tree}
 use Rattle.sign_core.proofs.Leaves.{number_other}
 use Rattle.sign_core.proofs.Append.{current_above, current_cut, current_new, next_kept, next_new, next_raised}
@@ -78,7 +78,7 @@ has_raised secret records key entry level tree n old new first is reached k with
 -- an Extend under a current tree raises the level of its parent leaf, and makes a tree below
 pub has_extended : (secret : Secret) (records : List Record) (key : Key) (extend : Extend) (level above : ℕ) (old mid new : List (Option Tree))
     → slice_get records 0 ≡ Some (KeyRecord key) → 0 < length records → extend.level ≡ suc level → current level records ≡ Some above
-    → HasTrees secret records old → IsRaised old level (extend.parent_leaf + 1) mid → IsMade mid (suc level) (length records) new
+    → HasTrees secret records old → IsRaised old level (extend.parent_leaf + 1) mid → IsBegun mid (suc level) (length records) new
     → HasTrees secret (records ++ ExtendRecord extend ∷ []) new
 has_extended secret records key extend level above old mid new first some of parent has raise made k within = elim (cases_eq k (suc level)) [
   | inl same ↦
@@ -107,7 +107,7 @@ has_extended secret records key extend level above old mid new first some of par
 
 -- an Extend, as its fields say
 pub follows_extend : (old mid new : List (Option Tree)) (level higher parent_leaf place : ℕ) → 0 < level → higher ≡ level - 1
-    → IsRaised old higher (parent_leaf + 1) mid → IsMade mid level place new → FollowsExtend old level parent_leaf place new
+    → IsRaised old higher (parent_leaf + 1) mid → IsBegun mid level place new → FollowsExtend old level parent_leaf place new
 follows_extend old mid new zero higher parent_leaf place below one raise made = absurd (omega (arith, below))
 follows_extend old mid new (suc level) higher parent_leaf place below one raise made =
     λ secret records key extend above first long of leaf parent has.
@@ -116,7 +116,7 @@ follows_extend old mid new (suc level) higher parent_leaf place below one raise 
     let some : 0 < length records = slice_get_within records 0 (KeyRecord key) first in
     let raise_it : IsRaised old level (extend.parent_leaf + 1) mid =
     subst (λ n. IsRaised old level (n + 1) mid) (sym leaf) (subst (λ l. IsRaised old l (parent_leaf + 1) mid) same raise) in
-    let made_it : IsMade mid (suc level) (length records) new = subst (λ n. IsMade mid (suc level) n new) (sym long) made in
+    let made_it : IsBegun mid (suc level) (length records) new = subst (λ n. IsBegun mid (suc level) n new) (sym long) made in
     has_extended secret records key extend level above old mid new first some of (ap (λ l. current l records) (sym over) ∙ parent)
     has raise_it made_it
 

@@ -21,7 +21,7 @@ use Rattle.sign_core.specs.World.{later_draws}
 use Rattle.sign_core.specs.World.{new_key, no_memory, open_on, opened, opened_by, opened_on, published, randomizer_from, reopen, repeated}
 use Rattle.sign_core.specs.World.{repeated_sound, request}
 use Rattle.sign_core.specs.World.{requested_of, requested_under, retire, retired, retired_under, run, secret_from, stop}
-use Rattle.sign_core.specs.Once.{Extends}
+use Rattle.sign_core.specs.Once.{LastsInto}
 
 -- the records begin with these
 abbrev Grown : {A : Type 0} → List Record → Outcome A → Type 0
@@ -161,10 +161,10 @@ grown_retired limit state upto fate (Some key) = grown_choice state.records (not
 
 -- where nothing is handed out
 only_grown : {A : Type 0} (world : World) (outcome : Outcome A) → Grown world.state.records outcome
-    → Extends world (record { state = outcome.state; handed = world.handed })
+    → LastsInto world (record { state = outcome.state; handed = world.handed })
 only_grown world outcome (more, are) = record { records = more; handed = []; records_are = are; handed_are = sym (append-nil world.handed) }
 
-extends_after : (limit : ℕ) (world : World) (event : Event) → Extends world (after limit world event)
+extends_after : (limit : ℕ) (world : World) (event : Event) → LastsInto world (after limit world event)
 extends_after limit world (create spec chance) =
     only_grown world (created world.state spec chance) (grown_created chance.failed_load world.state spec chance)
 extends_after limit world (reopen chance) =
@@ -178,7 +178,7 @@ extends_after limit world stop =
     record { records = []; handed = []; records_are = sym (append-nil world.state.records); handed_are = sym (append-nil world.handed) }
 
 -- one after the other
-extends_on : (first second third : World) → Extends first second → Extends second third → Extends first third
+extends_on : (first second third : World) → LastsInto first second → LastsInto second third → LastsInto first third
 extends_on first second third a b = record {
   records = a.records ++ b.records;
   handed = a.handed ++ b.handed;
@@ -186,7 +186,7 @@ extends_on first second third a b = record {
   handed_are = b.handed_are ∙ ap (λ l. l ++ b.handed) a.handed_are ∙ append_assoc first.handed a.handed b.handed;
 }
 
-pub extends_along : (limit : ℕ) (world : World) (events : List Event) → Extends world (run limit world events)
+pub extends_along : (limit : ℕ) (world : World) (events : List Event) → LastsInto world (run limit world events)
 extends_along limit world [] = record {
   records = [];
   handed = [];

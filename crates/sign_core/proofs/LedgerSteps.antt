@@ -13,7 +13,7 @@ use Rattle.state_file.specs.declared.record.Record.TheVariants.{Key as KeyRecord
 use Rattle.state_file.specs.declared.record.Secret.{Secret}
 use Rattle.state_file.specs.Laws.{bottom_of, identifier_of, leaves_at}
 use Rattle.sign_core.specs.Records.{are_same, binding_in, binds, can_follow, can_follow_legal, current, has_identifier, has_moved, is_moved, is_of}
-use Rattle.sign_core.specs.Ledger.{ByPlace, ByText, IsTableOf, kept_at, kept_of, made_at, made_by}
+use Rattle.sign_core.specs.Ledger.{ByPlace, ByText, IsTableOf, binding_kept, kept_of, made_at, made_by}
 use Rattle.sign_core.specs.Trees.{FollowsRetire, HasTrees}
 use Rattle.sign_core.specs.Textbook.{AllHaveSizes, HasSizes}
 use Rattle.sign_core.specs.declared.ledger.Binding.{Binding}
@@ -106,25 +106,25 @@ kept_longer secret records more name (Some (k, bound)) is =
 
 -- a record that doesn't bind a name leaves the name's binding
 pub kept_other : (secret : Secret) (records : List Record) (entry : Record) (name : List ℕ) → binds name entry ≡ None
-    → kept_at secret (records ++ entry ∷ []) name ≡ kept_at secret records name
+    → binding_kept secret (records ++ entry ∷ []) name ≡ binding_kept secret records name
 kept_other secret records entry name none =
     ap (option_map (kept_of secret (records ++ entry ∷ []))) (binding_other records entry name none)
     ∙ kept_longer secret records (entry ∷ []) name (binding_in records name) refl
 
 -- a Bound of a name that wasn't bound is kept of this name, and each other name keeps what it has
 pub kept_bound : (secret : Secret) (records : List Record) (bound : Bound) (name : List ℕ) → binding_in records bound.name ≡ None
-    → kept_at secret (records ++ BoundRecord bound ∷ []) name
-    ≡ cond (are_same bound.name name) (Some (kept_of secret records (length records, bound))) (kept_at secret records name)
+    → binding_kept secret (records ++ BoundRecord bound ∷ []) name
+    ≡ cond (are_same bound.name name) (Some (kept_of secret records (length records, bound))) (binding_kept secret records name)
 kept_bound secret records bound name free = by (are_same bound.name name) refl
   where
-    own : kept_at secret (records ++ BoundRecord bound ∷ []) bound.name ≡ Some (kept_of secret records (length records, bound))
+    own : binding_kept secret (records ++ BoundRecord bound ∷ []) bound.name ≡ Some (kept_of secret records (length records, bound))
     own =
         ap (option_map (kept_of secret (records ++ BoundRecord bound ∷ []))) (binding_new records bound free)
         ∙ ap Some (kept_stays secret records (BoundRecord bound ∷ []) (length records) bound (omega arith))
 
-    by : (b : Bool) → are_same bound.name name ≡ b → kept_at secret (records ++ BoundRecord bound ∷ []) name
-        ≡ cond b (Some (kept_of secret records (length records, bound))) (kept_at secret records name)
-    by true same = ap (kept_at secret (records ++ BoundRecord bound ∷ [])) (sym ((bytes_decides bound.name name).0 same)) ∙ own
+    by : (b : Bool) → are_same bound.name name ≡ b → binding_kept secret (records ++ BoundRecord bound ∷ []) name
+        ≡ cond b (Some (kept_of secret records (length records, bound))) (binding_kept secret records name)
+    by true same = ap (binding_kept secret (records ++ BoundRecord bound ∷ [])) (sym ((bytes_decides bound.name name).0 same)) ∙ own
     by false same = kept_other secret records (BoundRecord bound) name (ap (λ b. cond b (Some bound) None) same)
 
 -- ---- identifiers

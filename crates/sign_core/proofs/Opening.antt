@@ -20,7 +20,7 @@ use Rattle.sign_core.specs.declared.fault.SignFault.TheVariants.{Changed, Exhaus
 use Rattle.sign_core.specs.declared.fault.SignFault.TheVariants.{Unreadable, KeyThere}
 use Rattle.sign_core.specs.Records.{can_follow, first_illegal, illegal_from, key_in}
 use Rattle.sign_core.specs.Once.{public_of_key}
-use Rattle.sign_core.specs.Signer.{IsTakenUp, IsTied, LeavesOld, LoadsAll, LoadsRecord, RefusesToOpen, StopsOpening, TakesUp, is_device_failed, unreadable_slot}
+use Rattle.sign_core.specs.Signer.{IsTakenUp, IsTied, LeavesOld, LoadsAll, LoadsRecord, RefusesToOpen, StopsOpening, TakesUpLoaded, is_device_failed, unreadable_slot}
 use Rattle.sign_core.specs.Ledger.{LacksRoom, Table}
 use Rattle.sign_core.specs.World.{answered, closed_on, open_on, opened, opened_by, opened_on, published, refused}
 use Rattle.sign_core.specs.Textbook.{HasSizes, SecretHasSizes, public_in}
@@ -326,7 +326,7 @@ unroomed g old now next table k entry is loads follows lacking =
 
 -- a record that isn't taken up
 pub untaken : {S : Type 0} (g : store.Ghosts S) (old now next : S) (table left : Table) (k : ℕ) (entry : Record) (fault : SignFault)
-    → IsLoadedTo g old now table k → LoadsRecord g now next k (Ok (Some entry)) → TakesUp {A = Unit {0}} table left entry (Err fault)
+    → IsLoadedTo g old now table k → LoadsRecord g now next k (Ok (Some entry)) → TakesUpLoaded {A = Unit {0}} table left entry (Err fault)
     → LoadsAll g old next (IsTakenUp (Err fault))
 untaken g old now next table left k entry (Illegal slot) is loads takes =
     let same : k ≡ slot = sym is.loaded.begins.long ∙ sym takes.1 in
@@ -352,7 +352,7 @@ untaken g old now next table left k entry (Damaged slot) is loads takes = absurd
 untaken g old now next table left k entry (Unreadable slot) is loads takes = absurd takes
 
 pub taken : {S : Type 0} (g : store.Ghosts S) (old now next : S) (table after : Table) (k : ℕ) (entry : Record) → IsLoadedTo g old now table k
-    → LoadsRecord g now next k (Ok (Some entry)) → TakesUp {A = Unit {0}} table after entry (Ok tt) → IsLoadedTo g old next after (k + 1)
+    → LoadsRecord g now next k (Ok (Some entry)) → TakesUpLoaded {A = Unit {0}} table after entry (Ok tt) → IsLoadedTo g old next after (k + 1)
 taken g old now next table after k entry is loads takes =
     let follows = key_follows table entry true is.keyed takes.0 in record {
       loaded = subst (λ l. HasLoaded g old next l (k + 1)) (sym takes.2) (record {

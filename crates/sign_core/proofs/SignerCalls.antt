@@ -27,7 +27,7 @@ use Rattle.sign_core.specs.Once.{CanFailLoad, CanStopOpening, IsBeginning, reach
 use Rattle.sign_core.specs.Records.{first_illegal, key_in}
 use Rattle.sign_core.specs.Signer.{Creates, IsAnswered, IsRead, LoadFails, Opens, Retires, Signs, StopsOpening, View, is_before_draws, is_fault, is_of_append}
 use Rattle.sign_core.specs.Signer.{state_of, store_after}
-use Rattle.sign_core.specs.SignerCalls.{AreClosed, HandsOut, IsAfter, IsOpenSigner, IsRefused, IsRunning, OpensIn, OpensInWorld, RetiresInWorld, SignerLaw, SignsInWorld, world_of}
+use Rattle.sign_core.specs.SignerCalls.{AreClosed, HandsOut, IsAfter, IsOpenSigner, IsRefusedCall, IsRunning, OpensIn, OpensInWorld, RetiresInWorld, SignerLaw, SignsInWorld, world_of}
 use Rattle.sign_core.specs.Textbook.{public_in}
 use Rattle.sign_core.specs.World.{Chance, Creation, Fate, Handed, Opening, Outcome, State, World, acked, after, appended, begun, closed_on, create, created}
 use Rattle.sign_core.specs.World.{created_after, cut_new, cut_old, handed_with, new_key, no_memory, opened, opened_by, opened_on, published, refused}
@@ -136,7 +136,7 @@ retire_stays limit world upto fate closed =
 
 refuses_in : {S R M : Type 0} (g : store.Ghosts S) (r : source.Ghosts R) (m : message.Ghosts M) (old new : View S R) (name : List ℕ) (before later : M)
     (capacity : ℕ) (answer : Result (List ℕ) SignFault) (world : World) → AreClosed old world → IsName name
-    → (signs : Signs g r m old new name before later capacity answer) → IsRefused g world (request name signs.chance) old new answer
+    → (signs : Signs g r m old new name before later capacity answer) → IsRefusedCall g world (request name signs.chance) old new answer
 refuses_in g r m old new name before later capacity answer world closed is_name signs =
     let limit = g.most old.store in
     let is : refused (state_of old) Stopped ≡ signs.outcome =
@@ -152,7 +152,7 @@ refuses_in g r m old new name before later capacity answer world closed is_name 
     }
 
 refuses_to_retire : {S R : Type 0} (g : store.Ghosts S) (old new : View S R) (upto : ℕ) (answer : Result (Unit {0}) SignFault) (world : World)
-    → AreClosed old world → (retires : Retires g old new upto answer) → IsRefused g world (retire upto retires.fate) old new answer
+    → AreClosed old world → (retires : Retires g old new upto answer) → IsRefusedCall g world (retire upto retires.fate) old new answer
 refuses_to_retire g old new upto answer world closed retires =
     let limit = g.most old.store in
     let is : refused (state_of old) Stopped ≡ retires.outcome =

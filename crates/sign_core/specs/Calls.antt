@@ -97,9 +97,9 @@ AreCalls moment left_since limit world old (call ∷ calls) = IsCall moment left
     × AreCalls moment left_since limit (after limit world call.event) call.store calls
 
 -- the store after all of them
-abbrev pub store_after : {S : Type 0} (old : S) → List (Call S) → S
-store_after old [] = old
-store_after old (call ∷ calls) = store_after call.store calls
+abbrev pub store_after_calls : {S : Type 0} (old : S) → List (Call S) → S
+store_after_calls old [] = old
+store_after_calls old (call ∷ calls) = store_after_calls call.store calls
 
 abbrev pub events_of : {S : Type 0} → List (Call S) → List Event
 events_of calls = map (λ call. call.event) calls
@@ -115,5 +115,5 @@ abbrev pub StoppedLaw : {S : Type 0} → store.Ghosts S → Type 0
 StoppedLaw {S = S} g = (limit : ℕ) (world : World) (first : S) (calls : List (Call S)) (left : List Record)
     → ((list : List Record) → g.left_since first (g.moment first) list → list ≡ world.state.records)
     → AreCalls g.moment g.left_since limit world first calls
-    → g.left_since (store_after first calls) (g.moment first) left
+    → g.left_since (store_after_calls first calls) (g.moment first) left
     → IsStoppedIn limit world (events_of calls) left

@@ -68,8 +68,8 @@ kept_of secret records (place, bound) = record {
   tree = tree_before (bottom_of secret) records place;
 }
 
-abbrev pub kept_at : Secret → List Record → (name : List ℕ) → Option Binding
-kept_at secret records name = option_map (kept_of secret records) (binding_in records name)
+abbrev pub binding_kept : Secret → List Record → (name : List ℕ) → Option Binding
+binding_kept secret records name = option_map (kept_of secret records) (binding_in records name)
 
 -- ---- a ledger
 
@@ -84,7 +84,7 @@ pub record IsTableOf (records : List Record) (key : Key) (made : ByPlace Made) (
   pub moved_is : moved ≡ has_moved records
   pub trees_are : HasTrees key.secret records levels
   pub made_are : (place : ℕ) → of_place made place ≡ made_at records place
-  pub bindings_are : (name : List ℕ) → of_text bindings name ≡ kept_at key.secret records name
+  pub bindings_are : (name : List ℕ) → of_text bindings name ≡ binding_kept key.secret records name
   pub identifiers_are : (identifier : List ℕ)
       → is_some (of_text identifiers identifier) ≡ has_identifier (drop 1 records) identifier
 

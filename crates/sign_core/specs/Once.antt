@@ -439,7 +439,7 @@ pub record StopLaw : Type 0 where
 -- ---- what lasts
 
 -- A later world has the records and the signatures of an earlier one, and perhaps more after them.
-pub record Extends (earlier later : World) : Type 0 where
+pub record LastsInto (earlier later : World) : Type 0 where
   pub records : List Record
   pub handed : List Handed
   pub records_are : later.state.records ≡ earlier.state.records ++ records
@@ -447,4 +447,4 @@ pub record Extends (earlier later : World) : Type 0 where
 
 -- no event takes a record or a signature away, or puts another in its place
 abbrev pub LastingLaw : Type 0
-LastingLaw = (limit : ℕ) (world : World) (events : List Event) → Extends world (run limit world events)
+LastingLaw = (limit : ℕ) (world : World) (events : List Event) → LastsInto world (run limit world events)

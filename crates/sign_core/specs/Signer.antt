@@ -400,10 +400,10 @@ pub record MakesKey {S R : Type 0} (g : store.Ghosts S) (r : source.Ghosts R) (s
   pub unreadable : Collects unreadable_slot (g.unreadable old) (g.unreadable new) outcome.answer
 
 -- A key is made, with its public key, and its record is the only one; or the fault is answered.
-abbrev pub IsMade : Result Key SignFault → Outcome AnyPublic → Type 0
-IsMade (Ok key) outcome = (public : AnyPublic) × (outcome.answer ≡ Ok public) × (public_in key ≡ Some public)
+abbrev pub IsAnsweredByKey : Result Key SignFault → Outcome AnyPublic → Type 0
+IsAnsweredByKey (Ok key) outcome = (public : AnyPublic) × (outcome.answer ≡ Ok public) × (public_in key ≡ Some public)
     × (outcome.acknowledged ≡ KeyRecord key ∷ [])
-IsMade (Err fault) outcome = outcome.answer ≡ Err fault
+IsAnsweredByKey (Err fault) outcome = outcome.answer ≡ Err fault
 
 -- A call of create makes a key.
 abbrev pub Creates : {S R : Type 0} → store.Ghosts S → source.Ghosts R → Spec → (kept_in : S) → (random : R)
@@ -460,15 +460,15 @@ pub record LoadsRecord {S : Type 0} (g : store.Ghosts S) (old new : S) (k : ℕ)
 
 -- What taking up the next record comes to, by the answer: it can follow those before it, and stands after them; or it
 -- can't, and its place is answered; or it could, and there is no memory for it.
-abbrev pub TakesUp : {A : Type 0} (old new : Table) (entry : Record) → Result A SignFault → Type 0
-TakesUp old new entry (Ok _) =
+abbrev pub TakesUpLoaded : {A : Type 0} (old new : Table) (entry : Record) → Result A SignFault → Type 0
+TakesUpLoaded old new entry (Ok _) =
     (can_follow (Some old.key) old.records entry ≡ true) × (new.key ≡ old.key)
     × (new.records ≡ old.records ++ entry ∷ [])
-TakesUp old new entry (Err (Illegal k)) =
+TakesUpLoaded old new entry (Err (Illegal k)) =
     (can_follow (Some old.key) old.records entry ≡ false) × (k ≡ length old.records) × (new.records ≡ old.records)
-TakesUp old new entry (Err NoMemoryToOpen) =
+TakesUpLoaded old new entry (Err NoMemoryToOpen) =
     (can_follow (Some old.key) old.records entry ≡ true) × LacksRoom entry old × (new.records ≡ old.records)
-TakesUp old new entry (Err _) = ⊥
+TakesUpLoaded old new entry (Err _) = ⊥
 
 -- To load the records of a store is a step of the world, with an outcome that is the answer. It goes over as many
 -- records as the store has, and where the store is honest over its own. The store has stopped where it had before, or

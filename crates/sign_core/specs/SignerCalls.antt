@@ -84,7 +84,7 @@ pub record AreClosed {S R : Type 0} (view : View S R) (world : World) : Type 0 w
 
 -- A call of a closed signer answers 26 and leaves it closed and its store as it was. It is this event, which leaves the
 -- world as it was, and so hands nothing out.
-pub record IsRefused {S R A : Type 0} (g : store.Ghosts S) (world : World) (event : Event) (old new : View S R)
+pub record IsRefusedCall {S R A : Type 0} (g : store.Ghosts S) (world : World) (event : Event) (old new : View S R)
     (answer : Result A SignFault) : Type 0 where
   pub answer_is : answer ≡ Err Stopped
   pub is_open : new.is_open ≡ false
@@ -105,10 +105,10 @@ pub record SignerLaw {S R M : Type 0} (g : store.Ghosts S) (r : source.Ghosts R)
   pub refuses : (old new : View S R) (name : List ℕ) (before later : M) (capacity : ℕ)
       (answer : Result (List ℕ) SignFault) (world : World) → AreClosed old world → IsName name
       → (signs : Signs g r m old new name before later capacity answer)
-      → IsRefused g world (request name signs.chance) old new answer
+      → IsRefusedCall g world (request name signs.chance) old new answer
   pub refuses_retiring : (old new : View S R) (upto : ℕ) (answer : Result (Unit {0}) SignFault) (world : World)
       → AreClosed old world → (retires : Retires g old new upto answer)
-      → IsRefused g world (retire upto retires.fate) old new answer
+      → IsRefusedCall g world (retire upto retires.fate) old new answer
   pub creates : (spec : Spec) (kept_in : S) (random : R) (result : Result (View S R) (Refused (S × R) SignFault))
       (handed : List Handed) → IsRunning g kept_in → IsSpec spec → Creates g r spec kept_in random result
       → OpensInWorld g (g.list kept_in) handed kept_in result

@@ -30,7 +30,7 @@ use Rattle.sign_core.specs.Textbook.{tree_before, trees_of}
 use Rattle.typecodes.specs.declared.types.LmsPair.{LmsPair}
 use Rattle.state_file.specs.declared.record.Secret.TheVariants.{Xmss}
 use Rattle.sign_core.specs.declared.ledger.Binding.{Binding}
-use Rattle.sign_core.specs.Ledger.{kept_at}
+use Rattle.sign_core.specs.Ledger.{binding_kept}
 use Rattle.xmss.specs.declared.secret.XmssSecret.{XmssSecret}
 
 -- the answer of a call that gives this value where it is Ok
@@ -182,7 +182,7 @@ pub record Repeats {S R M : Type 0} (m : message.Ghosts M) (view : View S R) (be
 
 -- The binding is that of a name.
 abbrev pub IsBindingOf : List Record → Binding → Key → (name : List ℕ) → Type 0
-IsBindingOf records binding key name = kept_at key.secret records name ≡ Some binding
+IsBindingOf records binding key name = binding_kept key.secret records name ≡ Some binding
 
 -- ---- an XMSS key
 

@@ -34,8 +34,8 @@ abbrev pub AreAbove : (old : List (Option Tree)) (level : ℕ) (new : List (Opti
 AreAbove old level new = (k : ℕ) → kept_at new k ≡ (if nat_lt k level then kept_at old k else None)
 
 -- A level has a new tree, the levels above it keep theirs, and those below it have none.
-abbrev pub IsMade : (old : List (Option Tree)) (level place : ℕ) (new : List (Option Tree)) → Type 0
-IsMade old level place new = (k : ℕ) → kept_at new k
+abbrev pub IsBegun : (old : List (Option Tree)) (level place : ℕ) (new : List (Option Tree)) → Type 0
+IsBegun old level place new = (k : ℕ) → kept_at new k
     ≡ (if nat_eq k level then Some (record { place = place; next = 0 })
     else if nat_lt k level then kept_at old k else None)
 

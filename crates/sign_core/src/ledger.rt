@@ -106,7 +106,7 @@ impl Ledger {
     ghost use Rattle.state_file.specs.declared.record.Record.TheVariants.{Bound as BoundRecord, Retire as RetireRecord};
     ghost use Rattle.state_file.specs.declared.record.Record.TheVariants.{Moved as MovedRecord};
     ghost use Rattle.sign_core.specs.Ledger.{Grows, HasRoom, IsRefused, LacksRoom, Stays, TakesUp};
-    ghost use Rattle.sign_core.specs.Ledger.{kept_at, made_at};
+    ghost use Rattle.sign_core.specs.Ledger.{binding_kept, made_at};
     ghost use Rattle.sign_core.specs.declared.ledger.LedgerFault.TheVariants.{Illegal, OutOfMemory};
     ghost use Rattle.sign_core.specs.Trees.{tree_at};
     ghost use Rattle.sign_core.specs.Textbook.{AllHaveSizes, HasSizes};
@@ -199,7 +199,7 @@ impl Ledger {
 
     /// The binding of a name.
     pub(crate) fn find(&self, name: &Name) -> Option<Binding>
-        ensures { result ≡ kept_at self.now.key.secret self.now.records name.now }
+        ensures { result ≡ binding_kept self.now.key.secret self.now.records name.now }
     {
         self.bindings.get(name).copied()
     }

@@ -5,8 +5,8 @@ ghost use Rattle.std.specs.Prelude.{IfSome, None, OnOk};
 ghost use Rattle.state_file.specs.Store.{CanFollow, is_key};
 ghost use Rattle.sign_core.specs.Source.{DrawsBytes};
 ghost use Rattle.sign_core.specs.Once.{AreFields};
-ghost use Rattle.sign_core.specs.Signer.{DrawsSecret, Hinders, IsAppended, IsMade};
-ghost use Rattle.sign_core.specs.Signer.{IsTakenUp, IsTied, LoadsAll, LoadsRecord, LooksForKey, MakesKey, TakesUp};
+ghost use Rattle.sign_core.specs.Signer.{DrawsSecret, Hinders, IsAnsweredByKey, IsAppended};
+ghost use Rattle.sign_core.specs.Signer.{IsTakenUp, IsTied, LoadsAll, LoadsRecord, LooksForKey, MakesKey, TakesUpLoaded};
 ghost use Rattle.sign_core.specs.Textbook.{HasSizes, SecretHasSizes, lms_secret, public_in, root_by};
 ghost use Rattle.state_file.specs.declared.record.Record.TheVariants.{Key as KeyRecord};
 ghost use Rattle.typecodes.specs.Layout.{AreBytes};
@@ -225,7 +225,8 @@ fn create_key<S: Store, R: Source>(
     random: &mut R,
 ) -> Result<Key, SignFault>
     requires room { 1 ≤ S.most store.old }
-    ensures makes { MakesKey S.Store R.Source spec.now store.old store.new random.old random.new (IsMade result) }
+    ensures makes { MakesKey S.Store R.Source spec.now store.old store.new random.old random.new
+        (IsAnsweredByKey result) }
     ensures sizes { IfOk result (λ key. HasSizes (KeyRecord key)) }
     ensures list { IfOk result (λ key. S.list store.new ≡ KeyRecord key ∷ []) }
     ensures running { OnOk result (S.stopped store.new ≡ false) }
@@ -282,7 +283,7 @@ fn key_of(entry: Record) -> Option<Key>
 
 // Takes up the next record that was loaded, where it can follow those before it.
 fn take_up(ledger: &mut Ledger, entry: &Record) -> Result<(), SignFault>
-    ensures { TakesUp ledger.old ledger.new entry.now result }
+    ensures { TakesUpLoaded ledger.old ledger.new entry.now result }
 {
     ledger.take_up(entry).map_err(|fault| match fault {
         LedgerFault::Illegal(place) => SignFault::Illegal(place),

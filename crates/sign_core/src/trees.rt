@@ -19,7 +19,7 @@ pub(crate) struct Trees {
 }
 
 impl Trees {
-    ghost use Rattle.sign_core.specs.Trees.{AreAbove, IsMade, IsRaised, kept_at};
+    ghost use Rattle.sign_core.specs.Trees.{AreAbove, IsBegun, IsRaised, kept_at};
     ghost use Rattle.sign_core.specs.Trees.{FollowsBound, FollowsExtend, FollowsRetire, HasTrees};
 
     /// Those of a Key alone: its own tree, with no leaf used.
@@ -55,7 +55,7 @@ impl Trees {
     // A new tree of a level, made by the record at a place.
     fn make(&mut self, level: usize, place: u32)
         requires { level < 8 }
-        ensures { IsMade self.old.levels level place self.new.levels }
+        ensures { IsBegun self.old.levels level place self.new.levels }
     {
         let mut levels = self.above(level);
         levels[level] = Some(Tree { place, next: 0 });

@@ -4,7 +4,7 @@ use Rattle.sign_core.specs.Signing.{answered_with}
 use Rattle.sign_core.specs.Records.{key_in}
 use Rattle.sign_core.specs.Signer.{IsSigner, Signs}
 use Rattle.sign_core.specs.Signing.{IsBindingOf}
-use Rattle.sign_core.specs.Ledger.{kept_at}
+use Rattle.sign_core.specs.Ledger.{binding_kept}
 use Rattle.sign_core.proofs.Signs.{hindered_signs, repeats_signs}
 use Rattle.sign_core.proofs.signer.Signer.answer.Goals as goal
 
@@ -25,7 +25,7 @@ returns-in-Some-clause-step g c =
     let key = c.self.inside.ledger.key in
     let keyed = ap (λ w. key_in w.records) (sym c.self.view_is) ∙ c.self.invariant.1 in
     let is : IsBindingOf v.records c.in-Some.binding key c.args.name.now =
-    ap (λ w. kept_at key.secret w.records c.args.name.now) (sym c.self.view_is) ∙ sym c.find.ensures ∙ c.in-Some.is in
+    ap (λ w. binding_kept key.secret w.records c.args.name.now) (sym c.self.view_is) ∙ sym c.find.ensures ∙ c.in-Some.is in
     repeats_signs g.S.Store g.R.Source g.M.Message v c.args.name.now c.args.message.now c.repeat.new.message (vec_capacity c.args.out.now) key
     c.in-Some.binding (answered_with c.repeat.result c.repeat.new.out.items) (subst (IsSigner g.S.Store) c.self.view_is c.self.invariant.0)
     (λ left honest running since. g.met.S.Store.leaves_nothing_else v.store left honest running since)
