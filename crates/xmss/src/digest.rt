@@ -35,9 +35,9 @@ fn digest_key(randomizer: &[u8; 32], root: &[u8; 32], leaf: u32) -> [u8; 96]
     ensures { result ≡ randomizer.now ++ root.now ++ spec.index_bytes leaf }
 {
     let mut key = [0; 96];
-    let place = put(&mut key, 0, randomizer);
-    let place = put(&mut key, place, root);
-    put(&mut key, place, &index_bytes(leaf));
+    let offset = put(&mut key, 0, randomizer);
+    let offset = put(&mut key, offset, root);
+    put(&mut key, offset, &index_bytes(leaf));
     key
 }
 
