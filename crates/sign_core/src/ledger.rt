@@ -7,7 +7,7 @@ ghost use Rattle.sign_core.specs.Records.{binding_in, can_follow, can_follow_leg
 ghost use Rattle.sign_core.specs.Records.{has_identifier, has_moved, is_free, key_in};
 ghost use Rattle.sign_core.specs.Ledger.{TakesMemory};
 
-use crate::trees::{Tree, Trees};
+use crate::trees::{CurrentTrees, Tree};
 use state_file::{Bound, Extend, Key, Record, RecordList, Secret};
 use std::alloc::{AllocError, Global};
 use std::collections::HashMap;
@@ -79,7 +79,7 @@ pub struct Ledger {
     bindings: HashMap<Name, Binding>,
     // the places of the Extends by their I
     identifiers: HashMap<[u8; 16], u32>,
-    trees: Trees,
+    trees: CurrentTrees,
     count: u32,
     moved: bool,
 }
@@ -125,7 +125,7 @@ impl Ledger {
             made: HashMap::new(alloc),
             bindings: HashMap::new(alloc),
             identifiers: HashMap::new(alloc),
-            trees: Trees::of_key(),
+            trees: CurrentTrees::of_key(),
             count: 1,
             moved: false,
         }
