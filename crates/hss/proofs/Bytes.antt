@@ -141,11 +141,11 @@ module _ (above : List Level) (bottom level : Level) (next : LmsPublic) (i : ℕ
       ap (flat_map signed_key_bytes) signed-more ∙ flat_map-append signed_key_bytes front (one ∷ []) ∙ ap (λ b. flat_map signed_key_bytes front ++ b) (append-nil (signed_key_bytes one))
 
   -- its bytes stand after those before it
-  pub written-more : (head old part : List ℕ) (place end : ℕ) → take place old ≡ head ++ flat_map signed_key_bytes (take i (signed_by above bottom).signed)
-      → part ≡ signed_key_bytes (signed_key_by level next) → place ≤ length old → end ≡ place + length part
-      → take end (put_mid place (end - place) old part) ≡ head ++ flat_map signed_key_bytes (take (i + 1) (signed_by above bottom).signed)
-  written-more head old part place end before part_is inside ends =
-      take-put_mid place (end - place) old part end ends inside ∙ ap₂ (λ a b. a ++ b) before part_is
+  pub written-more : (head old part : List ℕ) (offset end : ℕ) → take offset old ≡ head ++ flat_map signed_key_bytes (take i (signed_by above bottom).signed)
+      → part ≡ signed_key_bytes (signed_key_by level next) → offset ≤ length old → end ≡ offset + length part
+      → take end (put_mid offset (end - offset) old part) ≡ head ++ flat_map signed_key_bytes (take (i + 1) (signed_by above bottom).signed)
+  written-more head old part offset end before part_is inside ends =
+      take-put_mid offset (end - offset) old part end ends inside ∙ ap₂ (λ a b. a ++ b) before part_is
       ∙ append_assoc head (flat_map signed_key_bytes (take i (signed_by above bottom).signed)) (signed_key_bytes (signed_key_by level next))
       ∙ ap (λ b. head ++ b) (sym bytes-more)
 
@@ -159,8 +159,8 @@ module _ (above : List Level) (bottom level : Level) (next : LmsPublic) (i : ℕ
       subst₂ (Spells (signed_keys (i + 1))) (sym signed-more) (sym bytes-more) pushed
 
 -- The number of signed keys, these, and the bottom's signature after them to the end, are a signature's bytes.
-pub whole-written : (s : Signature) (n place : ℕ) (x bottom : List ℕ) → take place x ≡ u32str n ++ flat_map signed_key_bytes s.signed → n ≡ length s.signed → bottom ≡ lms_signature_bytes s.bottom → place ≤ length x
-    → take place x ++ (bottom ++ post_of place (length x - place) x) ≡ signature_bytes s
-whole-written s n place x bottom front count bottom_is inside =
-    let ended : post_of place (length x - place) x ≡ [] = Post-is place (length x) x inside ∙ drop_all (length x) x (omega arith) in
+pub whole-written : (s : Signature) (n offset : ℕ) (x bottom : List ℕ) → take offset x ≡ u32str n ++ flat_map signed_key_bytes s.signed → n ≡ length s.signed → bottom ≡ lms_signature_bytes s.bottom → offset ≤ length x
+    → take offset x ++ (bottom ++ post_of offset (length x - offset) x) ≡ signature_bytes s
+whole-written s n offset x bottom front count bottom_is inside =
+    let ended : post_of offset (length x - offset) x ≡ [] = Post-is offset (length x) x inside ∙ drop_all (length x) x (omega arith) in
     ap₂ (λ a b. a ++ b) (front ∙ ap (λ n. u32str n ++ flat_map signed_key_bytes s.signed) count) (ap (λ rest. bottom ++ rest) ended ∙ append-nil bottom ∙ bottom_is)

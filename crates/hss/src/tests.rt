@@ -177,7 +177,7 @@ fn refusal(rt: &impl Abort, public: &HssPublic, signature: &[u8]) -> (Refusal, u
 #[test]
 fn changes_are_refused(rt: HostRuntime) {
     let (public, signature) = signed();
-    for (place, byte, expected, left) in [
+    for (offset, byte, expected, left) in [
         (3, 0, fault(1296, Cause::Trailing), 1),
         (3, 7, fault(2644, Cause::Truncated), 1),
         (3, 8, fault(0, Cause::LevelCount), 1),
@@ -193,12 +193,12 @@ fn changes_are_refused(rt: HostRuntime) {
         (2643, signature[2643] ^ 1, Refusal::RootMismatch(1), 0),
     ] {
         let mut changed = signature;
-        assert!(rt; place < 2644);
-        changed[place] = byte;
+        assert!(rt; offset < 2644);
+        changed[offset] = byte;
         assert_eq!(rt;
             refusal(&rt, &public, &changed),
             (expected, left),
-            "{byte} at {place}"
+            "{byte} at {offset}"
         );
     }
 }

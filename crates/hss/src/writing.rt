@@ -74,29 +74,29 @@ pub fn write_signature(above: &[Level<'_>], bottom: &Level<'_>, into: &mut [u8])
         → IsValid (public_by above.now bottom.now) message (signed_by above.now bottom.now) }
 {
     write_number(above.len() as u8, into);
-    let place = write_above(above, bottom, into);
+    let offset = write_above(above, bottom, into);
     let end = into.len();
-    bottom.write(&mut into[place..end]);
+    bottom.write(&mut into[offset..end]);
 }
 
-// Writes the signed keys of a signature after the first 4 bytes, and gives the place after them.
+// Writes the signed keys of a signature after the first 4 bytes, and gives the offset after them.
 fn write_above(above: &[Level<'_>], bottom: &Level<'_>, into: &mut [u8]) -> usize
     requires few { length above.now ≤ 7 }
     requires room { length into.old ≡ 4 + sum_by part_size above.now + lms_signature_len_of bottom.now.secret.pair }
-    ensures place { result ≡ 4 + sum_by part_size above.now }
+    ensures offset { result ≡ 4 + sum_by part_size above.now }
     ensures bytes { take result into.new
         ≡ take 4 into.old ++ flat_map signed_key_bytes (signed_by above.now bottom.now).signed }
     ensures spells { let signed = (signed_by above.now bottom.now).signed in
         Spells (signed_keys (length above.now)) signed (flat_map signed_key_bytes signed) }
 {
-    let mut place = 4;
+    let mut offset = 4;
     for (i, level) in above.iter().enumerate() {
         let next = key_below(above, bottom, i);
-        let end = place + level.secret.pair.signature_len() as usize + 56;
-        write_signed_key(level, &next, &mut into[place..end]);
-        place = end;
+        let end = offset + level.secret.pair.signature_len() as usize + 56;
+        write_signed_key(level, &next, &mut into[offset..end]);
+        offset = end;
     }
-    place
+    offset
 }
 
 // The public key of the level below level i.

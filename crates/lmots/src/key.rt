@@ -1,13 +1,13 @@
 //! The one-time key of a leaf.
 
-ghost use Rattle.std.specs.Prelude.{◌≡◌, ℕ, ◌-◌, ◌*◌, ◌^◌, ◌++◌, List, length, IfOk, OnErr};
+ghost use Rattle.std.specs.Prelude.{◌≡◌, ℕ, ◌-◌, ◌*◌, ◌^◌, ◌++◌, List, length};
 ghost use Rattle.std.specs.List.{concat};
 ghost use Rattle.sha2.specs.Hashers.{Holds256};
 ghost use Rattle.lmots.specs.Hashes.{message_separator, u16str, u32str};
 ghost use Rattle.lmots.specs.Key as spec;
 ghost use Rattle.lmots.specs.Key.{ClimbTo, ends_of_seed, ends_of_signature, message_digest_of, signed_values, step_of};
 ghost use Rattle.typecodes.specs.Fields.{values_in};
-ghost use Rattle.typecodes.specs.Message.{CantBeRead, ReadWhole};
+ghost use Rattle.typecodes.specs.Message.{Digests};
 ghost use Rattle.typecodes.specs.Types.{chains_of, width_of};
 
 use crate::hashes::{MESSAGE, PUBLIC};
@@ -64,10 +64,8 @@ impl LmOts {
         randomizer: &[u8; 32],
         message: &mut M,
     ) -> Result<[u8; 32], MessageFailed>
-        ensures ok { IfOk result (λ digest. (text : List ℕ)
-            × ReadWhole M.transition M.remaining text message.old message.new
-            × (digest ≡ message_digest_of self.now.identifier self.now.leaf randomizer.now text)) }
-        ensures err { OnErr result (CantBeRead M.transition message.old message.new) }
+        ensures { Digests M.transition M.remaining
+            (message_digest_of self.now.identifier self.now.leaf randomizer.now) result message.old message.new }
     {
         let mut hasher = self.message_hasher(randomizer);
         feed(&mut hasher, message)?;

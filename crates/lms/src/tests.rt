@@ -142,23 +142,23 @@ fn levels_are_reported(rt: HostRuntime) -> Result<(), Fail> {
     Ok(())
 }
 
-// Zeros with the codes of a pair, the tree's at its place, are a signature, and with one byte less they
+// Zeros with the codes of a pair, the tree's at its offset, are a signature, and with one byte less they
 // are none.
 fn assert_len(
     rt: &impl Abort,
     (ots, tree): (OtsType, LmsType),
     codes: [u8; 2],
-    place: usize,
+    offset: usize,
     zeros: &mut [u8],
 ) -> Result<(), Fail> {
     let len = zeros.len();
     assert!(rt; 32 <= len);
     assert!(rt; len <= 9324);
-    assert!(rt; place < len);
+    assert!(rt; offset < len);
     let pair = LmsPair { tree, ots };
     assert_eq!(rt; pair.signature_len(), len as u32);
     zeros[7] = codes[0];
-    zeros[place] = codes[1];
+    zeros[offset] = codes[1];
     let view = LmsSigView::read(zeros)?;
     assert_eq!(rt; view.types(), pair);
     assert_eq!(rt; view.bytes().len(), len);
@@ -221,8 +221,8 @@ fn leaves_of_a_higher_tree(rt: HostRuntime) -> Result<(), Fail> {
 fn parts_are_lent(rt: HostRuntime) -> Result<(), Fail> {
     let mut bytes = zero_signature();
     bytes[3] = 17;
-    for (value, place) in [(1, 8), (2, 40), (3, 1096), (4, 1132), (5, 1260)] {
-        bytes[place..place + 32].copy_from_slice(&[value; 32]);
+    for (value, offset) in [(1, 8), (2, 40), (3, 1096), (4, 1132), (5, 1260)] {
+        bytes[offset..offset + 32].copy_from_slice(&[value; 32]);
     }
     let view = LmsSigView::read(&bytes)?;
     assert_eq!(rt; view.q(), 17);
@@ -310,13 +310,13 @@ fn sign(nodes: &[[u8; 32]; 64], q: u8, message: &[u8]) -> [u8; 1292] {
     bytes[3] = q;
     bytes[8..40].copy_from_slice(&randomizer);
     for (chain, digit) in digits(&digest.finalize()).iter().enumerate() {
-        let place = 40 + 32 * chain;
-        bytes[place..place + 32].copy_from_slice(&chain_value(q, chain as u16, *digit));
+        let offset = 40 + 32 * chain;
+        bytes[offset..offset + 32].copy_from_slice(&chain_value(q, chain as u16, *digit));
     }
     for k in 0..5 {
-        let place = 1132 + 32 * k;
+        let offset = 1132 + 32 * k;
         let sibling = (((32 + usize::from(q)) >> k) ^ 1) % 64;
-        bytes[place..place + 32].copy_from_slice(&nodes[sibling]);
+        bytes[offset..offset + 32].copy_from_slice(&nodes[sibling]);
     }
     bytes
 }
@@ -324,14 +324,14 @@ fn sign(nodes: &[[u8; 32]; 64], q: u8, message: &[u8]) -> [u8; 1292] {
 // A valid signature of "message" is refused with a changed byte of q, of C, of a chain's value
 // or of a node; and under the code of a higher tree, whose path is longer.
 fn assert_changes_refused(rt: &impl Abort, key: &LmsPublic, signature: &[u8; 1292]) {
-    for place in [3, 8, 40, 1127, 1132, 1291] {
+    for offset in [3, 8, 40, 1127, 1132, 1291] {
         let mut changed = *signature;
-        changed[place] ^= 1;
+        changed[offset] ^= 1;
         let mut message: &[u8] = b"message";
         assert_eq!(rt;
             verify(key, &mut message, &changed),
             Err(Refusal::RootMismatch(0)),
-            "byte {place}"
+            "byte {offset}"
         );
     }
     let mut higher = *signature;

@@ -21,10 +21,10 @@ pub fn write_public(public: &LmsPublic, into: &mut [u8])
     // They spell the key.
     ensures spells { Spells public_key public.now into.new }
 {
-    let place = put(into, 0, &public.pair.tree.code().to_be_bytes());
-    let place = put(into, place, &public.pair.ots.code().to_be_bytes());
-    let place = put(into, place, &public.identifier);
-    put(into, place, &public.root);
+    let offset = put(into, 0, &public.pair.tree.code().to_be_bytes());
+    let offset = put(into, offset, &public.pair.ots.code().to_be_bytes());
+    let offset = put(into, offset, &public.identifier);
+    put(into, offset, &public.root);
 }
 
 /// Writes the signature of the digest Q by a leaf, with the randomizer C and the leaf's authentication
@@ -55,13 +55,13 @@ pub fn write_signature(
         leaf,
     };
     let ots = secret.pair.ots;
-    let place = put(into, 0, &leaf.to_be_bytes());
-    let place = put(into, place, &ots.code().to_be_bytes());
-    let place = put(into, place, randomizer);
-    let end = place + 32 * usize::from(ots.chains());
-    key.sign_digest(ots, &secret.seed, digest, &mut into[place..end]);
-    let place = put(into, end, &secret.pair.tree.code().to_be_bytes());
-    put(into, place, path.as_flattened());
+    let offset = put(into, 0, &leaf.to_be_bytes());
+    let offset = put(into, offset, &ots.code().to_be_bytes());
+    let offset = put(into, offset, randomizer);
+    let end = offset + 32 * usize::from(ots.chains());
+    key.sign_digest(ots, &secret.seed, digest, &mut into[offset..end]);
+    let offset = put(into, end, &secret.pair.tree.code().to_be_bytes());
+    put(into, offset, path.as_flattened());
 }
 
 #[cfg(test)]

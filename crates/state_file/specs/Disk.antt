@@ -1,6 +1,6 @@
 -- What the calls of a disk do, and what a stop may leave between two syncs.
 use Rattle.std.specs.Prelude.{◌≡◌, ◌⊎◌, ℕ, ◌+◌, ◌<◌, ◌≤◌, max, List, [], ◌∷◌, length, slice_index, slice_range}
-use Rattle.std.specs.Prelude.{Result, Ok, Err, Bool, true, false, if◌then◌else◌}
+use Rattle.std.specs.Prelude.{Result, Ok, Err, Bool, true, false, IsTrue, if◌then◌else◌}
 use Rattle.state_file.specs.declared.disk.DiskFault.{DiskFault}
 use Rattle.state_file.specs.declared.disk.DiskFault.TheVariants.{Failed, PastEnd, OutOfMemory}
 
@@ -97,6 +97,15 @@ abbrev pub TimePasses : {D : Type 0} (state : D → DiskState) (moment : D → �
     (old new : D) → Type 0
 TimePasses state moment left_since old new =
     Elapses (moment old) (moment new) (left_since old) (left_since new) (MayLeave (state new))
+
+-- What each call of a disk does: over an honest disk time goes on; a refusal counts as a failure; and the disk is as
+-- honest as it was.
+pub record CallsDisk {D A : Type 0} (is_honest : D → Bool) (state : D → DiskState) (moment : D → ℕ)
+    (left_since : D → ℕ → List ℕ → Type 0) (refused : D → ℕ) (old new : D) (answer : Result A DiskFault)
+    : Type 0 where
+  pub time : IsTrue (is_honest old) → TimePasses state moment left_since old new
+  pub failures : Counts is_failure (refused old) (refused new) answer
+  pub honest : is_honest new ≡ is_honest old
 
 -- What a stop at any moment from old on leaves has P.
 pub record LeavesOnly {D C : Type 0} (moment : D → ℕ) (left_since : D → ℕ → C → Type 0) (old new : D) (P : C

@@ -100,7 +100,6 @@ pub kept_stands : (records : List Record) (tag : List ℕ) (state : DiskState) �
     → StandsFor records state.content
 kept_stands records tag state kept = file_stands records state.content kept.file
 
--- a content stands for one list
 -- a gate is open or closed, not both
 pub not_both : (content : List ℕ) (k : ℕ) → IsOpen content k → IsClosed content k → ⊥
 not_both content k is_open shut = shut.1 (open_byte content k is_open)
@@ -126,6 +125,7 @@ no_key_spells content entry entries none spells =
     (λ shut. not_both content 0 (spells.opened 0 (omega arith)) shut)
     none
 
+-- a content stands for one list
 pub stands_one : (a b : List Record) (content : List ℕ) → StandsFor a content → StandsFor b content → a ≡ b
 stands_one [] [] content first second = refl
 stands_one [] (b ∷ bs) content first second = absurd (no_key_spells content b bs first second)

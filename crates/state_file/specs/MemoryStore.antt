@@ -12,8 +12,8 @@ use Rattle.std.proofs.Common.{sym, ◌∙◌, arith}
 use Rattle.std.proofs.lemmas.List.{take_all}
 
 -- its records
-abbrev pub records_of : MemoryStore → List Record
-records_of store = store.records.items
+abbrev pub records_in : MemoryStore → List Record
+records_in store = store.records.items
 
 -- how many it takes
 abbrev pub limit_of : MemoryStore → ℕ
@@ -24,8 +24,8 @@ abbrev pub cut_of : MemoryStore → Option (ℕ × Cut)
 cut_of store = store.cut
 
 -- whether a call has failed, so that it answers no more
-abbrev pub has_stopped : MemoryStore → Bool
-has_stopped store = store.stopped
+abbrev pub is_stopped : MemoryStore → Bool
+is_stopped store = store.stopped
 
 -- how often its device has failed
 abbrev pub failures_of : MemoryStore → ℕ
@@ -37,7 +37,7 @@ refusals_of store = store.refusals
 
 -- It has the same records, takes as many, and was refused memory as often.
 pub record KeepsRecords (old new : MemoryStore) : Type 0 where
-  pub records : records_of new ≡ records_of old
+  pub records : records_in new ≡ records_in old
   pub limit : limit_of new ≡ limit_of old
   pub refusals : refusals_of new ≡ refusals_of old
 
@@ -76,8 +76,9 @@ abbrev pub HadBeen : List Record → ℕ → List Record → Type 0
 HadBeen records t left = (k : ℕ) × (t ≤ k) × (k ≤ length records) × (left ≡ take k records)
 
 -- What a stop at any moment from the old store on leaves is a list that has P.
-abbrev pub LeavesLists : (old new : MemoryStore) (P : List Record → Type 0) → Type 0
-LeavesLists old new P = LeavesOnly (λ store. length (records_of store)) (λ store. HadBeen (records_of store)) old new P
+abbrev pub LeavesInMemory : (old new : MemoryStore) (P : List Record → Type 0) → Type 0
+LeavesInMemory old new P =
+    LeavesOnly (λ store. length (records_in store)) (λ store. HadBeen (records_in store)) old new P
 
 pub had_been_all : (records : List Record) (t : ℕ) → t ≤ length records → HadBeen records t records
 had_been_all records t early =

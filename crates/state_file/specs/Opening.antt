@@ -1,10 +1,11 @@
 -- What opening a place reports, and what its parts do.
-use Rattle.std.specs.Prelude.{◌≡◌, ℕ, ◌+◌, ◌*◌, ◌<◌, Bool, true, false, List, length, Option, Some, None}
-use Rattle.std.specs.Prelude.{Result, Ok, Err}
+use Rattle.std.specs.Prelude.{◌≡◌, ℕ, ◌+◌, ◌*◌, ◌<◌, ◌≤◌, Bool, true, false, List, length, Option, Some, None}
+use Rattle.std.specs.Prelude.{Result, Ok, Err, IfErr, IsTrue}
 use Rattle.state_file.specs.File.{Holds, IsWhole, MayHaveKey, SpellsRecords, begins_key, fields_at, most_records}
 use Rattle.state_file.specs.File.{previous_tag, tag_at, version_of, HasNoKey, HasUnknownVersion, IsDamagedAt}
 use Rattle.state_file.specs.File.{IsNoKeyFile}
 use Rattle.state_file.specs.Disk.{DiskState, settled}
+use Rattle.state_file.specs.declared.disk.Disk as disk
 use Rattle.state_file.specs.declared.file.opening.OpenFault.{OpenFault}
 use Rattle.state_file.specs.declared.file.opening.OpenFault.TheVariants.{NoKey, NotKeyFile, Version as VersionFault}
 use Rattle.state_file.specs.declared.file.opening.OpenFault.TheVariants.{Damaged, DeviceFailed}
@@ -38,6 +39,18 @@ ReportsContent content NotKeyFile = OpensAs content no_key_file
 ReportsContent content VersionFault = OpensAs content unknown_version
 ReportsContent content (Damaged k) = OpensAs content (damaged k)
 ReportsContent content DeviceFailed = Unit {0}
+
+-- what each refusal reports of an honest disk
+abbrev pub ReportsDisk : {D A : Type 0} (d : disk.Ghosts D) → D → Result A OpenFault → Type 0
+ReportsDisk d old answer = IsTrue (d.honest old) → IfErr answer (ReportsContent (d.state old).content)
+
+-- An honest disk has so many bytes at least.
+abbrev pub HasBytes : {D : Type 0} (d : disk.Ghosts D) → D → ℕ → Type 0
+HasBytes d old count = IsTrue (d.honest old) → count ≤ length (d.state old).content
+
+-- This is how many bytes an honest disk has.
+abbrev pub IsLengthOf : {D : Type 0} (d : disk.Ghosts D) → D → ℕ → Type 0
+IsLengthOf d old len = IsTrue (d.honest old) → len ≡ length (d.state old).content
 
 -- A refusal for what stands there leaves it as it was, and all of it is synced.
 abbrev pub KeepsContent : List ℕ → DiskState → OpenFault → Type 0

@@ -1,8 +1,7 @@
 //! What a disk is: bytes that may get lost, where they weren't synced, when the power goes.
 
 ghost use Rattle.std.specs.Prelude.{◌≡◌, ◌+◌, ◌<◌, ◌≤◌, ℕ, List, Bool, IsTrue, length, slice_range, IfOk, OnOk};
-ghost use Rattle.state_file.specs.Disk.{DiskState, MayLeave, WritesBytes, Syncs, Counts, is_failure, is_past_end};
-ghost use Rattle.state_file.specs.Disk.{TimePasses};
+ghost use Rattle.state_file.specs.Disk.{CallsDisk, Counts, DiskState, MayLeave, Syncs, WritesBytes, is_past_end};
 
 mod log;
 mod memory_disk;
@@ -53,10 +52,8 @@ pub trait Disk {
     fn len(&mut self) -> Result<u64, DiskFault>
         ensures length { IsTrue (honest self.old) → IfOk result (λ n. n ≡ length (state self.old).content) }
         ensures stays { IsTrue (honest self.old) → state self.new ≡ state self.old }
-        ensures time { IsTrue (honest self.old) → TimePasses state moment left_since self.old self.new }
-        ensures failures { Counts is_failure (failures self.old) (failures self.new) result }
         ensures past_ends { past_ends self.new ≡ past_ends self.old }
-        ensures honest { honest self.new ≡ honest self.old };
+        ensures call { CallsDisk honest state moment left_since failures self.old self.new result };
 
     /// Reads as many bytes as `into` has, which is one at least, from the offset `at` on. A read past the end is
     /// refused, and no other is refused as one. After an Err nothing is said of `into`.
@@ -70,27 +67,21 @@ pub trait Disk {
             length (state self.old).content < at + length into.old }
         ensures past_ends { Counts is_past_end (past_ends self.old) (past_ends self.new) result }
         ensures stays { IsTrue (honest self.old) → state self.new ≡ state self.old }
-        ensures time { IsTrue (honest self.old) → TimePasses state moment left_since self.old self.new }
-        ensures failures { Counts is_failure (failures self.old) (failures self.new) result }
-        ensures honest { honest self.new ≡ honest self.old };
+        ensures call { CallsDisk honest state moment left_since failures self.old self.new result };
 
     /// Writes these bytes, one at least, over what is there and past the end. Until a sync succeeds, a stop may
     /// leave any bytes in the range.
     fn write_at(&mut self, at: u64, bytes: &[u8]) -> Result<(), DiskFault>
         requires { 0 < length bytes.now }
         ensures written { IsTrue (honest self.old) → WritesBytes at bytes.now (state self.old) (state self.new) result }
-        ensures time { IsTrue (honest self.old) → TimePasses state moment left_since self.old self.new }
-        ensures failures { Counts is_failure (failures self.old) (failures self.new) result }
         ensures past_ends { past_ends self.new ≡ past_ends self.old }
-        ensures honest { honest self.new ≡ honest self.old };
+        ensures call { CallsDisk honest state moment left_since failures self.old self.new result };
 
     /// After it, a stop leaves what a read gives.
     fn sync(&mut self) -> Result<(), DiskFault>
         ensures synced { IsTrue (honest self.old) → Syncs (state self.old) (state self.new) result }
-        ensures time { IsTrue (honest self.old) → TimePasses state moment left_since self.old self.new }
-        ensures failures { Counts is_failure (failures self.old) (failures self.new) result }
         ensures past_ends { past_ends self.new ≡ past_ends self.old }
-        ensures honest { honest self.new ≡ honest self.old };
+        ensures call { CallsDisk honest state moment left_since failures self.old self.new result };
 
     // What a read gives is one of the contents that a stop may leave.
     ghost shows: { (disk : Self) → IsTrue (honest disk) → MayLeave (state disk) (state disk).content };

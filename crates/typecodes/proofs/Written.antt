@@ -1,4 +1,4 @@
--- Bytes that are written part by part, each at the place where the one before ends.
+-- Bytes that are written part by part, each at the offset where the one before ends.
 use Rattle.std.proofs.Common.{◌≡◌, ◌∙◌, sym, ap, ap₂, ℕ, ◌+◌, ◌-◌, ◌≤◌, arith, List, ◌++◌, length, take, slice_range, drop_at, length-take-le, take-add}
 use Rattle.std.proofs.lemmas.List.{take_all, take-append-le}
 use Rattle.std.proofs.lemmas.Slice.{take-put_mid}

@@ -96,3 +96,10 @@ abbrev pub Feeds : {M H : Type 0} → Transition M → (M → Option (List ℕ))
 Feeds transition remaining holds before after old new =
     (text : List ℕ) × ReadWhole transition remaining text old new
     × ((head : List ℕ) → holds before head → holds after (head ++ text))
+
+-- The message was read whole, and the answer is this digest of its text; or the message can't be read.
+abbrev pub Digests : {M E : Type 0} → Transition M → (M → Option (List ℕ)) → (List ℕ → List ℕ) → Result (List ℕ) E → M
+    → M → Type 0
+Digests transition remaining digest_of (Ok digest) old new =
+    (text : List ℕ) × ReadWhole transition remaining text old new × (digest ≡ digest_of text)
+Digests transition remaining digest_of (Err error) old new = CantBeRead transition old new

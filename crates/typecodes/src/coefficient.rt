@@ -12,9 +12,9 @@ pub fn coef(s: &[u8], i: u32, w: u8) -> u8
     ensures value { result ≡ coef_of s.now i w }
     ensures below { result < 2 ^ w }
 {
-    let place = i as usize * w as usize / 8;
+    let offset = i as usize * w as usize / 8;
     let after = 8 - (w as u32 * (i % (8 / w as u32)) + w as u32);
-    let digit = (s[place] as u16 >> after) % (1u16 << w);
+    let digit = (s[offset] as u16 >> after) % (1u16 << w);
     digit as u8
 }
 

@@ -1,11 +1,11 @@
 //! The keyed hashes (RFC 8391 5.1) and the join of two nodes (4.1.4).
 
-ghost use Rattle.std.specs.Prelude.{◌≡◌, ◌≤◌, ◌++◌, ℕ, List, IfOk, OnErr};
+ghost use Rattle.std.specs.Prelude.{◌≡◌, ◌≤◌, ◌++◌};
 ghost use Rattle.sha2.specs.Hashers.{Holds256};
 ghost use Rattle.wots_plus.specs.Address.{address_of};
 ghost use Rattle.wots_plus.specs.Hashes.{Holds256-prop, prf, to_byte};
 ghost use Rattle.wots_plus.specs.Hashes as spec;
-ghost use Rattle.typecodes.specs.Message.{CantBeRead, ReadWhole};
+ghost use Rattle.typecodes.specs.Message.{Digests};
 
 use crate::address::Address;
 use crate::message::feed;
@@ -46,9 +46,7 @@ pub fn hash_message_from<M: Message>(
     key: &[u8; 96],
     message: &mut M,
 ) -> Result<[u8; 32], MessageFailed>
-    ensures ok { IfOk result (λ digest. (text : List ℕ)
-        × ReadWhole M.transition M.remaining text message.old message.new × (digest ≡ spec.hash_message key.now text)) }
-    ensures err { OnErr result (CantBeRead M.transition message.old message.new) }
+    ensures { Digests M.transition M.remaining (spec.hash_message key.now) result message.old message.new }
 {
     let mut hasher = message_hasher(key);
     feed(&mut hasher, message)?;

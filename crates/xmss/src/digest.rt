@@ -1,7 +1,7 @@
 //! The digests of messages.
 
-ghost use Rattle.std.specs.Prelude.{◌≡◌, ◌++◌, List, ℕ, IfOk, OnErr};
-ghost use Rattle.typecodes.specs.Message.{CantBeRead, ReadWhole};
+ghost use Rattle.std.specs.Prelude.{◌≡◌, ◌++◌};
+ghost use Rattle.typecodes.specs.Message.{Digests};
 ghost use Rattle.xmss.specs.Digest as spec;
 ghost use Rattle.xmss.specs.Digest.{message_digest_of};
 
@@ -24,10 +24,8 @@ pub fn message_digest_from<M: Message>(
     leaf: u32,
     message: &mut M,
 ) -> Result<[u8; 32], MessageFailed>
-    ensures ok { IfOk result (λ digest. (text : List ℕ)
-        × ReadWhole M.transition M.remaining text message.old message.new
-        × (digest ≡ message_digest_of randomizer.now root.now leaf text)) }
-    ensures err { OnErr result (CantBeRead M.transition message.old message.new) }
+    ensures { Digests M.transition M.remaining (message_digest_of randomizer.now root.now leaf) result
+        message.old message.new }
 {
     hash_message_from(&digest_key(randomizer, root, leaf), message)
 }
@@ -37,9 +35,9 @@ fn digest_key(randomizer: &[u8; 32], root: &[u8; 32], leaf: u32) -> [u8; 96]
     ensures { result ≡ randomizer.now ++ root.now ++ spec.index_bytes leaf }
 {
     let mut key = [0; 96];
-    let place = put(&mut key, 0, randomizer);
-    let place = put(&mut key, place, root);
-    put(&mut key, place, &index_bytes(leaf));
+    let offset = put(&mut key, 0, randomizer);
+    let offset = put(&mut key, offset, root);
+    put(&mut key, offset, &index_bytes(leaf));
     key
 }
 

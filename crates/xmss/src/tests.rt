@@ -148,8 +148,8 @@ fn signatures_have_lengths(rt: HostRuntime) -> Result<(), Fail> {
 fn parts_are_lent(rt: HostRuntime) -> Result<(), Fail> {
     let mut bytes = [0; 2500];
     bytes[2] = 3;
-    for (value, place) in [(1, 4), (2, 36), (3, 2148), (4, 2180), (5, 2468)] {
-        bytes[place..place + 32].copy_from_slice(&[value; 32]);
+    for (value, offset) in [(1, 4), (2, 36), (3, 2148), (4, 2180), (5, 2468)] {
+        bytes[offset..offset + 32].copy_from_slice(&[value; 32]);
     }
     let view = XmssSigView::read(XmssType::H10, &bytes)?;
     assert_eq!(rt; view.index(), 768);
@@ -193,14 +193,14 @@ fn assert_verified(
         verify(&key, &mut other, signature),
         Err(Refusal::RootMismatch(0))
     );
-    for place in [3, 4, 36, 2179, 2180, 2499] {
+    for offset in [3, 4, 36, 2179, 2180, 2499] {
         let mut changed = *signature;
-        changed[place] ^= 1;
+        changed[offset] ^= 1;
         let mut rest = message;
         assert_eq!(rt;
             verify(&key, &mut rest, &changed),
             Err(Refusal::RootMismatch(0)),
-            "byte {place}"
+            "byte {offset}"
         );
     }
     Ok(())

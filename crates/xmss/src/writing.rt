@@ -21,9 +21,9 @@ pub fn write_public(public: &XmssPublic, into: &mut [u8])
     // They spell the key.
     ensures spells { Spells public_key public.now into.new }
 {
-    let place = put(into, 0, &public.tree.code().to_be_bytes());
-    let place = put(into, place, &public.root);
-    put(into, place, &public.seed);
+    let offset = put(into, 0, &public.tree.code().to_be_bytes());
+    let offset = put(into, offset, &public.root);
+    put(into, offset, &public.seed);
 }
 
 /// Writes the signature of the digest M' by a leaf, with the leaf's randomizer and its authentication
@@ -50,12 +50,12 @@ pub fn write_signature(
         path.now ≡ path_in secret.now leaf →
         IsValid (public_of secret.now) message (signed secret.now leaf digest.now path.now) }
 {
-    let place = put(into, 0, &leaf.to_be_bytes());
-    let place = put(into, place, randomizer);
-    let end = place + 32 * WOTS_CHAINS;
+    let offset = put(into, 0, &leaf.to_be_bytes());
+    let offset = put(into, offset, randomizer);
+    let end = offset + 32 * WOTS_CHAINS;
     let seed = Prf::new(secret.public_seed);
     let key = Wots { seed: &seed, leaf };
-    key.sign_digest(&secret.secret_seed, digest, &mut into[place..end]);
+    key.sign_digest(&secret.secret_seed, digest, &mut into[offset..end]);
     put(into, end, path.as_flattened());
 }
 

@@ -8,8 +8,8 @@ ghost use Rattle.state_file.specs.Slot.{slot_record};
 ghost use Rattle.state_file.specs.declared.record.Record.{Record as Entry};
 ghost use Rattle.state_file.specs.Disk.{settled, MayLeave, LeavesOnly, is_failure};
 ghost use Rattle.state_file.specs.DiskCalls.{CountsFailures, ReadsDisk};
-ghost use Rattle.state_file.specs.Opening.{is_failed_opening, HasEntry, HasSlot, IsFound, KeepsContent};
-ghost use Rattle.state_file.specs.Opening.{StartsWithKey, ReportsContent, ReportsSlot};
+ghost use Rattle.state_file.specs.Opening.{is_failed_opening, HasBytes, HasEntry, HasSlot, IsFound, IsLengthOf};
+ghost use Rattle.state_file.specs.Opening.{KeepsContent, StartsWithKey, ReportsDisk, ReportsSlot};
 
 use crate::disk::{Disk, DiskFault};
 use crate::file::gates::{SLOT, read_within, settle};
@@ -87,7 +87,7 @@ fn read_gate<D: Disk>(disk: &mut D, k: u32) -> Result<bool, DiskFault>
 
 // The bytes 1 to 223 of slot k.
 fn read_fields<D: Disk>(disk: &mut D, k: u32) -> Result<[u8; 223], DiskFault>
-    requires { IsTrue (D.honest disk.old) → 256 * k + 224 ≤ length (D.state disk.old).content }
+    requires { HasBytes D.Disk disk.old (256 * k + 224) }
     ensures fields { IsTrue (D.honest disk.old) →
         IfOk result (λ fields. fields ≡ fields_at (D.state disk.old).content k) }
     ensures reads { ReadsDisk D.Disk is_failure disk.old disk.new result }
@@ -99,7 +99,7 @@ fn read_fields<D: Disk>(disk: &mut D, k: u32) -> Result<[u8; 223], DiskFault>
 
 /// The bytes 224 to 255 of slot k.
 pub(crate) fn read_tag<D: Disk>(disk: &mut D, k: u32) -> Result<[u8; 32], DiskFault>
-    requires { IsTrue (D.honest disk.old) → 256 * k + 256 ≤ length (D.state disk.old).content }
+    requires { HasBytes D.Disk disk.old (256 * k + 256) }
     ensures tag { IsTrue (D.honest disk.old) → IfOk result (λ tag. tag ≡ tag_at (D.state disk.old).content k) }
     ensures reads { ReadsDisk D.Disk is_failure disk.old disk.new result }
 {
@@ -110,7 +110,7 @@ pub(crate) fn read_tag<D: Disk>(disk: &mut D, k: u32) -> Result<[u8; 32], DiskFa
 
 // The fields of slot k and its tag.
 fn read_body<D: Disk>(disk: &mut D, k: u32) -> Result<Body, DiskFault>
-    requires { IsTrue (D.honest disk.old) → 256 * k + 256 ≤ length (D.state disk.old).content }
+    requires { HasBytes D.Disk disk.old (256 * k + 256) }
     ensures fields { IsTrue (D.honest disk.old) →
         IfOk result (λ body. body.fields ≡ fields_at (D.state disk.old).content k) }
     ensures tag { IsTrue (D.honest disk.old) → IfOk result (λ body. body.tag ≡ tag_at (D.state disk.old).content k) }
@@ -123,7 +123,7 @@ fn read_body<D: Disk>(disk: &mut D, k: u32) -> Result<Body, DiskFault>
 
 // The tag of the slot before slot k; 32 zeros before slot 0.
 fn read_previous_tag<D: Disk>(disk: &mut D, k: u32) -> Result<[u8; 32], DiskFault>
-    requires { IsTrue (D.honest disk.old) → 256 * k ≤ length (D.state disk.old).content }
+    requires { HasBytes D.Disk disk.old (256 * k) }
     ensures tag { IsTrue (D.honest disk.old) → IfOk result (λ tag. tag ≡ previous_tag (D.state disk.old).content k) }
     ensures reads { ReadsDisk D.Disk is_failure disk.old disk.new result }
 {
@@ -135,7 +135,7 @@ fn read_previous_tag<D: Disk>(disk: &mut D, k: u32) -> Result<[u8; 32], DiskFaul
 
 /// The record of slot k, if it spells one and its tag is right.
 pub(crate) fn read_entry<D: Disk>(disk: &mut D, k: u32) -> Result<Option<Record>, DiskFault>
-    requires { IsTrue (D.honest disk.old) → 256 * k + 256 ≤ length (D.state disk.old).content }
+    requires { HasBytes D.Disk disk.old (256 * k + 256) }
     ensures entry { IsTrue (D.honest disk.old) → IfOk result (HasEntry (D.state disk.old).content k) }
     ensures reads { ReadsDisk D.Disk is_failure disk.old disk.new result }
 {
@@ -151,7 +151,7 @@ fn read_slot<D: Disk>(
     k: u32,
     previous: &[u8; 32],
 ) -> Result<Slot, OpenFault>
-    requires len { IsTrue (D.honest disk.old) → len ≡ length (D.state disk.old).content }
+    requires len { IsLengthOf D.Disk disk.old len }
     requires previous { IsTrue (D.honest disk.old) → previous.now ≡ previous_tag (D.state disk.old).content k }
     ensures few { OnOk result (k < most_records) }
     ensures slot { IsTrue (D.honest disk.old) →
@@ -188,11 +188,11 @@ fn entry_of(previous: &[u8; 32], body: &Body) -> Option<Record>
 
 // The fields of the first slot, if a key may stand there.
 fn read_first_fields<D: Disk>(disk: &mut D, len: u64) -> Result<[u8; 223], OpenFault>
-    requires len { IsTrue (D.honest disk.old) → len ≡ length (D.state disk.old).content }
+    requires len { IsLengthOf D.Disk disk.old len }
     ensures may { IsTrue (D.honest disk.old) → OnOk result (MayHaveKey (D.state disk.old).content) }
     ensures fields { IsTrue (D.honest disk.old) →
         IfOk result (λ fields. fields ≡ fields_at (D.state disk.old).content 0) }
-    ensures fault { IsTrue (D.honest disk.old) → IfErr result (ReportsContent (D.state disk.old).content) }
+    ensures fault { ReportsDisk D.Disk disk.old result }
     ensures reads { ReadsDisk D.Disk is_failed_opening disk.old disk.new result }
 {
     if len < SLOT + 1 {
@@ -206,9 +206,9 @@ fn read_first_fields<D: Disk>(disk: &mut D, len: u64) -> Result<[u8; 223], OpenF
 
 // Whether the first slot is that of a Key of a known version.
 fn check_key<D: Disk>(disk: &mut D, len: u64) -> Result<(), OpenFault>
-    requires len { IsTrue (D.honest disk.old) → len ≡ length (D.state disk.old).content }
+    requires len { IsLengthOf D.Disk disk.old len }
     ensures key { IsTrue (D.honest disk.old) → OnOk result (StartsWithKey (D.state disk.old).content) }
-    ensures fault { IsTrue (D.honest disk.old) → IfErr result (ReportsContent (D.state disk.old).content) }
+    ensures fault { ReportsDisk D.Disk disk.old result }
     ensures reads { ReadsDisk D.Disk is_failed_opening disk.old disk.new result }
 {
     let fields = read_first_fields(disk, len)?;
@@ -248,13 +248,13 @@ impl Found {
 
 // The records up to the first closed gate, of a file that starts with a Key.
 fn read_slots<D: Disk>(disk: &mut D, len: u64) -> Result<Found, OpenFault>
-    requires len { IsTrue (D.honest disk.old) → len ≡ length (D.state disk.old).content }
+    requires len { IsLengthOf D.Disk disk.old len }
     requires key { IsTrue (D.honest disk.old) → StartsWithKey (D.state disk.old).content }
     ensures counted { IfOk result (λ found. found.count ≡ length found.records) }
     ensures few { IfOk result (λ found. found.count ≤ most_records) }
     ensures found { IsTrue (D.honest disk.old) →
         IfOk result (λ found. IsFound (D.state disk.old).content found.records found.tag) }
-    ensures fault { IsTrue (D.honest disk.old) → IfErr result (ReportsContent (D.state disk.old).content) }
+    ensures fault { ReportsDisk D.Disk disk.old result }
     ensures reads { ReadsDisk D.Disk is_failed_opening disk.old disk.new result }
 {
     let mut found = Found::none();
@@ -272,7 +272,7 @@ pub(crate) fn find_records<D: Disk>(disk: &mut D) -> Result<Found, OpenFault>
     ensures few { IfOk result (λ found. found.count ≤ most_records) }
     ensures found { IsTrue (D.honest disk.old) →
         IfOk result (λ found. IsFound (D.state disk.old).content found.records found.tag) }
-    ensures fault { IsTrue (D.honest disk.old) → IfErr result (ReportsContent (D.state disk.old).content) }
+    ensures fault { ReportsDisk D.Disk disk.old result }
     ensures synced { IsTrue (D.honest disk.old) → OnOk result (D.state disk.new ≡ settled (D.state disk.old).content) }
     ensures kept { IsTrue (D.honest disk.old) →
         IfErr result (KeepsContent (D.state disk.old).content (D.state disk.new)) }

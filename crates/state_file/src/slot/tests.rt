@@ -127,7 +127,7 @@ fn each_kind_as_drawn(rt: HostRuntime) -> Result<(), Fail> {
     Ok(())
 }
 
-// Whether the bytes with one changed spell a record. Places are those of the whole slot.
+// Whether the bytes with one changed spell a record. Offsets are those of the whole slot.
 fn is_spelled_with(drawn: &[u8; 223], offset: usize, byte: u8) -> bool {
     let mut other = *drawn;
     if let Some(at) = other.get_mut(offset.wrapping_sub(1)) {
@@ -137,7 +137,7 @@ fn is_spelled_with(drawn: &[u8; 223], offset: usize, byte: u8) -> bool {
 }
 
 // The first offset of these where the bytes, with this one changed so, spell a record, or where they don't.
-fn first_place(drawn: &[u8; 223], changes: &[(usize, u8)], spelled: bool) -> Option<usize> {
+fn first_offset(drawn: &[u8; 223], changes: &[(usize, u8)], spelled: bool) -> Option<usize> {
     for (offset, byte) in changes {
         if is_spelled_with(drawn, *offset, *byte) == spelled {
             return Some(*offset);
@@ -240,7 +240,7 @@ fn what_a_slot_may_not_contain(rt: HostRuntime) {
         (&drawn::EXTEND, [(151, 1)].as_slice()),
         (&drawn::retire(), [(6, 1)].as_slice()),
     ] {
-        assert_eq!(rt; first_place(drawn, changes, true), None);
+        assert_eq!(rt; first_offset(drawn, changes, true), None);
     }
 }
 
@@ -248,15 +248,15 @@ fn what_a_slot_may_not_contain(rt: HostRuntime) {
 #[test]
 fn what_a_slot_may_contain(rt: HostRuntime) {
     let extend = [(2, 0), (2, 255), (3, 255)];
-    assert_eq!(rt; first_place(&drawn::EXTEND, &extend, false), None);
+    assert_eq!(rt; first_offset(&drawn::EXTEND, &extend, false), None);
     let bound = [(3, 0x21), (6, 0x7e), (67, 255), (71, 0)];
-    assert_eq!(rt; first_place(&drawn::BOUND, &bound, false), None);
+    assert_eq!(rt; first_offset(&drawn::BOUND, &bound, false), None);
     assert_eq!(rt;
-        first_place(&drawn::retire(), &[(2, 0x80), (2, 0xff)], false),
+        first_offset(&drawn::retire(), &[(2, 0x80), (2, 0xff)], false),
         None
     );
     // HSS of one level has the fields of an LMS key
-    assert_eq!(rt; first_place(&drawn::LMS_KEY, &[(12, 2)], false), None);
+    assert_eq!(rt; first_offset(&drawn::LMS_KEY, &[(12, 2)], false), None);
 }
 
 #[test]

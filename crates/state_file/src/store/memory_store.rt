@@ -31,15 +31,15 @@ pub struct MemoryStore {
 }
 
 impl MemoryStore {
-    ghost use Rattle.state_file.specs.MemoryStore.{KeepsRecords, cut_of, cut_of_append, failures_of, has_stopped};
-    ghost use Rattle.state_file.specs.MemoryStore.{limit_of, records_of, refusals_of};
+    ghost use Rattle.state_file.specs.MemoryStore.{KeepsRecords, cut_of, cut_of_append, failures_of, is_stopped};
+    ghost use Rattle.state_file.specs.MemoryStore.{limit_of, records_in, refusals_of};
 
     /// An empty store that takes `limit` records.
     pub fn with_limit(alloc: Global, limit: u32) -> Self
-        ensures records { records_of result ≡ [] }
+        ensures records { records_in result ≡ [] }
         ensures limit { limit_of result ≡ limit }
         ensures cut { cut_of result ≡ None }
-        ensures stopped { has_stopped result ≡ false }
+        ensures stopped { is_stopped result ≡ false }
         ensures failures { failures_of result ≡ 0 }
         ensures refusals { refusals_of result ≡ 0 }
     {
@@ -59,7 +59,7 @@ impl MemoryStore {
     /// The appends that count are those that reach the device, not those that are answered 26, 46 or 52.
     pub fn cut_at(&mut self, n: u32, cut: Cut)
         ensures cut { cut_of self.new ≡ cut_of_append n cut }
-        ensures stopped { has_stopped self.new ≡ has_stopped self.old }
+        ensures stopped { is_stopped self.new ≡ is_stopped self.old }
         ensures failures { failures_of self.new ≡ failures_of self.old }
         ensures records { KeepsRecords self.old self.new }
     {
@@ -68,7 +68,7 @@ impl MemoryStore {
 
     /// Opens the place again after a failure.
     pub fn reopen(&mut self)
-        ensures stopped { has_stopped self.new ≡ false }
+        ensures stopped { is_stopped self.new ≡ false }
         ensures cut { cut_of self.new ≡ cut_of self.old }
         ensures failures { failures_of self.new ≡ failures_of self.old }
         ensures records { KeepsRecords self.old self.new }
@@ -79,7 +79,7 @@ impl MemoryStore {
     // Stops the store, as its device failed. The cut has come.
     fn fail(&mut self) -> StoreFault
         ensures fault { result ≡ StoreFault.DeviceFailed }
-        ensures stopped { has_stopped self.new ≡ true }
+        ensures stopped { is_stopped self.new ≡ true }
         ensures failures { failures_of self.new ≡ failures_of self.old + 1 }
         ensures records { KeepsRecords self.old self.new }
         ensures cut { cut_of self.new ≡ None }
@@ -92,13 +92,13 @@ impl MemoryStore {
 }
 
 impl Store for MemoryStore {
-    ghost use Rattle.state_file.specs.MemoryStore.{Cuts, HadBeen, HasRoom, LeavesLists, had_been_all, had_been_only};
-    ghost use Rattle.state_file.specs.MemoryStore.{cut_of, failures_of, has_stopped, limit_of};
-    ghost use Rattle.state_file.specs.MemoryStore.{records_of, refusals_of};
+    ghost use Rattle.state_file.specs.MemoryStore.{Cuts, HadBeen, HasRoom, LeavesInMemory, had_been_all, had_been_only};
+    ghost use Rattle.state_file.specs.MemoryStore.{cut_of, failures_of, is_stopped, limit_of};
+    ghost use Rattle.state_file.specs.MemoryStore.{records_in, refusals_of};
 
-    ghost list = { records_of };
+    ghost list = { records_in };
 
-    ghost stopped = { has_stopped };
+    ghost stopped = { is_stopped };
 
     ghost failures = { failures_of };
 
@@ -111,9 +111,9 @@ impl Store for MemoryStore {
 
     ghost most = { limit_of };
 
-    ghost moment = { λ store. length (records_of store) };
+    ghost moment = { λ store. length (records_in store) };
 
-    ghost left_since = { λ store. HadBeen (records_of store) };
+    ghost left_since = { λ store. HadBeen (records_in store) };
 
     ghost few = { λ store. store.few };
 
@@ -123,17 +123,17 @@ impl Store for MemoryStore {
 
     /// Record k, or None after the last. It fails only where the store has stopped.
     fn load(&mut self, k: u32) -> Result<Option<Record>, StoreFault>
-        ensures answer { Loads true (records_of self.old) (has_stopped self.old) k (has_stopped self.new)
+        ensures answer { Loads true (records_in self.old) (is_stopped self.old) k (is_stopped self.new)
             (failures_of self.old)
             (failures_of self.new) result }
         ensures refusals { Counts is_out_of_memory (refusals_of self.old) (refusals_of self.new) result }
         ensures unreadable { Collects unreadable_slot [] [] result }
-        ensures same { records_of self.new ≡ records_of self.old }
-        ensures any_moment { has_stopped self.old ≡ false →
-            LeavesLists self.old self.new (λ left. left ≡ records_of self.old) }
+        ensures same { records_in self.new ≡ records_in self.old }
+        ensures any_moment { is_stopped self.old ≡ false →
+            LeavesInMemory self.old self.new (λ left. left ≡ records_in self.old) }
         ensures stays { self.new ≡ self.old }
         ensures value { result ≡
-            (if has_stopped self.old then Err StoreFault.Stopped else Ok (slice_get (records_of self.old) k)) }
+            (if is_stopped self.old then Err StoreFault.Stopped else Ok (slice_get (records_in self.old) k)) }
     {
         if self.stopped {
             Err(StoreFault::Stopped)
@@ -146,19 +146,19 @@ impl Store for MemoryStore {
     /// that is due comes with the next append. Memory is requested only where the records have no room
     /// left, and not for a cut that leaves the old records.
     fn append(&mut self, new: &Record) -> Result<(), StoreFault>
-        ensures answer { Appends (limit_of self.old) (records_of self.old) (has_stopped self.old) new.now
-            (records_of self.new)
-            (has_stopped self.new) (failures_of self.old) (failures_of self.new) result }
+        ensures answer { Appends (limit_of self.old) (records_in self.old) (is_stopped self.old) new.now
+            (records_in self.new)
+            (is_stopped self.new) (failures_of self.old) (failures_of self.new) result }
         ensures refusals { Counts is_out_of_memory (refusals_of self.old) (refusals_of self.new) result }
-        ensures any_moment { has_stopped self.old ≡ false →
-            LeavesLists self.old self.new
-            (λ left. (left ≡ records_of self.old) ⊎ (left ≡ records_of self.old ++ new.now ∷ [])) }
-        ensures refused { has_stopped self.old ≡ false → IfErr result (λ fault.
+        ensures any_moment { is_stopped self.old ≡ false →
+            LeavesInMemory self.old self.new
+            (λ left. (left ≡ records_in self.old) ⊎ (left ≡ records_in self.old ++ new.now ∷ [])) }
+        ensures refused { is_stopped self.old ≡ false → IfErr result (λ fault.
             fault ≢ StoreFault.DeviceFailed →
-            LeavesLists self.old self.new (λ left. left ≡ records_of self.old)) }
-        ensures stays { has_stopped self.old ≡ true → self.new ≡ self.old }
+            LeavesInMemory self.old self.new (λ left. left ≡ records_in self.old)) }
+        ensures stays { is_stopped self.old ≡ true → self.new ≡ self.old }
         ensures limit { limit_of self.new ≡ limit_of self.old }
-        ensures cut { Cuts (cut_of self.old) (records_of self.old) new.now (records_of self.new) (cut_of self.new)
+        ensures cut { Cuts (cut_of self.old) (records_in self.old) new.now (records_in self.new) (cut_of self.new)
             result }
         ensures room { HasRoom self.old → result ≢ Err StoreFault.OutOfMemory }
     {

@@ -11,12 +11,12 @@ use Rattle.hss.proofs.writing.write_above.Goals.{After-loop-i}
 use Rattle.hss.proofs.writing.write_above.Goals as goal
 
 pub loop-i-init : goal.loop-i-init
-loop-i-init c = record { place = refl; bytes = sym (append-nil _); spelled = keys-none }
+loop-i-init c = record { offset = refl; bytes = sym (append-nil _); spelled = keys-none }
 
 pub slice_bounds-write_signed_key-end : goal.slice_bounds-write_signed_key-end
 slice_bounds-write_signed_key-end c =
     let parts = part-more c.args.above.now c.loop-i.i c.index-above-i.result c.loop-i-test.true c.index-above-i.is in
-    omega (arith, parts.0, parts.1, c.loop-i.invariant.place, c.signature_len.ensures)
+    omega (arith, parts.0, parts.1, c.loop-i.invariant.offset, c.signature_len.ensures)
 
 pub loop-i-preserved : goal.loop-i-preserved
 loop-i-preserved c =
@@ -25,8 +25,8 @@ loop-i-preserved c =
     let next = c.key_below-next.result in
     let parts = part-more above c.loop-i.i level c.loop-i-test.true c.index-above-i.is in
     record {
-      place = omega (arith, parts.0, c.loop-i.invariant.place, c.signature_len.ensures);
-      bytes = written-more above c.args.bottom.now level next c.loop-i.i c.loop-i-test.true c.index-above-i.is c.key_below-next.ensures _ c.loop-i.into c.write_signed_key.new.into c.loop-i.place _
+      offset = omega (arith, parts.0, c.loop-i.invariant.offset, c.signature_len.ensures);
+      bytes = written-more above c.args.bottom.now level next c.loop-i.i c.loop-i-test.true c.index-above-i.is c.key_below-next.ensures _ c.loop-i.into c.write_signed_key.new.into c.loop-i.offset _
           c.loop-i.invariant.bytes c.write_signed_key.ensures.bytes (omega arith) (omega arith);
       spelled = spelled-more above c.args.bottom.now level next c.loop-i.i c.loop-i-test.true c.index-above-i.is c.key_below-next.ensures c.loop-i.invariant.spelled
           (subst (Spells signed_key (signed_key_by level next)) c.write_signed_key.ensures.bytes c.write_signed_key.ensures.spells);

@@ -11,7 +11,7 @@ abbrev pub invariant-loop-i : goal.invariant-loop-i
 invariant-loop-i l =
     let signed = take l.i (signed_by l.above l.bottom).signed in
     record {
-      place : l.place ≡ 4 + sum_by part_size (take l.i l.above);
-      bytes : take l.place l.into ≡ take 4 l.fn.into ++ flat_map signed_key_bytes signed;
+      offset : l.offset ≡ 4 + sum_by part_size (take l.i l.above);
+      bytes : take l.offset l.into ≡ take 4 l.fn.into ++ flat_map signed_key_bytes signed;
       spelled : Spells (signed_keys l.i) signed (flat_map signed_key_bytes signed);
     }

@@ -13,29 +13,29 @@ use Rattle.hss.proofs.Making.{made_textbook, made_valid, signed-count}
 use Rattle.hss.proofs.writing.write_signature.Goals.{After-write}
 use Rattle.hss.proofs.writing.write_signature.Goals as goal
 
-pub write_above-place-requires-clause-room : goal.write_above-place-requires-clause-room
-write_above-place-requires-clause-room c = omega (arith, c.requires.room ∙ size-parts c.args.above.now c.args.bottom.now)
+pub write_above-offset-requires-clause-room : goal.write_above-offset-requires-clause-room
+write_above-offset-requires-clause-room c = omega (arith, c.requires.room ∙ size-parts c.args.above.now c.args.bottom.now)
 
 pub slice_bounds-write-count : goal.slice_bounds-write-count
-slice_bounds-write-count c = omega (arith, c.requires.room ∙ size-parts c.args.above.now c.args.bottom.now, c.write_above-place.ensures.place)
+slice_bounds-write-count c = omega (arith, c.requires.room ∙ size-parts c.args.above.now c.args.bottom.now, c.write_above-offset.ensures.offset)
 
 pub slice_bounds-write-start : goal.slice_bounds-write-start
-slice_bounds-write-start c = omega (arith, c.requires.room ∙ size-parts c.args.above.now c.args.bottom.now, c.write_above-place.ensures.place)
+slice_bounds-write-start c = omega (arith, c.requires.room ∙ size-parts c.args.above.now c.args.bottom.now, c.write_above-offset.ensures.offset)
 
 pub write-requires : goal.write-requires
 write-requires c =
     let size = c.requires.room ∙ size-parts c.args.above.now c.args.bottom.now in
-    simp (length-take, length-drop) (omega (arith, size, c.write_above-place.ensures.place))
+    simp (length-take, length-drop) (omega (arith, size, c.write_above-offset.ensures.offset))
 
 -- the number, the signed keys and the bottom's signature stand one after the other
-written : (c : After-write) → take c.write_above-place.result c.write_above-place.new.into
-    ++ (c.write.new.into ++ post_of c.write_above-place.result (length c.write_above-place.new.into - c.write_above-place.result) c.write_above-place.new.into)
+written : (c : After-write) → take c.write_above-offset.result c.write_above-offset.new.into
+    ++ (c.write.new.into ++ post_of c.write_above-offset.result (length c.write_above-offset.new.into - c.write_above-offset.result) c.write_above-offset.new.into)
     ≡ signature_bytes (signed_by c.args.above.now c.args.bottom.now)
 written c =
     let s = signed_by c.args.above.now c.args.bottom.now in
-    let front = c.write_above-place.ensures.bytes ∙ ap (λ head. head ++ flat_map signed_key_bytes s.signed) c.write_number.ensures in
-    whole-written s (length c.args.above.now) c.write_above-place.result c.write_above-place.new.into c.write.new.into front (sym (signed-count signature_by key_of c.args.above.now c.args.bottom.now)) c.write.ensures.bytes
-    (omega (arith, c.requires.room ∙ size-parts c.args.above.now c.args.bottom.now, c.write_above-place.ensures.place))
+    let front = c.write_above-offset.ensures.bytes ∙ ap (λ head. head ++ flat_map signed_key_bytes s.signed) c.write_number.ensures in
+    whole-written s (length c.args.above.now) c.write_above-offset.result c.write_above-offset.new.into c.write.new.into front (sym (signed-count signature_by key_of c.args.above.now c.args.bottom.now)) c.write.ensures.bytes
+    (omega (arith, c.requires.room ∙ size-parts c.args.above.now c.args.bottom.now, c.write_above-offset.ensures.offset))
 
 pub returns-clause-bytes : goal.returns-clause-bytes
 returns-clause-bytes c = written (goal.at.returns-clause-bytes c).After-write
@@ -44,7 +44,7 @@ pub returns-clause-spells : goal.returns-clause-spells
 returns-clause-spells c =
     let s = signed_by c.args.above.now c.args.bottom.now in
     let count = signed-count signature_by key_of c.args.above.now c.args.bottom.now in
-    let keys = subst (λ n. Spells (signed_keys n) s.signed (flat_map signed_key_bytes s.signed)) (sym count) c.write_above-place.ensures.spells in
+    let keys = subst (λ n. Spells (signed_keys n) s.signed (flat_map signed_key_bytes s.signed)) (sym count) c.write_above-offset.ensures.spells in
     let bottom = subst (Spells lms_signature s.bottom) c.write.ensures.bytes c.write.ensures.spells in
     let all = whole-spelled s (flat_map signed_key_bytes s.signed) (lms_signature_bytes s.bottom) (omega (arith, count)) keys bottom in
     subst (Spells signature s) (sym (written (goal.at.returns-clause-spells c).After-write)) all

@@ -22,7 +22,7 @@ returns-in_err-view g c =
 pub returns-in-Ok : goal.returns-in-Ok
 returns-in-Ok g c =
     let read = is_read _ c.args.public.now _ c.read.result _ _ c.read.ensures.reads c.read.ensures.tree c.in_ok-view.ensures.cases (λ _ never. never) in
-    let (text, whole, digest) = c.in-Ok.ensures.ok in
+    let (text, whole, digest) = c.in-Ok.ensures in
     let same : c.in-Ok.digest ≡ digest_of c.args.public.now text (signature_of c.in_ok-view.view) = search rules in (
       text,
       content_read _ _ _ _ _ whole,
@@ -35,4 +35,4 @@ pub returns-in-Err : goal.returns-in-Err
 returns-in-Err g c =
     let read = is_read _ c.args.public.now _ c.read.result _ _ c.read.ensures.reads c.read.ensures.tree c.in_ok-view.ensures.cases (λ _ never. never) in
     let (text, fits) = some_content (g.M.Message.remaining c.args.message.now) in
-    (text, fits, (_, read.spelled), c.in-Err.ensures.err)
+    (text, fits, (_, read.spelled), c.in-Err.ensures)

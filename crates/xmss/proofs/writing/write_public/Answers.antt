@@ -10,8 +10,8 @@ use Rattle.xmss.proofs.writing.write_public.Goals as goal
 pub returns : goal.returns
 returns c =
     let written : c.put.new.into ≡ public_bytes c.args.public.now =
-    let tree = c.put-place.ensures.bytes ∙ c.to_be_bytes.ensures ∙ ap (λ code. to_byte code 4) c.code.ensures.value in
-    let root = next_part _ _ _ _ _ _ _ tree c.put-place-2.ensures.bytes refl in
+    let tree = c.put-offset.ensures.bytes ∙ c.to_be_bytes.ensures ∙ ap (λ code. to_byte code 4) c.code.ensures.value in
+    let root = next_part _ _ _ _ _ _ _ tree c.put-offset-2.ensures.bytes refl in
     let seed = next_part _ _ _ _ _ _ _ root c.put.ensures.bytes refl in
     all_parts _ _ _ seed (omega arith) in
     record {

@@ -14,12 +14,12 @@ pub returns : goal.returns
 returns c =
     let secret = c.args.secret.now in
     let s : Signature = signed secret c.args.leaf c.args.digest.now c.args.path.now in
-    let end = c.put-place-2.result + 32 * 67 in
+    let end = c.put-offset-2.result + 32 * 67 in
     let values = c.sign_digest.ensures.value ∙ ap (λ seed. concat (signed_values seed c.args.leaf secret.secret_seed c.args.digest.now)) c.new-seed.ensures in
     let written : c.put.new.into ≡ signature_bytes s =
-    let leaf = c.put-place.ensures.bytes ∙ c.to_be_bytes.ensures in
-    let randomizer = next_part _ _ _ _ _ _ _ leaf c.put-place-2.ensures.bytes c.requires.randomizer in
-    let chains = next_lent _ _ c.sign_digest.new.into _ c.put-place-2.result (end - c.put-place-2.result) end randomizer
+    let leaf = c.put-offset.ensures.bytes ∙ c.to_be_bytes.ensures in
+    let randomizer = next_part _ _ _ _ _ _ _ leaf c.put-offset-2.ensures.bytes c.requires.randomizer in
+    let chains = next_lent _ _ c.sign_digest.new.into _ c.put-offset-2.result (end - c.put-offset-2.result) end randomizer
     (omega arith) (omega arith) values in
     let path = next_part _ _ _ _ _ _ _ chains c.put.ensures.bytes (c.as_flattened.ensures.value ∙ sym (concat_is c.args.path.now)) in
     all_parts _ _ _ path (omega arith) in

@@ -21,7 +21,7 @@ returns-in_err-check_types g c =
 -- the message was read
 pub returns-in-Ok : goal.returns-in-Ok
 returns-in-Ok g c =
-    let (text, read, digest) = c.in-Ok.ensures.ok in
+    let (text, read, digest) = c.in-Ok.ensures in
     let same : c.in-Ok.digest ≡ digest_of c.args.public.now text (signature_of c.args.self.now) = search rules in (
       text,
       content_read _ _ _ _ _ read,
@@ -33,4 +33,4 @@ returns-in-Ok g c =
 pub returns-in-Err : goal.returns-in-Err
 returns-in-Err g c =
     let (text, fits) = some_content (g.M.Message.remaining c.args.message.now) in
-    (text, fits, c.in_ok-check_types.ensures, c.in-Err.ensures.err)
+    (text, fits, c.in_ok-check_types.ensures, c.in-Err.ensures)
