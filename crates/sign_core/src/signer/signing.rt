@@ -1,7 +1,7 @@
 //! Signing over a store: a name that is bound has its signature again, and a new one has the wanted records made.
 
-ghost use Rattle.std.specs.Prelude.{◌≡◌, ◌<◌, ◌+◌, ◌-◌, [], ℕ, List, length, vec_capacity, IfErr, IfOk, OnErr, OnOk};
-ghost use Rattle.typecodes.specs.Message.{CantBeRead, ReadWhole};
+ghost use Rattle.std.specs.Prelude.{◌≡◌, ◌<◌, ◌+◌, ◌-◌, [], length, vec_capacity, IfErr, IfOk, OnErr, OnOk};
+ghost use Rattle.typecodes.specs.Message.{Digests};
 ghost use Rattle.lmots.specs.Key.{message_digest_of};
 ghost use Rattle.xmss.specs.Digest.{message_digest_of as xmss_digest_of};
 ghost use Rattle.state_file.specs.Laws.{bottom_of, levels_of};
@@ -58,11 +58,9 @@ fn read_digest<M: Message>(
     randomizer: &[u8; 32],
     message: &mut M,
 ) -> Result<[u8; 32], SignFault>
-    ensures ok { IfOk result (λ digest. (text : List ℕ)
-        × ReadWhole M.transition M.remaining text message.old message.new
-        × (digest ≡ message_digest_of one_time.now.identifier one_time.now.leaf randomizer.now text)) }
-    ensures err { IfErr result (λ fault. (fault ≡ SignFault.MessageRead)
-        × CantBeRead M.transition message.old message.new) }
+    ensures digest { Digests M.transition M.remaining
+        (message_digest_of one_time.now.identifier one_time.now.leaf randomizer.now) result message.old message.new }
+    ensures fault { IfErr result (λ fault. fault ≡ SignFault.MessageRead) }
 {
     one_time
         .message_digest_from(randomizer, message)
@@ -76,11 +74,9 @@ fn read_xmss_digest<M: Message>(
     leaf: u32,
     message: &mut M,
 ) -> Result<[u8; 32], SignFault>
-    ensures ok { IfOk result (λ digest. (text : List ℕ)
-        × ReadWhole M.transition M.remaining text message.old message.new
-        × (digest ≡ xmss_digest_of randomizer.now root.now leaf text)) }
-    ensures err { IfErr result (λ fault. (fault ≡ SignFault.MessageRead)
-        × CantBeRead M.transition message.old message.new) }
+    ensures digest { Digests M.transition M.remaining (xmss_digest_of randomizer.now root.now leaf) result
+        message.old message.new }
+    ensures fault { IfErr result (λ fault. fault ≡ SignFault.MessageRead) }
 {
     message_digest_from(randomizer, root, leaf, message).map_err(|_| SignFault::MessageRead)
 }

@@ -39,11 +39,11 @@ returns-in_err-digest g c key keyed =
     c.read_digest.new.message (answered_with c.from_residual-in_err-digest.result c.args.out.now) key) c.self.view_is
     (subst (λ a. Fulfils g.S.Store g.R.Source g.M.Message c.args.name.now 0 (view_of i.store i.random i.ledger i.is_open)
     (view_of i.store c.draw.new.random i.ledger i.is_open) c.args.message.now c.read_digest.new.message (answered_with a c.args.out.now) key)
-    (sym (answer ∙ ap Err c.in_err-digest.ensures.err.0))
+    (sym (answer ∙ ap Err c.in_err-digest.ensures.fault))
     (unread_bound g.S.Store g.R.Source g.M.Message c.args.name.now i.store i.random c.draw.new.random i.ledger i.is_open c.args.message.now
     c.read_digest.new.message key T (c.requires.stands key keyed).0 c.in_ok-randomizer.randomizer opened (c.self.invariant.0.tied opened)
     (λ left honest running since. g.met.S.Store.leaves_nothing_else i.store left honest running since) c.in_ok-randomizer.ensures.drawn
-    c.in_ok-randomizer.ensures.len bytes c.in_err-digest.ensures.err.1))
+    c.in_ok-randomizer.ensures.len bytes c.in_err-digest.ensures.digest))
 
 pub add-requires-clause-follows : goal.add-requires-clause-follows
 add-requires-clause-follows g c =
@@ -64,7 +64,7 @@ returns-in_err-add g c key keyed =
     let i = c.self.inside in
     let records = i.ledger.records in
     let bytes : AreBytes c.in_ok-randomizer.randomizer = search rules in
-    let (text, whole, digest_is) = c.in_ok-digest.ensures.ok in
+    let (text, whole, digest_is) = c.in_ok-digest.ensures.digest in
     let bound : Bound = record {
       name = c.copied.result;
       leaf = c.args.last.signed.leaf;
@@ -133,7 +133,7 @@ returns g c key keyed =
     let records = i.ledger.records in
     let bytes : AreBytes c.in_ok-randomizer.randomizer = search rules in
     let first : key_in records ≡ Some key = ap (λ w. key_in w.records) c.self.view_is ∙ keyed in
-    let (text, whole, digest_is) = c.in_ok-digest.ensures.ok in
+    let (text, whole, digest_is) = c.in_ok-digest.ensures.digest in
     let (these, standing) = subst (λ w. StandsIn T w.records c.args.above.now.items c.args.last key) (sym c.self.view_is) (c.requires.stands key keyed) in
     let stands = subst (λ n. Stands key T records n c.args.above.now.items c.args.last) (c.requires.bottom key keyed) standing in
     let bound : Bound = record {

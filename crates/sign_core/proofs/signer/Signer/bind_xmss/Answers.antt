@@ -66,19 +66,19 @@ returns-in_err-digest g c key keyed =
     let signer = subst (IsSigner g.S.Store) c.self.view_is c.self.invariant.0 in
     let answer : c.from_residual-in_err-digest.result ≡ Err c.in_err-digest.field-0.0 = search rules in
     subst (λ a. Binds g.S.Store g.R.Source g.M.Message c.args.name.now 0 v v c.args.message.now c.read_xmss_digest.new.message
-    (answered_with a c.args.out.now) key) (sym (answer ∙ ap Err c.in_err-digest.ensures.err.0))
+    (answered_with a c.args.out.now) key) (sym (answer ∙ ap Err c.in_err-digest.ensures.fault))
     (unread_binds g.S.Store g.R.Source g.M.Message c.args.name.now v c.args.message.now c.read_xmss_digest.new.message key c.args.secret.now
     (c.requires.key key keyed) keyed c.xmss_link.result c.map_err.result c.in_ok-map_err.field-0 c.requires.can.ready.is_open
     (signer.tied c.requires.can.ready.is_open) (λ left honest running since. g.met.S.Store.leaves_nothing_else v.store left honest running since)
     c.map_err.ensures.cases c.in_ok-map_err.was (λ rest. c.xmss_link.ensures.sound key rest (c.requires.key key keyed) (ap (λ k. k.root) (sym own)))
-    c.in_err-digest.ensures.err.1)
+    c.in_err-digest.ensures.digest)
 
 pub returns-in_err-add : goal.returns-in_err-add
 returns-in_err-add g c key keyed =
     let v = c.args.self.now in
     let first : key_in v.records ≡ Some c.key.result.now = ap (λ w. key_in w.records) (sym c.self.view_is) ∙ c.key.ensures.first in
     let own : c.key.result.now ≡ key = same_key v.records c.key.result.now key first keyed in
-    let (text, whole, read) = c.in_ok-digest.ensures.ok in
+    let (text, whole, read) = c.in_ok-digest.ensures.digest in
     let digest_is = read ∙ ap (λ r. message_digest_of r c.key.result.now.root c.bottom-leaf.result.0 text) c.randomizer-randomizer.ensures in
     let bound : Bound = record {
       name = c.copied.result;
@@ -101,7 +101,7 @@ returns g c key keyed =
     let v = c.args.self.now in
     let first : key_in v.records ≡ Some c.key.result.now = ap (λ w. key_in w.records) (sym c.self.view_is) ∙ c.key.ensures.first in
     let own : c.key.result.now ≡ key = same_key v.records c.key.result.now key first keyed in
-    let (text, whole, read) = c.in_ok-digest.ensures.ok in
+    let (text, whole, read) = c.in_ok-digest.ensures.digest in
     let digest_is = read ∙ ap (λ r. message_digest_of r c.key.result.now.root c.bottom-leaf.result.0 text) c.randomizer-randomizer.ensures in
     let bound : Bound = record {
       name = c.copied.result;
