@@ -200,7 +200,7 @@ failed_draw before after upcoming left fault draws =
     nothing None = refl
     nothing (Some bytes) = refl
 
--- a source that isn't asked gives nothing
+-- a source from which nothing is drawn gives nothing
 pub gives_nothing : (upcoming : Option (List ℕ)) → Provides upcoming [] upcoming
 gives_nothing None = refl
 gives_nothing (Some bytes) = refl

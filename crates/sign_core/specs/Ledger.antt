@@ -19,7 +19,7 @@ use Rattle.sign_core.specs.declared.ledger.LedgerFault.TheVariants.{Empty, Illeg
 use Rattle.sign_core.specs.declared.trees.Tree.{Tree}
 use Rattle.sign_core.specs.Records.{binding_in, can_follow, first_illegal, has_identifier, has_moved, key_in}
 use Rattle.sign_core.specs.Trees.{HasTrees}
-use Rattle.sign_core.specs.Textbook.{AllHaveSizes, tree_before}
+use Rattle.sign_core.specs.Textbook.{AllHaveSizes, HasSizes, tree_before}
 
 -- What callers see of a ledger: its key, its records, the Key's first, and for how many more records it has memory.
 pub record Table : Type 0 where
@@ -121,6 +121,12 @@ pub record Stays (old new : Table) : Type 0 where
 pub record HasRoom (entry : Record) (table : Table) : Type 0 where
   pub few : length table.records < 2 ^ 32 - 1
   pub room : TakesMemory entry → 0 < table.spare
+
+-- A record can be added: it can stand after the others, its fields have their sizes, and there is room for it.
+pub record CanPush (entry : Record) (table : Table) : Type 0 where
+  pub follows : can_follow (Some table.key) table.records entry ≡ true
+  pub sizes : HasSizes entry
+  pub room : HasRoom entry table
 
 -- It takes memory and there was none, or there are as many records as can be counted.
 abbrev pub LacksRoom : (entry : Record) → Table → Type 0

@@ -8,17 +8,22 @@ use Rattle.lms.specs.Secret.{path_in, root_in}
 use Rattle.lms.specs.Writing.{public_bytes}
 use Rattle.hss.specs.Secret.{Signing}
 use Rattle.state_file.specs.declared.record.Extend.{Extend}
+use Rattle.state_file.specs.declared.record.Key.{Key}
 use Rattle.state_file.specs.declared.record.Record.{Record}
 use Rattle.state_file.specs.declared.record.Record.TheVariants.{Extend as ExtendRecord}
 use Rattle.sign_core.specs.declared.links.KeyTrees.{KeyTrees}
 use Rattle.sign_core.specs.declared.links.Link.{Link}
 use Rattle.sign_core.specs.declared.links.Signed.{Signed}
 use Rattle.sign_core.specs.Records.{are_same}
-use Rattle.sign_core.specs.Textbook.{Trees}
+use Rattle.sign_core.specs.Textbook.{Trees, trees_of}
 
 -- the trees of a key
 abbrev pub trees_in : KeyTrees → Trees
 trees_in trees = record { top = trees.top; pairs = trees.pairs.now }
+
+-- These are the trees of a key of LMS or HSS.
+abbrev pub AreTreesOf : KeyTrees → Key → Type 0
+AreTreesOf trees key = trees_of key.secret ≡ Some (trees_in trees)
 
 -- A tree of a level stands at a place: the Key's, of level 0, or that of an Extend of the level.
 abbrev pub IsTreeAt : List Record → (level place : ℕ) → Type 0

@@ -7,5 +7,5 @@ abbrev pub rng_of : {T E : Type 0} → RngSource T E → T
 rng_of source = source.rng
 
 -- how often it has failed
-abbrev pub failures_of : {T E : Type 0} → RngSource T E → ℕ
-failures_of source = source.failures
+abbrev pub rng_failures_of : {T E : Type 0} → RngSource T E → ℕ
+rng_failures_of source = source.failures

@@ -1,7 +1,7 @@
 -- What the parts of a call of sign come to: a chain of trees that stands, one Extend more, and what is wanted from
 -- there.
-use Rattle.std.specs.Prelude.{◌≡◌, ℕ, ◌+◌, ◌<◌, Bool, true, false, List, [], ◌∷◌, ◌++◌, length, Option, Some}
-use Rattle.std.specs.Prelude.{Result, Ok, Err, map, take, ◌≤◌, ◌^◌}
+use Rattle.std.specs.Prelude.{◌≡◌, ℕ, ◌+◌, ◌<◌, Bool, true, false, List, [], ◌∷◌, ◌++◌, length, Option, None, Some}
+use Rattle.std.specs.Prelude.{Result, Ok, Err, Vec, map, take, vec_capacity, ◌≤◌, ◌^◌}
 use Rattle.std.specs.List.{AllByRecursion, concat}
 use Rattle.typecodes.specs.declared.message.Message as message
 use Rattle.state_file.specs.declared.record.Bound.{Bound}
@@ -38,6 +38,14 @@ abbrev pub answered_with : {A B : Type 0} → Result A SignFault → B → Resul
 answered_with (Ok _) value = Ok value
 answered_with (Err fault) value = Err fault
 
+-- An output's memory isn't given away.
+abbrev pub KeepsCapacity : {X Z : Type 0} → (old new : Vec X Z) → Type 0
+KeepsCapacity old new = vec_capacity old ≤ vec_capacity new
+
+-- of the key of records
+abbrev pub UnderKey : List Record → (Key → Type 0) → Type 0
+UnderKey records P = (key : Key) → key_in records ≡ Some key → P key
+
 -- ---- a chain that stands
 
 -- the types of the trees of links
@@ -64,11 +72,11 @@ abbrev pub StandsIn : Trees → List Record → (above : List Link) → (last : 
 StandsIn trees records above last key =
     (trees_of key.secret ≡ Some trees) × Stands key trees records (length above) above last
 
--- ---- signers that go on
+-- So it is under the key of the records.
+abbrev pub ChainStands : List Record → Trees → (above : List Link) → (last : Link) → Type 0
+ChainStands records trees above last = UnderKey records (StandsIn trees records above last)
 
--- of the key of records
-abbrev pub UnderKey : List Record → (Key → Type 0) → Type 0
-UnderKey records P = (key : Key) → key_in records ≡ Some key → P key
+-- ---- signers that go on
 
 -- A signer is open, its records don't go on elsewhere, and there is room for so many more, in the store and in memory.
 pub record IsReady {S R : Type 0} (most wanted : ℕ) (view : View S R) : Type 0 where
@@ -77,6 +85,13 @@ pub record IsReady {S R : Type 0} (most wanted : ℕ) (view : View S R) : Type 0
   pub few : length view.records + wanted ≤ most
   pub counted : length view.records + wanted < 2 ^ 32
   pub room : wanted ≤ view.spare
+
+-- A name can be bound: the signer is ready for as many records as that wants, the name isn't bound, and an output of
+-- this size is that of a signature.
+pub record CanBind {S R : Type 0} (most wanted : ℕ) (name : List ℕ) (size : ℕ) (view : View S R) : Type 0 where
+  pub ready : IsReady most wanted view
+  pub unbound : binding_in view.records name ≡ None
+  pub room : UnderKey view.records (λ key. size ≡ signature_size key.secret)
 
 -- ---- draws
 
@@ -183,6 +198,16 @@ pub record Repeats {S R M : Type 0} (m : message.Ghosts M) (view : View S R) (be
 -- The binding is that of a name.
 abbrev pub IsBindingOf : List Record → Binding → Key → (name : List ℕ) → Type 0
 IsBindingOf records binding key name = binding_kept key.secret records name ≡ Some binding
+
+-- The binding is that of some name.
+abbrev pub IsSomeBinding : List Record → Binding → Type 0
+IsSomeBinding records binding = UnderKey records (λ key. (name : List ℕ) × IsBindingOf records binding key name)
+
+-- Each name that a binding is of is repeated so.
+abbrev pub RepeatsBinding : {S R M : Type 0} → message.Ghosts M → View S R → Binding → (before after : M)
+    → (capacity : ℕ) → Result (List ℕ) SignFault → Type 0
+RepeatsBinding m view binding before after capacity answer = UnderKey view.records (λ key. (name : List ℕ)
+    → IsBindingOf view.records binding key name → Repeats m view before after capacity answer key name)
 
 -- ---- an XMSS key
 

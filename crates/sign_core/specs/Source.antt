@@ -31,5 +31,5 @@ abbrev pub left_in : TapeSource → List ℕ
 left_in source = source.bytes.now
 
 -- how often it has failed
-abbrev pub failures_of : TapeSource → ℕ
-failures_of source = source.failures
+abbrev pub tape_failures_of : TapeSource → ℕ
+tape_failures_of source = source.failures

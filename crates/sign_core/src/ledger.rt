@@ -7,7 +7,7 @@ ghost use Rattle.sign_core.specs.Records.{binding_in, can_follow, can_follow_leg
 ghost use Rattle.sign_core.specs.Records.{has_identifier, has_moved, is_free, key_in};
 ghost use Rattle.sign_core.specs.Ledger.{TakesMemory};
 
-use crate::trees::{Tree, Trees};
+use crate::trees::{CurrentTrees, Tree};
 use state_file::{Bound, Extend, Key, Record, RecordList, Secret};
 use std::alloc::{AllocError, Global};
 use std::collections::HashMap;
@@ -79,7 +79,7 @@ pub struct Ledger {
     bindings: HashMap<Name, Binding>,
     // the places of the Extends by their I
     identifiers: HashMap<[u8; 16], u32>,
-    trees: Trees,
+    trees: CurrentTrees,
     count: u32,
     moved: bool,
 }
@@ -105,7 +105,7 @@ impl Ledger {
     ghost use Rattle.state_file.specs.declared.record.Record.TheVariants.{Key as KeyRecord, Extend as ExtendRecord};
     ghost use Rattle.state_file.specs.declared.record.Record.TheVariants.{Bound as BoundRecord, Retire as RetireRecord};
     ghost use Rattle.state_file.specs.declared.record.Record.TheVariants.{Moved as MovedRecord};
-    ghost use Rattle.sign_core.specs.Ledger.{Grows, HasRoom, IsRefused, LacksRoom, Stays, TakesUp};
+    ghost use Rattle.sign_core.specs.Ledger.{CanPush, Grows, HasRoom, IsRefused, LacksRoom, Stays, TakesUp};
     ghost use Rattle.sign_core.specs.Ledger.{binding_kept, made_at};
     ghost use Rattle.sign_core.specs.declared.ledger.LedgerFault.TheVariants.{Illegal, OutOfMemory};
     ghost use Rattle.sign_core.specs.Trees.{tree_at};
@@ -125,7 +125,7 @@ impl Ledger {
             made: HashMap::new(alloc),
             bindings: HashMap::new(alloc),
             identifiers: HashMap::new(alloc),
-            trees: Trees::of_key(),
+            trees: CurrentTrees::of_key(),
             count: 1,
             moved: false,
         }
@@ -355,10 +355,7 @@ impl Ledger {
 
     /// Adds a record that can stand after these, an Extend or a Bound into room that was made for it.
     pub(crate) fn push(&mut self, entry: Record)
-        requires follows { can_follow (Some self.old.key) self.old.records entry ≡ true }
-        requires sizes { HasSizes entry }
-        requires few { length self.old.records < 2 ^ 32 - 1 }
-        requires room { TakesMemory entry → 0 < self.old.spare }
+        requires { CanPush entry self.old }
         ensures grows { Grows entry self.old self.new }
     {
         match entry {
@@ -372,10 +369,7 @@ impl Ledger {
 
     // Adds an Extend.
     fn push_extend(&mut self, extend: Extend)
-        requires follows { can_follow (Some self.old.key) self.old.records (ExtendRecord extend) ≡ true }
-        requires sizes { HasSizes (ExtendRecord extend) }
-        requires few { length self.old.records < 2 ^ 32 - 1 }
-        requires room { 0 < self.old.spare }
+        requires { CanPush (ExtendRecord extend) self.old }
         ensures grows { Grows (ExtendRecord extend) self.old self.new }
     {
         let level = usize::from(extend.level);
@@ -392,10 +386,7 @@ impl Ledger {
 
     // Adds a Bound.
     fn push_bound(&mut self, bound: Bound)
-        requires follows { can_follow (Some self.old.key) self.old.records (BoundRecord bound) ≡ true }
-        requires sizes { HasSizes (BoundRecord bound) }
-        requires few { length self.old.records < 2 ^ 32 - 1 }
-        requires room { 0 < self.old.spare }
+        requires { CanPush (BoundRecord bound) self.old }
         ensures grows { Grows (BoundRecord bound) self.old self.new }
     {
         let bottom = usize::from(self.key.secret.levels() - 1);
@@ -418,8 +409,7 @@ impl Ledger {
 
     // Adds a Retire, which takes no memory.
     fn push_retire(&mut self, upto: u32)
-        requires follows { can_follow (Some self.old.key) self.old.records (RetireRecord upto) ≡ true }
-        requires few { length self.old.records < 2 ^ 32 - 1 }
+        requires { CanPush (RetireRecord upto) self.old }
         ensures grows { Grows (RetireRecord upto) self.old self.new }
     {
         let bottom = usize::from(self.key.secret.levels() - 1);
@@ -430,8 +420,7 @@ impl Ledger {
 
     // Adds a Moved, which takes no memory.
     fn push_moved(&mut self)
-        requires follows { can_follow (Some self.old.key) self.old.records MovedRecord ≡ true }
-        requires few { length self.old.records < 2 ^ 32 - 1 }
+        requires { CanPush MovedRecord self.old }
         ensures grows { Grows MovedRecord self.old self.new }
     {
         self.moved = true;

@@ -28,8 +28,9 @@ impl<'a> KeyTrees<'a> {
     ghost use Rattle.state_file.specs.declared.record.Record.TheVariants.{Extend as ExtendRecord};
     ghost use Rattle.state_file.specs.Laws.{IsLegal};
     ghost use Rattle.sign_core.specs.Records.{key_in};
-    ghost use Rattle.sign_core.specs.Links.{AreMade, IsMade, IsTreeAt, signing_with, signings_of, trees_in};
-    ghost use Rattle.sign_core.specs.Textbook.{damaged_in, is_sound_at, secret_at, secret_by, signings_above, trees_of};
+    ghost use Rattle.sign_core.specs.Links.{AreMade, AreTreesOf, IsMade, IsTreeAt};
+    ghost use Rattle.sign_core.specs.Links.{signing_with, signings_of, trees_in};
+    ghost use Rattle.sign_core.specs.Textbook.{damaged_in, is_sound_at, secret_at, secret_by, signings_above};
 
     /// The types of a level's trees; the top tree's, where there is no such level.
     pub(crate) fn pair(&self, level: u8) -> LmsPair
@@ -61,7 +62,7 @@ impl<'a> KeyTrees<'a> {
 
     // Whether the record that makes a link's tree says the root as it is, and that of an Extend the digest, too.
     fn is_sound(&self, ledger: &Ledger, level: u8, place: u32, link: &Link) -> bool
-        requires trees { trees_of ledger.now.key.secret ≡ Some (trees_in self.now) }
+        requires trees { AreTreesOf self.now ledger.now.key }
         requires stands { IsTreeAt ledger.now.records level place }
         requires secret { link.now.secret ≡ secret_at (trees_in self.now) ledger.now.records place }
         requires made { IsMade link.now }
@@ -86,7 +87,7 @@ impl<'a> KeyTrees<'a> {
         signed: Signed,
         links: &mut ArrayVec<Link, 8>,
     ) -> Result<(), u32>
-        requires trees { trees_of ledger.now.key.secret ≡ Some (trees_in self.now) }
+        requires trees { AreTreesOf self.now ledger.now.key }
         requires stands { IsTreeAt ledger.now.records level place }
         requires inside { let secret = secret_at (trees_in self.now) ledger.now.records place in
             signed.leaf < 2 ^ height_of secret.pair.tree }
@@ -119,7 +120,7 @@ impl<'a> KeyTrees<'a> {
     ) -> Result<(), u32>
         requires legal { IsLegal ledger.now.records }
         requires keyed { key_in ledger.now.records ≡ Some ledger.now.key }
-        requires trees { trees_of ledger.now.key.secret ≡ Some (trees_in self.now) }
+        requires trees { AreTreesOf self.now ledger.now.key }
         requires stands { IsTreeAt ledger.now.records level place }
         requires inside { let secret = secret_at (trees_in self.now) ledger.now.records place in
             signed.leaf < 2 ^ height_of secret.pair.tree }

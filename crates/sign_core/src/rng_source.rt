@@ -16,12 +16,12 @@ pub struct RngSource<T: TryRng> {
 }
 
 impl<T: TryRng> RngSource<T> {
-    ghost use Rattle.sign_core.specs.RngSource.{failures_of, rng_of};
+    ghost use Rattle.sign_core.specs.RngSource.{rng_failures_of, rng_of};
 
     /// The source that draws from this generator.
     pub fn new(rng: T) -> Self
         ensures rng { rng_of result ≡ rng }
-        ensures failures { failures_of result ≡ 0 }
+        ensures failures { rng_failures_of result ≡ 0 }
     {
         RngSource {
             rng,
@@ -31,15 +31,15 @@ impl<T: TryRng> RngSource<T> {
 }
 
 impl<T: TryRng> Source for RngSource<T> {
-    ghost use Rattle.sign_core.specs.RngSource.{failures_of, rng_of};
+    ghost use Rattle.sign_core.specs.RngSource.{rng_failures_of, rng_of};
 
-    ghost failures = { failures_of };
+    ghost failures = { rng_failures_of };
 
     ghost upcoming = { λ source. None };
 
     /// Fills `into` with the bytes that the generator gives; it fails where the generator fails.
     fn fill(&mut self, into: &mut [u8]) -> Result<(), SourceFault>
-        ensures fills { Fills (failures_of self.old) (failures_of self.new) None None into.new result }
+        ensures fills { Fills (rng_failures_of self.old) (rng_failures_of self.new) None None into.new result }
         ensures gives { OnOk result (T.may_fill (rng_of self.old) into.new (rng_of self.new)) }
     {
         if self.rng.try_fill_bytes(into).is_err() {

@@ -50,12 +50,12 @@ pub struct TapeSource<'a> {
 }
 
 impl<'a> TapeSource<'a> {
-    ghost use Rattle.sign_core.specs.Source.{failures_of, left_in};
+    ghost use Rattle.sign_core.specs.Source.{tape_failures_of, left_in};
 
     /// The source of these bytes.
     pub fn new(bytes: &'a [u8]) -> Self
         ensures bytes { left_in result ≡ bytes.entry.now }
-        ensures failures { failures_of result ≡ 0 }
+        ensures failures { tape_failures_of result ≡ 0 }
     {
         TapeSource {
             bytes,
@@ -65,15 +65,15 @@ impl<'a> TapeSource<'a> {
 }
 
 impl Source for TapeSource<'_> {
-    ghost use Rattle.sign_core.specs.Source.{failures_of, left_in};
+    ghost use Rattle.sign_core.specs.Source.{tape_failures_of, left_in};
 
-    ghost failures = { failures_of };
+    ghost failures = { tape_failures_of };
 
     ghost upcoming = { λ source. Some (left_in source) };
 
     /// Fills `into` with the next bytes, where as many are left.
     fn fill(&mut self, into: &mut [u8]) -> Result<(), SourceFault>
-        ensures gives { Fills (failures_of self.old) (failures_of self.new)
+        ensures gives { Fills (tape_failures_of self.old) (tape_failures_of self.new)
             (Some (left_in self.old)) (Some (left_in self.new)) into.new result }
         ensures refuses { IsErr result ↔ length (left_in self.old) < length into.old }
     {

@@ -3,9 +3,9 @@
 ghost use Rattle.std.specs.Prelude.{◌≡◌, ◌<◌, None, Some, length, IfErr, IfOk, OnOk};
 ghost use Rattle.state_file.specs.Laws.{IsLegal, levels_of};
 ghost use Rattle.sign_core.specs.Records.{free_at, key_in};
-ghost use Rattle.sign_core.specs.Links.{trees_in};
+ghost use Rattle.sign_core.specs.Links.{AreTreesOf, trees_in};
 ghost use Rattle.sign_core.specs.Signing.{StandsIn};
-ghost use Rattle.sign_core.specs.Textbook.{damaged_in, tree_before, trees_of};
+ghost use Rattle.sign_core.specs.Textbook.{damaged_in, tree_before};
 
 use crate::ledger::Ledger;
 use crate::links::{KeyTrees, Link, Signed};
@@ -21,7 +21,7 @@ impl KeyTrees<'_> {
     ) -> Result<(ArrayVec<Link, 8>, Link), u32>
         requires legal { IsLegal ledger.now.records }
         requires keyed { key_in ledger.now.records ≡ Some ledger.now.key }
-        requires trees { trees_of ledger.now.key.secret ≡ Some (trees_in self.now) }
+        requires trees { AreTreesOf self.now ledger.now.key }
         requires level { level < levels_of ledger.now.key.secret }
         requires few { level < 8 }
         requires free { 0 < free_at ledger.now.key.secret ledger.now.records level }

@@ -14,11 +14,11 @@ pub(crate) struct Tree {
 
 /// The current trees of the levels, from the top down.
 #[derive(Clone, Copy)]
-pub(crate) struct Trees {
+pub(crate) struct CurrentTrees {
     levels: [Option<Tree>; 8],
 }
 
-impl Trees {
+impl CurrentTrees {
     ghost use Rattle.sign_core.specs.Trees.{AreAbove, IsBegun, IsRaised, kept_at};
     ghost use Rattle.sign_core.specs.Trees.{FollowsBound, FollowsExtend, FollowsRetire, HasTrees};
 
@@ -28,7 +28,7 @@ impl Trees {
     {
         let mut levels = [None; 8];
         levels[0] = Some(Tree { place: 0, next: 0 });
-        Trees { levels }
+        CurrentTrees { levels }
     }
 
     /// The tree of a level, if it has one.
@@ -74,6 +74,7 @@ impl Trees {
             });
         }
     }
+
     /// Takes up an Extend, which names a leaf of the level above and makes a tree of its own.
     pub(crate) fn extend(&mut self, level: usize, parent_leaf: u32, place: u32)
         requires below { 0 < level }

@@ -1,15 +1,14 @@
 //! Requests: what hinders one, and which way it goes.
 
-ghost use Rattle.std.specs.Prelude.{◌≡◌, ◌<◌, ◌≤◌, ◌-◌, [], ℕ, List, None, Some, true, false, length, vec_capacity};
+ghost use Rattle.std.specs.Prelude.{◌≡◌, ◌<◌, ◌-◌, [], None, Some, true, false, length, vec_capacity};
 ghost use Rattle.std.specs.Prelude.{IsSome, OnErr};
 ghost use Rattle.state_file.specs.Laws.{levels_of};
-ghost use Rattle.sign_core.specs.Signing.{answered_with};
 ghost use Rattle.sign_core.specs.Records.{binding_in, deepest, has_moved};
 ghost use Rattle.sign_core.specs.Request.{IsScheme, Prepares};
-ghost use Rattle.sign_core.specs.Signer.{Signs, signature_size};
-ghost use Rattle.sign_core.specs.Signing.{Binds, IsBindingOf, IsReady, Repeats, UnderKey};
-ghost use Rattle.sign_core.specs.Links.{trees_in};
-ghost use Rattle.sign_core.specs.Textbook.{trees_of};
+ghost use Rattle.sign_core.specs.Signer.{Signs};
+ghost use Rattle.sign_core.specs.Signing.{Binds, CanBind, IsSomeBinding, KeepsCapacity, RepeatsBinding, UnderKey};
+ghost use Rattle.sign_core.specs.Signing.{answered_with};
+ghost use Rattle.sign_core.specs.Links.{AreTreesOf};
 
 use super::Signer;
 use super::signing::make_room;
@@ -85,7 +84,7 @@ impl<S: Store, R: Source> Signer<S, R> {
         ensures step { Signs S.Store R.Source M.Message self.old self.new name.now message.old message.new
             (vec_capacity out.old) (answered_with result out.new.items) }
         ensures empty { OnErr result (out.new.items ≡ []) }
-        ensures capacity { vec_capacity out.old ≤ vec_capacity out.new }
+        ensures capacity { KeepsCapacity out.old out.new }
         // A name that is bound changes nothing, whatever the answer.
         ensures repeat { IsSome (binding_in self.old.records name.now) → self.new ≡ self.old }
     {
@@ -105,7 +104,7 @@ impl<S: Store, R: Source> Signer<S, R> {
     ) -> Result<(), SignFault>
         ensures step { Signs S.Store R.Source M.Message self.old self.new name.now message.old message.new
             (vec_capacity out.old) (answered_with result out.new.items) }
-        ensures capacity { vec_capacity out.old ≤ vec_capacity out.new }
+        ensures capacity { KeepsCapacity out.old out.new }
         ensures repeat { IsSome (binding_in self.old.records name.now) → self.new ≡ self.old }
     {
         self.check_open()?;
@@ -122,13 +121,10 @@ impl<S: Store, R: Source> Signer<S, R> {
         message: &mut M,
         out: &mut Vec<u8>,
     ) -> Result<(), SignFault>
-        requires kept { UnderKey self.now.records (λ key. (name : List ℕ)
-            × IsBindingOf self.now.records binding.now key name) }
-        ensures step { UnderKey self.now.records (λ key. (name : List ℕ) →
-            IsBindingOf self.now.records binding.now key name →
-            Repeats M.Message self.now message.old message.new (vec_capacity out.old)
-            (answered_with result out.new.items) key name) }
-        ensures capacity { vec_capacity out.old ≤ vec_capacity out.new }
+        requires kept { IsSomeBinding self.now.records binding.now }
+        ensures step { RepeatsBinding M.Message self.now binding.now message.old message.new
+            (vec_capacity out.old) (answered_with result out.new.items) }
+        ensures capacity { KeepsCapacity out.old out.new }
     {
         match Scheme::of(&self.ledger.key().secret) {
             Scheme::Chain(trees) => self.repeat_chain(&trees, binding, message, out),
@@ -148,7 +144,7 @@ impl<S: Store, R: Source> Signer<S, R> {
         requires unbound { binding_in self.old.records name.now ≡ None }
         ensures step { Signs S.Store R.Source M.Message self.old self.new name.now message.old message.new
             (vec_capacity out.old) (answered_with result out.new.items) }
-        ensures capacity { vec_capacity out.old ≤ vec_capacity out.new }
+        ensures capacity { KeepsCapacity out.old out.new }
     {
         let level = self.ledger.deepest().ok_or(SignFault::Exhausted)?;
         self.prepare(level, out)?;
@@ -167,7 +163,7 @@ impl<S: Store, R: Source> Signer<S, R> {
         requires level { UnderKey self.old.records (λ key. level < levels_of key.secret) }
         ensures room { UnderKey self.old.records (Prepares (S.most self.old.store) level self.old self.new
             (vec_capacity out.old) (length out.new.items) result) }
-        ensures capacity { vec_capacity out.old ≤ vec_capacity out.new }
+        ensures capacity { KeepsCapacity out.old out.new }
     {
         let wanted = self.ledger.key().secret.levels() - level;
         if u64::from(self.ledger.len()) + u64::from(wanted) > u64::from(self.store.limit()) {
@@ -186,17 +182,14 @@ impl<S: Store, R: Source> Signer<S, R> {
         level: u8,
         name: &Name,
         message: &mut M,
-        out: &mut Vec<u8>,
+        out: &mut [u8],
     ) -> Result<(), SignFault>
-        requires ready { UnderKey self.old.records (λ key.
-            IsReady (S.most self.old.store) (levels_of key.secret - level) self.old) }
-        requires trees { UnderKey self.old.records (λ key. trees_of key.secret ≡ Some (trees_in trees.now)) }
+        requires can { UnderKey self.old.records (λ key. CanBind (S.most self.old.store)
+            (levels_of key.secret - level) name.now (length out.old) self.old) }
+        requires trees { UnderKey self.old.records (AreTreesOf trees.now) }
         requires level { UnderKey self.old.records (λ key. deepest key.secret self.old.records ≡ Some level) }
-        requires unbound { binding_in self.old.records name.now ≡ None }
-        requires room { UnderKey self.old.records (λ key. length out.old.items ≡ signature_size key.secret) }
-        ensures step { UnderKey self.old.records (Binds S.Store R.Source M.Message name.now level self.old self.new
-            message.old message.new (answered_with result out.new.items)) }
-        ensures capacity { vec_capacity out.old ≤ vec_capacity out.new }
+        ensures { UnderKey self.old.records (Binds S.Store R.Source M.Message name.now level self.old self.new
+            message.old message.new (answered_with result out.new)) }
     {
         let (mut above, last) = trees
             .standing(&self.ledger, level)

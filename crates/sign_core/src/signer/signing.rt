@@ -1,19 +1,16 @@
 //! Signing over a store: a name that is bound has its signature again, and a new one has the wanted records made.
 
-ghost use Rattle.std.specs.Prelude.{◌≡◌, ◌<◌, ◌≤◌, ◌+◌, ◌-◌, [], ℕ, List, None, Some, length, vec_capacity};
-ghost use Rattle.std.specs.Prelude.{IfErr, IfOk, OnErr, OnOk};
-ghost use Rattle.typecodes.specs.Message.{CantBeRead, ReadWhole};
+ghost use Rattle.std.specs.Prelude.{◌≡◌, ◌<◌, ◌+◌, ◌-◌, [], length, vec_capacity, IfErr, IfOk, OnErr, OnOk};
+ghost use Rattle.typecodes.specs.Message.{Digests};
 ghost use Rattle.lmots.specs.Key.{message_digest_of};
 ghost use Rattle.xmss.specs.Digest.{message_digest_of as xmss_digest_of};
 ghost use Rattle.state_file.specs.Laws.{bottom_of, levels_of};
+ghost use Rattle.sign_core.specs.Records.{free_at};
+ghost use Rattle.sign_core.specs.Links.{AreTreesOf, trees_in};
+ghost use Rattle.sign_core.specs.Signing.{Binds, CanBind, ChainStands, DrawsTree, Extends, Fulfils, IsReady};
+ghost use Rattle.sign_core.specs.Signing.{IsSomeBinding, IsXmssKey, KeepsCapacity, RepeatsBinding, UnderKey};
 ghost use Rattle.sign_core.specs.Signing.{answered_with};
-ghost use Rattle.sign_core.specs.Records.{binding_in, free_at};
-ghost use Rattle.sign_core.specs.Links.{trees_in};
-ghost use Rattle.sign_core.specs.Signing.{Binds, DrawsTree, Extends, Fulfils, IsBindingOf, IsReady, IsXmssKey};
-ghost use Rattle.sign_core.specs.Signing.{Repeats};
-ghost use Rattle.sign_core.specs.Signing.{StandsIn, UnderKey};
 ghost use Rattle.sign_core.specs.Signer.{signature_size};
-ghost use Rattle.sign_core.specs.Textbook.{trees_of};
 
 use crate::fault::SignFault;
 use crate::ledger::{Binding, Ledger};
@@ -61,11 +58,9 @@ fn read_digest<M: Message>(
     randomizer: &[u8; 32],
     message: &mut M,
 ) -> Result<[u8; 32], SignFault>
-    ensures ok { IfOk result (λ digest. (text : List ℕ)
-        × ReadWhole M.transition M.remaining text message.old message.new
-        × (digest ≡ message_digest_of one_time.now.identifier one_time.now.leaf randomizer.now text)) }
-    ensures err { IfErr result (λ fault. (fault ≡ SignFault.MessageRead)
-        × CantBeRead M.transition message.old message.new) }
+    ensures digest { Digests M.transition M.remaining
+        (message_digest_of one_time.now.identifier one_time.now.leaf randomizer.now) result message.old message.new }
+    ensures fault { IfErr result (λ fault. fault ≡ SignFault.MessageRead) }
 {
     one_time
         .message_digest_from(randomizer, message)
@@ -79,11 +74,9 @@ fn read_xmss_digest<M: Message>(
     leaf: u32,
     message: &mut M,
 ) -> Result<[u8; 32], SignFault>
-    ensures ok { IfOk result (λ digest. (text : List ℕ)
-        × ReadWhole M.transition M.remaining text message.old message.new
-        × (digest ≡ xmss_digest_of randomizer.now root.now leaf text)) }
-    ensures err { IfErr result (λ fault. (fault ≡ SignFault.MessageRead)
-        × CantBeRead M.transition message.old message.new) }
+    ensures digest { Digests M.transition M.remaining (xmss_digest_of randomizer.now root.now leaf) result
+        message.old message.new }
+    ensures fault { IfErr result (λ fault. fault ≡ SignFault.MessageRead) }
 {
     message_digest_from(randomizer, root, leaf, message).map_err(|_| SignFault::MessageRead)
 }
@@ -94,7 +87,7 @@ pub(super) fn make_room(secret: &Secret, out: &mut Vec<u8>) -> Result<(), SignFa
     ensures refused { IfErr result (λ fault. fault ≡ SignFault.OutOfMemory) }
     // Memory is requested only where there is no room for it yet.
     ensures full { OnErr result (vec_capacity out.old < signature_size secret.now) }
-    ensures capacity { vec_capacity out.old ≤ vec_capacity out.new }
+    ensures capacity { KeepsCapacity out.old out.new }
 {
     out.resize(signature_len(secret) as usize, 0)
         .map_err(|_| SignFault::OutOfMemory)
@@ -110,13 +103,11 @@ impl<S: Store, R: Source> Signer<S, R> {
         last: Link,
     ) -> Result<Link, SignFault>
         requires ready { IsReady (S.most self.old.store) 1 self.old }
-        requires stands { UnderKey self.old.records
-            (StandsIn (trees_in trees.now) self.old.records above.old.items last) }
+        requires stands { ChainStands self.old.records (trees_in trees.now) above.old.items last }
         requires below { UnderKey self.old.records (λ key. length above.old.items + 1 < levels_of key.secret) }
         ensures step { UnderKey self.old.records
             (Extends S.Store R.Source (length above.old.items + 1) self.old self.new (answered_with result [])) }
-        ensures stands { IfOk result (λ made.
-            UnderKey self.new.records (StandsIn (trees_in trees.now) self.new.records above.new.items made)) }
+        ensures stands { IfOk result (ChainStands self.new.records (trees_in trees.now) above.new.items) }
         ensures count { OnOk result (length above.new.items ≡ length above.old.items + 1) }
     {
         let TreeSeeds {
@@ -160,18 +151,14 @@ impl<S: Store, R: Source> Signer<S, R> {
         message: &mut M,
         above: &mut ArrayVec<Link, 8>,
         last: Link,
-        out: &mut Vec<u8>,
+        out: &mut [u8],
     ) -> Result<(), SignFault>
-        requires ready { UnderKey self.old.records (λ key.
-            IsReady (S.most self.old.store) (levels_of key.secret - length above.old.items) self.old) }
-        requires stands { UnderKey self.old.records
-            (StandsIn (trees_in trees.now) self.old.records above.old.items last) }
-        requires unbound { binding_in self.old.records name.now ≡ None }
-        requires room { UnderKey self.old.records (λ key. length out.old.items ≡ signature_size key.secret) }
-        ensures step { UnderKey self.old.records (λ key. Fulfils S.Store R.Source M.Message name.now
+        requires can { UnderKey self.old.records (λ key. CanBind (S.most self.old.store)
+            (levels_of key.secret - length above.old.items) name.now (length out.old) self.old) }
+        requires stands { ChainStands self.old.records (trees_in trees.now) above.old.items last }
+        ensures { UnderKey self.old.records (λ key. Fulfils S.Store R.Source M.Message name.now
             (bottom_of key.secret - length above.old.items) self.old self.new message.old message.new
-            (answered_with result out.new.items) key) }
-        ensures capacity { vec_capacity out.old ≤ vec_capacity out.new }
+            (answered_with result out.new) key) }
     {
         if above.len() + 1 >= usize::from(self.ledger.key().secret.levels()) {
             return self.bind_under(trees, name, message, above, last, out);
@@ -190,17 +177,13 @@ impl<S: Store, R: Source> Signer<S, R> {
         message: &mut M,
         above: &mut ArrayVec<Link, 8>,
         last: Link,
-        out: &mut Vec<u8>,
+        out: &mut [u8],
     ) -> Result<(), SignFault>
-        requires ready { IsReady (S.most self.old.store) 1 self.old }
-        requires stands { UnderKey self.old.records
-            (StandsIn (trees_in trees.now) self.old.records above.old.items last) }
+        requires can { CanBind (S.most self.old.store) 1 name.now (length out.old) self.old }
+        requires stands { ChainStands self.old.records (trees_in trees.now) above.old.items last }
         requires bottom { UnderKey self.old.records (λ key. length above.old.items ≡ bottom_of key.secret) }
-        requires unbound { binding_in self.old.records name.now ≡ None }
-        requires room { UnderKey self.old.records (λ key. length out.old.items ≡ signature_size key.secret) }
-        ensures step { UnderKey self.old.records (Fulfils S.Store R.Source M.Message name.now 0 self.old self.new
-            message.old message.new (answered_with result out.new.items)) }
-        ensures capacity { vec_capacity out.old ≤ vec_capacity out.new }
+        ensures { UnderKey self.old.records (Fulfils S.Store R.Source M.Message name.now 0 self.old self.new
+            message.old message.new (answered_with result out.new)) }
     {
         let randomizer = draw::<R, 32>(&mut self.random)?;
         let leaf = last.signed.leaf;
@@ -228,16 +211,13 @@ impl<S: Store, R: Source> Signer<S, R> {
         secret: &XmssSecret,
         name: &Name,
         message: &mut M,
-        out: &mut Vec<u8>,
+        out: &mut [u8],
     ) -> Result<(), SignFault>
-        requires ready { IsReady (S.most self.old.store) 1 self.old }
+        requires can { CanBind (S.most self.old.store) 1 name.now (length out.old) self.old }
         requires key { UnderKey self.old.records (IsXmssKey secret.now) }
         requires free { UnderKey self.old.records (λ key. 0 < free_at key.secret self.old.records 0) }
-        requires unbound { binding_in self.old.records name.now ≡ None }
-        requires room { UnderKey self.old.records (λ key. length out.old.items ≡ signature_size key.secret) }
-        ensures step { UnderKey self.old.records (Binds S.Store R.Source M.Message name.now 0 self.old self.new
-            message.old message.new (answered_with result out.new.items)) }
-        ensures capacity { vec_capacity out.old ≤ vec_capacity out.new }
+        ensures { UnderKey self.old.records (Binds S.Store R.Source M.Message name.now 0 self.old self.new
+            message.old message.new (answered_with result out.new)) }
     {
         let root = self.ledger.key().root;
         let (leaf, _) = self.bottom();
@@ -264,14 +244,11 @@ impl<S: Store, R: Source> Signer<S, R> {
         message: &mut M,
         out: &mut Vec<u8>,
     ) -> Result<(), SignFault>
-        requires trees { UnderKey self.now.records (λ key. trees_of key.secret ≡ Some (trees_in trees.now)) }
-        requires kept { UnderKey self.now.records (λ key. (name : List ℕ)
-            × IsBindingOf self.now.records binding.now key name) }
-        ensures step { UnderKey self.now.records (λ key. (name : List ℕ) →
-            IsBindingOf self.now.records binding.now key name →
-            Repeats M.Message self.now message.old message.new (vec_capacity out.old)
-            (answered_with result out.new.items) key name) }
-        ensures capacity { vec_capacity out.old ≤ vec_capacity out.new }
+        requires trees { UnderKey self.now.records (AreTreesOf trees.now) }
+        requires kept { IsSomeBinding self.now.records binding.now }
+        ensures step { RepeatsBinding M.Message self.now binding.now message.old message.new
+            (vec_capacity out.old) (answered_with result out.new.items) }
+        ensures capacity { KeepsCapacity out.old out.new }
     {
         let Binding {
             leaf,
@@ -309,13 +286,10 @@ impl<S: Store, R: Source> Signer<S, R> {
         out: &mut Vec<u8>,
     ) -> Result<(), SignFault>
         requires key { UnderKey self.now.records (IsXmssKey secret.now) }
-        requires kept { UnderKey self.now.records (λ key. (name : List ℕ)
-            × IsBindingOf self.now.records binding.now key name) }
-        ensures step { UnderKey self.now.records (λ key. (name : List ℕ) →
-            IsBindingOf self.now.records binding.now key name →
-            Repeats M.Message self.now message.old message.new (vec_capacity out.old)
-            (answered_with result out.new.items) key name) }
-        ensures capacity { vec_capacity out.old ≤ vec_capacity out.new }
+        requires kept { IsSomeBinding self.now.records binding.now }
+        ensures step { RepeatsBinding M.Message self.now binding.now message.old message.new
+            (vec_capacity out.old) (answered_with result out.new.items) }
+        ensures capacity { KeepsCapacity out.old out.new }
     {
         let leaf = binding.leaf;
         let root = self.ledger.key().root;

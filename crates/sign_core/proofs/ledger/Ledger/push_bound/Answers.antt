@@ -34,7 +34,7 @@ invariant_of-self c =
       | in-Some w ↦ w.tree-is ∙ sym (ap place_of (sym c.get.ensures ∙ w.in-Some.is))
       | in-None w ↦ w.tree-is ∙ sym (ap place_of (sym c.get.ensures ∙ w.in-None.is))
     ] in
-    let room : 0 < spare c.self.inside.bindings = omega (arith, c.requires.room, ap (λ (t : Table). t.spare) c.self.view_is) in
+    let room : 0 < spare c.self.inside.bindings = omega (arith, c.requires.room.room tt, ap (λ (t : Table). t.spare) c.self.view_is) in
     grown_bound c.self.inside.records c.self.inside.key c.self.inside.made c.self.inside.bindings c.self.inside.identifiers c.self.inside.trees.levels
     c.self.inside.count c.self.inside.moved c.self.invariant c.args.bound c.from-bottom.result c.match-get.tree
     (ap (λ (t : Table). can_follow (Some t.key) t.records (BoundRecord c.args.bound)) c.self.view_is ∙ c.requires.follows) c.requires.sizes

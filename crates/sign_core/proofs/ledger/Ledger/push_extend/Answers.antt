@@ -38,8 +38,8 @@ invariant_of-self c =
       | in-Some w ↦ w.parent-is ∙ sym (ap place_of (sym c.get.ensures ∙ w.in-Some.is))
       | in-None w ↦ w.parent-is ∙ sym (ap place_of (sym c.get.ensures ∙ w.in-None.is))
     ] in
-    let room : 0 < spare c.self.inside.made = omega (arith, c.requires.room, ap (λ (t : Table). t.spare) c.self.view_is) in
-    let known : 0 < spare c.self.inside.identifiers = omega (arith, c.requires.room, ap (λ (t : Table). t.spare) c.self.view_is) in
+    let room : 0 < spare c.self.inside.made = omega (arith, c.requires.room.room tt, ap (λ (t : Table). t.spare) c.self.view_is) in
+    let known : 0 < spare c.self.inside.identifiers = omega (arith, c.requires.room.room tt, ap (λ (t : Table). t.spare) c.self.view_is) in
     grown_extend c.self.inside.records c.self.inside.key c.self.inside.made c.self.inside.bindings c.self.inside.identifiers c.self.inside.trees.levels
     c.self.inside.count c.self.inside.moved c.self.invariant c.args.extend c.from-level.result c.match-get.parent follows c.requires.sizes
     c.from-level.ensures (omega (arith, few, high, c.from-level.ensures)) parent c.extend.new.self.levels c.extend.ensures c.insert.new.self

@@ -7,21 +7,21 @@ use Rattle.sign_core.specs.Signing.{answered_with}
 use Rattle.sign_core.specs.Records.{key_in}
 use Rattle.sign_core.specs.Links.{trees_in}
 use Rattle.sign_core.specs.Signer.{signature_size}
-use Rattle.sign_core.specs.Signing.{Extends, Fulfils, IsReady}
+use Rattle.sign_core.specs.Signing.{CanBind, Extends, Fulfils}
 use Rattle.sign_core.proofs.Adding.{levels_range}
 use Rattle.sign_core.proofs.Fulfils.{Recorded, fulfils_after, fulfils_refused, is_recorded, key_after, ready_after, unbound_after}
 use Rattle.sign_core.proofs.StandingChain.{few_levels}
 use Rattle.sign_core.proofs.signer.Signer.+fulfil.Goals as goal
 
-pub bind_under-requires-clause-ready : goal.bind_under-requires-clause-ready
-bind_under-requires-clause-ready g t c =
+pub bind_under-requires-clause-can : goal.bind_under-requires-clause-can
+bind_under-requires-clause-can g t c =
     let a = c.args in
     let keyed : key_in a.self.now.records ≡ Some c.key.result.now = ap (λ w. key_in w.records) (sym c.self.view_is) ∙ c.key.ensures.first in
     let stands = c.requires.stands c.key.result.now keyed in
     let few = few_levels c.key.result.now (trees_in a.trees.now) a.self.now.records (length a.above.now.items) a.above.now.items a.last stands.0 stands.1 in
     let one : levels_of c.key.result.now.secret - length a.above.now.items ≡ 1 =
     omega (arith, few, c.if-len-from.true, c.from.ensures, c.levels.ensures, c.len.ensures.value) in
-    subst (λ (n : ℕ). IsReady (g.S.Store.most a.self.now.store) n a.self.now) one (c.requires.ready c.key.result.now keyed)
+    subst (λ (n : ℕ). CanBind (g.S.Store.most a.self.now.store) n a.name.now (length a.out.now) a.self.now) one (c.requires.can c.key.result.now keyed)
 
 pub bind_under-requires-clause-bottom : goal.bind_under-requires-clause-bottom
 bind_under-requires-clause-bottom g t c key keyed =
@@ -32,15 +32,15 @@ bind_under-requires-clause-bottom g t c key keyed =
     let few = few_levels key (trees_in a.trees.now) a.self.now.records (length a.above.now.items) a.above.now.items a.last stands.0 stands.1 in
     omega (arith, few, c.if-len-from.true, c.from.ensures, c.levels.ensures, c.len.ensures.value, ap (λ k. levels_of k.secret) same)
 
-pub returns-in_err-made-clause-step : goal.returns-in_err-made-clause-step
-returns-in_err-made-clause-step g t c key keyed =
+pub returns-in_err-made : goal.returns-in_err-made
+returns-in_err-made g t c key keyed =
     let a = c.args in
     let own : key_in a.self.now.records ≡ Some c.key.result.now = ap (λ w. key_in w.records) (sym c.self.view_is) ∙ c.key.ensures.first in
     let same : c.key.result.now ≡ key = same_Some _ _ (sym own ∙ keyed) in
     let levels : levels_of c.key.result.now.secret ≡ levels_of key.secret = ap (λ k. levels_of k.secret) same in
     let fault : SignFault = c.in_err-made.field-0.0 in
     let failed : c.from_residual.result ≡ Err fault = search rules in
-    let answer : Err fault ≡ answered_with c.from_residual.result a.out.now.items = ap (λ r. answered_with r a.out.now.items) (sym failed) in
+    let answer : Err fault ≡ answered_with c.from_residual.result a.out.now = ap (λ r. answered_with r a.out.now) (sym failed) in
     let below : ℕ = bottom_of key.secret - (length a.above.now.items + 1) in
     let low : length a.above.now.items + 1 < levels_of key.secret =
     omega (arith, levels, c.if-len-from.false, c.from.ensures, c.levels.ensures, c.len.ensures.value) in
@@ -76,9 +76,16 @@ fulfil-requires g t c κs within =
     omega (arith, c.if-len-from.false, c.from.ensures, c.levels.ensures, c.len.ensures.value) in
     let wanted : levels_of c.key.result.now.secret - length a.above.now.items ≡ suc (levels_of c.key.result.now.secret - length c.extend.new.above.items) =
     omega (arith, low, count) in
-    let ready : IsReady (g.S.Store.most c.extend.new.self.store) (levels_of c.key.result.now.secret - length c.extend.new.above.items) c.extend.new.self =
-    ready_after g.S.Store a.self.now c.extend.new.self _ after
-    (subst (λ (n : ℕ). IsReady (g.S.Store.most a.self.now.store) n a.self.now) wanted (c.requires.ready c.key.result.now own)) in (
+    let can : CanBind (g.S.Store.most a.self.now.store) (suc (levels_of c.key.result.now.secret - length c.extend.new.above.items)) a.name.now (length a.out.now)
+    a.self.now =
+    subst (λ (n : ℕ). CanBind (g.S.Store.most a.self.now.store) n a.name.now (length a.out.now) a.self.now) wanted (c.requires.can c.key.result.now own) in
+    let room : length a.out.now ≡ signature_size c.key.result.now.secret = can.room c.key.result.now own in
+    let go_on : CanBind (g.S.Store.most c.extend.new.self.store) (levels_of c.key.result.now.secret - length c.extend.new.above.items) a.name.now
+    (length a.out.now) c.extend.new.self = record {
+      ready = ready_after g.S.Store a.self.now c.extend.new.self _ after can.ready;
+      unbound = unbound_after g.S.Store a.self.now c.extend.new.self a.name.now after can.unbound;
+      room = λ key keyed. subst (λ (k : Key). length a.out.now ≡ signature_size k.secret) (same_Some _ _ (sym next ∙ keyed)) room;
+    } in (
       omega (arith, c.decreases, few, low, count, c.levels.ensures),
       (
         within.0,
@@ -87,24 +94,17 @@ fulfil-requires g t c κs within =
           (
             within.1.1,
             (
-              λ key keyed. subst (λ (k : Key). IsReady (g.S.Store.most c.extend.new.self.store) (levels_of k.secret - length c.extend.new.above.items)
-                  c.extend.new.self) (same_Some _ _ (sym next ∙ keyed)) ready,
-              (
-                c.in_ok-made.ensures.stands,
-                (
-                  unbound_after g.S.Store a.self.now c.extend.new.self a.name.now after c.requires.unbound,
-                  λ key keyed. subst (λ (k : Key). length a.out.now.items ≡ signature_size k.secret) (same_Some _ _ (sym next ∙ keyed))
-                      (c.requires.room c.key.result.now own),
-                ),
-              ),
+              λ key keyed. subst (λ (k : Key). CanBind (g.S.Store.most c.extend.new.self.store) (levels_of k.secret - length c.extend.new.above.items)
+                  a.name.now (length a.out.now) c.extend.new.self) (same_Some _ _ (sym next ∙ keyed)) go_on,
+              c.in_ok-made.ensures.stands,
             ),
           ),
         ),
       ),
     )
 
-pub returns-clause-step : goal.returns-clause-step
-returns-clause-step g t c key keyed =
+pub returns : goal.returns
+returns g t c key keyed =
     let a = c.args in
     let own : key_in a.self.now.records ≡ Some c.key.result.now = ap (λ w. key_in w.records) (sym c.self.view_is) ∙ c.key.ensures.first in
     let same : c.key.result.now ≡ key = same_Some _ _ (sym own ∙ keyed) in
@@ -123,6 +123,6 @@ returns-clause-step g t c key keyed =
     let at : length a.above.now.items + 1 ≡ bottom_of key.secret - below = omega (arith, low, count) in
     let wanted : suc below ≡ bottom_of key.secret - length a.above.now.items = omega (arith, low, count) in
     subst (λ (n : ℕ). Fulfils g.S.Store g.R.Source g.M.Message a.name.now n a.self.now c.fulfil.new.self a.message.now c.fulfil.new.message
-    (answered_with c.fulfil.result c.fulfil.new.out.items) key) wanted
+    (answered_with c.fulfil.result c.fulfil.new.out) key) wanted
     (fulfils_after g.S.Store g.R.Source g.M.Message a.name.now key below (length a.above.now.items + 1) a.self.now c.extend.new.self c.fulfil.new.self
-    a.message.now c.fulfil.new.message (answered_with c.fulfil.result c.fulfil.new.out.items) at running first (c.fulfil.ensures.step key next))
+    a.message.now c.fulfil.new.message (answered_with c.fulfil.result c.fulfil.new.out) at running first (c.fulfil.ensures key next))

@@ -1,5 +1,6 @@
 use Rattle.std.proofs.Common.{rules, ◌≡◌, ◌∙◌, ◌<◌, Err, length, ap, sym, subst, arith}
 use Rattle.std.specs.Prelude.{vec_capacity}
+use Rattle.std.proofs.lemmas.List.{take_at}
 use Rattle.state_file.specs.Laws.{levels_of}
 use Rattle.sign_core.specs.Signing.{answered_with}
 use Rattle.sign_core.specs.Records.{deepest, key_in}
@@ -58,10 +59,13 @@ returns-in-Chain-clause-step g c =
     let some = some_level c.deepest.result c.in_ok-level.level (sym c.ok_or.ensures.value ∙ c.in_ok-level.was) in
     let made = c.in_ok-prepare.ensures.room key keyed in
     let mid = c.prepare.new.self in
-    binds_signs g.S.Store g.R.Source g.M.Message v mid c.bind_chain.new.self c.args.name.now c.args.message.now c.bind_chain.new.message
-    (vec_capacity c.args.out.now) c.in_ok-level.level key (answered_with c.bind_chain.result c.bind_chain.new.out.items) keyed c.requires.open c.requires.goes_on
+    let fits : length c.bind_chain.new.out ≡ c.prepare.new.out.len = search rules in
+    subst (λ xs. Signs g.S.Store g.R.Source g.M.Message v c.bind_chain.new.self c.args.name.now c.args.message.now c.bind_chain.new.message
+    (vec_capacity c.args.out.now) (answered_with c.bind_chain.result xs)) (sym (take_at c.bind_chain.new.out _ c.prepare.new.out.len fits))
+    (binds_signs g.S.Store g.R.Source g.M.Message v mid c.bind_chain.new.self c.args.name.now c.args.message.now c.bind_chain.new.message
+    (vec_capacity c.args.out.now) c.in_ok-level.level key (answered_with c.bind_chain.result c.bind_chain.new.out) keyed c.requires.open c.requires.goes_on
     c.requires.unbound (ap (λ w. deepest key.secret w.records) (sym c.self.view_is) ∙ sym c.deepest.ensures ∙ some) made.keeps made.spare made.does.0
-    (c.bind_chain.ensures.step key (ap key_in made.keeps.records ∙ keyed))
+    (c.bind_chain.ensures key (ap key_in made.keeps.records ∙ keyed)))
 
 pub returns-in-Xmss-clause-step : goal.returns-in-Xmss-clause-step
 returns-in-Xmss-clause-step g c =
@@ -78,8 +82,11 @@ returns-in-Xmss-clause-step g c =
     let one : levels_of key.secret ≡ 1 = ap (λ k. levels_of k.secret) (sym own) ∙ ap levels_of c.in-Xmss.ensures in
     let within = (deepest_is key.secret i.records c.in_ok-level.level (sym c.deepest.ensures ∙ some)).0 in
     let top : 0 ≡ c.in_ok-level.level = omega (arith, one, within) in
-    binds_signs g.S.Store g.R.Source g.M.Message v mid c.bind_xmss.new.self c.args.name.now c.args.message.now c.bind_xmss.new.message
-    (vec_capacity c.args.out.now) c.in_ok-level.level key (answered_with c.bind_xmss.result c.bind_xmss.new.out.items) keyed c.requires.open c.requires.goes_on
+    let fits : length c.bind_xmss.new.out ≡ c.prepare.new.out.len = search rules in
+    subst (λ xs. Signs g.S.Store g.R.Source g.M.Message v c.bind_xmss.new.self c.args.name.now c.args.message.now c.bind_xmss.new.message
+    (vec_capacity c.args.out.now) (answered_with c.bind_xmss.result xs)) (sym (take_at c.bind_xmss.new.out _ c.prepare.new.out.len fits))
+    (binds_signs g.S.Store g.R.Source g.M.Message v mid c.bind_xmss.new.self c.args.name.now c.args.message.now c.bind_xmss.new.message
+    (vec_capacity c.args.out.now) c.in_ok-level.level key (answered_with c.bind_xmss.result c.bind_xmss.new.out) keyed c.requires.open c.requires.goes_on
     c.requires.unbound (ap (λ w. deepest key.secret w.records) (sym c.self.view_is) ∙ sym c.deepest.ensures ∙ some) made.keeps made.spare made.does.0
     (subst (λ n. Binds g.S.Store g.R.Source g.M.Message c.args.name.now n mid c.bind_xmss.new.self c.args.message.now c.bind_xmss.new.message
-    (answered_with c.bind_xmss.result c.bind_xmss.new.out.items) key) top (c.bind_xmss.ensures.step key still))
+    (answered_with c.bind_xmss.result c.bind_xmss.new.out) key) top (c.bind_xmss.ensures key still)))

@@ -1,6 +1,5 @@
 use Rattle.std.proofs.Common.{rules, ◌≡◌, ◌∙◌, ◌<◌, ◌^◌, ◌∷◌, [], ◌++◌, length, Some, Ok, Err, refl, sym, ap, subst}
 use Rattle.std.specs.Prelude.{replicate}
-use Rattle.std.proofs.lemmas.List.{take_at}
 use Rattle.typecodes.specs.Types.{xmss_height_of}
 use Rattle.xmss.specs.Digest.{message_digest_of}
 use Rattle.state_file.specs.declared.record.Bound.{Bound}
@@ -35,52 +34,51 @@ write_xmss-requires-clause-room g c =
     let v = c.args.self.now in
     let own = c.key.result.now in
     let first : key_in v.records ≡ Some own = ap (λ w. key_in w.records) (sym c.self.view_is) ∙ c.key.ensures.first in
-    ap length c.deref_mut.ensures.value
-    ∙ xmss_room own c.args.secret.now (length c.args.out.now.items) (c.requires.key own first) (c.requires.room own first)
+    xmss_room own c.args.secret.now (length c.args.out.now) (c.requires.key own first) (c.requires.can.room own first)
 
 pub add-requires-clause-follows : goal.add-requires-clause-follows
 add-requires-clause-follows g c =
     let v = c.args.self.now in
     let own = c.key.result.now in
     let first : key_in v.records ≡ Some own = ap (λ w. key_in w.records) (sym c.self.view_is) ∙ c.key.ensures.first in
-    xmss_follows v.records own c.args.secret.now c.args.name.now _ first c.requires.ready.stays (c.requires.key own first) (c.requires.free own first)
-    (c.bottom-leaf.ensures own first).0 c.copied.ensures c.requires.unbound refl
+    xmss_follows v.records own c.args.secret.now c.args.name.now _ first c.requires.can.ready.stays (c.requires.key own first) (c.requires.free own first)
+    (c.bottom-leaf.ensures own first).0 c.copied.ensures c.requires.can.unbound refl
 
-pub returns-in_err-map_err-clause-step : goal.returns-in_err-map_err-clause-step
-returns-in_err-map_err-clause-step g c key keyed =
+pub returns-in_err-map_err : goal.returns-in_err-map_err
+returns-in_err-map_err g c key keyed =
     let v = c.args.self.now in
     let first : key_in v.records ≡ Some c.key.result.now = ap (λ w. key_in w.records) (sym c.self.view_is) ∙ c.key.ensures.first in
     let own : c.key.result.now ≡ key = same_key v.records c.key.result.now key first keyed in
     let signer = subst (IsSigner g.S.Store) c.self.view_is c.self.invariant.0 in
     let answer : c.from_residual.result ≡ Err c.in_err-map_err.field-0.0 = search rules in
-    subst (λ a. Binds g.S.Store g.R.Source g.M.Message c.args.name.now 0 v v c.args.message.now c.args.message.now (answered_with a c.args.out.now.items) key)
+    subst (λ a. Binds g.S.Store g.R.Source g.M.Message c.args.name.now 0 v v c.args.message.now c.args.message.now (answered_with a c.args.out.now) key)
     (sym answer)
     (damaged_binds g.S.Store g.R.Source g.M.Message c.args.name.now v c.args.message.now c.args.message.now key c.args.secret.now (c.requires.key key keyed) keyed
-    c.xmss_link.result c.map_err.result c.in_err-map_err.field-0.0 (signer.tied c.requires.ready.is_open) refl
+    c.xmss_link.result c.map_err.result c.in_err-map_err.field-0.0 (signer.tied c.requires.can.ready.is_open) refl
     (λ left honest running since. g.met.S.Store.leaves_nothing_else v.store left honest running since) c.map_err.ensures.cases c.in_err-map_err.was
     (λ rest. c.xmss_link.ensures.damaged key rest (c.requires.key key keyed) (ap (λ k. k.root) (sym own))))
 
-pub returns-in_err-digest-clause-step : goal.returns-in_err-digest-clause-step
-returns-in_err-digest-clause-step g c key keyed =
+pub returns-in_err-digest : goal.returns-in_err-digest
+returns-in_err-digest g c key keyed =
     let v = c.args.self.now in
     let first : key_in v.records ≡ Some c.key.result.now = ap (λ w. key_in w.records) (sym c.self.view_is) ∙ c.key.ensures.first in
     let own : c.key.result.now ≡ key = same_key v.records c.key.result.now key first keyed in
     let signer = subst (IsSigner g.S.Store) c.self.view_is c.self.invariant.0 in
     let answer : c.from_residual-in_err-digest.result ≡ Err c.in_err-digest.field-0.0 = search rules in
     subst (λ a. Binds g.S.Store g.R.Source g.M.Message c.args.name.now 0 v v c.args.message.now c.read_xmss_digest.new.message
-    (answered_with a c.args.out.now.items) key) (sym (answer ∙ ap Err c.in_err-digest.ensures.err.0))
+    (answered_with a c.args.out.now) key) (sym (answer ∙ ap Err c.in_err-digest.ensures.fault))
     (unread_binds g.S.Store g.R.Source g.M.Message c.args.name.now v c.args.message.now c.read_xmss_digest.new.message key c.args.secret.now
-    (c.requires.key key keyed) keyed c.xmss_link.result c.map_err.result c.in_ok-map_err.field-0 c.requires.ready.is_open
-    (signer.tied c.requires.ready.is_open) (λ left honest running since. g.met.S.Store.leaves_nothing_else v.store left honest running since)
+    (c.requires.key key keyed) keyed c.xmss_link.result c.map_err.result c.in_ok-map_err.field-0 c.requires.can.ready.is_open
+    (signer.tied c.requires.can.ready.is_open) (λ left honest running since. g.met.S.Store.leaves_nothing_else v.store left honest running since)
     c.map_err.ensures.cases c.in_ok-map_err.was (λ rest. c.xmss_link.ensures.sound key rest (c.requires.key key keyed) (ap (λ k. k.root) (sym own)))
-    c.in_err-digest.ensures.err.1)
+    c.in_err-digest.ensures.digest)
 
-pub returns-in_err-add-clause-step : goal.returns-in_err-add-clause-step
-returns-in_err-add-clause-step g c key keyed =
+pub returns-in_err-add : goal.returns-in_err-add
+returns-in_err-add g c key keyed =
     let v = c.args.self.now in
     let first : key_in v.records ≡ Some c.key.result.now = ap (λ w. key_in w.records) (sym c.self.view_is) ∙ c.key.ensures.first in
     let own : c.key.result.now ≡ key = same_key v.records c.key.result.now key first keyed in
-    let (text, whole, read) = c.in_ok-digest.ensures.ok in
+    let (text, whole, read) = c.in_ok-digest.ensures.digest in
     let digest_is = read ∙ ap (λ r. message_digest_of r c.key.result.now.root c.bottom-leaf.result.0 text) c.randomizer-randomizer.ensures in
     let bound : Bound = record {
       name = c.copied.result;
@@ -94,16 +92,16 @@ returns-in_err-add-clause-step g c key keyed =
     let answer : c.from_residual-in_err-add.result ≡ Err c.in_err-add.field-0.0 = search rules in
     added_binds g.S.Store g.R.Source g.M.Message c.args.name.now v c.args.message.now c.read_xmss_digest.new.message key c.args.secret.now
     (c.requires.key key keyed) keyed c.xmss_link.result c.map_err.result c.in_ok-map_err.field-0 c.add.new.self bound text c.add.result
-    (answered_with c.from_residual-in_err-add.result c.args.out.now.items) c.requires.ready.is_open c.map_err.ensures.cases c.in_ok-map_err.was
+    (answered_with c.from_residual-in_err-add.result c.args.out.now) c.requires.can.ready.is_open c.map_err.ensures.cases c.in_ok-map_err.was
     (λ rest. c.xmss_link.ensures.sound key rest (c.requires.key key keyed) (ap (λ k. k.root) (sym own))) whole is c.add.ensures
-    (ap (λ a. answered_with a c.args.out.now.items) answer ∙ ap (λ a. answered_with a sig) (sym c.in_err-add.was))
+    (ap (λ a. answered_with a c.args.out.now) answer ∙ ap (λ a. answered_with a sig) (sym c.in_err-add.was))
 
-pub returns-clause-step : goal.returns-clause-step
-returns-clause-step g c key keyed =
+pub returns : goal.returns
+returns g c key keyed =
     let v = c.args.self.now in
     let first : key_in v.records ≡ Some c.key.result.now = ap (λ w. key_in w.records) (sym c.self.view_is) ∙ c.key.ensures.first in
     let own : c.key.result.now ≡ key = same_key v.records c.key.result.now key first keyed in
-    let (text, whole, read) = c.in_ok-digest.ensures.ok in
+    let (text, whole, read) = c.in_ok-digest.ensures.digest in
     let digest_is = read ∙ ap (λ r. message_digest_of r c.key.result.now.root c.bottom-leaf.result.0 text) c.randomizer-randomizer.ensures in
     let bound : Bound = record {
       name = c.copied.result;
@@ -114,11 +112,10 @@ returns-clause-step g c key keyed =
     let sig = signature_at key (v.records ++ BoundRecord bound ∷ []) (length v.records) bound in
     let is = bound_of_xmss v.records key c.key.result.now c.args.secret.now c.args.name.now bound text (c.requires.key key keyed) own c.copied.ensures
     (c.bottom-leaf.ensures key keyed).0 refl digest_is in
-    let fits : length c.write_xmss.new.into ≡ c.args.out.now.len = search rules in
     let signs = c.write_xmss.ensures
     ∙ sym (xmss_signed (v.records ++ BoundRecord bound ∷ []) key c.args.secret.now (length v.records) bound (c.requires.key key keyed)) in
     added_binds g.S.Store g.R.Source g.M.Message c.args.name.now v c.args.message.now c.read_xmss_digest.new.message key c.args.secret.now
     (c.requires.key key keyed) keyed c.xmss_link.result c.map_err.result c.in_ok-map_err.field-0 c.add.new.self bound text c.add.result
-    _ c.requires.ready.is_open c.map_err.ensures.cases c.in_ok-map_err.was
+    _ c.requires.can.ready.is_open c.map_err.ensures.cases c.in_ok-map_err.was
     (λ rest. c.xmss_link.ensures.sound key rest (c.requires.key key keyed) (ap (λ k. k.root) (sym own))) whole is c.add.ensures
-    (ap Ok (take_at c.write_xmss.new.into _ c.args.out.now.len fits ∙ signs) ∙ ap (λ a. answered_with a sig) (sym c.in_ok-add.was))
+    (ap Ok signs ∙ ap (λ a. answered_with a sig) (sym c.in_ok-add.was))

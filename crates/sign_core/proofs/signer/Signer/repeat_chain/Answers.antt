@@ -16,7 +16,7 @@ use Rattle.sign_core.proofs.signer.Signer.repeat_chain.Goals as goal
 pub returns-then-ne-clause-step : goal.returns-then-ne-clause-step
 returns-then-ne-clause-step g c key keyed name kept =
     let v = c.args.self.now in
-    let (text, whole, is) = c.in_ok-digest.ensures.ok in
+    let (text, whole, is) = c.in_ok-digest.ensures.digest in
     let found = is_found key v.records name c.args.binding.now kept in
     changed g.M.Message v c.args.message.now c.read_digest.new.message (vec_capacity c.args.out.now) key name c.args.binding.now found text
     c.in_ok-digest.digest whole
@@ -28,7 +28,7 @@ returns-then-ne-clause-step g c key keyed name kept =
 pub returns-in_err-make_room-clause-step : goal.returns-in_err-make_room-clause-step
 returns-in_err-make_room-clause-step g c key keyed name kept =
     let v = c.args.self.now in
-    let (text, whole, is) = c.in_ok-digest.ensures.ok in
+    let (text, whole, is) = c.in_ok-digest.ensures.digest in
     let found = is_found key v.records name c.args.binding.now kept in
     let own : c.key.result.now ≡ key = same_key v.records c.key.result.now key (ap (λ w. key_in w.records) (sym c.self.view_is) ∙ c.key.ensures.first) keyed in
     let answer : c.from_residual-in_err-make_room.result ≡ Err c.in_err-make_room.field-0.0 = search rules in
@@ -74,7 +74,7 @@ push_chain-requires-clause-room g c =
 pub returns-in_err-map_err-clause-step : goal.returns-in_err-map_err-clause-step
 returns-in_err-map_err-clause-step g c key keyed name kept =
     let v = c.args.self.now in
-    let (text, whole, is) = c.in_ok-digest.ensures.ok in
+    let (text, whole, is) = c.in_ok-digest.ensures.digest in
     let found = is_found key v.records name c.args.binding.now kept in
     let own : c.key.result.now ≡ key = same_key v.records c.key.result.now key (ap (λ w. key_in w.records) (sym c.self.view_is) ∙ c.key.ensures.first) keyed in
     let answer : c.from_residual-in_err-map_err.result ≡ Err c.in_err-map_err.field-0.0 = search rules in
@@ -118,7 +118,7 @@ write_chain-requires-clause-trees g c =
 pub returns-clause-step : goal.returns-clause-step
 returns-clause-step g c key keyed name kept =
     let v = c.args.self.now in
-    let (text, whole, is) = c.in_ok-digest.ensures.ok in
+    let (text, whole, is) = c.in_ok-digest.ensures.digest in
     let found = is_found key v.records name c.args.binding.now kept in
     let first : key_in v.records ≡ Some c.key.result.now = ap (λ w. key_in w.records) (sym c.self.view_is) ∙ c.key.ensures.first in
     let own : c.key.result.now ≡ key = same_key v.records c.key.result.now key first keyed in

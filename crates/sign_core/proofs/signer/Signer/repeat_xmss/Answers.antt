@@ -13,7 +13,7 @@ use Rattle.sign_core.proofs.signer.Signer.repeat_xmss.Goals as goal
 pub returns-then-ne-clause-step : goal.returns-then-ne-clause-step
 returns-then-ne-clause-step g c key keyed name kept =
     let v = c.args.self.now in
-    let (text, whole, read) = c.in_ok-digest.ensures.ok in
+    let (text, whole, read) = c.in_ok-digest.ensures.digest in
     let is = read ∙ ap (λ r. message_digest_of r c.key.result.now.root c.args.binding.now.leaf text) c.randomizer-randomizer.ensures in
     let found = is_found key v.records name c.args.binding.now kept in
     let own : c.key.result.now ≡ key = same_key v.records c.key.result.now key (ap (λ w. key_in w.records) (sym c.self.view_is) ∙ c.key.ensures.first) keyed in
@@ -24,7 +24,7 @@ returns-then-ne-clause-step g c key keyed name kept =
 pub returns-in_err-make_room-clause-step : goal.returns-in_err-make_room-clause-step
 returns-in_err-make_room-clause-step g c key keyed name kept =
     let v = c.args.self.now in
-    let (text, whole, read) = c.in_ok-digest.ensures.ok in
+    let (text, whole, read) = c.in_ok-digest.ensures.digest in
     let is = read ∙ ap (λ r. message_digest_of r c.key.result.now.root c.args.binding.now.leaf text) c.randomizer-randomizer.ensures in
     let found = is_found key v.records name c.args.binding.now kept in
     let first : key_in v.records ≡ Some c.key.result.now = ap (λ w. key_in w.records) (sym c.self.view_is) ∙ c.key.ensures.first in
@@ -55,7 +55,7 @@ write_xmss-requires-clause-inside g c =
 pub returns-in_err-map_err-clause-step : goal.returns-in_err-map_err-clause-step
 returns-in_err-map_err-clause-step g c key keyed name kept =
     let v = c.args.self.now in
-    let (text, whole, read) = c.in_ok-digest.ensures.ok in
+    let (text, whole, read) = c.in_ok-digest.ensures.digest in
     let is = read ∙ ap (λ r. message_digest_of r c.key.result.now.root c.args.binding.now.leaf text) c.randomizer-randomizer.ensures in
     let found = is_found key v.records name c.args.binding.now kept in
     let first : key_in v.records ≡ Some c.key.result.now = ap (λ w. key_in w.records) (sym c.self.view_is) ∙ c.key.ensures.first in
@@ -71,7 +71,7 @@ returns-in_err-map_err-clause-step g c key keyed name kept =
 pub returns-clause-step : goal.returns-clause-step
 returns-clause-step g c key keyed name kept =
     let v = c.args.self.now in
-    let (text, whole, read) = c.in_ok-digest.ensures.ok in
+    let (text, whole, read) = c.in_ok-digest.ensures.digest in
     let is = read ∙ ap (λ r. message_digest_of r c.key.result.now.root c.args.binding.now.leaf text) c.randomizer-randomizer.ensures in
     let found = is_found key v.records name c.args.binding.now kept in
     let first : key_in v.records ≡ Some c.key.result.now = ap (λ w. key_in w.records) (sym c.self.view_is) ∙ c.key.ensures.first in

@@ -1,6 +1,6 @@
 use Rattle.std.proofs.Common.{◌-◌, refl}
 use Rattle.sign_core.proofs.Kept.{follows_extend}
-use Rattle.sign_core.proofs.trees.Trees.extend.Goals as goal
+use Rattle.sign_core.proofs.trees.CurrentTrees.extend.Goals as goal
 
 pub returns : goal.returns
 returns c =
