@@ -59,3 +59,5 @@ pub mod Drawing
 pub mod Creating
 pub mod Opening
 pub mod Extends
+pub mod Unbound
+pub mod Damage
