@@ -15,12 +15,13 @@ ghost use Rattle.sign_core.specs.Records.{IsNext, binding_in, current, deepest, 
 ghost use Rattle.sign_core.specs.Records.{has_identifier, key_in, next_in};
 ghost use Rattle.sign_core.specs.Once.{CutLaw, IsBoundTo, LastingLaw, OnceLaw, SoundLaw, StopLaw, Verifies};
 ghost use Rattle.sign_core.specs.Calls.{CallsLaw, StoppedLaw};
+ghost use Rattle.sign_core.specs.Lives.{LivesLaw};
 ghost use Rattle.sign_core.specs.Opened.{OpenedLaw};
 ghost use Rattle.sign_core.specs.SignerCalls.{SignerLaw};
 ghost use Rattle.sign_core.specs.Textbook.{AllHaveSizes, AreSound, damaged_in, public_in, signature_at, tree_before};
 
 use crate::source::Source;
-use state_file::Store;
+use state_file::{Disk, FileStore, Store};
 use typecodes::Message;
 
 /// What holds of the records of a key, in the words of legal lists.
@@ -155,15 +156,30 @@ pub fn stopped_law<S: Store>()
     ensures stopped { StoppedLaw S.Store }
 {}
 
+/// The lives of one disk are a run of the world, and the law over all runs holds of it.
+///
+/// In each life a store is opened on the disk (`FileStore::open`), or prepared (`FileStore::format`); calls of signers
+/// on it come to their end; and the power goes, at any moment of an opening or of a call, or between two. The next life
+/// begins with what that left, or, where the power didn't go, with the same disk. Whatever content is left at the end
+/// stands for one list of records; a run of the world leads to this list, in which just those signatures were handed
+/// out that the calls gave which came to their end.
+///
+/// The disk keeps what was synced, and has no key as the first life begins. Which calls of a signer are such calls,
+/// `signer_law` says (`lasts`).
+pub fn lives_law<D: Disk + Drop>()
+    ensures lives { LivesLaw D.Disk ⟦<FileStore<D> as Store>⟧ }
+{}
+
 /// Over an honest store each call of an open signer, each create and each opening is an event of the world that
-/// `once_law` speaks of. Over any store a call of a closed signer answers 26, and is an event that leaves the world as
-/// it was.
+/// `once_law` speaks of: the one that its own contract says. Over any store a call of a closed signer answers 26, and is
+/// an event that leaves the world as it was; and so is a create or an opening of a store that has stopped.
 ///
 /// A stop at any moment of the call leaves what a stop of the event leaves; after it the signer is open as the world
 /// is, and then on the same records; and what it answers is what the event hands out, for the message that was read.
 /// A create or an opening that is refused leaves no signer open, and the world on the records of the store that is
-/// handed back. A call of a closed signer leaves the store as it was, and hands nothing out. So all calls of one signer
-/// from its create or opening on, whatever they answer, are a chain of calls as `stopped_law` speaks of one.
+/// handed back. A call of a closed signer, or on a store that has stopped, leaves the store as it was, and hands
+/// nothing out. So all calls of one signer from its create or opening on, whatever they answer, are a chain of calls as
+/// `stopped_law` speaks of one, and each of them lasts, as `lives_law` wants it.
 pub fn signer_law<S: Store, R: Source, M: Message>()
     ensures signer { SignerLaw S.Store R.Source M.Message }
 {}
