@@ -91,6 +91,9 @@ pub fn textbook_laws()
 ///   digest gets the recorded signature, unless memory is refused or the message can't be read. Neither changes
 ///   anything.
 /// - A request for a new name gets the next leaf, if one is left, the store isn't full and nothing fails.
+/// - No refusal of a request binds a name, unless the store's device failed (25).
+/// - A retiring beyond the next leaf is recorded, if the tree has these leaves, the store isn't full and nothing fails.
+///   Any other changes nothing, unless the device failed, and the law says what it answers.
 /// - The recorded root is that of the recorded secret, so no request is answered that a record is damaged.
 ///
 /// The clauses stand in `specs/Once.antt`, the events in `specs/World.antt`. The law speaks of digests: two messages of
@@ -115,7 +118,9 @@ pub fn sound_law()
 /// - an opening where nothing fails opens the signer on them, and answers the public key of record 0;
 /// - every event leaves legal records;
 /// - a signature that a request gives, under a new name or a bound one and in every scheme, is valid under that key for
-///   the message that was read, and so is each one that a run hands out.
+///   the message that was read, and so is each one that a run hands out;
+/// - where a record is refused as damaged (28), it is the first of its chain of trees, from the top down, that says
+///   otherwise than the secrets, and nothing changed.
 ///
 /// The clauses stand in `specs/Opened.antt`.
 pub fn opened_law()
