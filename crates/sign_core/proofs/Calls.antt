@@ -41,7 +41,7 @@ whole_left records all left same is = is.beginning ∙ ap (take is.count) same �
 -- ---- one step
 
 -- what a stop at a moment of an event leaves, is left by events that can come
-stop_left : (limit : ℕ) (world : World) (event : Event) (left : List Record) → IsEvent event
+pub stop_left : (limit : ℕ) (world : World) (event : Event) (left : List Record) → IsEvent event
     → IsBeginning (length world.state.records) (reached_by limit world event) left → IsLeftBy limit world left
 stop_left limit world (create spec chance) left can is = stop_law.creates limit world spec chance left can is
 stop_left limit world (reopen chance) left can is =
@@ -59,11 +59,11 @@ step_run limit world (stops event left) can =
 
 -- ---- all of them
 
-run_both : (limit : ℕ) (world : World) (first later : List Event) → run limit world (first ++ later) ≡ run limit (run limit world first) later
+pub run_both : (limit : ℕ) (world : World) (first later : List Event) → run limit world (first ++ later) ≡ run limit (run limit world first) later
 run_both limit world [] later = refl
 run_both limit world (event ∷ first) later = run_both limit (after limit world event) first later
 
-all_both : (first later : List Event) → AllEvents first → AllEvents later → AllEvents (first ++ later)
+pub all_both : (first later : List Event) → AllEvents first → AllEvents later → AllEvents (first ++ later)
 all_both [] later all more = more
 all_both (event ∷ first) later all more = (all.0, all_both first later all.1 more)
 

@@ -1,6 +1,6 @@
 -- What each end of a create is: a step of the world.
 use Rattle.std.proofs.Common.{◌≡◌, ◌⊎◌, ℕ, ◌+◌, ◌≤◌, Bool, true, false, List, [], ◌∷◌, ◌++◌, length, Some, None, Result, Ok, Err, refl, sym, ap, ◌∙◌}
-use Rattle.std.proofs.Common.{subst, arith, append-nil, inl, inr, IsTrue, ◌||◌}
+use Rattle.std.proofs.Common.{subst, arith, append-nil, inl, inr, IsTrue, true≢false, ◌||◌}
 use Rattle.std.proofs.lemmas.Bool.Decides.{nat_tests}
 use Rattle.std.specs.Prelude.{Option, nat_le, if◌then◌else◌}
 use Rattle.std.specs.List.{concat}
@@ -77,6 +77,7 @@ refused_first g r spec old new random fault failed is load step failures unfaile
   room = refl;
   refusals = is.refusals;
   unreadable = is.unreadable;
+  stays = is.stays;
 }
 
 there_step : (list : List Record) (spec : Spec) → 1 ≤ length list
@@ -140,6 +141,7 @@ undrawn_random g r spec old mid before after is draws = record {
   room = refl;
   refusals = is.refusals;
   unreadable = is.unreadable;
+  stays = λ stopped. absurd (true≢false (sym stopped ∙ is.finds.0));
 }
 
 pub undrawn : {S R : Type 0} (g : store.Ghosts S) (r : source.Ghosts R) (spec : Spec) (old mid : S) (before after : R) (fault : SignFault)
@@ -217,6 +219,7 @@ made_by_fate g r spec old mid new before after secret fate outcome answer IsAnsw
   room = refl;
   refusals = refusals;
   unreadable = unreadable;
+  stays = λ before. absurd (true≢false (sym before ∙ has.looked.finds.0));
 }
 
 alone : (list : List Record) (entry : Record) → length list ≡ 0 → list ++ entry ∷ [] ≡ entry ∷ []

@@ -26,21 +26,21 @@ use Rattle.sign_core.proofs.Requests.{first_drawn, later_drawn}
 -- ---- what comes before the wanted records
 
 -- Q holds of refusals that aren't 24.
-abbrev IsOfRefusals : (Outcome (List ℕ) → Type 0) → State → Type 0
+abbrev pub IsOfRefusals : (Outcome (List ℕ) → Type 0) → State → Type 0
 IsOfRefusals Q state = (fault : SignFault) → fault ≢ RandomRepeated → Q (refused state fault)
 
 -- .. and of answers, also once the message is read
-record IsSettled (Q : Outcome (List ℕ) → Type 0) (state : State) : Type 0 where
-  refused_for : IsOfRefusals Q state
-  gives : (signature : List ℕ) → Q (answered state signature)
-  read : (outcome : Outcome (List ℕ)) → Q outcome → Q (reading outcome)
+pub record IsSettled (Q : Outcome (List ℕ) → Type 0) (state : State) : Type 0 where
+  pub refused_for : IsOfRefusals Q state
+  pub gives : (signature : List ℕ) → Q (answered state signature)
+  pub read : (outcome : Outcome (List ℕ)) → Q outcome → Q (reading outcome)
 
 module _ (Q : Outcome (List ℕ) → Type 0) (state : State) (chance : Chance) (settled : IsSettled Q state) where
   settled_repeated_sound : (key : Key) (k : ℕ) (bound : Bound) (damaged : Option ℕ) → Q (repeated_sound state key k bound damaged)
   settled_repeated_sound key k bound (Some slot) = settled.refused_for (Damaged slot) (λ e. cc)
   settled_repeated_sound key k bound None = settled.gives _
 
-  settled_repeated : (key : Key) (k : ℕ) (bound : Bound) (given : Option (List ℕ)) → Q (repeated state key k bound chance given)
+  pub settled_repeated : (key : Key) (k : ℕ) (bound : Bound) (given : Option (List ℕ)) → Q (repeated state key k bound chance given)
   settled_repeated key k bound None = settled.read _ (settled.refused_for MessageRead (λ e. cc))
   settled_repeated key k bound (Some message) = settled.read _
       (kept_choice Q (not (are_same (digest_at key state.records k bound.leaf bound.randomizer message) bound.digest)) _ _
@@ -69,7 +69,7 @@ module _ (Q : Outcome (List ℕ) → Type 0) (limit : ℕ) (state : State) (name
   settled_of key (Some (k, bound)) again rest = again k bound
   settled_of key None again rest = settled_anew key (deepest key.secret state.records) rest
 
-  settled_under : (found : Option Key) → ((key : Key) (k : ℕ) (bound : Bound) → Q (repeated state key k bound chance chance.given))
+  pub settled_under : (found : Option Key) → ((key : Key) (k : ℕ) (bound : Bound) → Q (repeated state key k bound chance chance.given))
       → ((key : Key) (deepest : ℕ) → found ≡ Some key → Q (fulfilled key name chance (bottom_of key.secret - deepest) chance.trees state.records))
       → Q (requested_under limit state name chance found)
   settled_under None again rest = refuses Stopped (λ e. cc)

@@ -1,5 +1,5 @@
 -- The ways in which a request can end.
-use Rattle.std.proofs.Common.{◌≡◌, ◌≢◌, refl, ℕ, zero, suc, ◌+◌, ◌-◌, List, [], ◌∷◌, ◌++◌, length, Option, Some, None}
+use Rattle.std.proofs.Common.{◌≡◌, ◌≢◌, refl, ℕ, zero, suc, ◌+◌, ◌-◌, List, [], ◌∷◌, ◌++◌, length, Option, Some, None, Err}
 use Rattle.std.specs.Prelude.{nat_lt, not}
 use Rattle.std.specs.List.{concat}
 use Rattle.state_file.specs.Laws.{bottom_of}
@@ -73,7 +73,7 @@ ended_extended Q ends state key level None draw next later = ends.refused_for st
 ended_extended Q ends state key level (Some trees) draw next later =
     ended_by Q ends state trees level (next_at key.secret state.records (level - 1)) draw.fields draw.fate next later
 
-ended_fulfilled : (Q : Outcome (List ℕ) → Type 0) → Ends Q
+pub ended_fulfilled : (Q : Outcome (List ℕ) → Type 0) → Ends Q
     → (key : Key) (name : List ℕ) (chance : Chance) (below : ℕ) (draws : List Draw) (records : List Record)
     → Q (fulfilled key name chance below draws records)
 ended_fulfilled Q ends key name chance zero draws records = ends.drawn (concat chance.bound.fields) _
@@ -141,3 +141,13 @@ ended_under Q ends limit state name chance (Some key) bad used_up =
 pub ended_request : (Q : Outcome (List ℕ) → Type 0) → Ends Q → (limit : ℕ) (state : State) (name : List ℕ) (chance : Chance)
     → ((key : Key) → key_in state.records ≡ Some key → IsDamaged Q state key) → Q (refused state Exhausted) → Q (requested limit state name chance)
 ended_request Q ends limit state name chance bad used_up = ended_under Q ends limit state name chance (key_in state.records) bad used_up
+
+-- what isn't 28
+pub not_damaged : (slot : ℕ) → Ends (λ outcome. outcome.answer ≢ Err (Damaged slot))
+not_damaged slot = record {
+  drawn = λ bytes outcome never. never;
+  read = λ outcome never. never;
+  refused_for = λ state fault plain is. plain.2 slot (cc);
+  cut_off = λ acknowledged entry left is. cc;
+  gives = λ state signature is. cc;
+}

@@ -59,3 +59,7 @@ pub mod Drawing
 pub mod Creating
 pub mod Opening
 pub mod Extends
+pub mod Lives
+pub mod Unbound
+pub mod Answered
+pub mod Damage

@@ -28,13 +28,14 @@ use Rattle.sign_core.specs.Textbook.{AreSound, damaged_in, digest_at, public_in,
 use Rattle.sign_core.proofs.Illegal.{none_from_legal}
 use Rattle.sign_core.proofs.Opened.{reopens}
 use Rattle.sign_core.proofs.Valid.{undamaged}
-use Rattle.sign_core.proofs.Ends.{Ends, IsDamaged, ended_anew, ended_request}
+use Rattle.sign_core.proofs.Ends.{Ends, IsDamaged, ended_anew, ended_request, not_damaged}
 use Rattle.sign_core.proofs.Fresh.{IsDone, fine_fulfilled, randomizer_drawn}
 use Rattle.sign_core.proofs.DrawnAgain.{drawn_again, drawn_most, signed_read}
 use Rattle.sign_core.proofs.Leaves.{deepest_is}
 use Rattle.sign_core.proofs.OnceKept.{IsKept, sound_with}
 use Rattle.sign_core.proofs.OneLeaf.{handed_valid, one_digest, one_name, one_signature}
 use Rattle.sign_core.proofs.Sizes.{key_has_sizes, spec_public, trees_made}
+use Rattle.sign_core.proofs.Unbound.{binds_none, moved_retires, retires_before, retires_full, retires_outside, retires_starved}
 
 -- ---- sound records
 
@@ -201,15 +202,6 @@ exhausted_exactly limit state key name chance open_now stays keyed unbound =
 
 -- ---- any request
 
-not_damaged : (slot : ℕ) → Ends (λ outcome. outcome.answer ≢ Err (Damaged slot))
-not_damaged slot = record {
-  drawn = λ bytes outcome never. never;
-  read = λ outcome never. never;
-  refused_for = λ state fault plain is. plain.2 slot (cc);
-  cut_off = λ acknowledged entry left is. cc;
-  gives = λ state signature is. cc;
-}
-
 pub answers_whole : (limit : ℕ) (state : State) (handed : List Handed) (name : List ℕ) (chance : Chance) (slot : ℕ) → IsKept state.records handed
     → (requested limit state name chance).answer ≢ Err (Damaged slot)
 answers_whole limit state handed name chance slot kept =
@@ -360,6 +352,12 @@ once limit world kept = record {
   again = λ name chance. drawn_again limit world.state name chance;
   draws = λ key name chance keyed drawn. drawn_most limit world.state key name chance keyed drawn;
   retires = λ key upto. retires_beyond limit world.state key upto;
+  moved_retiring = λ key upto fate. moved_retires limit world.state key upto fate;
+  outside = λ key upto fate. retires_outside limit world.state key upto fate;
+  no_further = λ key upto fate. retires_before limit world.state key upto fate;
+  full = λ key upto fate. retires_full limit world.state key upto fate;
+  starved = λ key upto. retires_starved limit world.state key upto;
+  unbound = λ name other chance fault. binds_none limit world.state name other chance fault;
   exhausted = λ key name chance. exhausted_exactly limit world.state key name chance;
   sound = kept.ground;
   undamaged = λ name chance slot. answers_whole limit world.state world.handed name chance slot kept;

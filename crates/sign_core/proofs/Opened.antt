@@ -27,6 +27,7 @@ use Rattle.sign_core.specs.World.{first_draw, fulfilled, handed_with, later_draw
 use Rattle.sign_core.specs.World.{randomizer_from, refused, reopen, repeated, repeated_sound, request, requested, requested_of, requested_under, retire}
 use Rattle.sign_core.specs.World.{retired_under, run, secret_from, stop}
 use Rattle.sign_core.specs.Textbook.{Trees, damaged_in, digest_at, public_in, signature_at, tree_before, trees_of}
+use Rattle.sign_core.proofs.Damage.{names_damaged}
 use Rattle.sign_core.proofs.Events.{retire_can}
 use Rattle.sign_core.proofs.DrawnAgain.{signed_read}
 use Rattle.sign_core.proofs.Follow.{key_first}
@@ -351,4 +352,4 @@ run_valid limit world events x sized empty all there =
     record { public = public; keyed = ap public_of_key are.keyed ∙ is; verifies = right.valid x there }
 
 pub opened_law : OpenedLaw
-opened_law = record { reopens = reopens; legal = stays_legal; read = signed_read; valid = request_valid; handed = run_valid }
+opened_law = record { reopens = reopens; legal = stays_legal; read = signed_read; valid = request_valid; handed = run_valid; damaged = names_damaged }

@@ -42,6 +42,7 @@ pub record IsKept {S : Type 0} (g : store.Ghosts S) (old now : S) : Type 0 where
   pub unreadable : g.unreadable now ≡ g.unreadable old
   pub honest : g.honest now ≡ g.honest old
   pub most : g.most now ≡ g.most old
+  pub stays : g.stopped old ≡ true → now ≡ old
 
 -- These are the first k records of a store, where it is honest.
 pub record Begins {S : Type 0} (g : store.Ghosts S) (old : S) (records : List Record) (k : ℕ) : Type 0 where
@@ -77,6 +78,7 @@ none_loaded g old only = record {
     unreadable = refl;
     honest = refl;
     most = refl;
+    stays = λ _. refl;
   };
   begins = record { long = refl; inside = omega arith; same = λ honest. refl };
   legal = refl;
@@ -101,6 +103,7 @@ kept_found g old now next k found kept loads was is failures = record {
   unreadable = loads.unreadable ∙ kept.unreadable;
   honest = loads.honest ∙ kept.honest;
   most = loads.most ∙ kept.most;
+  stays = λ before. absurd (true≢false (sym before ∙ sym kept.stopped ∙ was));
 }
 
 pub kept_some : {S : Type 0} (g : store.Ghosts S) (old now next : S) (k : ℕ) (entry : Record) → IsKept g old now
@@ -172,8 +175,8 @@ pub stopped_at : {S : Type 0} (g : store.Ghosts S) (old now next : S) (records :
     → Counts {A = AnyPublic} is_device_failed (g.failures old) (g.failures next) (Err fault)
     → RefusesToOpen {A = AnyPublic} (whole g old records k) (Err fault) (g.refusals old) (g.refusals next)
     → g.unreadable next ≡ unreadable_slot fault ++ g.unreadable old → g.honest next ≡ g.honest old → g.most next ≡ g.most old
-    → LoadsAll g old next (IsTakenUp (Err fault))
-stopped_at g old now next records k fault has load stopped list moments failures refusals unreadable honest most = record {
+    → (g.stopped old ≡ true → next ≡ old) → LoadsAll g old next (IsTakenUp (Err fault))
+stopped_at g old now next records k fault has load stopped list moments failures refusals unreadable honest most stays = record {
   records = whole g old records k;
   long = whole_long g old records k has.begins;
   same = whole_same g old records k has.begins;
@@ -190,7 +193,12 @@ stopped_at g old now next records k fault has load stopped list moments failures
   unreadable = unreadable;
   honest = honest;
   most = most;
+  stays = stays;
 }
+
+-- a load more of a store that has stopped
+later_stays : {S : Type 0} (g : store.Ghosts S) (old now next : S) → IsKept g old now → (g.stopped now ≡ true → next ≡ now) → g.stopped old ≡ true → next ≡ old
+later_stays g old now next kept stays before = stays (kept.stopped ∙ before) ∙ kept.stays before
 
 -- the first load alone can find a store that has stopped
 first_place : {S : Type 0} (g : store.Ghosts S) (old now : S) (records : List Record) (k : ℕ) → HasLoaded g old now records k → g.stopped now ≡ true → k ≡ 0
@@ -205,20 +213,24 @@ unloaded g old now next records k Stopped has loads =
     (sym has.kept.stopped ∙ loads.loads.0, first_place g old now records k has loads.loads.0) (loads.stopped ∙ has.kept.stopped) (loads.list ∙ has.kept.list)
     (later_moments g old now next has.kept loads.moments) (loads.loads.1 ∙ has.kept.failures) (loads.refusals ∙ has.kept.refusals)
     (loads.unreadable ∙ has.kept.unreadable) (loads.honest ∙ has.kept.honest) (loads.most ∙ has.kept.most)
+    (later_stays g old now next has.kept loads.stays)
 unloaded g old now next records k (Unreadable slot) has loads =
     stopped_at g old now next records k (Unreadable slot) has
     (sym has.kept.stopped ∙ loads.loads.0, sym has.kept.honest ∙ loads.loads.1, loads.loads.2, omega (arith, loads.loads.3, ap length has.kept.list))
     (loads.stopped ∙ has.kept.stopped) (loads.list ∙ has.kept.list)
     (later_moments g old now next has.kept loads.moments) (loads.loads.4 ∙ has.kept.failures) (loads.refusals ∙ has.kept.refusals)
     (loads.unreadable ∙ ap (λ l. slot ∷ l) has.kept.unreadable) (loads.honest ∙ has.kept.honest) (loads.most ∙ has.kept.most)
+    (later_stays g old now next has.kept loads.stays)
 unloaded g old now next records k DeviceFailed has loads =
     stopped_at g old now next records k DeviceFailed has (sym has.kept.stopped ∙ loads.loads.0, has.begins.inside) loads.stopped (loads.list ∙ has.kept.list)
     (later_moments g old now next has.kept loads.moments) (loads.loads.1 ∙ ap (λ n. n + 1) has.kept.failures) (loads.refusals ∙ has.kept.refusals)
     (loads.unreadable ∙ has.kept.unreadable) (loads.honest ∙ has.kept.honest) (loads.most ∙ has.kept.most)
+    (later_stays g old now next has.kept loads.stays)
 unloaded g old now next records k NoMemoryToOpen has loads =
     stopped_at g old now next records k NoMemoryToOpen has (sym has.kept.stopped ∙ loads.loads.0, has.begins.inside) (loads.stopped ∙ has.kept.stopped)
     (loads.list ∙ has.kept.list) (later_moments g old now next has.kept loads.moments) (loads.loads.1 ∙ has.kept.failures)
     (inl (loads.refusals ∙ ap (λ n. n + 1) has.kept.refusals)) (loads.unreadable ∙ has.kept.unreadable) (loads.honest ∙ has.kept.honest) (loads.most ∙ has.kept.most)
+    (later_stays g old now next has.kept loads.stays)
 unloaded g old now next records k Changed has loads = absurd loads.loads
 unloaded g old now next records k Exhausted has loads = absurd loads.loads
 unloaded g old now next records k RandomFailed has loads = absurd loads.loads
@@ -266,6 +278,7 @@ illegal_at g old now next records k entry has loads not =
       unreadable = kept.unreadable;
       honest = kept.honest;
       most = kept.most;
+      stays = kept.stays;
     }
 
 -- ---- records that are taken up
@@ -322,6 +335,7 @@ unroomed g old now next table k entry is loads follows lacking =
       unreadable = kept.unreadable;
       honest = kept.honest;
       most = kept.most;
+      stays = kept.stays;
     }
 
 -- a record that isn't taken up
@@ -413,6 +427,7 @@ all_taken g old now table k is end =
       unreadable = kept.unreadable;
       honest = kept.honest;
       most = kept.most;
+      stays = kept.stays;
     }
 
 pub all_tied : {S : Type 0} (g : store.Ghosts S) (old now : S) (table : Table) (k : ℕ) → IsLoadedTo g old now table k → length (g.list old) ≤ k

@@ -1,7 +1,8 @@
 -- The calls of a signer over an honest store are calls of the world's.
 use Rattle.std.proofs.Common.{◌≡◌, ◌∙◌, refl, sym, ap, subst, ℕ, inl, inr, Bool, true, false, List, [], ◌∷◌, ◌++◌, length, take, Option, Some, None}
-use Rattle.std.proofs.Common.{Result, Ok, Err, append-nil, arith}
+use Rattle.std.proofs.Common.{Result, Ok, Err, append-nil, arith, true≢false}
 use Rattle.std.specs.Prelude.{IsSome, IsTrue, if◌then◌else◌, nat_le, nat_lt}
+use Rattle.std.proofs.lemmas.Bool.{le-ltb}
 use Rattle.std.proofs.lemmas.List.{take_all}
 use Rattle.typecodes.specs.declared.message.Message as message
 use Rattle.typecodes.specs.declared.spec.Spec.{Spec}
@@ -23,13 +24,14 @@ use Rattle.sign_core.specs.declared.fault.SignFault.TheVariants.{NoKey, NoMemory
 use Rattle.sign_core.specs.declared.fault.SignFault.TheVariants.{Stopped, StoreFailed, Unreadable}
 use Rattle.sign_core.specs.declared.fault.SignFault.TheVariants.{Moved as MovedAway}
 use Rattle.sign_core.specs.declared.source.Source as source
-use Rattle.sign_core.specs.Once.{CanFailLoad, CanStopOpening, IsBeginning, reached}
+use Rattle.sign_core.specs.Calls.{IsLastingCall}
+use Rattle.sign_core.specs.Once.{CanFailLoad, CanStopOpening, IsBeginning, IsEvent, reached}
 use Rattle.sign_core.specs.Records.{first_illegal, key_in}
-use Rattle.sign_core.specs.Signer.{Creates, IsAnswered, IsRead, LoadFails, Opens, Retires, Signs, StopsOpening, View, is_before_draws, is_fault, is_of_append}
+use Rattle.sign_core.specs.Signer.{Creates, IsAnswered, IsRead, IsSigner, LoadFails, Opens, Retires, Signs, StopsOpening, View, is_before_draws, is_fault, is_of_append}
 use Rattle.sign_core.specs.Signer.{state_of, store_after}
-use Rattle.sign_core.specs.SignerCalls.{AreClosed, HandsOut, IsAfter, IsOpenSigner, IsRefusedCall, IsRunning, OpensIn, OpensInWorld, RetiresInWorld, SignerLaw, SignsInWorld, world_of}
+use Rattle.sign_core.specs.SignerCalls.{AreClosed, HandsOut, IsAfter, IsEventOf, IsOpenSigner, IsRefusedCall, IsRefusedOpening, IsRunning, OpensIn, OpensInWorld, RetiresInWorld, SignerLaw, SignsInWorld, world_of}
 use Rattle.sign_core.specs.Textbook.{public_in}
-use Rattle.sign_core.specs.World.{Chance, Creation, Fate, Handed, Opening, Outcome, State, World, acked, after, appended, begun, closed_on, create, created}
+use Rattle.sign_core.specs.World.{Chance, Creation, Event, Fate, Handed, Opening, Outcome, State, World, acked, after, appended, begun, closed_on, create, created}
 use Rattle.sign_core.specs.World.{created_after, cut_new, cut_old, handed_with, new_key, no_memory, opened, opened_by, opened_on, published, refused}
 use Rattle.sign_core.specs.World.{reopen, request, requested, retire, retired, secret_from}
 use Rattle.sign_core.proofs.Acknowledged.{open_acknowledged}
@@ -77,7 +79,8 @@ hands_out m name (Some text) is_read before later (Err fault) handed reads read 
 
 signs_in : {S R M : Type 0} (g : store.Ghosts S) (r : source.Ghosts R) (m : message.Ghosts M) (old new : View S R) (name : List ℕ) (before later : M)
     (capacity : ℕ) (answer : Result (List ℕ) SignFault) (handed : List Handed) → IsOpenSigner g old → IsName name
-    → Signs g r m old new name before later capacity answer → SignsInWorld g m handed old new name before later answer
+    → (signs : Signs g r m old new name before later capacity answer)
+    → SignsInWorld g m handed (request name signs.chance) old new name before later answer
 signs_in g r m old new name before later capacity answer handed signer is_name signs =
     let limit = g.most old.store in
     let world = world_of (state_of old) handed in
@@ -91,14 +94,17 @@ signs_in g r m old new name before later capacity answer handed signer is_name s
     (λ signature is. signed_read limit (state_of old) name signature signs.chance is)
     (subst (λ (o : Outcome (List ℕ)). IsRead m o.is_read signs.chance.given before later) (sym signs.step) signs.message) in
     record {
-      is = record { event = event; is_call = record { possible = (is_name, draws_of signs.key.secret signs.chance signs.possible); leaves = inl leaves } };
+      is = record {
+        is_call = record { possible = (is_name, draws_of signs.key.secret signs.chance signs.possible); leaves = inl leaves };
+        honest = signs.ends.store.honest;
+      };
       leaves = is_after new (after limit world event) mine signs.outcome signs.step refl (open_acknowledged limit world event) signs.ends.records
           signs.ends.is_open;
       hands = subst (λ a. HandsOut m name before later a handed (handed ++ handed_with name signs.chance.given mine.answer)) answers out;
     }
 
 retires_in : {S R : Type 0} (g : store.Ghosts S) (old new : View S R) (upto : ℕ) (answer : Result (Unit {0}) SignFault) (handed : List Handed)
-    → IsOpenSigner g old → Retires g old new upto answer → RetiresInWorld g handed old new
+    → IsOpenSigner g old → (retires : Retires g old new upto answer) → RetiresInWorld g handed (retire upto retires.fate) old new
 retires_in g old new upto answer handed signer retires =
     let limit = g.most old.store in
     let world = world_of (state_of old) handed in
@@ -108,7 +114,7 @@ retires_in g old new upto answer handed signer retires =
     let leaves = subst (λ (o : Outcome (Unit {0})). LeavesOnly g.moment g.left_since old.store new.store (IsBeginning (length old.records) (reached o)))
     (sym retires.step) moments in
     record {
-      is = record { event = event; is_call = record { possible = tt; leaves = inl leaves } };
+      is = record { is_call = record { possible = tt; leaves = inl leaves }; honest = retires.ends.store.honest };
       leaves = is_after new (after limit world event) mine retires.outcome retires.step refl (open_acknowledged limit world event) retires.ends.records
           retires.ends.is_open;
       hands = refl;
@@ -287,7 +293,7 @@ can_stop (Some (slot, KeyThere)) list stopped honest stops = absurd stops
 
 creates_in : {S R : Type 0} (g : store.Ghosts S) (r : source.Ghosts R) (spec : Spec) (kept_in : S) (random : R)
     (result : Result (View S R) (Refused (S × R) SignFault)) (handed : List Handed) → IsRunning g kept_in → IsSpec spec
-    → Creates g r spec kept_in random result → OpensInWorld g (g.list kept_in) handed kept_in result
+    → (creates : Creates g r spec kept_in random result) → OpensInWorld g (g.list kept_in) handed (create spec creates.chance) kept_in result
 creates_in g r spec kept_in random result handed is can creates =
     let limit = g.most kept_in in
     let list = g.list kept_in in
@@ -298,7 +304,7 @@ creates_in g r spec kept_in random result handed is can creates =
     (sym creates.step) (creates.store.moments is.honest is.running) in
     record {
       is = record {
-        event = event;
+        honest = creates.store.honest;
         is_call = record {
           possible = (can, can_fail creates.chance.failed_load list (g.stopped kept_in) (g.honest kept_in) creates.load, creates.possible);
           leaves = inl leaves;
@@ -311,7 +317,8 @@ creates_in g r spec kept_in random result handed is can creates =
     }
 
 opens_again : {S R : Type 0} (g : store.Ghosts S) (kept_in : S) (random : R) (result : Result (View S R) (Refused (S × R) SignFault)) (handed : List Handed)
-    → IsRunning g kept_in → Opens g kept_in random result → OpensInWorld g (g.list kept_in) handed kept_in result
+    → IsRunning g kept_in → (opens : Opens g kept_in random result)
+    → OpensInWorld g (g.list kept_in) handed (reopen opens.loads.chance) kept_in result
 opens_again g kept_in random result handed is opens =
     let limit = g.most kept_in in
     let list = g.list kept_in in
@@ -326,7 +333,7 @@ opens_again g kept_in random result handed is opens =
     (loads.moments is.honest is.running) in
     record {
       is = record {
-        event = event;
+        honest = loads.honest;
         is_call = record {
           possible = can_stop loads.chance list (g.stopped kept_in) (g.honest kept_in) loads.load;
           leaves = inl leaves;
@@ -336,6 +343,135 @@ opens_again g kept_in random result handed is opens =
           (open_acknowledged limit world event) (opened_keeps list loads.chance (first_illegal list) ∙ sym loads.list) loads.answer;
       hands = refl;
     }
+
+-- ---- creates and openings of a store that has stopped
+
+-- what its load fails with
+stopped_load : (failed : Option SignFault) (list : List Record) (stopped honest : Bool) → stopped ≡ true → LoadFails failed list stopped honest
+    → failed ≡ Some Stopped
+stopped_load None list stopped honest is fails = absurd (true≢false (sym is ∙ fails))
+stopped_load (Some Stopped) list stopped honest is fails = refl
+stopped_load (Some (Unreadable slot)) list stopped honest is fails = absurd (true≢false (sym is ∙ fails.0))
+stopped_load (Some StoreFailed) list stopped honest is fails = absurd (true≢false (sym is ∙ fails))
+stopped_load (Some OutOfMemory) list stopped honest is fails = absurd (true≢false (sym is ∙ fails))
+stopped_load (Some Changed) list stopped honest is fails = absurd fails
+stopped_load (Some Exhausted) list stopped honest is fails = absurd fails
+stopped_load (Some RandomFailed) list stopped honest is fails = absurd fails
+stopped_load (Some RandomRepeated) list stopped honest is fails = absurd fails
+stopped_load (Some MessageRead) list stopped honest is fails = absurd fails
+stopped_load (Some (Damaged k)) list stopped honest is fails = absurd fails
+stopped_load (Some LedgerFull) list stopped honest is fails = absurd fails
+stopped_load (Some MovedAway) list stopped honest is fails = absurd fails
+stopped_load (Some RetireRange) list stopped honest is fails = absurd fails
+stopped_load (Some NoKey) list stopped honest is fails = absurd fails
+stopped_load (Some (Illegal k)) list stopped honest is fails = absurd fails
+stopped_load (Some DeviceFailed) list stopped honest is fails = absurd fails
+stopped_load (Some NoMemoryToOpen) list stopped honest is fails = absurd fails
+stopped_load (Some KeyThere) list stopped honest is fails = absurd fails
+
+stopped_opening : (chance : Opening) (list : List Record) (stopped honest : Bool) → stopped ≡ true → StopsOpening chance list stopped honest
+    → chance ≡ Some (0, Stopped)
+stopped_opening None list stopped honest is stops = absurd (true≢false (sym is ∙ stops))
+stopped_opening (Some (slot, Stopped)) list stopped honest is stops = ap (λ n. Some (n, Stopped)) stops.1
+stopped_opening (Some (slot, Unreadable k)) list stopped honest is stops = absurd (true≢false (sym is ∙ stops.0))
+stopped_opening (Some (slot, DeviceFailed)) list stopped honest is stops = absurd (true≢false (sym is ∙ stops.0))
+stopped_opening (Some (slot, NoMemoryToOpen)) list stopped honest is stops = absurd (true≢false (sym is ∙ stops.0))
+stopped_opening (Some (slot, Changed)) list stopped honest is stops = absurd stops
+stopped_opening (Some (slot, Exhausted)) list stopped honest is stops = absurd stops
+stopped_opening (Some (slot, RandomFailed)) list stopped honest is stops = absurd stops
+stopped_opening (Some (slot, RandomRepeated)) list stopped honest is stops = absurd stops
+stopped_opening (Some (slot, MessageRead)) list stopped honest is stops = absurd stops
+stopped_opening (Some (slot, Damaged k)) list stopped honest is stops = absurd stops
+stopped_opening (Some (slot, LedgerFull)) list stopped honest is stops = absurd stops
+stopped_opening (Some (slot, MovedAway)) list stopped honest is stops = absurd stops
+stopped_opening (Some (slot, RetireRange)) list stopped honest is stops = absurd stops
+stopped_opening (Some (slot, NoKey)) list stopped honest is stops = absurd stops
+stopped_opening (Some (slot, Illegal k)) list stopped honest is stops = absurd stops
+stopped_opening (Some (slot, StoreFailed)) list stopped honest is stops = absurd stops
+stopped_opening (Some (slot, OutOfMemory)) list stopped honest is stops = absurd stops
+stopped_opening (Some (slot, KeyThere)) list stopped honest is stops = absurd stops
+
+-- an opening that is stopped at record 0
+opened_none : (state : State) (illegal : Option ℕ) → opened_by state (Some (0, Stopped)) illegal ≡ refused state Stopped
+opened_none state None = refl
+opened_none state (Some k) =
+    ap (λ (b : Bool). refused {A = AnyPublic} state (if b then Illegal k else Stopped)) (le-ltb k 0 (omega arith))
+
+-- what is answered, where the outcome is 26
+answered_stopped : {S R : Type 0} (result : Result (View S R) (Refused (S × R) SignFault)) (outcome : Outcome AnyPublic) → outcome.answer ≡ Err Stopped
+    → IsAnswered result outcome → (refused : Refused (S × R) SignFault) × (result ≡ Err refused) × (refused.fault ≡ Stopped)
+answered_stopped (Ok signer) outcome is answered = absurd (let same = sym is ∙ answered.1 in cc (same))
+answered_stopped (Err given) outcome is answer = let same = sym answer ∙ is in (given, refl, cc (same))
+
+refused_opening : {S R : Type 0} (g : store.Ghosts S) (world : World) (event : Event) (kept_in : S)
+    (result : Result (View S R) (Refused (S × R) SignFault)) (outcome : Outcome AnyPublic) → IsEvent event → outcome.answer ≡ Err Stopped
+    → IsAnswered result outcome → store_after result ≡ kept_in → after (g.most kept_in) world event ≡ world
+    → IsRefusedOpening g world event kept_in result
+refused_opening g world event kept_in result outcome can is answer same stays =
+    let (given, result_is, fault) = answered_stopped result outcome is answer in
+    let store : given.given.0 ≡ kept_in = sym (ap store_after result_is) ∙ same in
+    record {
+      refused = given;
+      result_is = result_is;
+      fault = fault;
+      store = store;
+      is_call = record { possible = can; leaves = inr store };
+      stays = stays;
+    }
+
+refuses_to_create : {S R : Type 0} (g : store.Ghosts S) (r : source.Ghosts R) (spec : Spec) (kept_in : S) (random : R)
+    (result : Result (View S R) (Refused (S × R) SignFault)) (world : World) → g.stopped kept_in ≡ true → IsSpec spec
+    → (creates : Creates g r spec kept_in random result) → IsRefusedOpening g world (create spec creates.chance) kept_in result
+refuses_to_create g r spec kept_in random result world stopped can creates =
+    let chance = creates.chance in
+    let failed = stopped_load chance.failed_load (g.list kept_in) (g.stopped kept_in) (g.honest kept_in) stopped creates.load in
+    let at = λ (state : State). ap (λ f. created_after f state spec chance) failed in
+    refused_opening g world (create spec chance) kept_in result creates.outcome
+    (can, can_fail chance.failed_load (g.list kept_in) (g.stopped kept_in) (g.honest kept_in) creates.load, creates.possible)
+    (sym (ap (λ (o : Outcome AnyPublic). o.answer) creates.step) ∙ ap (λ (o : Outcome AnyPublic). o.answer) (at (closed_on (g.list kept_in))))
+    creates.answer (creates.stays stopped)
+    (ap (λ (o : Outcome AnyPublic). record { state = o.state; handed = world.handed }) (at world.state))
+
+refuses_to_open : {S R : Type 0} (g : store.Ghosts S) (kept_in : S) (random : R) (result : Result (View S R) (Refused (S × R) SignFault)) (world : World)
+    → g.stopped kept_in ≡ true → (opens : Opens g kept_in random result) → IsRefusedOpening g world (reopen opens.loads.chance) kept_in result
+refuses_to_open g kept_in random result world stopped opens =
+    let loads = opens.loads in
+    let chance = loads.chance in
+    let first = stopped_opening chance (g.list kept_in) (g.stopped kept_in) (g.honest kept_in) stopped loads.load in
+    let at = λ (state : State). ap (opened state) first ∙ opened_none state (first_illegal state.records) in
+    refused_opening g world (reopen chance) kept_in result loads.outcome
+    (can_stop chance (g.list kept_in) (g.stopped kept_in) (g.honest kept_in) loads.load)
+    (sym (ap (λ (o : Outcome AnyPublic). o.answer) loads.step) ∙ ap (λ (o : Outcome AnyPublic). o.answer) (at (closed_on loads.records)))
+    loads.answer (loads.stays stopped)
+    (ap (λ (o : Outcome AnyPublic). record { state = o.state; handed = world.handed }) (at world.state))
+
+-- ---- calls that last
+
+-- what a stop leaves of a store that runs
+abbrev NothingElse : {S : Type 0} → store.Ghosts S → Type 0
+NothingElse {S = S} g = (kept_in : S) (left : List Record) → IsTrue (g.honest kept_in) → g.stopped kept_in ≡ false
+    → g.left_since kept_in (g.moment kept_in) left → left ≡ g.list kept_in
+
+open_lasts : {S R : Type 0} (g : store.Ghosts S) (limit : ℕ) (world : World) (event : Event) (old : S) (new : View S R) → NothingElse g
+    → IsEventOf g limit world event old new.store → IsTrue (g.honest old) → IsSigner g new → IsAfter new (after limit world event)
+    → IsLastingCall g limit world old (record { event = event; store = new.store })
+open_lasts g limit world event old new nothing_else is honest signer leaves = record {
+  is_call = is.is_call;
+  honest = is.honest;
+  lasts = λ opens left since.
+      let open_now : new.is_open ≡ true = sym leaves.is_open ∙ opens in
+      let tied = signer.tied open_now in
+      let own : IsTrue (g.honest new.store) = subst IsTrue (sym is.honest) honest in
+      nothing_else new.store left own tied.running since ∙ tied.same own ∙ sym (ap (λ (s : State). s.records) (leaves.state open_now));
+}
+
+closed_lasts : {S : Type 0} (g : store.Ghosts S) (limit : ℕ) (world : World) (event : Event) (old new : S) → IsEventOf g limit world event old new
+    → (after limit world event).state.is_open ≡ false → IsLastingCall g limit world old (record { event = event; store = new })
+closed_lasts g limit world event old new is closed = record {
+  is_call = is.is_call;
+  honest = is.honest;
+  lasts = λ opens left since. absurd (true≢false (sym opens ∙ closed));
+}
 
 pub signer_law : {S R M : Type 0} (g : store.Ghosts S) (r : source.Ghosts R) (m : message.Ghosts M)
     → ((kept_in : S) (left : List Record) → IsTrue (g.honest kept_in) → g.stopped kept_in ≡ false → g.left_since kept_in (g.moment kept_in) left
@@ -348,8 +484,12 @@ signer_law g r m nothing_else = record {
   refuses_retiring = refuses_to_retire g;
   creates = creates_in g r;
   opens = opens_again g;
+  refuses_creating = refuses_to_create g r;
+  refuses_opening = refuses_to_open g;
   settled = λ view left signer is.
       let tied = signer.signer.tied signer.is_open in
       nothing_else view.store left signer.honest tied.running is ∙ tied.same signer.honest;
   running = λ kept_in left stands is. nothing_else kept_in left stands.honest stands.running is;
+  lasts = λ limit world event old new is honest signer leaves. open_lasts g limit world event old new nothing_else is honest signer leaves;
+  lasts_closed = closed_lasts g;
 }

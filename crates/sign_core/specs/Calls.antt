@@ -89,12 +89,26 @@ pub record IsCall {S : Type 0} (moment : S → ℕ) (left_since : S → ℕ → 
       (IsBeginning (length world.state.records) (reached_by limit world call.event))
       ⊎ (call.store ≡ old)
 
+-- A call that lasts: while a signer is open after it, a stop right then leaves the world's records, and nothing else.
+-- The store is as honest as it was.
+pub record IsLastingCall {S : Type 0} (g : store.Ghosts S) (limit : ℕ) (world : World) (old : S) (call : Call S)
+    : Type 0 where
+  pub is_call : IsCall g.moment g.left_since limit world old call
+  pub honest : g.honest call.store ≡ g.honest old
+  pub lasts : IsOpenAfter limit world call.event → (left : List Record)
+      → g.left_since call.store (g.moment call.store) left → left ≡ (after limit world call.event).state.records
+
 -- calls one after the other
 abbrev pub AreCalls : {S : Type 0} (moment : S → ℕ) (left_since : S → ℕ → List Record → Type 0) (limit : ℕ)
     → World → (old : S) → List (Call S) → Type 0
 AreCalls moment left_since limit world old [] = Unit {0}
 AreCalls moment left_since limit world old (call ∷ calls) = IsCall moment left_since limit world old call
     × AreCalls moment left_since limit (after limit world call.event) call.store calls
+
+abbrev pub AreLastingCalls : {S : Type 0} → store.Ghosts S → (limit : ℕ) → World → (old : S) → List (Call S) → Type 0
+AreLastingCalls g limit world old [] = Unit {0}
+AreLastingCalls g limit world old (call ∷ calls) = IsLastingCall g limit world old call
+    × AreLastingCalls g limit (after limit world call.event) call.store calls
 
 -- the store after all of them
 abbrev pub store_after_calls : {S : Type 0} (old : S) → List (Call S) → S

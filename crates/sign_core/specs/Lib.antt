@@ -17,3 +17,4 @@ pub mod RngSource
 pub mod Links
 pub mod Request
 pub mod Writing
+pub mod Lives

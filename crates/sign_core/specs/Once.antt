@@ -21,7 +21,7 @@ use Rattle.state_file.specs.declared.record.Secret.TheVariants.{Lms as LmsSecret
 use Rattle.sign_core.specs.declared.key.AnyPublic.{AnyPublic}
 use Rattle.sign_core.specs.declared.fault.SignFault.{SignFault}
 use Rattle.sign_core.specs.declared.fault.SignFault.TheVariants.{Changed, Damaged, Exhausted, Illegal, MessageRead}
-use Rattle.sign_core.specs.declared.fault.SignFault.TheVariants.{Moved, OutOfMemory}
+use Rattle.sign_core.specs.declared.fault.SignFault.TheVariants.{LedgerFull, Moved, OutOfMemory, RetireRange}
 use Rattle.sign_core.specs.declared.fault.SignFault.TheVariants.{Stopped, StoreFailed, Unreadable}
 use Rattle.sign_core.specs.declared.fault.SignFault.TheVariants.{DeviceFailed, NoMemoryToOpen, RandomRepeated}
 use Rattle.sign_core.specs.Key.{KeyVerdict}
@@ -221,6 +221,19 @@ pub record Reopens (state : State) : Type 0 where
   pub keyed : public_of_key (key_in state.records) ≡ Some public
   pub opens : opened state None ≡ answered (open_on state.records) public
 
+-- ---- retirings
+
+-- A signer is open on these records of the key, and they don't go on elsewhere.
+pub record IsActive (state : State) (key : Key) : Type 0 where
+  pub is_open : state.is_open ≡ true
+  pub stays : has_moved state.records ≡ false
+  pub keyed : key_in state.records ≡ Some key
+
+-- The current bottom tree has leaves up to this number, and the next one isn't as far.
+pub record IsBeyondNext (records : List Record) (key : Key) (upto : ℕ) : Type 0 where
+  pub inside : upto ≤ leaves_of_current key.secret records (bottom_of key.secret)
+  pub beyond : next_at key.secret records (bottom_of key.secret) < upto
+
 -- ---- the law
 
 -- What holds in a world, whatever came before.
@@ -302,6 +315,30 @@ pub record IsOnce (limit : ℕ) (world : World) : Type 0 where
       → next_at key.secret world.state.records (bottom_of key.secret) < upto
       → length world.state.records + 1 ≤ limit
       → retired limit world.state upto acked ≡ answered (open_on (world.state.records ++ Retire upto ∷ [])) tt
+  -- after a Moved one is refused; so is one up to more leaves than the tree has; one up to a leaf that is no further
+  -- than the next is answered; and none of them changes anything
+  pub moved_retiring : (key : Key) (upto : ℕ) (fate : Fate) → world.state.is_open ≡ true
+      → has_moved world.state.records ≡ true → key_in world.state.records ≡ Some key
+      → retired limit world.state upto fate ≡ refused world.state Moved
+  pub outside : (key : Key) (upto : ℕ) (fate : Fate) → IsActive world.state key
+      → leaves_of_current key.secret world.state.records (bottom_of key.secret) < upto
+      → retired limit world.state upto fate ≡ refused world.state RetireRange
+  pub no_further : (key : Key) (upto : ℕ) (fate : Fate) → IsActive world.state key
+      → upto ≤ leaves_of_current key.secret world.state.records (bottom_of key.secret)
+      → upto ≤ next_at key.secret world.state.records (bottom_of key.secret)
+      → retired limit world.state upto fate ≡ answered world.state tt
+  -- one beyond the next leaf is refused where the store is full, or has no memory, and changes nothing
+  pub full : (key : Key) (upto : ℕ) (fate : Fate) → IsActive world.state key
+      → IsBeyondNext world.state.records key upto → limit < length world.state.records + 1
+      → retired limit world.state upto fate ≡ refused world.state LedgerFull
+  pub starved : (key : Key) (upto : ℕ) → IsActive world.state key → IsBeyondNext world.state.records key upto
+      → length world.state.records + 1 ≤ limit
+      → retired limit world.state upto no_memory ≡ refused world.state OutOfMemory
+  -- no refusal of a request but 25 binds a name
+  pub unbound : (name other : List ℕ) (chance : Chance) (fault : SignFault)
+      → (requested limit world.state name chance).answer ≡ Err fault → fault ≢ StoreFailed
+      → binding_in (requested limit world.state name chance).state.records other
+      ≡ binding_in world.state.records other
   -- 22 comes exactly where no leaf is free at any level
   pub exhausted : (key : Key) (name : List ℕ) (chance : Chance) → world.state.is_open ≡ true
       → has_moved world.state.records ≡ false → key_in world.state.records ≡ Some key

@@ -1,11 +1,15 @@
 -- What holds of any legal records whose parts have their sizes, whoever wrote them.
-use Rattle.std.specs.Prelude.{◌≡◌, ℕ, List, [], Contains, IsSome, Some, Ok, true}
-use Rattle.state_file.specs.Laws.{IsLegal}
+use Rattle.std.specs.Prelude.{◌≡◌, ℕ, ◌<◌, List, [], Contains, IsSome, Option, Some, None, Ok, Err, false, true}
+use Rattle.std.specs.Prelude.{length, slice_get}
+use Rattle.state_file.specs.Laws.{IsLegal, bottom_of}
+use Rattle.state_file.specs.declared.record.Bound.{Bound}
+use Rattle.state_file.specs.declared.record.Key.{Key}
 use Rattle.state_file.specs.declared.record.Record.{Record}
 use Rattle.sign_core.specs.declared.key.AnyPublic.{AnyPublic}
 use Rattle.sign_core.specs.Once.{AllEvents, AreDraws, IsEvent, Reopens, Verifies, public_of_key}
-use Rattle.sign_core.specs.Records.{key_in}
-use Rattle.sign_core.specs.Textbook.{AllHaveSizes}
+use Rattle.sign_core.specs.declared.fault.SignFault.TheVariants.{Damaged}
+use Rattle.sign_core.specs.Records.{binding_in, deepest, key_in}
+use Rattle.sign_core.specs.Textbook.{AllHaveSizes, chain, is_sound_at, tree_before}
 use Rattle.sign_core.specs.World.{Chance, Event, Handed, State, World, after, requested, run}
 
 -- They are legal, and each part has its size in bytes.
@@ -18,6 +22,21 @@ pub record IsValidUnder (records : List Record) (message signature : List ℕ) :
   pub public : AnyPublic
   pub keyed : public_of_key (key_in records) ≡ Some public
   pub verifies : Verifies public message signature
+
+-- Of the chain of trees from the Key's down to this one, this record is the first, from the top, that isn't sound.
+pub record IsFirstDamaged (key : Key) (records : List Record) (level tree slot : ℕ) : Type 0 where
+  pub place : ℕ
+  pub is : slice_get (chain level records tree) place ≡ Some slot
+  pub damaged : is_sound_at key records slot ≡ false
+  pub above : (i k : ℕ) → i < place → slice_get (chain level records tree) i ≡ Some k
+      → is_sound_at key records k ≡ true
+
+-- .. of the chain under which a name's binding stands, or, where it has none, under which a new name signs
+abbrev pub IsDamagedFor : Key → List Record → Option (ℕ × Bound) → (slot : ℕ) → Type 0
+IsDamagedFor key records (Some (k, bound)) slot =
+    IsFirstDamaged key records (bottom_of key.secret) (tree_before (bottom_of key.secret) records k) slot
+IsDamagedFor key records None slot = (level : ℕ) × (deepest key.secret records ≡ Some level)
+    × IsFirstDamaged key records level (tree_before level records (length records)) slot
 
 -- What holds over them.
 pub record OpenedLaw : Type 0 where
@@ -38,3 +57,8 @@ pub record OpenedLaw : Type 0 where
   pub handed : (limit : ℕ) (world : World) (events : List Event) (x : Handed)
       → AreWellFormed world.state.records → world.handed ≡ [] → AllEvents events
       → Contains (run limit world events).handed x → IsValidUnder world.state.records x.message x.signature
+  -- 28 names the first damaged record of the name's chain, from the top down, and changes nothing
+  pub damaged : (limit : ℕ) (state : State) (name : List ℕ) (chance : Chance) (key : Key) (slot : ℕ)
+      → key_in state.records ≡ Some key → (requested limit state name chance).answer ≡ Err (Damaged slot)
+      → IsDamagedFor key state.records (binding_in state.records name) slot
+      × ((requested limit state name chance).state ≡ state)

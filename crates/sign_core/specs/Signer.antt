@@ -357,6 +357,7 @@ pub record LooksForKey {S A : Type 0} (g : store.Ghosts S) (old new : S) (answer
   pub unreadable : Collects unreadable_slot (g.unreadable old) (g.unreadable new) answer
   pub honest : g.honest new ≡ g.honest old
   pub most : g.most new ≡ g.most old
+  pub stays : g.stopped old ≡ true → new ≡ old
 
 -- What is drawn makes the secret; or it is less, where the source fails.
 abbrev pub IsDrawn : Spec → (fields : List (List ℕ)) → Result Secret SignFault → Type 0
@@ -380,8 +381,8 @@ LeavesSource None [] old new = Unit {0}
 LeavesSource None (entry ∷ entries) old new = new ≡ old
 
 -- To make a key in a store is a step of the world, by some chance, with an outcome that is the answer: it takes no
--- memory of its own. The store has stopped where it had before, or the answer is 25; and the store has
--- reported one slot more as unreadable, k, where the answer is 43 of k.
+-- memory of its own. The store has stopped where it had before, or the answer is 25; one that had is as it was; and the
+-- store has reported one slot more as unreadable, k, where the answer is 43 of k.
 pub record MakesKey {S R : Type 0} (g : store.Ghosts S) (r : source.Ghosts R) (spec : Spec) (old new : S)
     (before after : R) (IsAnswer : Outcome AnyPublic → Type 0) : Type 0 where
   pub chance : Creation
@@ -398,6 +399,7 @@ pub record MakesKey {S R : Type 0} (g : store.Ghosts S) (r : source.Ghosts R) (s
   pub room : chance.has_room ≡ true
   pub refusals : Counts is_out_of_memory (g.refusals old) (g.refusals new) outcome.answer
   pub unreadable : Collects unreadable_slot (g.unreadable old) (g.unreadable new) outcome.answer
+  pub stays : g.stopped old ≡ true → new ≡ old
 
 -- A key is made, with its public key, and its record is the only one; or the fault is answered.
 abbrev pub IsAnsweredByKey : Result Key SignFault → Outcome AnyPublic → Type 0
@@ -457,6 +459,7 @@ pub record LoadsRecord {S : Type 0} (g : store.Ghosts S) (old new : S) (k : ℕ)
   pub unreadable : Collects unreadable_slot (g.unreadable old) (g.unreadable new) answer
   pub honest : g.honest new ≡ g.honest old
   pub most : g.most new ≡ g.most old
+  pub stays : g.stopped old ≡ true → new ≡ old
 
 -- What taking up the next record comes to, by the answer: it can follow those before it, and stands after them; or it
 -- can't, and its place is answered; or it could, and there is no memory for it.
@@ -472,7 +475,8 @@ TakesUpLoaded old new entry (Err _) = ⊥
 
 -- To load the records of a store is a step of the world, with an outcome that is the answer. It goes over as many
 -- records as the store has, and where the store is honest over its own. The store has stopped where it had before, or
--- the answer is 45; and the store has reported one slot more as unreadable, k, where the answer is 43 of k.
+-- the answer is 45; one that had is as it was; and the store has reported one slot more as unreadable, k, where the
+-- answer is 43 of k.
 pub record LoadsAll {S : Type 0} (g : store.Ghosts S) (old new : S) (IsAnswer : Outcome AnyPublic → Type 0)
     : Type 0 where
   pub records : List Record
@@ -491,6 +495,7 @@ pub record LoadsAll {S : Type 0} (g : store.Ghosts S) (old new : S) (IsAnswer : 
   pub unreadable : Collects unreadable_slot (g.unreadable old) (g.unreadable new) outcome.answer
   pub honest : g.honest new ≡ g.honest old
   pub most : g.most new ≡ g.most old
+  pub stays : g.stopped old ≡ true → new ≡ old
 
 -- The records are taken up, and their key has a public one; or the fault is answered.
 abbrev pub IsTakenUp : Result Table SignFault → Outcome AnyPublic → Type 0

@@ -12,18 +12,20 @@ use Rattle.state_file.specs.declared.store.Store as store
 use Rattle.sign_core.specs.declared.fault.SignFault.{SignFault}
 use Rattle.sign_core.specs.declared.fault.SignFault.TheVariants.{Stopped}
 use Rattle.sign_core.specs.declared.source.Source as source
-use Rattle.sign_core.specs.Calls.{IsCall}
+use Rattle.sign_core.specs.Calls.{IsCall, IsLastingCall}
 use Rattle.sign_core.specs.Signer.{Creates, IsSigner, Opens, Retires, Signs, View, state_of, store_after}
-use Rattle.sign_core.specs.World.{Event, Handed, State, World, after, closed_on, request, retire}
+use Rattle.sign_core.specs.World.{Event, Handed, State, World, after, closed_on, create, reopen, request, retire}
 
 -- a state of the world in which this was handed out
 abbrev pub world_of : State → List Handed → World
 world_of state handed = record { state = state; handed = handed }
 
--- An event that can come is this call on the store: a stop at any moment of it leaves what a stop of the event leaves.
-pub record IsEventOf {S : Type 0} (g : store.Ghosts S) (limit : ℕ) (world : World) (old new : S) : Type 0 where
-  pub event : Event
+-- The event can come, and is this call on the store: a stop at any moment of it leaves what a stop of the event leaves.
+-- The store is as honest as it was.
+pub record IsEventOf {S : Type 0} (g : store.Ghosts S) (limit : ℕ) (world : World) (event : Event) (old new : S)
+    : Type 0 where
   pub is_call : IsCall g.moment g.left_since limit world old (record { event = event; store = new })
+  pub honest : g.honest new ≡ g.honest old
 
 -- the signer is open after it as the world is, and then on the same records
 pub record IsAfter {S R : Type 0} (new : View S R) (left : World) : Type 0 where
@@ -38,20 +40,21 @@ HandsOut m name before after (Ok signature) old new = (text : List ℕ)
     × (new ≡ old ++ record { name = name; message = text; signature = signature } ∷ [])
 HandsOut m name before after (Err fault) old new = new ≡ old
 
--- a call of sign
+-- a call of sign, as this event
 pub record SignsInWorld {S R M : Type 0} (g : store.Ghosts S) (m : message.Ghosts M) (handed : List Handed)
-    (old new : View S R) (name : List ℕ) (before later : M) (answer : Result (List ℕ) SignFault) : Type 0 where
-  pub is : IsEventOf g (g.most old.store) (world_of (state_of old) handed) old.store new.store
-  pub leaves : IsAfter new (after (g.most old.store) (world_of (state_of old) handed) is.event)
+    (event : Event) (old new : View S R) (name : List ℕ) (before later : M) (answer : Result (List ℕ) SignFault)
+    : Type 0 where
+  pub is : IsEventOf g (g.most old.store) (world_of (state_of old) handed) event old.store new.store
+  pub leaves : IsAfter new (after (g.most old.store) (world_of (state_of old) handed) event)
   pub hands : HandsOut m name before later answer handed
-      (after (g.most old.store) (world_of (state_of old) handed) is.event).handed
+      (after (g.most old.store) (world_of (state_of old) handed) event).handed
 
 -- .. and of retire
-pub record RetiresInWorld {S R : Type 0} (g : store.Ghosts S) (handed : List Handed) (old new : View S R)
-    : Type 0 where
-  pub is : IsEventOf g (g.most old.store) (world_of (state_of old) handed) old.store new.store
-  pub leaves : IsAfter new (after (g.most old.store) (world_of (state_of old) handed) is.event)
-  pub hands : (after (g.most old.store) (world_of (state_of old) handed) is.event).handed ≡ handed
+pub record RetiresInWorld {S R : Type 0} (g : store.Ghosts S) (handed : List Handed) (event : Event)
+    (old new : View S R) : Type 0 where
+  pub is : IsEventOf g (g.most old.store) (world_of (state_of old) handed) event old.store new.store
+  pub leaves : IsAfter new (after (g.most old.store) (world_of (state_of old) handed) event)
+  pub hands : (after (g.most old.store) (world_of (state_of old) handed) event).handed ≡ handed
 
 -- what a create or an opening leaves: a signer that is open on the world's records; or none, and the world has none
 -- open, on the records of the store that is handed back
@@ -59,12 +62,12 @@ abbrev pub OpensIn : {S R : Type 0} → store.Ghosts S → Result (View S R) (Re
 OpensIn g (Ok signer) left = IsAfter signer left
 OpensIn g (Err refused) left = left.state ≡ closed_on (g.list refused.given.0)
 
--- A create or an opening of a store whose records these are, with no signer open.
+-- A create or an opening of a store whose records these are, with no signer open, as this event.
 pub record OpensInWorld {S R : Type 0} (g : store.Ghosts S) (records : List Record) (handed : List Handed)
-    (kept_in : S) (result : Result (View S R) (Refused (S × R) SignFault)) : Type 0 where
-  pub is : IsEventOf g (g.most kept_in) (world_of (closed_on records) handed) kept_in (store_after result)
-  pub leaves : OpensIn g result (after (g.most kept_in) (world_of (closed_on records) handed) is.event)
-  pub hands : (after (g.most kept_in) (world_of (closed_on records) handed) is.event).handed ≡ handed
+    (event : Event) (kept_in : S) (result : Result (View S R) (Refused (S × R) SignFault)) : Type 0 where
+  pub is : IsEventOf g (g.most kept_in) (world_of (closed_on records) handed) event kept_in (store_after result)
+  pub leaves : OpensIn g result (after (g.most kept_in) (world_of (closed_on records) handed) event)
+  pub hands : (after (g.most kept_in) (world_of (closed_on records) handed) event).handed ≡ handed
 
 -- The store runs, and keeps what was synced.
 pub record IsRunning {S : Type 0} (g : store.Ghosts S) (kept_in : S) : Type 0 where
@@ -93,14 +96,29 @@ pub record IsRefusedCall {S R A : Type 0} (g : store.Ghosts S) (world : World) (
       (record { event = event; store = new.store })
   pub stays : after (g.most old.store) world event ≡ world
 
--- Over an honest store each call of an open signer is an event of the world, and so is each create and opening. Over
--- any store a call of a closed one is an event that leaves the world as it was.
+-- A create or an opening of a store that has stopped answers 26, and hands the store back as it was. It is this event,
+-- which leaves the world as it was.
+pub record IsRefusedOpening {S R : Type 0} (g : store.Ghosts S) (world : World) (event : Event) (kept_in : S)
+    (result : Result (View S R) (Refused (S × R) SignFault)) : Type 0 where
+  pub refused : Refused (S × R) SignFault
+  pub result_is : result ≡ Err refused
+  pub fault : refused.fault ≡ Stopped
+  pub store : refused.given.0 ≡ kept_in
+  pub is_call : IsCall g.moment g.left_since (g.most kept_in) world kept_in
+      (record { event = event; store = refused.given.0 })
+  pub stays : after (g.most kept_in) world event ≡ world
+
+-- Over an honest store each call of an open signer is an event of the world, the one that its contract says, and so is
+-- each create and opening. Over any store a call of a closed signer is an event that leaves the world as it was, and so
+-- is a create or an opening of a store that has stopped.
 pub record SignerLaw {S R M : Type 0} (g : store.Ghosts S) (r : source.Ghosts R) (m : message.Ghosts M) : Type 0 where
   pub signs : (old new : View S R) (name : List ℕ) (before later : M) (capacity : ℕ)
       (answer : Result (List ℕ) SignFault) (handed : List Handed) → IsOpenSigner g old → IsName name
-      → Signs g r m old new name before later capacity answer → SignsInWorld g m handed old new name before later answer
+      → (signs : Signs g r m old new name before later capacity answer)
+      → SignsInWorld g m handed (request name signs.chance) old new name before later answer
   pub retires : (old new : View S R) (upto : ℕ) (answer : Result (Unit {0}) SignFault) (handed : List Handed)
-      → IsOpenSigner g old → Retires g old new upto answer → RetiresInWorld g handed old new
+      → IsOpenSigner g old → (retires : Retires g old new upto answer)
+      → RetiresInWorld g handed (retire upto retires.fate) old new
   -- of a closed signer, where the world has none open, whatever records that has
   pub refuses : (old new : View S R) (name : List ℕ) (before later : M) (capacity : ℕ)
       (answer : Result (List ℕ) SignFault) (world : World) → AreClosed old world → IsName name
@@ -110,13 +128,30 @@ pub record SignerLaw {S R M : Type 0} (g : store.Ghosts S) (r : source.Ghosts R)
       → AreClosed old world → (retires : Retires g old new upto answer)
       → IsRefusedCall g world (retire upto retires.fate) old new answer
   pub creates : (spec : Spec) (kept_in : S) (random : R) (result : Result (View S R) (Refused (S × R) SignFault))
-      (handed : List Handed) → IsRunning g kept_in → IsSpec spec → Creates g r spec kept_in random result
-      → OpensInWorld g (g.list kept_in) handed kept_in result
+      (handed : List Handed) → IsRunning g kept_in → IsSpec spec
+      → (creates : Creates g r spec kept_in random result)
+      → OpensInWorld g (g.list kept_in) handed (create spec creates.chance) kept_in result
   pub opens : (kept_in : S) (random : R) (result : Result (View S R) (Refused (S × R) SignFault))
-      (handed : List Handed) → IsRunning g kept_in → Opens g kept_in random result
-      → OpensInWorld g (g.list kept_in) handed kept_in result
+      (handed : List Handed) → IsRunning g kept_in → (opens : Opens g kept_in random result)
+      → OpensInWorld g (g.list kept_in) handed (reopen opens.loads.chance) kept_in result
+  -- of a store that has stopped, whatever records the world has
+  pub refuses_creating : (spec : Spec) (kept_in : S) (random : R)
+      (result : Result (View S R) (Refused (S × R) SignFault)) (world : World) → g.stopped kept_in ≡ true → IsSpec spec
+      → (creates : Creates g r spec kept_in random result)
+      → IsRefusedOpening g world (create spec creates.chance) kept_in result
+  pub refuses_opening : (kept_in : S) (random : R) (result : Result (View S R) (Refused (S × R) SignFault))
+      (world : World) → g.stopped kept_in ≡ true → (opens : Opens g kept_in random result)
+      → IsRefusedOpening g world (reopen opens.loads.chance) kept_in result
   -- before a first call a stop leaves the records: of an open signer, and of a store that runs
   pub settled : (view : View S R) (left : List Record) → IsOpenSigner g view
       → g.left_since view.store (g.moment view.store) left → left ≡ view.records
   pub running : (kept_in : S) (left : List Record) → IsRunning g kept_in
       → g.left_since kept_in (g.moment kept_in) left → left ≡ g.list kept_in
+  -- a call lasts after which the signer is open as the world is, and so does one after which the world has none open
+  pub lasts : (limit : ℕ) (world : World) (event : Event) (old : S) (new : View S R)
+      → IsEventOf g limit world event old new.store → IsTrue (g.honest old) → IsSigner g new
+      → IsAfter new (after limit world event)
+      → IsLastingCall g limit world old (record { event = event; store = new.store })
+  pub lasts_closed : (limit : ℕ) (world : World) (event : Event) (old new : S) → IsEventOf g limit world event old new
+      → (after limit world event).state.is_open ≡ false
+      → IsLastingCall g limit world old (record { event = event; store = new })

@@ -15,12 +15,13 @@ ghost use Rattle.sign_core.specs.Records.{IsNext, binding_in, current, deepest, 
 ghost use Rattle.sign_core.specs.Records.{has_identifier, key_in, next_in};
 ghost use Rattle.sign_core.specs.Once.{CutLaw, IsBoundTo, LastingLaw, OnceLaw, SoundLaw, StopLaw, Verifies};
 ghost use Rattle.sign_core.specs.Calls.{CallsLaw, StoppedLaw};
+ghost use Rattle.sign_core.specs.Lives.{LivesLaw};
 ghost use Rattle.sign_core.specs.Opened.{OpenedLaw};
 ghost use Rattle.sign_core.specs.SignerCalls.{SignerLaw};
 ghost use Rattle.sign_core.specs.Textbook.{AllHaveSizes, AreSound, damaged_in, public_in, signature_at, tree_before};
 
 use crate::source::Source;
-use state_file::Store;
+use state_file::{Disk, FileStore, Store};
 use typecodes::Message;
 
 /// What holds of the records of a key, in the words of legal lists.
@@ -90,6 +91,9 @@ pub fn textbook_laws()
 ///   digest gets the recorded signature, unless memory is refused or the message can't be read. Neither changes
 ///   anything.
 /// - A request for a new name gets the next leaf, if one is left, the store isn't full and nothing fails.
+/// - No refusal of a request binds a name, unless the store's device failed (25).
+/// - A retiring beyond the next leaf is recorded, if the tree has these leaves, the store isn't full and nothing fails.
+///   Any other changes nothing, unless the device failed, and the law says what it answers.
 /// - The recorded root is that of the recorded secret, so no request is answered that a record is damaged.
 ///
 /// The clauses stand in `specs/Once.antt`, the events in `specs/World.antt`. The law speaks of digests: two messages of
@@ -114,7 +118,9 @@ pub fn sound_law()
 /// - an opening where nothing fails opens the signer on them, and answers the public key of record 0;
 /// - every event leaves legal records;
 /// - a signature that a request gives, under a new name or a bound one and in every scheme, is valid under that key for
-///   the message that was read, and so is each one that a run hands out.
+///   the message that was read, and so is each one that a run hands out;
+/// - where a record is refused as damaged (28), it is the first of its chain of trees, from the top down, that says
+///   otherwise than the secrets, and nothing changed.
 ///
 /// The clauses stand in `specs/Opened.antt`.
 pub fn opened_law()
@@ -155,15 +161,30 @@ pub fn stopped_law<S: Store>()
     ensures stopped { StoppedLaw S.Store }
 {}
 
+/// The lives of one disk are a run of the world, and the law over all runs holds of it.
+///
+/// In each life a store is opened on the disk (`FileStore::open`), or prepared (`FileStore::format`); calls of signers
+/// on it come to their end; and the power goes, at any moment of an opening or of a call, or between two. The next life
+/// begins with what that left, or, where the power didn't go, with the same disk. Whatever content is left at the end
+/// stands for one list of records; a run of the world leads to this list, in which just those signatures were handed
+/// out that the calls gave which came to their end.
+///
+/// The disk keeps what was synced, and has no key as the first life begins. Which calls of a signer are such calls,
+/// `signer_law` says (`lasts`).
+pub fn lives_law<D: Disk + Drop>()
+    ensures lives { LivesLaw D.Disk ⟦<FileStore<D> as Store>⟧ }
+{}
+
 /// Over an honest store each call of an open signer, each create and each opening is an event of the world that
-/// `once_law` speaks of. Over any store a call of a closed signer answers 26, and is an event that leaves the world as
-/// it was.
+/// `once_law` speaks of: the one that its own contract says. Over any store a call of a closed signer answers 26, and is
+/// an event that leaves the world as it was; and so is a create or an opening of a store that has stopped.
 ///
 /// A stop at any moment of the call leaves what a stop of the event leaves; after it the signer is open as the world
 /// is, and then on the same records; and what it answers is what the event hands out, for the message that was read.
 /// A create or an opening that is refused leaves no signer open, and the world on the records of the store that is
-/// handed back. A call of a closed signer leaves the store as it was, and hands nothing out. So all calls of one signer
-/// from its create or opening on, whatever they answer, are a chain of calls as `stopped_law` speaks of one.
+/// handed back. A call of a closed signer, or on a store that has stopped, leaves the store as it was, and hands
+/// nothing out. So all calls of one signer from its create or opening on, whatever they answer, are a chain of calls as
+/// `stopped_law` speaks of one, and each of them lasts, as `lives_law` wants it.
 pub fn signer_law<S: Store, R: Source, M: Message>()
     ensures signer { SignerLaw S.Store R.Source M.Message }
 {}

@@ -1,0 +1,146 @@
+-- The lives of one disk that keeps what was synced. In each a store is opened on the disk, or prepared; calls on the
+-- store come to their end; and the power goes, at any moment. The next life begins with what that left.
+use Rattle.std.specs.Prelude.{◌≡◌, ◌⊎◌, ℕ, IsTrue, List, [], ◌∷◌, false}
+use Rattle.state_file.specs.declared.disk.Disk as disk
+use Rattle.state_file.specs.declared.record.Record.{Record}
+use Rattle.state_file.specs.declared.store.Store as store
+use Rattle.state_file.specs.declared.store.file_store.FileStore.{FileStore}
+use Rattle.state_file.specs.Disk.{LeavesOnly, MayLeave, settled}
+use Rattle.state_file.specs.File.{HasNoKey, SpellsRecords, StandsFor}
+use Rattle.state_file.specs.FileStore.{disk_of, has_stopped, records_of}
+use Rattle.state_file.specs.Format.{LeftByFormat, PreparesPlace}
+use Rattle.sign_core.specs.Calls.{AreLastingCalls, Call, IsCall, IsRun, events_of, store_after_calls}
+use Rattle.sign_core.specs.Once.{IsOnce}
+use Rattle.sign_core.specs.SignerCalls.{world_of}
+use Rattle.sign_core.specs.World.{Handed, World, beginning, closed_on, run}
+
+-- ---- a store on a disk
+
+-- what `FileStore::open` gives: a store of the records that the disk's content spells
+pub record IsOpenedOn {D : Type 0} (d : disk.Ghosts D) (on : D) (store : FileStore D d) : Type 0 where
+  pub records : SpellsRecords (d.state on).content (records_of store)
+  pub running : has_stopped store ≡ false
+  pub honest : d.honest (disk_of store) ≡ d.honest on
+
+-- what `FileStore::format` gives: a store of no record, where the disk has no key
+pub record IsPreparedOn {D : Type 0} (d : disk.Ghosts D) (on : D) (store : FileStore D d) : Type 0 where
+  pub records : records_of store ≡ []
+  pub prepares : PreparesPlace (d.state on).content (d.state (disk_of store))
+  pub running : has_stopped store ≡ false
+  pub honest : d.honest (disk_of store) ≡ d.honest on
+
+-- the store is had by one of the two
+abbrev pub IsStoreOn : {D : Type 0} (d : disk.Ghosts D) → (on : D) → FileStore D d → Type 0
+IsStoreOn d on store = IsOpenedOn d on store ⊎ IsPreparedOn d on store
+
+-- what a stop at any moment of one of the two leaves, whatever it answers
+abbrev pub IsTriedOn : {D : Type 0} → disk.Ghosts D → (old new : D) → Type 0
+IsTriedOn d old new = LeavesOnly d.moment d.left_since old new (MayLeave (d.state old))
+    ⊎ LeavesOnly d.moment d.left_since old new (LeftByFormat (d.state old))
+
+-- ---- one life
+
+-- A life of the disk. It has no store: an opening or preparing is refused, or the power goes in it, and it takes the
+-- disk from `old` to `new`. Or it has this store; these calls come to their end; and the power goes in `last`. Where it
+-- goes between two calls, `last` is one that leaves the store as it was.
+pub data Life (D : Type 0) (d : disk.Ghosts D) : Type 0 where
+  fails : (old new : D) → Life D d
+  serves : (on : D) → FileStore D d → List (Call (FileStore D d)) → (last : Call (FileStore D d)) → Life D d
+
+-- the world as the life's calls find it: the store's records, and no signer open
+abbrev pub world_on : {D : Type 0} {d : disk.Ghosts D} → FileStore D d → List Handed → World
+world_on store handed = world_of (closed_on (records_of store)) handed
+
+-- .. and after those that came to their end
+abbrev pub world_after : {D : Type 0} {d : disk.Ghosts D} → (limit : ℕ) → FileStore D d → List (Call (FileStore D d))
+    → List Handed → World
+world_after limit store calls handed = run limit (world_on store handed) (events_of calls)
+
+-- the contents that the power's going may leave in it
+abbrev pub left_by : {D : Type 0} (d : disk.Ghosts D) → Life D d → List ℕ → Type 0
+left_by d (fails old new) content = d.left_since new (d.moment old) content
+left_by d (serves on store calls last) content =
+    d.left_since (disk_of last.store) (d.moment (disk_of (store_after_calls store calls))) content
+
+-- its disk at its end, where the power doesn't go
+abbrev pub disk_at_end : {D : Type 0} {d : disk.Ghosts D} → Life D d → D
+disk_at_end (fails old new) = new
+disk_at_end (serves on store calls last) = disk_of last.store
+
+-- what has been handed out after it: what the calls that came to their end hand out, and no more
+abbrev pub handed_by : {D : Type 0} {d : disk.Ghosts D} → (limit : ℕ) → List Handed → Life D d → List Handed
+handed_by limit handed (fails old new) = handed
+handed_by limit handed (serves on store calls last) = (world_after limit store calls handed).handed
+
+-- The disk keeps what was synced, and whatever a stop may leave of it now, the life before may have left.
+pub record BeginsWith {D : Type 0} (d : disk.Ghosts D) (before : List ℕ → Type 0) (on : D) : Type 0 where
+  pub honest : IsTrue (d.honest on)
+  pub holds : (content : List ℕ) → MayLeave (d.state on) content → before content
+
+-- A store is had, and calls on it lead to the one in which the power goes.
+pub record Serves {D : Type 0} (d : disk.Ghosts D) (g : store.Ghosts (FileStore D d)) (limit : ℕ) (handed : List Handed)
+    (on : D) (store : FileStore D d) (calls : List (Call (FileStore D d))) (last : Call (FileStore D d)) : Type 0 where
+  pub is_store : IsStoreOn d on store
+  pub each : AreLastingCalls g limit (world_on store handed) store calls
+  pub is_last : IsCall g.moment g.left_since limit (world_after limit store calls handed)
+      (store_after_calls store calls) last
+
+-- The life begins with what the one before may have left.
+abbrev pub IsLife : {D : Type 0} (d : disk.Ghosts D) → store.Ghosts (FileStore D d) → (limit : ℕ)
+    → (before : List ℕ → Type 0) → List Handed → Life D d → Type 0
+IsLife d g limit before handed (fails old new) = BeginsWith d before old × IsTriedOn d old new
+IsLife d g limit before handed (serves on store calls last) =
+    BeginsWith d before on × Serves d g limit handed on store calls last
+
+-- ---- lives one after the other
+
+abbrev pub AreLives : {D : Type 0} (d : disk.Ghosts D) → store.Ghosts (FileStore D d) → (limit : ℕ)
+    → (before : List ℕ → Type 0) → List Handed → List (Life D d) → Type 0
+AreLives d g limit before handed [] = Unit {0}
+AreLives d g limit before handed (life ∷ lives) = IsLife d g limit before handed life
+    × AreLives d g limit (left_by d life) (handed_by limit handed life) lives
+
+-- the contents that may be left after all of them
+abbrev pub left_by_all : {D : Type 0} (d : disk.Ghosts D) → (before : List ℕ → Type 0) → List (Life D d) → List ℕ
+    → Type 0
+left_by_all d before [] = before
+left_by_all d before (life ∷ lives) = left_by_all d (left_by d life) lives
+
+-- and what has been handed out
+abbrev pub handed_by_all : {D : Type 0} {d : disk.Ghosts D} → (limit : ℕ) → List Handed → List (Life D d) → List Handed
+handed_by_all limit handed [] = handed
+handed_by_all limit handed (life ∷ lives) = handed_by_all limit (handed_by limit handed life) lives
+
+-- The content stands for a list of records. Events that can come lead from one world to another with these records, in
+-- which no signer is open, and this was handed out.
+pub record IsLeftByRun (limit : ℕ) (first : World) (handed : List Handed) (content : List ℕ) : Type 0 where
+  pub records : List Record
+  pub stands : StandsFor records content
+  pub runs : IsRun limit first (world_of (closed_on records) handed)
+
+-- What holds of all lives of a disk that has no key as the first one begins.
+pub record LivesLaw {D : Type 0} (d : disk.Ghosts D) (g : store.Ghosts (FileStore D d)) : Type 0 where
+  -- where the power went, the next life may begin with the content that this left, all of it synced
+  pub after_power : (lives : List (Life D d)) (on : D) (content : List ℕ) → IsTrue (d.honest on)
+      → d.state on ≡ settled content → left_by_all d HasNoKey lives content
+      → BeginsWith d (left_by_all d HasNoKey lives) on
+  -- where it didn't, with the disk that the life hands back
+  pub goes_on : (limit : ℕ) (lives : List (Life D d)) (life : Life D d) → IsTrue (d.honest (disk_at_end life))
+      → IsLife d g limit (left_by_all d HasNoKey lives) (handed_by_all limit [] lives) life
+      → BeginsWith d (left_by d life) (disk_at_end life)
+  -- a store has the records that the disk's content stands for, and so those that the life before left
+  pub finds : (on : D) (store : FileStore D d) (records : List Record) → IsStoreOn d on store
+      → StandsFor records (d.state on).content → records_of store ≡ records
+  -- whatever content the last life leaves, a run of the world leads there, which hands out what the calls that came to
+  -- their end handed out
+  pub leaves : (limit : ℕ) (lives : List (Life D d)) (content : List ℕ) → AreLives d g limit HasNoKey [] lives
+      → left_by_all d HasNoKey lives content → IsLeftByRun limit beginning (handed_by_all limit [] lives) content
+  -- so the law over all runs holds there
+  pub once : (limit : ℕ) (lives : List (Life D d)) (content : List ℕ) (records : List Record)
+      → AreLives d g limit HasNoKey [] lives → left_by_all d HasNoKey lives content → StandsFor records content
+      → IsOnce limit (world_of (closed_on records) (handed_by_all limit [] lives))
+  -- and after each call of a life that goes on
+  pub once_after : (limit : ℕ) (lives : List (Life D d)) (on : D) (store : FileStore D d)
+      (calls : List (Call (FileStore D d))) (last : Call (FileStore D d)) → AreLives d g limit HasNoKey [] lives
+      → IsLife d g limit (left_by_all d HasNoKey lives) (handed_by_all limit [] lives) (serves on store calls last)
+      → IsOnce limit (world_after limit store calls (handed_by_all limit [] lives))
