@@ -62,7 +62,8 @@ impl<D: Disk + Drop> Disk for TurningDisk<D> {
     }
 }
 
-// What a file opens with where a read from this offset on gives other bytes as soon as its store can be opened all the same.
+// What a file opens with where a read from this offset on gives other bytes as soon as its store can be opened all
+// the same.
 fn turned(alloc: Global, entries: &[Entry], offset: u64) -> Option<Option<SignFault>> {
     for reads in 0..40u32 {
         let disk = TurningDisk {
