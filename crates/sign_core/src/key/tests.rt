@@ -1,5 +1,4 @@
 use super::*;
-use std::test::Fail;
 use typecodes::{Cause, LevelCount, LmsPair, LmsType, OtsType, XmssType};
 
 const LMS: LmsPublic = LmsPublic {
@@ -17,73 +16,79 @@ const XMSS: XmssPublic = XmssPublic {
     seed: [4; 32],
 };
 
+// A key of so many levels.
+fn of_levels(count: u8) -> Option<AnyPublic> {
+    let levels = LevelCount::new(count)?;
+    Some(AnyPublic::Hss(HssPublic { levels, top: LMS }))
+}
+
+// How long the spelling of a key is, where it begins with these bytes and is read as the key.
+fn spelled(key: Option<AnyPublic>, first: &[u8]) -> Option<usize> {
+    let key = key?;
+    let bytes = key.write();
+    if AnyPublic::read(bytes.as_slice()) != Ok(key)
+        || bytes.as_slice().get(..first.len()) != Some(first)
+    {
+        return None;
+    }
+    Some(bytes.len())
+}
+
 // The first bytes are those of the standards' layouts: the codes, and for HSS the levels before them.
 #[test]
-fn keys_are_read_as_they_are_written(rt: HostRuntime) -> Result<(), Fail> {
-    let hss = HssPublic {
-        levels: LevelCount::new(2).ok_or("levels")?,
-        top: LMS,
-    };
-    for (key, length, first) in [
-        (AnyPublic::Lms(LMS), 56, [0, 0, 0, 5, 0, 0, 0, 4, 1, 1]),
-        (AnyPublic::Hss(hss), 60, [0, 0, 0, 2, 0, 0, 0, 5, 0, 0]),
-        (AnyPublic::Xmss(XMSS), 68, [0, 0, 0, 2, 3, 3, 3, 3, 3, 3]),
-    ] {
-        let bytes = key.write();
-        assert_eq!(rt; bytes.len(), length);
-        assert_eq!(rt; &bytes.as_slice()[..10], first.as_slice());
-        assert_eq!(rt; AnyPublic::read(bytes.as_slice()), Ok(key));
-    }
-    Ok(())
+fn keys_are_read_as_they_are_written(rt: HostRuntime) {
+    let lms = Some(AnyPublic::Lms(LMS));
+    assert_eq!(rt; spelled(lms, &[0, 0, 0, 5, 0, 0, 0, 4, 1, 1]), Some(56));
+    assert_eq!(rt;
+        spelled(of_levels(2), &[0, 0, 0, 2, 0, 0, 0, 5, 0, 0]),
+        Some(60)
+    );
+    let xmss = Some(AnyPublic::Xmss(XMSS));
+    assert_eq!(rt; spelled(xmss, &[0, 0, 0, 2, 3, 3, 3, 3, 3, 3]), Some(68));
+}
+
+// What is wrong with so many zeros as a key, if anything.
+fn zeros_as_key(length: usize) -> Option<KeyFault> {
+    AnyPublic::read([0; 70].get(..length)?).err()
 }
 
 #[test]
 fn a_length_names_the_scheme(rt: HostRuntime) {
-    let zeros = [0; 70];
     for length in [0, 1, 55, 57, 59, 61, 67, 69, 70usize] {
-        assert_eq!(rt;
-            AnyPublic::read(&zeros[..length]),
-            Err(KeyFault::Length(length))
-        );
+        assert_eq!(rt; zeros_as_key(length), Some(KeyFault::Length(length)));
     }
     for (length, cause) in [
         (56, Cause::UnknownType),
         (60, Cause::LevelCount),
         (68, Cause::UnknownType),
     ] {
-        let fault = ReadFault { place: 0, cause };
-        assert_eq!(rt;
-            AnyPublic::read(&zeros[..length]),
-            Err(KeyFault::Unreadable(fault))
-        );
+        let fault = KeyFault::Unreadable(ReadFault { place: 0, cause });
+        assert_eq!(rt; zeros_as_key(length), Some(fault));
     }
 }
 
+// What zeros are as a signature of a message under a key, and how much of the message is left then.
+fn zeros_under(key: Option<AnyPublic>, zeros: &[u8]) -> Option<(Result<(), Refusal>, usize)> {
+    let mut message = b"message".as_slice();
+    let answer = verify_any(&key?, &mut message, zeros);
+    Some((answer, message.len()))
+}
+
+// Each scheme reads the signature first. As one of XMSS of height 16, zeros lead to another root.
 #[test]
-fn each_scheme_verifies(rt: HostRuntime) -> Result<(), Fail> {
-    let hss = HssPublic {
-        levels: LevelCount::new(1).ok_or("levels")?,
-        top: LMS,
-    };
-    let cut = Refusal::Unreadable(ReadFault {
+fn each_scheme_verifies(rt: HostRuntime) {
+    let cut = Err(Refusal::Unreadable(ReadFault {
         place: 4,
         cause: Cause::Truncated,
-    });
+    }));
     for key in [
-        AnyPublic::Lms(LMS),
-        AnyPublic::Hss(hss),
-        AnyPublic::Xmss(XMSS),
+        Some(AnyPublic::Lms(LMS)),
+        of_levels(1),
+        Some(AnyPublic::Xmss(XMSS)),
     ] {
-        let mut message = b"message".as_slice();
-        assert_eq!(rt; verify_any(&key, &mut message, &[0; 4]), Err(cut));
-        assert_eq!(rt; message.len(), 7);
+        assert_eq!(rt; zeros_under(key, &[0; 4]), Some((cut, 7)));
     }
-    // As a signature of XMSS of height 16, zeros lead to another root.
-    let mut message = b"message".as_slice();
-    assert_eq!(rt;
-        verify_any(&AnyPublic::Xmss(XMSS), &mut message, &[0; 2692]),
-        Err(Refusal::RootMismatch(0))
-    );
-    assert_eq!(rt; message.len(), 0);
-    Ok(())
+    let other = Err(Refusal::RootMismatch(0));
+    let key = Some(AnyPublic::Xmss(XMSS));
+    assert_eq!(rt; zeros_under(key, &[0; 2692]), Some((other, 0)));
 }

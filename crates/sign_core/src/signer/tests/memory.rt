@@ -1,6 +1,7 @@
 //! Files whose calls are answered at the second try where memory is refused at the first. `tests/run` runs these with
 //! each growth of memory refused in turn.
 
+use super::lists::{Entry, add_all, listed};
 use super::*;
 use state_file::{Disk, FormatFault, OpenFault};
 
@@ -25,6 +26,8 @@ impl Source for Numbers {
 }
 
 type Numbered = Signer<FileStore<MemoryDisk>, Numbers>;
+
+type NumberedInMemory = Signer<MemoryStore, Numbers>;
 
 fn empty_disk(alloc: Global) -> Option<MemoryDisk> {
     match MemoryDisk::of(alloc, &[]) {
@@ -54,7 +57,7 @@ fn store_of(disk: MemoryDisk) -> Option<FileStore<MemoryDisk>> {
 }
 
 // The signer of a store, whose source begins with this number.
-fn opened_on(alloc: Global, store: FileStore<MemoryDisk>, next: u8) -> Option<Numbered> {
+fn opened_on<S: Store + Drop>(alloc: Global, store: S, next: u8) -> Option<Signer<S, Numbers>> {
     match Signer::open(alloc, store, Numbers { next }) {
         Ok(signer) => Some(signer),
         Err(refused) => match refused.fault {
@@ -106,8 +109,8 @@ fn created(alloc: Global, text: &str) -> Option<Numbered> {
 }
 
 // A request of one byte, which leaves no byte where it is refused.
-fn request(
-    signer: &mut Numbered,
+fn request<S: Store>(
+    signer: &mut Signer<S, Numbers>,
     name: &Name,
     message: u8,
     out: &mut Vec<u8>,
@@ -123,16 +126,17 @@ fn request(
     Some(answer)
 }
 
-// The signer after a request and its answer, at the second try where memory was refused at the first: then no name was
-// bound, and a signer whose store failed is closed until it is opened again.
+// The signer after a request and its answer, at the second try where memory was refused at the first: then no name
+// was bound, and a signer whose store failed is closed until it is opened again.
 fn answered(
     alloc: Global,
     signer: Numbered,
+    number: u8,
     message: u8,
     out: &mut Vec<u8>,
 ) -> Option<(Numbered, Result<(), SignFault>)> {
     let mut signer = signer;
-    let name = Name::new(b"fw-1").ok()?;
+    let name = Name::new(&name_of(number)).ok()?;
     let was_bound = signer.ledger.find(&name).is_some();
     let mut answer = request(&mut signer, &name, message, out)?;
     if answer == Err(SignFault::OutOfMemory) {
@@ -162,10 +166,10 @@ fn signs_and_repeats(alloc: Global) -> Option<bool> {
     let mut second = Vec::new(alloc);
     let mut third = Vec::new(alloc);
     let signer = reopened(alloc, created(alloc, LMS)?, 50)?;
-    let (signer, signed) = answered(alloc, signer, 1, &mut first)?;
+    let (signer, signed) = answered(alloc, signer, 1, 1, &mut first)?;
     let signer = reopened(alloc, signer, 60)?;
-    let (signer, repeated) = answered(alloc, signer, 1, &mut second)?;
-    let (signer, changed) = answered(alloc, signer, 2, &mut third)?;
+    let (signer, repeated) = answered(alloc, signer, 1, 1, &mut second)?;
+    let (signer, changed) = answered(alloc, signer, 1, 2, &mut third)?;
     let is_signed = signed == Ok(()) && repeated == Ok(()) && first == second;
     let is_refused = changed == Err(SignFault::Changed);
     Some(is_signed && is_refused && first.len() == 1292 && len_of(signer)? == 513)
@@ -176,24 +180,39 @@ fn one_tree_signs_at_last(rt: HostRuntime) {
     assert_eq!(rt; signs_and_repeats(rt.alloc()), Some(true));
 }
 
-// Whether the first name of a key of more levels makes its trees, and the file is so long then.
-fn makes_trees(alloc: Global, text: &str, size: usize, len: u64) -> Option<bool> {
+// Whether the first name of a key makes its trees: how many leaves are left then, how long the signature is, and
+// the file.
+fn makes_trees(alloc: Global, text: &str, left: &[u32]) -> Option<(bool, usize, u64)> {
     let mut out = Vec::new(alloc);
     let signer = reopened(alloc, created(alloc, text)?, 50)?;
-    let (signer, signed) = answered(alloc, signer, 1, &mut out)?;
+    let (signer, signed) = answered(alloc, signer, 1, 1, &mut out)?;
     let signer = reopened(alloc, signer, 150)?;
-    let is_left = signer.left().as_slice().iter().all(|left| *left == 31);
-    Some(signed == Ok(()) && is_left && out.len() == size && len_of(signer)? == len)
+    let is_left = signer.left().as_slice() == left;
+    Some((signed == Ok(()) && is_left, out.len(), len_of(signer)?))
 }
 
 #[test]
 fn two_levels_sign_at_last(rt: HostRuntime) {
-    assert_eq!(rt; makes_trees(rt.alloc(), TWO, 2644, 769), Some(true));
+    assert_eq!(rt;
+        makes_trees(rt.alloc(), TWO, &[31, 31]),
+        Some((true, 2644, 769))
+    );
 }
 
 #[test]
 fn three_levels_sign_at_last(rt: HostRuntime) {
-    assert_eq!(rt; makes_trees(rt.alloc(), THREE, 3992, 1025), Some(true));
+    assert_eq!(rt;
+        makes_trees(rt.alloc(), THREE, &[31, 31, 31]),
+        Some((true, 3992, 1025))
+    );
+}
+
+#[test]
+fn an_xmss_key_signs_at_last(rt: HostRuntime) {
+    assert_eq!(rt;
+        makes_trees(rt.alloc(), XMSS, &[1023]),
+        Some((true, 2500, 513))
+    );
 }
 
 // The signer after its leaves are retired, at the second try where the store failed at the first.
@@ -221,7 +240,7 @@ fn retires_at_last(alloc: Global) -> Option<bool> {
     let (signer, beyond) = retired(alloc, signer, 33)?;
     let (signer, all) = retired(alloc, signer, 32)?;
     let signer = reopened(alloc, signer, 60)?;
-    let (signer, signed) = answered(alloc, signer, 1, &mut out)?;
+    let (signer, signed) = answered(alloc, signer, 1, 1, &mut out)?;
     let (signer, again) = retired(alloc, signer, 5)?;
     let is_refused = beyond == Err(SignFault::RetireRange) && signed == Err(SignFault::Exhausted);
     Some(is_refused && all == Ok(()) && again == Ok(()) && len_of(signer)? == 513)
@@ -230,6 +249,181 @@ fn retires_at_last(alloc: Global) -> Option<bool> {
 #[test]
 fn leaves_are_retired_at_last(rt: HostRuntime) {
     assert_eq!(rt; retires_at_last(rt.alloc()), Some(true));
+}
+
+// Whether a new name of a key of two levels, whose lower tree is used up, makes another one.
+fn replaces_the_lower_tree(alloc: Global) -> Option<bool> {
+    let mut out = Vec::new(alloc);
+    let signer = reopened(alloc, created(alloc, TWO)?, 50)?;
+    let (signer, first) = answered(alloc, signer, 1, 1, &mut out)?;
+    let (signer, used) = retired(alloc, signer, 32)?;
+    let signer = reopened(alloc, signer, 60)?;
+    let (signer, second) = answered(alloc, signer, 2, 2, &mut out)?;
+    let is_answered = first == Ok(()) && used == Ok(()) && second == Ok(());
+    let is_left = signer.left().as_slice() == [30, 31].as_slice();
+    Some(is_answered && is_left && out.len() == 2644 && len_of(signer)? == 1537)
+}
+
+#[test]
+fn a_used_tree_is_replaced_at_last(rt: HostRuntime) {
+    assert_eq!(rt; replaces_the_lower_tree(rt.alloc()), Some(true));
+}
+
+// What a request answers of a signer in memory, at the second try where memory was refused at the first: then no
+// name was bound. Whether it was refused after something was drawn, so by the store.
+fn answered_in_memory(
+    signer: &mut NumberedInMemory,
+    number: u8,
+    out: &mut Vec<u8>,
+) -> Option<(Result<(), SignFault>, bool)> {
+    let name = Name::new(&name_of(number)).ok()?;
+    let next = signer.random.next;
+    let answer = request(signer, &name, 1, out)?;
+    if answer != Err(SignFault::OutOfMemory) {
+        return Some((answer, false));
+    }
+    if signer.ledger.find(&name).is_some() {
+        return None;
+    }
+    let was_drawn = signer.random.next != next;
+    Some((request(signer, &name, 1, out)?, was_drawn))
+}
+
+// A new key in memory, at the second try where memory was refused at the first.
+fn created_in_memory(alloc: Global, text: &str) -> Option<MemoryStore> {
+    let tape = [7; 48];
+    let store = MemoryStore::with_limit(alloc, 200);
+    let spec = Spec::parse(text).ok()?;
+    match Signer::create(alloc, spec, store, TapeSource::new(&tape)) {
+        Ok(signer) => Some(signer.into_store()),
+        Err(refused) => {
+            if refused.fault != SignFault::OutOfMemory {
+                return None;
+            }
+            let (store, _random) = refused.given;
+            Some(in_memory(alloc, text, store, &tape)?.into_store())
+        }
+    }
+}
+
+// Ten names of a key in memory, after eight of which more leaves are retired: whether its store was refused memory
+// for a name, and whether for leaves. None where they aren't all recorded at last, or a refusal of another memory
+// draws anything.
+fn refused_in_memory_for(alloc: Global) -> Option<(bool, bool)> {
+    let mut out = Vec::new(alloc);
+    let mut signer = opened_on(alloc, created_in_memory(alloc, LMS)?, 50)?;
+    let mut is_name = false;
+    let mut is_retire = false;
+    for number in 0..10u8 {
+        let (answer, was_drawn) = answered_in_memory(&mut signer, number, &mut out)?;
+        answer.ok()?;
+        is_name = is_name || was_drawn;
+        let upto = 3 * u32::from(number) + 3;
+        if number % 5 != 0 && signer.retire(upto) == Err(SignFault::OutOfMemory) {
+            is_retire = true;
+            signer.retire(upto).ok()?;
+        }
+    }
+    let drawn = if is_name { 61 } else { 60 };
+    if signer.left().as_slice() != [2].as_slice() || signer.random.next != drawn {
+        return None;
+    }
+    let mut store = signer.into_store();
+    if store.load(18).ok()?.is_none() || store.load(19) != Ok(None) {
+        return None;
+    }
+    Some((is_name, is_retire))
+}
+
+#[test]
+fn records_are_made_in_memory_at_last(rt: HostRuntime) {
+    let refused = refused_in_memory_for(rt.alloc());
+    assert!(rt; refused.is_some() && refused != Some((true, true)));
+}
+
+// The next two pass only where the store isn't refused memory for a name, and for leaves.
+#[test]
+fn names_are_bound_in_memory_at_first(rt: HostRuntime) {
+    let refused = refused_in_memory_for(rt.alloc());
+    assert!(rt; refused == Some((false, false)) || refused == Some((false, true)));
+}
+
+#[test]
+fn leaves_are_retired_in_memory_at_first(rt: HostRuntime) {
+    let refused = refused_in_memory_for(rt.alloc());
+    assert!(rt; refused == Some((false, false)) || refused == Some((true, false)));
+}
+
+// A key of two levels in memory, whose lower tree has all its leaves named.
+fn named_tree(alloc: Global) -> Option<MemoryStore> {
+    let mut store = created_in_memory(alloc, TWO)?;
+    add_all(&mut store, &[Entry::Extend(1, 0, 6)])?;
+    for number in 0..32u8 {
+        add_all(&mut store, &[Entry::Bound(u32::from(number), number)])?;
+    }
+    Some(store)
+}
+
+// A key of three levels in memory, whose trees of the two lower levels are used up.
+fn used_trees(alloc: Global) -> Option<MemoryStore> {
+    let mut store = created_in_memory(alloc, THREE)?;
+    add_all(&mut store, &[Entry::Extend(1, 0, 6)])?;
+    for number in 0..32u8 {
+        let tree = [
+            Entry::Extend(2, u32::from(number), 100 + number),
+            Entry::Bound(0, number),
+            Entry::Retire(32),
+        ];
+        add_all(&mut store, &tree)?;
+    }
+    Some(store)
+}
+
+// The signer of such a key after a new name, and the length of its signature.
+fn named_next(alloc: Global, store: Option<MemoryStore>) -> Option<(NumberedInMemory, usize)> {
+    let mut out = Vec::new(alloc);
+    let mut signer = opened_on(alloc, store?, 50)?;
+    let (answer, _) = answered_in_memory(&mut signer, 40, &mut out)?;
+    answer.ok()?;
+    Some((signer, out.len()))
+}
+
+// Whether the new name of such a key leaves so many leaves, and so many records.
+fn goes_on_anew(
+    alloc: Global,
+    store: Option<MemoryStore>,
+    left: &[u32],
+    records: u32,
+) -> Option<(bool, usize)> {
+    let (signer, len) = named_next(alloc, store)?;
+    let is_left = signer.left().as_slice() == left;
+    let mut store = signer.into_store();
+    let is_last = store.load(records.checked_sub(1)?).ok()?.is_some();
+    Some((is_left && is_last && store.load(records) == Ok(None), len))
+}
+
+#[test]
+fn a_full_tree_is_replaced_at_last(rt: HostRuntime) {
+    let store = match named_tree(rt.alloc()) {
+        Some(store) => Some(store),
+        None => named_tree(rt.alloc()),
+    };
+    assert_eq!(rt;
+        goes_on_anew(rt.alloc(), store, &[30, 31], 36),
+        Some((true, 2644))
+    );
+}
+
+#[test]
+fn used_trees_begin_anew_at_last(rt: HostRuntime) {
+    let store = match used_trees(rt.alloc()) {
+        Some(store) => Some(store),
+        None => used_trees(rt.alloc()),
+    };
+    assert_eq!(rt;
+        goes_on_anew(rt.alloc(), store, &[30, 31, 31], 101),
+        Some((true, 3992))
+    );
 }
 
 // A store of a key whose root isn't that of its tree.

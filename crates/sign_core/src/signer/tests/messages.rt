@@ -2,71 +2,101 @@
 
 use super::*;
 
-// A request whose message fails after so many bytes: whether it is refused for that and leaves no byte.
+// A message whose reads fail after so many bytes.
+#[derive(Drop)]
+pub(super) struct Failing {
+    pub(super) left: usize,
+}
+
+impl Read for Failing {
+    fn read(&mut self, buffer: &mut [u8]) -> io::Result<usize> {
+        let n = self.left.min(buffer.len());
+        if n == 0 {
+            return Err(io::Error::from(io::ErrorKind::BrokenPipe));
+        }
+        buffer[..n].fill(0);
+        self.left -= n;
+        Ok(n)
+    }
+}
+
+// A request whose message fails after so many bytes: whether it is refused for that, leaves no byte, and so many
+// leaves are left then.
 fn fails_after<S: Store, R: Source>(
     alloc: Global,
     signer: &mut Signer<S, R>,
-    name: &[u8],
     count: usize,
+    left: &[u32],
 ) -> Option<bool> {
     let mut message = Failing { left: count };
     let mut out = Vec::new(alloc);
-    let answer = signer.sign(&Name::new(name).ok()?, &mut message, &mut out);
-    Some(answer == Err(SignFault::MessageRead) && out.is_empty())
+    let answer = signer.sign(&Name::new(&name_of(1)).ok()?, &mut message, &mut out);
+    let is_refused = answer == Err(SignFault::MessageRead) && out.is_empty();
+    Some(is_refused && signer.left().as_slice() == left)
 }
 
-// Whether a first message that fails leaves the lower tree, and no failed message afterwards leaves more.
-fn leaves_the_tree(alloc: Global) -> Option<bool> {
-    let tape = counting::<320>(0);
-    let mut signer = in_memory(alloc, TWO, MemoryStore::with_limit(alloc, 100), &tape)?;
-    for count in [0, 1, 63, 64, 65] {
-        let is_refused = fails_after(alloc, &mut signer, b"fw-1", count)?;
-        let is_left = signer.left().as_slice() == [31, 32].as_slice();
-        let has_two = signer.store.load(2) == Ok(None);
-        if !is_refused || !is_left || !has_two {
-            return Some(false);
+// Whether messages of a key that fail after each of these counts of bytes leave so many leaves, and the first name
+// gets its signature then; and whether the key's store has these records then, from the second on.
+fn fails_after_each(
+    alloc: Global,
+    text: &str,
+    tape: &[u8],
+    counts: &[usize],
+    left: &[u32],
+    said: &[Said],
+) -> Option<(bool, bool)> {
+    let mut signer = in_memory(alloc, text, MemoryStore::with_limit(alloc, 100), tape)?;
+    for count in counts {
+        if !fails_after(alloc, &mut signer, *count, left)? {
+            return Some((false, false));
         }
     }
-    answer(alloc, &mut signer, b"fw-1", &[1])?.ok()?;
-    let is_left = signer.left().as_slice() == [31, 31].as_slice();
-    Some(is_left && bound_at(&mut signer.store, 2)?.leaf == 0)
+    let is_signed = is_answered(alloc, &mut signer, &Call::Sign(1, 0, None))?;
+    let mut store = signer.into_store();
+    Some((is_signed, are_said(&mut store, 1, said, tape)?))
 }
 
+// No failed message binds a name: each draws a C.
+#[test]
+fn failing_messages_bind_no_name(rt: HostRuntime) {
+    let tape = counting::<752>(0);
+    let counts = [
+        0, 1, 2, 3, 4, 5, 6, 7, 8, 9, 10, 11, 12, 13, 14, 15, 16, 17, 18, 19, 20,
+    ];
+    let said = [Said::Bound(1, 0, Some(720))];
+    let answer = fails_after_each(rt.alloc(), LMS, &tape, &counts, &[32], &said);
+    assert_eq!(rt; answer, Some((true, true)));
+}
+
+// The first one leaves the lower tree, and no other more.
 #[test]
 fn a_failed_message_leaves_the_lower_tree(rt: HostRuntime) {
-    assert_eq!(rt; leaves_the_tree(rt.alloc()), Some(true));
-}
-
-// Whether failed messages under a key of XMSS use no leaf.
-fn uses_no_leaf(alloc: Global) -> Option<bool> {
-    let tape = counting::<96>(0);
-    let mut signer = in_memory(alloc, "xmss:10", MemoryStore::with_limit(alloc, 100), &tape)?;
-    for count in [0, 1, 65] {
-        let is_refused = fails_after(alloc, &mut signer, b"fw-1", count)?;
-        if !is_refused || signer.left().as_slice() != [1024].as_slice() {
-            return Some(false);
-        }
-    }
-    let signature = answer(alloc, &mut signer, b"fw-1", &[1])?.ok()?;
-    Some(signature.get(..4) == Some([0; 4].as_slice()))
+    let tape = counting::<320>(0);
+    let counts = [0, 1, 63, 64, 65];
+    let said = [Said::Extend(1, 0, 48), Said::Bound(1, 0, Some(288))];
+    let answer = fails_after_each(rt.alloc(), TWO, &tape, &counts, &[31, 32], &said);
+    assert_eq!(rt; answer, Some((true, true)));
 }
 
 #[test]
 fn a_failed_message_uses_no_xmss_leaf(rt: HostRuntime) {
-    assert_eq!(rt; uses_no_leaf(rt.alloc()), Some(true));
+    let tape = counting::<96>(0);
+    let said = [Said::Bound(1, 0, None)];
+    let answer = fails_after_each(rt.alloc(), XMSS, &tape, &[0, 1, 65], &[1024], &said);
+    assert_eq!(rt; answer, Some((true, true)));
 }
 
 // Whether a name that is bound keeps its signature after messages that fail.
 fn keeps_its_signature(alloc: Global) -> Option<bool> {
     let tape = counting::<80>(0);
     let mut signer = in_memory(alloc, LMS, MemoryStore::with_limit(alloc, 100), &tape)?;
-    let first = answer(alloc, &mut signer, b"fw-1", &[0; 3])?.ok()?;
+    let first = answer(alloc, &mut signer, &name_of(1), &[0; 3])?.ok()?;
     for count in 0..5 {
-        if !fails_after(alloc, &mut signer, b"fw-1", count)? {
+        if !fails_after(alloc, &mut signer, count, &[31])? {
             return Some(false);
         }
     }
-    let again = answer(alloc, &mut signer, b"fw-1", &[0; 3])?.ok()?;
+    let again = answer(alloc, &mut signer, &name_of(1), &[0; 3])?.ok()?;
     Some(first == again && signer.store.load(2) == Ok(None))
 }
 

@@ -4,8 +4,6 @@ use super::*;
 use crate::rng_source::RngSource;
 use rand_core::TryRng;
 
-const XMSS: &str = "xmss:10";
-
 // A generator that fills each call's bytes with one number, counted up from call to call, and fails after so many.
 #[derive(Drop)]
 struct Numbers {
@@ -69,8 +67,9 @@ fn numbered<R: Source + Drop>(alloc: Global, text: &str, random: R) -> Option<Me
     let mut store = Signer::create(alloc, spec, store, random)
         .ok()?
         .into_store();
-    let key = key_at(&mut store)?;
-    if seeds_of(&key)? != ([1; 16], [2; 32]) {
+    let mut drawn = [2; 48];
+    drawn[..16].fill(1);
+    if !are_said(&mut store, 0, &[Said::Key(0)], &drawn)? {
         return None;
     }
     Some(store)
@@ -101,7 +100,7 @@ struct Outcome<'a> {
 // Whether a store has so many records.
 fn has_records(store: &mut MemoryStore, count: u32) -> bool {
     let is_last = match count.checked_sub(1) {
-        Some(last) => store.load(last).is_ok_and(|found| found.is_some()),
+        Some(last) => matches!(store.load(last), Ok(Some(_))),
         None => true,
     };
     is_last && store.load(count) == Ok(None)
@@ -200,91 +199,53 @@ fn with_block_again<const N: usize>(place: usize, again: usize) -> [u8; N] {
     bytes
 }
 
-// Whether a repeated I is refused, and the next request draws what follows it.
-fn draws_what_follows(alloc: Global) -> Option<bool> {
-    let tape = with_block_again::<176>(0, 3);
-    let mut signer = in_memory(alloc, TWO, MemoryStore::with_limit(alloc, 100), &tape)?;
-    let first = fault_of(alloc, &mut signer, b"fw-1", &[1])?;
-    let has_one = signer.left().as_slice() == [32, 0].as_slice()
-        && signer.store.load(1) == Ok(None);
-    let second = fault_of(alloc, &mut signer, b"fw-1", &[1])?;
-    let extend = extend_at(&mut signer.store, 1)?;
-    let is_next = tape.get(64..80) == Some(extend.identifier.as_slice());
-    let is_refused = first == Some(SignFault::RandomRepeated) && has_one;
-    Some(is_refused && second == None && is_next)
+// What two requests of a first name answer where an I is drawn again at the first, and whether the records are
+// these then, from the second on.
+fn draws_what_follows(
+    alloc: Global,
+    text: &str,
+    tape: &[u8],
+    left: &[u32],
+    said: &[Said],
+) -> Option<(usize, bool)> {
+    let mut signer = in_memory(alloc, text, MemoryStore::with_limit(alloc, 100), tape)?;
+    let calls = [
+        Call::Sign(1, 1, Some(SignFault::RandomRepeated)),
+        Call::Left(left),
+        Call::Sign(1, 1, None),
+    ];
+    let count = first_other_call(alloc, &mut signer, &calls)?;
+    let mut store = signer.into_store();
+    Some((count, are_said(&mut store, 1, said, tape)?))
 }
 
-// The same of the I of a lower tree.
-fn draws_after_the_lower(alloc: Global) -> Option<bool> {
-    let tape = with_block_again::<256>(3, 8);
-    let mut signer = in_memory(alloc, THREE, MemoryStore::with_limit(alloc, 100), &tape)?;
-    let first = fault_of(alloc, &mut signer, b"fw-1", &[1])?;
-    let is_left = signer.left().as_slice() == [31, 32, 0].as_slice();
-    let has_two = signer.store.load(2) == Ok(None);
-    let second = fault_of(alloc, &mut signer, b"fw-1", &[1])?;
-    let extend = extend_at(&mut signer.store, 2)?;
-    let bound = bound_at(&mut signer.store, 3)?;
-    let is_next = tape.get(144..160) == Some(extend.identifier.as_slice())
-        && tape.get(224..256) == Some(bound.randomizer.as_slice());
-    let is_refused = first == Some(SignFault::RandomRepeated) && has_two;
-    Some(is_refused && is_left && second == None && is_next)
-}
-
+// The I of the key, and that of a lower tree: a repeated one is drawn alone.
 #[test]
 fn a_repeated_identifier_is_drawn_alone(rt: HostRuntime) {
-    assert_eq!(rt; draws_what_follows(rt.alloc()), Some(true));
-    assert_eq!(rt; draws_after_the_lower(rt.alloc()), Some(true));
+    let tape = with_block_again::<176>(0, 3);
+    let said = [Said::Extend(1, 0, 64), Said::Bound(1, 0, Some(144))];
+    let answer = draws_what_follows(rt.alloc(), TWO, &tape, &[32, 0], &said);
+    assert_eq!(rt; answer, Some((3, true)));
+    let tape = with_block_again::<256>(3, 8);
+    let said = [
+        Said::Extend(1, 0, 48),
+        Said::Extend(2, 0, 144),
+        Said::Bound(1, 0, Some(224)),
+    ];
+    let answer = draws_what_follows(rt.alloc(), THREE, &tape, &[31, 32, 0], &said);
+    assert_eq!(rt; answer, Some((3, true)));
 }
 
-// Whether the key of XMSS keeps what was drawn, in its order, and a first name draws nothing more: the tape has no
-// more.
-fn keeps_the_draws_of_xmss(alloc: Global) -> Option<bool> {
-    let tape = counting::<96>(0);
-    let mut signer = in_memory(alloc, XMSS, MemoryStore::with_limit(alloc, 100), &tape)?;
-    let signature = answer(alloc, &mut signer, b"fw-1", &[1])?.ok()?;
-    let key = key_at(&mut signer.store)?;
-    let bound = bound_at(&mut signer.store, 1)?;
-    let has_seeds = match &key.secret {
-        Secret::Xmss {
-            secret_seed,
-            prf_key,
-            public_seed,
-            ..
-        } => *secret_seed == counting(0)
-            && *prf_key == counting(0x20)
-            && *public_seed == counting(0x40),
-        _ => false,
-    };
-    let has_none = bound.leaf == 0 && bound.randomizer == [0; 32];
-    Some(has_seeds && has_none && signature.len() == 2500)
+// The fault of a first name, if any.
+fn first_fault(alloc: Global, text: &str, tape: &[u8]) -> Option<Option<SignFault>> {
+    let mut signer = in_memory(alloc, text, MemoryStore::with_limit(alloc, 100), tape)?;
+    fault_of(alloc, &mut signer, b"fw-1", &[1])
 }
 
+// A repeated I comes before the end of the source after it.
 #[test]
-fn what_xmss_draws_is_recorded(rt: HostRuntime) {
-    assert_eq!(rt; keeps_the_draws_of_xmss(rt.alloc()), Some(true));
-}
-
-// What a store that has stopped at its first append is answered, by open and by a new create.
-fn of_stopped(alloc: Global) -> Option<(SignFault, SignFault)> {
-    let mut store = MemoryStore::with_limit(alloc, 100);
-    store.cut_at(1, Cut::Old);
-    let tape = counting::<48>(0);
-    let spec = Spec::parse(LMS).ok()?;
-    let refused = Signer::create(alloc, spec, store, TapeSource::new(&tape)).err()?;
-    let (store, _random) = refused.given;
-    let refused = Signer::open(alloc, store, TapeSource::new(&[])).err()?;
-    let opened = refused.fault;
-    let (store, _random) = refused.given;
-    if store.limit() == 0 {
-        return None;
-    }
-    let spec = Spec::parse(LMS).ok()?;
-    let refused = Signer::create(alloc, spec, store, TapeSource::new(&tape)).err()?;
-    Some((opened, refused.fault))
-}
-
-#[test]
-fn a_stopped_store_makes_and_opens_nothing(rt: HostRuntime) {
-    let wanted = (SignFault::Stopped, SignFault::Stopped);
-    assert_eq!(rt; of_stopped(rt.alloc()), Some(wanted));
+fn a_repeated_identifier_comes_before_the_end(rt: HostRuntime) {
+    let tape = with_block_again::<64>(0, 3);
+    let wanted = Some(SignFault::RandomRepeated);
+    assert_eq!(rt; first_fault(rt.alloc(), TWO, &tape), Some(wanted));
 }
