@@ -176,8 +176,8 @@ pub fn lives_law<D: Disk + Drop>()
 {}
 
 /// Over an honest store each call of an open signer, each create and each opening is an event of the world that
-/// `once_law` speaks of: the one that its own contract says. Over any store a call of a closed signer answers 26, and is
-/// an event that leaves the world as it was; and so is a create or an opening of a store that has stopped.
+/// `once_law` speaks of: the one that its own contract says. Over any store a call of a closed signer answers 26, and
+/// is an event that leaves the world as it was; and so is a create or an opening of a store that has stopped.
 ///
 /// A stop at any moment of the call leaves what a stop of the event leaves; after it the signer is open as the world
 /// is, and then on the same records; and what it answers is what the event hands out, for the message that was read.
