@@ -39,18 +39,28 @@ fn bytes_in(alloc: Global, parts: &[&str]) -> Option<Vec<u8>> {
     Some(bytes)
 }
 
-// Message i of a key: so many bytes of SHA-256 over the key's name, i and a count from 0.
-fn message_of(alloc: Global, name: &str, number: u8, len: usize) -> Option<Vec<u8>> {
-    let begin = format!(in alloc; "message:dev-{name}:{number}:").ok()?;
+// The next 32 bytes of a message: SHA-256 over what it begins with, and a count.
+fn block_of(begin: &[u8], count: usize) -> [u8; 32] {
+    let mut hasher = Sha256::new();
+    hasher.update(begin);
+    hasher.update((count as u64).to_be_bytes().as_slice());
+    hasher.finalize()
+}
+
+// So many bytes of these.
+fn blocks_of(alloc: Global, begin: &[u8], len: usize) -> Option<Vec<u8>> {
     let mut bytes = Vec::new(alloc);
-    for i in 0..len.div_ceil(32) {
-        let mut hasher = Sha256::new();
-        hasher.update(begin.as_bytes());
-        hasher.update((i as u64).to_be_bytes().as_slice());
-        bytes.extend_from_slice(&hasher.finalize()).ok()?;
+    for count in 0..len.div_ceil(32) {
+        bytes.extend_from_slice(&block_of(begin, count)).ok()?;
     }
     bytes.truncate(len);
     Some(bytes)
+}
+
+// Message i of a key: so many bytes of SHA-256 over the key's name, i and a count from 0.
+fn message_of(alloc: Global, name: &str, number: u8, len: usize) -> Option<Vec<u8>> {
+    let begin = format!(in alloc; "message:dev-{name}:{number}:").ok()?;
+    blocks_of(alloc, begin.as_bytes(), len)
 }
 
 // The file of a new key, where its public key is the known one.

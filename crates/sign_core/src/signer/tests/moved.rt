@@ -46,3 +46,30 @@ fn of_moved_and_failing(alloc: Global) -> Option<SignFault> {
 fn moved_comes_before_the_message(rt: HostRuntime) {
     assert_eq!(rt; of_moved_and_failing(rt.alloc()), Some(SignFault::Moved));
 }
+
+// A signer whose store has stopped, though its records have moved, too: the first of these calls that isn't refused
+// for the store.
+fn of_closed_and_moved(alloc: Global) -> Option<usize> {
+    let mut signer = Signer::open(alloc, moved(alloc)?, TapeSource::new(&[])).ok()?;
+    signer.store.cut_at(1, Cut::Old);
+    match signer.store.load(0) {
+        Ok(Some(_)) => match signer.store.append(&Record::Moved) {
+            Err(StoreFault::DeviceFailed) => signer.is_open = false,
+            _ => return None,
+        },
+        _ => return None,
+    }
+    let refused = Some(SignFault::Stopped);
+    let calls = [
+        Call::Sign(0, b'm', refused),
+        Call::Sign(1, 1, refused),
+        Call::Retire(0, refused),
+        Call::Retire(33, refused),
+    ];
+    first_other_call(alloc, &mut signer, &calls)
+}
+
+#[test]
+fn closed_comes_before_moved(rt: HostRuntime) {
+    assert_eq!(rt; of_closed_and_moved(rt.alloc()), Some(4));
+}
