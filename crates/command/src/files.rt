@@ -5,15 +5,17 @@ ghost use Rattle.std.specs.Io.{ReadsAtMost};
 ghost use Rattle.std.specs.Io.KnownBytes.{Consumes, IsAtEnd, ReadConsumes};
 ghost use Rattle.std.specs.declared.option.Option.{Option};
 ghost use Rattle.typecodes.specs.Message.{read_outcome};
-ghost use Rattle.command.specs.Files.{FillsOrFails, ReadsAllOrFails, ReadsKey, Shows};
+ghost use Rattle.command.specs.Files.{FillsOrFails, IsStateRefusal, ReadsAllOrFails, ReadsKey, Shows};
 ghost use Rattle.command.specs.Trace.{Happening, ReadsOnce, opening};
 ghost use Rattle.command.specs.declared.trace.Role.{Role as FileRole};
 
+use crate::file_disk::{FileDisk, StateFile};
 use crate::refusal::Refusal;
 use crate::signing::Outlet;
 use crate::trace::{Event, Role, Trace};
 use sign_core::{AnyPublic, KeyFault};
-use std::fs::Files;
+use state_file::Disk;
+use std::fs::{File, Files};
 use std::io::{ErrorKind, Read};
 use std::marker::Model;
 use std::{fs, io};
@@ -55,6 +57,18 @@ pub trait Folder {
         ensures role { Self.File.role file.new ≡ Self.File.role file.old }
         ensures bound { ReadsAtMost result buffer.new }
         ensures bytes { ReadConsumes (Self.File.remaining file.old) (Self.File.remaining file.new) result buffer.new };
+}
+
+/// Where the commands of a signer have their files.
+pub trait SignerFolder: Folder {
+    /// The disk over a state file.
+    type Disk: Disk + Drop;
+
+    /// Opens the state file at this very path for reading and writing, and locks it without waiting. It is a regular
+    /// file, and is never made.
+    fn open_state(&mut self, path: &str) -> Result<Self::Disk, Refusal>
+        ensures trace { Self.trace self.new ≡ Self.trace self.old ++ opening Role.State path.now result ∷ [] }
+        ensures err { IfErr result IsStateRefusal };
 }
 
 /// The files of a machine. What they hold isn't known.
@@ -114,6 +128,18 @@ impl<R: Files> Folder for Machine<R> {
     fn read(&mut self, file: &mut MachineFile<R::File>, buffer: &mut [u8]) -> io::Result<usize> {
         let answer = file.file.read(buffer);
         self.trace.note_read(file.role, answer, buffer)
+    }
+}
+
+impl<R: Files<File = File>> SignerFolder for Machine<R> {
+    type Disk = FileDisk<StateFile>;
+
+    fn open_state(&mut self, path: &str) -> Result<FileDisk<StateFile>, Refusal> {
+        let opened = StateFile::open(&self.rt, path);
+        match self.trace.note_opening(Role::State, path, opened) {
+            Ok(file) => Ok(FileDisk::new(file)),
+            Err(refusal) => Err(refusal),
+        }
     }
 }
 

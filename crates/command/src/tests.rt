@@ -2,6 +2,7 @@ mod disks;
 mod failures;
 mod lines;
 mod place;
+mod retiring;
 mod sample;
 mod shelf;
 mod signing;

@@ -12,6 +12,8 @@ use std::marker::Model;
 /// Which of a command's files it is.
 #[derive(Clone, Copy, Debug, PartialEq, Eq)]
 pub enum Role {
+    /// The state file.
+    State,
     /// The public key.
     Public,
     /// The message.

@@ -3,7 +3,8 @@ ghost use Rattle.std.specs.Prelude.{◌≡◌, None};
 ghost use Rattle.std.specs.Io.{ReadsAtMost};
 
 use super::place::{Outcome, run_in};
-use crate::files::{Folder, OpenFile};
+use crate::file_disk::{FileDisk, StateFile};
+use crate::files::{Folder, OpenFile, SignerFolder};
 use crate::line::ClapReader;
 use crate::output::{Output, Printer};
 use crate::program::run;
@@ -152,6 +153,16 @@ impl<'a> Folder for Shelf<'a> {
     }
 }
 
+// It has no state files.
+impl<'a> SignerFolder for Shelf<'a> {
+    type Disk = FileDisk<StateFile>;
+
+    fn open_state(&mut self, path: &str) -> Result<FileDisk<StateFile>, Refusal> {
+        self.trace
+            .note_opening(Role::State, path, Err(Refusal::FileFailed))
+    }
+}
+
 // What comes of verifying these.
 pub fn verify(
     rt: &HostRuntime,
@@ -175,6 +186,7 @@ pub fn verify_to<O: Output>(
     let mut errors = Printer::new(Vec::new(rt.alloc()));
     let mut input: &[u8] = &[];
     run(
+        rt.alloc(),
         &mut ClapReader::new(rt.alloc()),
         &mut Shelf::new(rt, &files),
         &["verify", "p", "m", "s"],
