@@ -1,5 +1,6 @@
 mod disks;
 mod failures;
+mod key_files;
 mod lines;
 mod place;
 mod retiring;
