@@ -1,10 +1,12 @@
 pub mod Answer
 pub mod FileDisk
+pub mod FileId
 pub mod Files
 pub mod Line
 pub mod LineFault
 pub mod Output
 pub mod Program
+pub mod RandomFile
 pub mod Refusal
 pub mod Signing
 pub mod Trace

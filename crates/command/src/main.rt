@@ -7,21 +7,24 @@
 //!
 //! `program::run` is the whole program, over a reader of lines, a folder of files, an input and two outputs. It reads
 //! the line (`line`; `line_fault` is why one gives no request, and `texts` makes the text that says so), does what is
-//! requested (a module for each command, as `verify`) and reports what came of it (`answer`, `refusal`). `files` and
-//! `output` are where it meets the machine, and `trace` is what contracts see of what it does to files. `signing` is
-//! what the commands will do with a signer, and `file_disk` the disk under it, on a state file; no command uses them
-//! yet. The contract of `run`:
-//! which files are opened and read, in which order, and that the line printed and the exit status are those of the
-//! right answer.
+//! requested (a module for each command, as `verify`) and reports what came of it (`answer`, `refusal`). `files` has the
+//! traits by which it meets files, `machine` those of a machine (which they are: `file_id`), `output` is where it writes,
+//! and `trace` is what contracts see of what it does to files. `signing` is what the commands will do with a signer,
+//! `file_disk` the disk under it, on a state file, and `random_file` its random bytes; no command uses them yet. The
+//! contract of `run`: which files are opened and read, in which order, and that the line printed and the exit status are
+//! those of the right answer.
 #![tactic(auto)]
 
 mod answer;
 mod file_disk;
+mod file_id;
 mod files;
 mod line;
 mod line_fault;
+mod machine;
 mod output;
 mod program;
+mod random_file;
 mod refusal;
 mod signing;
 #[cfg(test)]
@@ -30,8 +33,8 @@ mod texts;
 mod trace;
 mod verify;
 
-use files::Machine;
 use line::ClapReader;
+use machine::Machine;
 use output::{Output, Part, Printer};
 use refusal::Refusal;
 use std::process::ExitCode;

@@ -1,9 +1,12 @@
 mod disks;
 mod failures;
+mod lent_disk;
 mod lines;
 mod place;
+mod randoms;
 mod sample;
 mod shelf;
 mod signing;
 mod states;
+mod targets;
 mod verdicts;

@@ -1,7 +1,8 @@
 //! A folder of a test's own, and runs of the program.
 
-use crate::files::{Folder, Machine};
+use crate::files::Folder;
 use crate::line::ClapReader;
+use crate::machine::Machine;
 use crate::output::Printer;
 use crate::program::run;
 use std::path::PathBuf;
