@@ -5,7 +5,7 @@ pub mod Explaining
 pub mod Finding
 pub mod Judging
 pub mod Reading
-pub mod Placing
+pub mod Offsets
 pub mod LowercaseLines
 pub mod Taking
 pub mod Visiting

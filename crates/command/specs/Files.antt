@@ -3,8 +3,6 @@ use Rattle.std.specs.Prelude.{length, ℕ, List, Result, Ok, Err, ◌≡◌, Opt
 use Rattle.sign_core.specs.declared.key.AnyPublic.{AnyPublic}
 use Rattle.sign_core.specs.declared.key.KeyFault.{KeyFault}
 use Rattle.sign_core.specs.Key.{KeyHasFault, SpellsKey}
-use Rattle.command.specs.declared.refusal.Refusal.{Refusal}
-use Rattle.command.specs.declared.refusal.Refusal.TheVariants.{FileFailed, Locked}
 use Rattle.command.specs.declared.trace.Role.{Role}
 use Rattle.std.specs.IoError.{error_kind}
 use Rattle.std.specs.declared.io.Error.{Error}
@@ -12,10 +10,6 @@ use Rattle.std.specs.declared.io.ErrorKind.{ErrorKind}
 use Rattle.std.specs.declared.io.ErrorKind.TheVariants.{OutOfMemory}
 use Rattle.typecodes.specs.Message.{IsContent}
 use Rattle.command.specs.Trace.{Happening, ReadsOn, ReadsToEnd, ReadsToFailure, ReadsForever}
-
--- A state file can't be opened, or is locked.
-abbrev pub IsStateRefusal : Refusal → Type 0
-IsStateRefusal refusal = (refusal ≡ FileFailed) ⊎ (refusal ≡ Locked)
 
 -- Bytes were read as a public key: they spell this one, or this is wrong with them.
 abbrev pub ReadsKey : List ℕ → Result AnyPublic KeyFault → Type 0

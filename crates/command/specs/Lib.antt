@@ -1,5 +1,6 @@
 pub mod Answer
 pub mod FileDisk
+pub mod FileId
 pub mod Files
 pub mod KeyFile
 pub mod Line
@@ -7,6 +8,7 @@ pub mod LineFault
 pub mod Number
 pub mod Output
 pub mod Program
+pub mod RandomFile
 pub mod Refusal
 pub mod Retire
 pub mod Signing

@@ -11,7 +11,7 @@ use Rattle.command.specs.declared.line.Lack.TheVariants.{Command, Number}
 use Rattle.command.specs.declared.refusal.Refusal.{Refusal}
 use Rattle.command.specs.declared.retire.Retire.{Retire}
 use Rattle.command.specs.declared.trace.Role.TheVariants as role
-use Rattle.command.specs.Files.{IsStateRefusal}
+use Rattle.command.specs.FileDisk.{IsStateRefusal}
 use Rattle.command.specs.KeyFile.{RetiresOn}
 use Rattle.command.specs.Number.{number_in}
 use Rattle.command.specs.Trace.{Happening, not_opened, opened}

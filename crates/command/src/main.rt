@@ -8,22 +8,26 @@
 //! `program::run` is the whole program, over a reader of lines, a folder of files, an input and two outputs. It reads
 //! the line (`line`; `number` reads its numbers, `line_fault` is why one gives no request, and `texts` makes the text
 //! that says so), does what is requested (a module for each command, as `verify` and `retire`) and reports what came of
-//! it (`answer`, `refusal`). `files` and `output` are where it meets the machine, and `trace` is what contracts see of
-//! what it does to files. `key_file` is what the commands do with a signer on the disk of a state file, `signing` the
-//! signer's steps over any store, and `file_disk` the disk over a file of the machine. The contract of `run`: which
+//! it (`answer`, `refusal`). `files` has the traits by which it meets files, `machine` those of a machine (which they
+//! are: `file_id`), `output` is where it writes, and `trace` is what contracts see of what it does to files. `key_file`
+//! is what the commands do with a signer on the disk of a state file, `signing` the signer's steps over any store,
+//! `file_disk` the disk over a file of the machine, and `random_file` its random bytes. The contract of `run`: which
 //! files are opened and read, in which order, and that the line printed and the exit status are those of the right
 //! answer.
 #![tactic(auto)]
 
 mod answer;
 mod file_disk;
+mod file_id;
 mod files;
 mod key_file;
 mod line;
 mod line_fault;
+mod machine;
 mod number;
 mod output;
 mod program;
+mod random_file;
 mod refusal;
 mod retire;
 mod signing;
@@ -33,8 +37,8 @@ mod texts;
 mod trace;
 mod verify;
 
-use files::Machine;
 use line::ClapReader;
+use machine::Machine;
 use output::{Output, Part, Printer};
 use refusal::Refusal;
 use std::process::ExitCode;

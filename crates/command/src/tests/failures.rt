@@ -3,8 +3,8 @@
 use super::place::{Place, run_words};
 use super::sample::Sample;
 use super::shelf::{After, Content, verify, verify_to};
-use crate::files::Machine;
 use crate::line::ClapReader;
+use crate::machine::Machine;
 use crate::output::Printer;
 use crate::program::run;
 use std::io;

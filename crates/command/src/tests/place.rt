@@ -1,7 +1,8 @@
 //! A folder of a test's own, and runs of the program.
 
-use crate::files::{Machine, SignerFolder};
+use crate::files::SignerFolder;
 use crate::line::ClapReader;
+use crate::machine::Machine;
 use crate::output::Printer;
 use crate::program::run;
 use std::path::PathBuf;

@@ -2,6 +2,7 @@
 
 use super::place::{Outcome, Place, run_words};
 use super::signing::make;
+use crate::file_disk::StateFile;
 use std::fs;
 use std::path::PathBuf;
 use std::test::Fail;
@@ -45,6 +46,22 @@ fn leaves_are_retired_by_a_line(rt: HostRuntime) -> Result<(), Fail> {
     let path = folder.path.join(rt.alloc(), "k")?;
     assert!(rt; make(&rt, &folder, &[7; 48]).is_ok());
     assert_eq!(rt; first_wrong(&rt, &path), None);
+    folder.remove(&rt)
+}
+
+// Another process may have the key, or this one once more.
+#[test]
+fn a_locked_key_is_left_alone(rt: HostRuntime) -> Result<(), Fail> {
+    let folder = Place::new(&rt, "retire-locked")?;
+    let path = folder.path.join(rt.alloc(), "k")?;
+    assert!(rt; make(&rt, &folder, &[7; 48]).is_ok());
+    let locked = StateFile::open(&rt, path.as_str());
+    assert!(rt; locked.is_ok());
+    let outcome = retire(&rt, path.as_str(), "5");
+    assert!(rt; outcome.is("refused 54 Locked", 1));
+    drop(locked);
+    let outcome = retire(&rt, path.as_str(), "5");
+    assert!(rt; outcome.is("retired upto 5", 0));
     folder.remove(&rt)
 }
 

@@ -2,7 +2,7 @@
 
 use super::place::{Place, run_words};
 use crate::file_disk::{FileDisk, StateFile};
-use crate::files::Machine;
+use crate::machine::Machine;
 use crate::refusal::Refusal;
 use crate::signing::{publish, retire, sign};
 use sign_core::{AnyPublic, SignFault, Signer, TapeSource};
