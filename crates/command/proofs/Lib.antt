@@ -5,10 +5,11 @@ pub mod Explaining
 pub mod Finding
 pub mod Judging
 pub mod Reading
-pub mod Placing
+pub mod Offsets
 pub mod LowercaseLines
 pub mod Taking
 pub mod Visiting
 pub mod Walking
 pub mod Walks
 pub mod MessageReading
+pub mod Numbers

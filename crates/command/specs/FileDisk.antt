@@ -9,7 +9,31 @@ use Rattle.state_file.specs.declared.disk.DiskFault.{DiskFault}
 use Rattle.state_file.specs.declared.disk.DiskFault.TheVariants.{Failed, PastEnd, OutOfMemory}
 use Rattle.typecodes.specs.Message.{Gave, GivesAll, GivesText, ReadFails, ReadOutcome, Transition, Transitions}
 use Rattle.typecodes.specs.Message.{interruptions}
+use Rattle.command.specs.declared.file_disk.FileDisk.{FileDisk}
+use Rattle.command.specs.declared.refusal.Refusal.{Refusal}
+use Rattle.command.specs.declared.refusal.Refusal.TheVariants.{FileFailed, Locked}
 use Rattle.command.specs.Trace.{Happening, measured, read_at, synced, written_at}
+
+-- the file of a disk
+abbrev pub file_of : {F : Type 0} → FileDisk F → F
+file_of disk = disk.file
+
+-- how many calls the disk has refused
+abbrev pub failures_of : {F : Type 0} → FileDisk F → ℕ
+failures_of disk = disk.failures
+
+-- how many of these were reads past the end
+abbrev pub past_ends_of : {F : Type 0} → FileDisk F → ℕ
+past_ends_of disk = disk.past_ends
+
+-- A state file can't be opened, or is locked.
+abbrev pub IsStateRefusal : Refusal → Type 0
+IsStateRefusal refusal = (refusal ≡ FileFailed) ⊎ (refusal ≡ Locked)
+
+-- A state file was opened, and nothing happened to it yet; or it can't be opened, or is locked.
+abbrev pub OpensState : Result (List Happening) Refusal → Type 0
+OpensState (Ok happenings) = happenings ≡ []
+OpensState (Err refusal) = IsStateRefusal refusal
 
 -- an answer, of whose error the kind alone is kept
 abbrev pub kept : {A : Type 0} → Result A Error → Result A ErrorKind
@@ -27,33 +51,33 @@ abbrev pub size_of : ReadOutcome → ℕ
 size_of (Ok bytes) = length bytes
 size_of (Err kind) = 0
 
--- A read at the place where the rest of the bytes stands asks for the rest, and for no more.
+-- A read at the offset where the rest of the bytes stands asks for the rest, and for no more.
 abbrev pub ReadsRest : (at room : ℕ) → Transition Stage
 ReadsRest at room (done, old) outcome (after, new) =
     (after ≡ done + size_of outcome) × (new ≡ old ++ read_at (at + done) (room - done) outcome ∷ [])
 
--- A write of the rest of the bytes, at the place where it belongs.
+-- A write of the rest of the bytes, at the offset where it belongs.
 abbrev pub WritesRest : (at : ℕ) (bytes : List ℕ) → Transition Stage
 WritesRest at bytes (done, old) outcome (after, new) =
     (after ≡ done + size_of outcome) × (new ≡ old ++ written_at (at + done) (drop done bytes) outcome ∷ [])
 
 -- Calls went on, each of which did a byte at least or was interrupted; of both there were 2^20, and it was given up.
-abbrev pub GivesUp : Transition Stage → Stage → Stage → Type 0
+abbrev pub GivesUp : {M : Type 0} → Transition M → M → M → Type 0
 GivesUp step old new =
     (outcomes : List ReadOutcome) × (bytes : List ℕ) × Transitions step outcomes old new × Gave outcomes bytes
     × (2 ^ 20 ≤ interruptions outcomes + length bytes)
 
 -- A call failed and wasn't interrupted, or it was given up.
-abbrev pub Breaks : Transition Stage → Stage → Stage → Type 0
+abbrev pub Breaks : {M : Type 0} → Transition M → M → M → Type 0
 Breaks step old new = ReadFails step old new ⊎ GivesUp step old new
 
--- The range has no end: there is no place of 2^64 or more, and the file was left alone.
+-- The range has no end: there is no offset of 2^64 or more, and the file was left alone.
 abbrev pub IsBeyond : (at size : ℕ) (old new : List Happening) → Type 0
 IsBeyond at size old new = (2 ^ 64 ≤ at + size) × (new ≡ old)
 
 -- ---- the calls of the disk
 
--- These bytes were read at a place. Or the file ended before them, where a read gave nothing; or reading broke off.
+-- These bytes were read at an offset. Or the file ended before them, where a read gave nothing; or reading broke off.
 abbrev pub ReadsAt : {A : Type 0} → (at : ℕ) (bytes : List ℕ) → Result A DiskFault → (old new : List Happening)
     → Type 0
 ReadsAt at bytes (Ok _) old new =
@@ -64,7 +88,7 @@ ReadsAt at bytes (Err Failed) old new =
     (done : ℕ) × Breaks (ReadsRest at (length bytes)) (0, old) (done, new)
 ReadsAt at bytes (Err OutOfMemory) old new = ⊥
 
--- These bytes were written at a place. Or a write took nothing, or writing broke off.
+-- These bytes were written at an offset. Or a write took nothing, or writing broke off.
 abbrev pub WritesAt : {A : Type 0} → (at : ℕ) (bytes : List ℕ) → Result A DiskFault → (old new : List Happening)
     → Type 0
 WritesAt at bytes (Ok _) old new = GivesText (WritesRest at bytes) bytes (0, old) (length bytes, new)

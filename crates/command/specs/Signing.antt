@@ -11,14 +11,8 @@ use Rattle.sign_core.specs.Once.{public_of_key}
 use Rattle.sign_core.specs.Signer.{Retires, Signs, View}
 use Rattle.command.specs.declared.refusal.Refusal.{Refusal}
 use Rattle.command.specs.declared.refusal.Refusal.TheVariants.{FileFailed, Signer}
-use Rattle.command.specs.declared.trace.Role.{Role}
 use Rattle.command.specs.declared.trace.Role.TheVariants as role
 use Rattle.command.specs.Trace.{Happening, not_written, written}
-
--- what a call that writes these bytes to a file does
-abbrev pub writing : {A E : Type 0} → Role → (path bytes : List ℕ) → Result A E → Happening
-writing role path bytes (Ok _) = written role path bytes
-writing role path bytes (Err _) = not_written role path
 
 -- A signature was handed out or refused. A refusal is reported, and no file was opened. A signature is written to its
 -- file, whole, and its size is the answer; or the file can't be written, which is reported.

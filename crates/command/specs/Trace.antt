@@ -7,24 +7,33 @@ use Rattle.command.specs.declared.trace.Event.TheVariants as event
 use Rattle.std.specs.declared.io.ErrorKind.TheVariants.{Interrupted}
 use Rattle.typecodes.specs.Message.{Gave, GivesText, GivesAll, ReadOutcome, Transitions, Transition, interruptions}
 
--- A file was opened by this path, or couldn't be; a read of it gave these bytes, or failed. Of a file that is read and
--- written at places: its length was asked for; a read at a place, for so many bytes, gave these; a write of bytes at a
--- place took these, which are the first of them; it was synced.
+-- A file was opened by this path, or couldn't be; a state file was opened, and was made where there was none, or
+-- couldn't be; a read of a file gave these bytes, or failed. Of a file that is read and written at offsets: its length
+-- was asked for; a read at an offset, for so many bytes, gave these; a write of bytes at an offset took these, which
+-- are the first of them; it was synced. Of a file that is to be written: it is none of those that were opened, and
+-- nothing is known by which it can't be written, or this isn't so; it has these bytes and no others, or couldn't be
+-- written.
 pub data Happening : Type 0 where
   opened : Role → List ℕ → Happening
   not_opened : Role → List ℕ → Happening
+  made : List ℕ → Happening
+  not_made : List ℕ → Happening
   given : Role → List ℕ → Happening
   failed : Role → ErrorKind → Happening
   measured : Result ℕ ErrorKind → Happening
   read_at : (at room : ℕ) → ReadOutcome → Happening
   written_at : (at : ℕ) (bytes : List ℕ) → ReadOutcome → Happening
   synced : Result Unit ErrorKind → Happening
+  writable : Role → (path : List ℕ) → Happening
+  not_writable : Role → (path : List ℕ) → Happening
   written : Role → (path bytes : List ℕ) → Happening
   not_written : Role → (path : List ℕ) → Happening
 
 abbrev pub happening_of : Event → Happening
 happening_of (event.Opened role path) = opened role path.now
 happening_of (event.NotOpened role path) = not_opened role path.now
+happening_of (event.Made path) = made path.now
+happening_of (event.NotMade path) = not_made path.now
 happening_of (event.Given role bytes) = given role bytes.now
 happening_of (event.Failed role kind) = failed role kind
 happening_of (event.Measured length) = measured length
@@ -33,6 +42,8 @@ happening_of (event.ReadAt at room (Err kind)) = read_at at room (Err kind)
 happening_of (event.WrittenAt at bytes (Ok first)) = written_at at bytes.now (Ok first.now)
 happening_of (event.WrittenAt at bytes (Err kind)) = written_at at bytes.now (Err kind)
 happening_of (event.Synced answer) = synced answer
+happening_of (event.Writable role path) = writable role path.now
+happening_of (event.NotWritable role path) = not_writable role path.now
 happening_of (event.Written role path bytes) = written role path.now bytes.now
 happening_of (event.NotWritten role path) = not_written role path.now
 
@@ -40,6 +51,21 @@ happening_of (event.NotWritten role path) = not_written role path.now
 abbrev pub opening : {A E : Type 0} → Role → List ℕ → Result A E → Happening
 opening role path (Ok file) = opened role path
 opening role path (Err error) = not_opened role path
+
+-- what a call that opens a state file, or makes it, does to it
+abbrev pub making : {A E : Type 0} → List ℕ → Result A E → Happening
+making path (Ok file) = made path
+making path (Err error) = not_made path
+
+-- what a call that asks whether a file may be written does
+abbrev pub checking : {A E : Type 0} → Role → (path : List ℕ) → Result A E → Happening
+checking role path (Ok _) = writable role path
+checking role path (Err _) = not_writable role path
+
+-- what a call that writes these bytes to a file does
+abbrev pub writing : {A E : Type 0} → Role → (path bytes : List ℕ) → Result A E → Happening
+writing role path bytes (Ok _) = written role path bytes
+writing role path bytes (Err _) = not_written role path
 
 -- what a read of this file with this outcome is
 abbrev pub happened : Role → ReadOutcome → Happening

@@ -1,25 +1,26 @@
 //! A disk over a file of the machine.
 
 ghost use Rattle.std.specs.Prelude.{◌≡◌, ◌++◌, ◌∷◌, ◌<◌, ◌≤◌, [], ℕ, List, false, length, ⊤};
-ghost use Rattle.std.specs.Prelude.{◌⊎◌, IfErr, IfOk};
 ghost use Rattle.std.specs.Io.{ReadsAtMost, WritesAtMost};
 ghost use Rattle.state_file.specs.Disk.{Counts, is_failure, is_past_end, settled};
 ghost use Rattle.typecodes.specs.Message.{read_outcome};
 ghost use Rattle.command.specs.Trace.{Happening, measured, read_at, synced, written_at};
-ghost use Rattle.command.specs.FileDisk.{Measures, ReadsAt, SyncsAll, WritesAt, kept, never};
+ghost use Rattle.command.specs.FileDisk.{Measures, OpensState, ReadsAt, SyncsAll, WritesAt, kept, never};
 
+use crate::file_id::FileId;
 use crate::refusal::Refusal;
 use crate::trace::{Event, Trace};
 use state_file::{Disk, DiskFault};
 use std::fs::{File, Files, Metadata, OpenOptions, TryLockError};
 use std::io::ErrorKind;
+use std::marker::Model;
 use std::os::unix::fs::{FileExt, OpenOptionsExt};
 use std::path::Path;
 use std::{fs, io};
 use typecodes::Count;
 
-/// A file that is read and written at places. Each method is one call of the system.
-pub trait PlacedFile {
+/// A file that is read and written at offsets. Each method is one call of the system.
+pub trait OffsetFile {
     // what happened to it, in order
     ghost trace: { Self → List Happening };
 
@@ -27,13 +28,13 @@ pub trait PlacedFile {
     fn len(&mut self) -> io::Result<u64>
         ensures { trace self.new ≡ trace self.old ++ measured (kept result) ∷ [] };
 
-    /// Reads into the buffer from the place `at` on, as `Read::read` does.
+    /// Reads into the buffer from the offset `at` on, as `Read::read` does.
     fn read_at(&mut self, at: u64, into: &mut [u8]) -> io::Result<usize>
         ensures bound { ReadsAtMost result into.new }
         ensures trace { trace self.new ≡ trace self.old
             ++ read_at at (length into.old) (read_outcome result into.new) ∷ [] };
 
-    /// Writes some of the first of these bytes from the place `at` on, as `Write::write` does.
+    /// Writes some of the first of these bytes from the offset `at` on, as `Write::write` does.
     fn write_at(&mut self, at: u64, bytes: &[u8]) -> io::Result<usize>
         ensures bound { WritesAtMost result bytes.now }
         ensures trace { trace self.new ≡ trace self.old
@@ -48,22 +49,30 @@ pub trait PlacedFile {
 #[derive(Drop)]
 pub struct StateFile {
     file: File,
+    id: FileId,
     trace: Trace,
+}
+
+// Contracts see what happened to it.
+impl Model for StateFile {
+    ghost Value = { List Happening };
+
+    ghost view = { λ file. file.trace.events };
 }
 
 impl StateFile {
     /// Opens the state file at this path for reading and writing, and locks it without waiting. It has to be a regular
     /// file, and is never made.
     pub fn open<R: Files<File = File>>(rt: &R, path: &str) -> Result<Self, Refusal>
-        ensures untouched { IfOk result (λ file. file.trace.events ≡ []) }
-        ensures err { IfErr result (λ refusal. (refusal ≡ Refusal.FileFailed) ⊎ (refusal ≡ Refusal.Locked)) }
+        ensures { OpensState result }
     {
         // It is looked at before it is opened, too: opening a device may do something.
-        if !is_regular(&fs::metadata(rt, path)) {
-            return Err(Refusal::FileFailed);
+        match fs::metadata(rt, path) {
+            Ok(metadata) if metadata.is_file() => {}
+            _ => return Err(Refusal::FileFailed),
         }
         match OpenOptions::new().read(true).write(true).open(rt, path) {
-            Ok(file) => locked(file),
+            Ok(file) => StateFile::lock(file),
             Err(_) => Err(Refusal::FileFailed),
         }
     }
@@ -71,8 +80,7 @@ impl StateFile {
     /// The same, but that a file is made where there is none, which its owner alone may read and write. In both cases
     /// the folder is synced, so that the file's name stays: it may have been made by a run that was stopped.
     pub fn open_or_make<R: Files<File = File>>(rt: &R, path: &str) -> Result<Self, Refusal>
-        ensures untouched { IfOk result (λ file. file.trace.events ≡ []) }
-        ensures err { IfErr result (λ refusal. (refusal ≡ Refusal.FileFailed) ⊎ (refusal ≡ Refusal.Locked)) }
+        ensures { OpensState result }
     {
         let made = OpenOptions::new()
             .read(true)
@@ -81,7 +89,7 @@ impl StateFile {
             .mode(0o600)
             .open(rt, path);
         let file = match made {
-            Ok(file) => locked(file)?,
+            Ok(file) => StateFile::lock(file)?,
             Err(error) => {
                 if error.kind() != ErrorKind::AlreadyExists {
                     return Err(Refusal::FileFailed);
@@ -95,19 +103,33 @@ impl StateFile {
         }
     }
 
-    /// The file, to which nothing happened yet.
-    pub fn new(file: File) -> Self
-        ensures { result.trace.events ≡ [] }
+    // The file that was opened, locked for this process alone. Nothing happened to it yet.
+    fn lock(file: File) -> Result<Self, Refusal>
+        ensures { OpensState result }
     {
-        StateFile {
-            file,
-            trace: Trace::new(),
+        let id = match file.metadata() {
+            Ok(metadata) if metadata.is_file() => FileId::of(&metadata),
+            _ => return Err(Refusal::FileFailed),
+        };
+        match file.try_lock() {
+            Ok(()) => Ok(StateFile {
+                file,
+                id,
+                trace: Trace::new(),
+            }),
+            Err(TryLockError::WouldBlock) => Err(Refusal::Locked),
+            Err(TryLockError::Error(_)) => Err(Refusal::FileFailed),
         }
+    }
+
+    /// Which file of the machine it is.
+    pub fn id(&self) -> FileId {
+        self.id
     }
 }
 
-impl PlacedFile for StateFile {
-    ghost trace = { λ file. file.trace.events };
+impl OffsetFile for StateFile {
+    ghost trace = { λ file. file };
 
     fn len(&mut self) -> io::Result<u64> {
         let answer = match self.file.metadata() {
@@ -145,37 +167,17 @@ impl PlacedFile for StateFile {
     }
 }
 
-// Whether this is a regular file, and no folder, device or pipe.
-fn is_regular(metadata: &io::Result<Metadata>) -> bool {
-    match metadata {
-        Ok(metadata) => metadata.is_file(),
-        Err(_) => false,
-    }
-}
-
-// The file that was opened, locked for this process alone.
-fn locked(file: File) -> Result<StateFile, Refusal>
-    ensures untouched { IfOk result (λ file. file.trace.events ≡ []) }
-    ensures err { IfErr result (λ refusal. (refusal ≡ Refusal.FileFailed) ⊎ (refusal ≡ Refusal.Locked)) }
-{
-    if !is_regular(&file.metadata()) {
-        return Err(Refusal::FileFailed);
-    }
-    match file.try_lock() {
-        Ok(()) => Ok(StateFile::new(file)),
-        Err(TryLockError::WouldBlock) => Err(Refusal::Locked),
-        Err(TryLockError::Error(_)) => Err(Refusal::FileFailed),
-    }
-}
-
 // Syncs the folder in which the file of this path stands.
 fn sync_folder<R: Files<File = File>>(rt: &R, path: &str) -> io::Result<()> {
-    let folder = match Path::new(path).parent() {
-        Some(folder) => folder.as_str(),
-        None => "",
-    };
-    let folder = if folder.is_empty() { "." } else { folder };
-    File::open(rt, folder)?.sync_all()
+    File::open(rt, folder_of(path))?.sync_all()
+}
+
+/// The folder in which the file of this path stands.
+pub fn folder_of(path: &str) -> &str {
+    match Path::new(path).parent() {
+        Some(folder) if !folder.as_str().is_empty() => folder.as_str(),
+        _ => ".",
+    }
 }
 
 // The answer, of whose error the kind alone is kept.
@@ -191,8 +193,8 @@ fn kind_kept<T: Copy>(answer: &io::Result<T>) -> Result<T, ErrorKind>
 // How many calls are tried for the bytes of one read or one write.
 const TRIES: u32 = 1 << 20;
 
-// Reads at the place `at` until the buffer is full.
-fn fill_at<F: PlacedFile>(file: &mut F, at: u64, into: &mut [u8]) -> Result<(), DiskFault>
+// Reads at the offset `at` until the buffer is full.
+fn fill_at<F: OffsetFile>(file: &mut F, at: u64, into: &mut [u8]) -> Result<(), DiskFault>
     ensures { ReadsAt at into.new result (F.trace file.old) (F.trace file.new) }
 {
     if at.checked_add(into.len() as u64).is_none() {
@@ -216,8 +218,8 @@ fn fill_at<F: PlacedFile>(file: &mut F, at: u64, into: &mut [u8]) -> Result<(), 
     Err(DiskFault::Failed)
 }
 
-// Writes the bytes at the place `at` until all of them are written.
-fn write_all_at<F: PlacedFile>(file: &mut F, at: u64, bytes: &[u8]) -> Result<(), DiskFault>
+// Writes the bytes at the offset `at` until all of them are written.
+fn write_all_at<F: OffsetFile>(file: &mut F, at: u64, bytes: &[u8]) -> Result<(), DiskFault>
     ensures { WritesAt at bytes.now result (F.trace file.old) (F.trace file.new) }
 {
     if at.checked_add(bytes.len() as u64).is_none() {
@@ -250,10 +252,12 @@ pub struct FileDisk<F> {
     past_ends: Count,
 }
 
-impl<F: PlacedFile> FileDisk<F> {
+impl<F: OffsetFile> FileDisk<F> {
+    ghost use Rattle.command.specs.FileDisk.{file_of};
+
     /// The disk over this file, which has refused nothing yet.
     pub fn new(file: F) -> Self
-        ensures { result.file ≡ file }
+        ensures { file_of result ≡ file }
     {
         FileDisk {
             file,
@@ -264,7 +268,7 @@ impl<F: PlacedFile> FileDisk<F> {
 
     /// The file.
     pub fn into_file(self) -> F
-        ensures { result ≡ self.file }
+        ensures { result ≡ file_of self }
     {
         self.file
     }
@@ -289,16 +293,18 @@ fn counted_refusal<T>(
     answer
 }
 
-impl<F: PlacedFile> Disk for FileDisk<F> {
+impl<F: OffsetFile> Disk for FileDisk<F> {
+    ghost use Rattle.command.specs.FileDisk.{failures_of, file_of, past_ends_of};
+
     ghost state = { λ _. settled [] };
 
     ghost moment = { λ _. 0 };
 
     ghost left_since = { λ _ _ _. ⊤ };
 
-    ghost failures = { λ disk. disk.failures };
+    ghost failures = { failures_of };
 
-    ghost past_ends = { λ disk. disk.past_ends };
+    ghost past_ends = { past_ends_of };
 
     ghost honest = { λ _. false };
 
@@ -309,36 +315,36 @@ impl<F: PlacedFile> Disk for FileDisk<F> {
     ghost only_now = { λ _ _ is_honest _. never is_honest };
 
     fn len(&mut self) -> Result<u64, DiskFault>
-        ensures measures { Measures result (F.trace self.old.file) (F.trace self.new.file) }
-        ensures failures { Counts is_failure self.old.failures self.new.failures result }
-        ensures past_ends { self.new.past_ends ≡ self.old.past_ends }
+        ensures measures { Measures result (F.trace (file_of self.old)) (F.trace (file_of self.new)) }
+        ensures failures { Counts is_failure (failures_of self.old) (failures_of self.new) result }
+        ensures past_ends { past_ends_of self.new ≡ past_ends_of self.old }
     {
         let answer = self.file.len().map_err(|_| DiskFault::Failed);
         counted_refusal(answer, &mut self.failures, &mut self.past_ends)
     }
 
     fn read_at(&mut self, at: u64, into: &mut [u8]) -> Result<(), DiskFault>
-        ensures reads { ReadsAt at into.new result (F.trace self.old.file) (F.trace self.new.file) }
-        ensures failures { Counts is_failure self.old.failures self.new.failures result }
-        ensures past_ends { Counts is_past_end self.old.past_ends self.new.past_ends result }
+        ensures reads { ReadsAt at into.new result (F.trace (file_of self.old)) (F.trace (file_of self.new)) }
+        ensures failures { Counts is_failure (failures_of self.old) (failures_of self.new) result }
+        ensures past_ends { Counts is_past_end (past_ends_of self.old) (past_ends_of self.new) result }
     {
         let answer = fill_at(&mut self.file, at, into);
         counted_refusal(answer, &mut self.failures, &mut self.past_ends)
     }
 
     fn write_at(&mut self, at: u64, bytes: &[u8]) -> Result<(), DiskFault>
-        ensures writes { WritesAt at bytes.now result (F.trace self.old.file) (F.trace self.new.file) }
-        ensures failures { Counts is_failure self.old.failures self.new.failures result }
-        ensures past_ends { self.new.past_ends ≡ self.old.past_ends }
+        ensures writes { WritesAt at bytes.now result (F.trace (file_of self.old)) (F.trace (file_of self.new)) }
+        ensures failures { Counts is_failure (failures_of self.old) (failures_of self.new) result }
+        ensures past_ends { past_ends_of self.new ≡ past_ends_of self.old }
     {
         let answer = write_all_at(&mut self.file, at, bytes);
         counted_refusal(answer, &mut self.failures, &mut self.past_ends)
     }
 
     fn sync(&mut self) -> Result<(), DiskFault>
-        ensures syncs { SyncsAll result (F.trace self.old.file) (F.trace self.new.file) }
-        ensures failures { Counts is_failure self.old.failures self.new.failures result }
-        ensures past_ends { self.new.past_ends ≡ self.old.past_ends }
+        ensures syncs { SyncsAll result (F.trace (file_of self.old)) (F.trace (file_of self.new)) }
+        ensures failures { Counts is_failure (failures_of self.old) (failures_of self.new) result }
+        ensures past_ends { past_ends_of self.new ≡ past_ends_of self.old }
     {
         let answer = self.file.sync().map_err(|_| DiskFault::Failed);
         counted_refusal(answer, &mut self.failures, &mut self.past_ends)

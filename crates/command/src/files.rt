@@ -1,22 +1,21 @@
 //! The files that a line names: how they are opened and written, and what is read of them.
 
-ghost use Rattle.std.specs.Prelude.{◌≡◌, ◌++◌, ◌∷◌, ◌<◌, ◌≤◌, ◌^◌, [], ℕ, List, None, length, take, IfErr, IfOk};
+ghost use Rattle.std.specs.Prelude.{◌≡◌, ◌≢◌, ◌++◌, ◌∷◌, ◌<◌, ◌≤◌, ◌^◌, [], ℕ, List, None, length, take, IfErr, IfOk};
 ghost use Rattle.std.specs.Io.{ReadsAtMost};
 ghost use Rattle.std.specs.Io.KnownBytes.{Consumes, IsAtEnd, ReadConsumes};
 ghost use Rattle.std.specs.declared.option.Option.{Option};
 ghost use Rattle.typecodes.specs.Message.{read_outcome};
 ghost use Rattle.command.specs.Files.{FillsOrFails, ReadsAllOrFails, ReadsKey, Shows};
-ghost use Rattle.command.specs.Trace.{Happening, ReadsOnce, opening};
+ghost use Rattle.command.specs.FileDisk.{IsStateRefusal};
+ghost use Rattle.command.specs.Trace.{ReadsOnce, checking, making, opening, writing};
 ghost use Rattle.command.specs.declared.trace.Role.{Role as FileRole};
 
 use crate::refusal::Refusal;
-use crate::signing::Outlet;
-use crate::trace::{Event, Role, Trace};
-use sign_core::{AnyPublic, KeyFault};
-use std::fs::Files;
-use std::io::{ErrorKind, Read};
-use std::marker::Model;
-use std::{fs, io};
+use crate::trace::{Role, Traced};
+use sign_core::{AnyPublic, KeyFault, Source};
+use state_file::Disk;
+use std::io;
+use std::io::ErrorKind;
 use typecodes::Message;
 
 /// A file that was opened.
@@ -29,19 +28,16 @@ pub trait OpenFile {
 }
 
 /// Where files are opened and read, and never written.
-pub trait Folder {
+pub trait Folder: Traced {
     /// A file that was opened.
     type File: OpenFile + Drop;
-
-    // what happened to files, in order
-    ghost trace: { Self → List Happening };
 
     // what the file at a path holds, where it is known
     ghost content: { Self → List ℕ → Option (List ℕ) };
 
     /// Opens the file at this very path for reading.
     fn open(&mut self, role: Role, path: &str) -> Result<Self::File, Refusal>
-        ensures trace { trace self.new ≡ trace self.old ++ opening role path.now result ∷ [] }
+        ensures trace { Self.trace self.new ≡ Self.trace self.old ++ opening role path.now result ∷ [] }
         ensures content { (other : List ℕ) → content self.new other ≡ content self.old other }
         ensures role { IfOk result (λ file. Self.File.role file ≡ role) }
         ensures shows { IfOk result (λ file. Shows (content self.old path.now) (Self.File.remaining file)) }
@@ -50,88 +46,58 @@ pub trait Folder {
     /// Reads into the buffer, as `Read::read` does.
     fn read(&mut self, file: &mut Self::File, buffer: &mut [u8]) -> io::Result<usize>
         requires { 0 < length buffer.old }
-        ensures trace { ReadsOnce (Self.File.role file.old) (trace self.old) (read_outcome result buffer.new)
-            (trace self.new) }
+        ensures trace { ReadsOnce (Self.File.role file.old) (Self.trace self.old) (read_outcome result buffer.new)
+            (Self.trace self.new) }
         ensures role { Self.File.role file.new ≡ Self.File.role file.old }
         ensures bound { ReadsAtMost result buffer.new }
         ensures bytes { ReadConsumes (Self.File.remaining file.old) (Self.File.remaining file.new) result buffer.new };
 }
 
-/// The files of a machine. What they hold isn't known.
-#[derive(Drop)]
-pub struct Machine<R> {
-    rt: R,
-    trace: Trace,
+/// Where files are written.
+pub trait Outlet: Traced {
+    /// Whether a file may be written at this very path: it leads to none of the files that were opened here, and
+    /// nothing is known by which its file can't be written. Nothing is made, and nothing is changed.
+    fn check_writable(&mut self, role: Role, path: &str) -> Result<(), Refusal>
+        ensures trace { Self.trace self.new ≡ Self.trace self.old ++ checking role path.now result ∷ [] }
+        ensures err { IfErr result (λ refusal. refusal ≡ Refusal.FileFailed) };
+
+    /// Writes these bytes to the file at this very path, which is made where there is none, in place of what it has. It
+    /// isn't written where it is one of the files that were opened here.
+    fn write(&mut self, role: Role, path: &str, bytes: &[u8]) -> Result<(), Refusal>
+        ensures trace { Self.trace self.new ≡ Self.trace self.old ++ writing role path.now bytes.now result ∷ [] }
+        ensures err { IfErr result (λ refusal. refusal ≡ Refusal.FileFailed) };
 }
 
-// Contracts see what happened to its files.
-impl<R> Model for Machine<R> {
-    ghost Value = { List Happening };
+/// Where the commands of a signer have their files.
+pub trait SignerFolder: Folder + Outlet {
+    /// The disk over a state file.
+    type Disk: Disk + Drop;
 
-    ghost view = { λ machine. machine.trace.events };
-}
+    /// The source over a file of random bytes.
+    type Random: Source + Drop;
 
-/// A file of a machine.
-#[derive(Drop)]
-pub struct MachineFile<F> {
-    role: Role,
-    file: F,
-}
+    /// Opens the state file at this very path for reading and writing, and locks it without waiting. It is a regular
+    /// file, and is never made.
+    fn open_state(&mut self, path: &str) -> Result<Self::Disk, Refusal>
+        ensures trace { Self.trace self.new ≡ Self.trace self.old ++ opening Role.State path.now result ∷ [] }
+        ensures content { (other : List ℕ) → Self.content self.new other ≡ Self.content self.old other }
+        ensures err { IfErr result IsStateRefusal };
 
-impl<F: Read> OpenFile for MachineFile<F> {
-    ghost role = { λ file. file.role };
+    /// The same, but that a file is made where there is none, which its owner alone may read and write, and whose name
+    /// stays: its folder is synced.
+    fn open_or_make_state(&mut self, path: &str) -> Result<Self::Disk, Refusal>
+        ensures trace { Self.trace self.new ≡ Self.trace self.old ++ making path.now result ∷ [] }
+        ensures content { (other : List ℕ) → other ≢ path.now
+            → Self.content self.new other ≡ Self.content self.old other }
+        ensures err { IfErr result IsStateRefusal };
 
-    ghost remaining = { λ file. F.remaining file.file };
-}
-
-impl<R: Files> Machine<R> {
-    /// The files of a runtime, to which nothing happened yet.
-    pub fn new(rt: R) -> Self
-        ensures { result ≡ [] }
-    {
-        Machine {
-            rt,
-            trace: Trace::new(),
-        }
-    }
-}
-
-impl<R: Files> Folder for Machine<R> {
-    type File = MachineFile<R::File>;
-
-    ghost trace = { λ machine. machine };
-
-    ghost content = { λ _ _. None };
-
-    fn open(&mut self, role: Role, path: &str) -> Result<MachineFile<R::File>, Refusal> {
-        let opened = fs::open(&self.rt, path);
-        match self.trace.note_opening(role, path, opened) {
-            Ok(file) => Ok(MachineFile { role, file }),
-            Err(_) => Err(Refusal::FileFailed),
-        }
-    }
-
-    fn read(&mut self, file: &mut MachineFile<R::File>, buffer: &mut [u8]) -> io::Result<usize> {
-        let answer = file.file.read(buffer);
-        self.trace.note_read(file.role, answer, buffer)
-    }
-}
-
-impl<R: Files> Outlet for Machine<R> {
-    ghost trace = { λ machine. machine };
-
-    fn write(&mut self, role: Role, path: &str, bytes: &[u8]) -> Result<(), Refusal> {
-        match fs::write(&self.rt, path, bytes) {
-            Ok(()) => {
-                self.trace.note(&Event::Written(role, path, bytes));
-                Ok(())
-            }
-            Err(_) => {
-                self.trace.note(&Event::NotWritten(role, path));
-                Err(Refusal::FileFailed)
-            }
-        }
-    }
+    /// Opens the file of random bytes at this very path. The source gives its bytes from the first on.
+    fn open_random(&mut self, path: &str) -> Result<Self::Random, Refusal>
+        ensures trace { Self.trace self.new ≡ Self.trace self.old ++ opening Role.Random path.now result ∷ [] }
+        ensures content { (other : List ℕ) → Self.content self.new other ≡ Self.content self.old other }
+        ensures shows { IfOk result (λ source.
+            Shows (Self.content self.old path.now) (Self.Random.upcoming source)) }
+        ensures err { IfErr result (λ refusal. refusal ≡ Refusal.FileFailed) };
 }
 
 /// An opened file of a folder, as a message, which is read in pieces.

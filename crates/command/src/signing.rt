@@ -1,26 +1,15 @@
 //! What the commands do with a signer over any store: its own step first, and only after its Ok a file is written.
 
-ghost use Rattle.std.specs.Prelude.{◌≡◌, ◌++◌, ◌∷◌, [], List, IfErr, vec_capacity};
+ghost use Rattle.std.specs.Prelude.{vec_capacity};
 ghost use Rattle.sign_core.specs.Records.{key_in};
-ghost use Rattle.command.specs.Signing.{Delivers, Publishes, RetiresBelow, SignsInto, writing};
-ghost use Rattle.command.specs.Trace.{Happening};
+ghost use Rattle.command.specs.Signing.{Delivers, Publishes, RetiresBelow, SignsInto};
 
+use crate::files::Outlet;
 use crate::refusal::Refusal;
 use crate::trace::Role;
 use sign_core::{AnyPublic, Signer, Source};
 use state_file::Store;
 use typecodes::{Message, Name};
-
-/// Where files are written.
-pub trait Outlet {
-    // what happened to files, in order
-    ghost trace: { Self → List Happening };
-
-    /// Writes these bytes to the file at this very path, which is made where there is none, in place of what it has.
-    fn write(&mut self, role: Role, path: &str, bytes: &[u8]) -> Result<(), Refusal>
-        ensures trace { trace self.new ≡ trace self.old ++ writing role path.now bytes.now result ∷ [] }
-        ensures err { IfErr result (λ refusal. refusal ≡ Refusal.FileFailed) };
-}
 
 /// Signs, writes the signature to its file, and gives its size. Where the file can't be written, what was recorded
 /// stays, and the same request gives the same signature again.

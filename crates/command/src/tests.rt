@@ -1,9 +1,14 @@
 mod disks;
 mod failures;
+mod key_files;
+mod lent_disk;
 mod lines;
 mod place;
+mod randoms;
+mod retiring;
 mod sample;
 mod shelf;
 mod signing;
 mod states;
+mod targets;
 mod verdicts;

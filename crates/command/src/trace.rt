@@ -9,15 +9,25 @@ use std::io;
 use std::io::ErrorKind;
 use std::marker::Model;
 
+/// What keeps, for contracts, what happened to files.
+pub trait Traced {
+    // what happened to files, in order
+    ghost trace: { Self → List Happening };
+}
+
 /// Which of a command's files it is.
 #[derive(Clone, Copy, Debug, PartialEq, Eq)]
 pub enum Role {
+    /// The state file.
+    State,
     /// The public key.
     Public,
     /// The message.
     Message,
     /// The signature.
     Signature,
+    /// Random bytes.
+    Random,
 }
 
 /// What happens to a file. It may lend the bytes of a state file, and isn't printed.
@@ -27,18 +37,26 @@ pub enum Event<'a> {
     Opened(Role, &'a str),
     /// It can't be opened.
     NotOpened(Role, &'a str),
+    /// The state file of this path is opened, and was made where there was none.
+    Made(&'a str),
+    /// It can't be opened or made.
+    NotMade(&'a str),
     /// A read gives these bytes.
     Given(Role, &'a [u8]),
     /// A read fails.
     Failed(Role, ErrorKind),
     /// The length is asked for.
     Measured(Result<u64, ErrorKind>),
-    /// A read at this place, for so many bytes, gives these.
+    /// A read at this offset, for so many bytes, gives these.
     ReadAt(u64, usize, Result<&'a [u8], ErrorKind>),
-    /// A write of these bytes at this place takes the first of them.
+    /// A write of these bytes at this offset takes the first of them.
     WrittenAt(u64, &'a [u8], Result<&'a [u8], ErrorKind>),
     /// What was written is synced.
     Synced(Result<(), ErrorKind>),
+    /// The path leads to none of the files that were opened, and nothing is known by which its file can't be written.
+    Writable(Role, &'a str),
+    /// It leads to one of them, or its file can't be written.
+    NotWritable(Role, &'a str),
     /// The file of this path has these bytes and no others.
     Written(Role, &'a str, &'a [u8]),
     /// It can't be opened or written. What it has isn't known.

@@ -4,10 +4,9 @@ ghost use Rattle.std.specs.Prelude.{◌≡◌, ◌≤◌, IfOk, length};
 ghost use Rattle.std.specs.Io.{ReadsAtMost};
 
 use super::place::Place;
-use crate::file_disk::{FileDisk, PlacedFile, StateFile};
+use crate::file_disk::{FileDisk, OffsetFile, StateFile};
 use crate::trace::{Event, Trace};
 use state_file::{Disk, DiskFault, MemoryDisk, Pick};
-use std::fs::OpenOptions;
 use std::io::ErrorKind;
 use std::test::Fail;
 use std::{fs, io};
@@ -82,7 +81,7 @@ impl PlannedFile<'_> {
     }
 }
 
-impl PlacedFile for PlannedFile<'_> {
+impl OffsetFile for PlannedFile<'_> {
     ghost trace = { λ file. file.trace.events };
 
     fn len(&mut self) -> io::Result<u64> {
@@ -153,7 +152,7 @@ fn disk<'a>(
 
 const WHOLE: Step = Step::Part(usize::MAX);
 
-// Whether a write of ten bytes at place 2 of a file of four answers so, and leaves the file so.
+// Whether a write of ten bytes at offset 2 of a file of four answers so, and leaves the file so.
 fn writes(
     rt: &HostRuntime,
     plan: &[Step],
@@ -167,7 +166,7 @@ fn writes(
     Some(written == answer && content.as_slice() == left)
 }
 
-// Whether a read of so many bytes at a place of a file of six answers so, and gives these.
+// Whether a read of so many bytes at an offset of a file of six answers so, and gives these.
 fn reads(
     rt: &HostRuntime,
     plan: &[Step],
@@ -252,12 +251,10 @@ fn a_failure_is_reported(rt: HostRuntime) {
 fn a_file_of_the_machine_is_read_and_written(rt: HostRuntime) -> Result<(), Fail> {
     let folder = Place::new(&rt, "disk")?;
     let path = folder.path.join(rt.alloc(), "state")?;
-    let file = OpenOptions::new()
-        .read(true)
-        .write(true)
-        .create_new(true)
-        .open(&rt, path.as_path())?;
-    let mut disk = FileDisk::new(StateFile::new(file));
+    let Ok(file) = StateFile::open_or_make(&rt, path.as_str()) else {
+        return Err(Fail::from("no state file"));
+    };
+    let mut disk = FileDisk::new(file);
     let mut into = [0; 3];
     let answers = (
         disk.write_at(0, b"abcd"),

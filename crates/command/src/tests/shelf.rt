@@ -1,15 +1,20 @@
 //! Files in memory.
-ghost use Rattle.std.specs.Prelude.{◌≡◌, None};
-ghost use Rattle.std.specs.Io.{ReadsAtMost};
+ghost use Rattle.std.specs.Prelude.{◌≡◌, None, IfErr};
+ghost use Rattle.command.specs.FileDisk.{IsStateRefusal};
 
+use super::lent_disk::LentDisk;
 use super::place::{Outcome, run_in};
-use crate::files::{Folder, OpenFile};
+use crate::files::{Folder, OpenFile, Outlet, SignerFolder};
 use crate::line::ClapReader;
 use crate::output::{Output, Printer};
 use crate::program::run;
+use crate::random_file::RandomFile;
 use crate::refusal::Refusal;
-use crate::trace::{Role, Trace};
+use crate::trace::{Event, Role, Trace, Traced};
+use sign_core::RngSource;
+use state_file::MemoryDisk;
 use std::io;
+use std::io::Read;
 
 // Some bytes, and after them an end, zeros without end, or a failure.
 #[derive(Clone, Copy)]
@@ -67,10 +72,10 @@ impl<'a> Content<'a> {
             after: After::End,
         }
     }
+}
 
-    fn read(&mut self, buffer: &mut [u8]) -> io::Result<usize>
-        ensures { ReadsAtMost result buffer.new }
-    {
+impl Read for Content<'_> {
+    fn read(&mut self, buffer: &mut [u8]) -> io::Result<usize> {
         let bytes = self.bytes;
         let n = bytes.len().min(buffer.len()).min(self.after.next()?);
         if n > 0 {
@@ -89,11 +94,17 @@ impl<'a> Content<'a> {
     }
 }
 
-// Files in memory by their paths, and the paths that were opened.
+// Files in memory by their paths, and the paths that were opened. The state file is a disk that is lent once; it has
+// the path "k". No file can be written whose path begins with "missing/", and the disk is full for those that begin
+// with "full/".
 #[derive(Drop)]
 pub struct Shelf<'a> {
     files: &'a [(&'a str, Content<'a>)],
+    pub state: Option<&'a mut MemoryDisk>,
+    pub is_locked: bool,
     pub opened: Vec<u8>,
+    // what was written: each path, and after it the bytes
+    pub written: Vec<u8>,
     trace: Trace,
 }
 
@@ -101,7 +112,10 @@ impl<'a> Shelf<'a> {
     pub fn new(rt: &HostRuntime, files: &'a [(&'a str, Content<'a>)]) -> Shelf<'a> {
         Shelf {
             files,
+            state: None,
+            is_locked: false,
             opened: Vec::new(rt.alloc()),
+            written: Vec::new(rt.alloc()),
             trace: Trace::new(),
         }
     }
@@ -110,14 +124,57 @@ impl<'a> Shelf<'a> {
     fn find(&mut self, path: &str) -> Option<Content<'a>>
         ensures { self.new.trace ≡ self.old.trace }
     {
-        self.opened.extend_from_slice(path.as_bytes()).ok()?;
-        self.opened.push(b'|').ok()?;
+        self.note_path(path)?;
         for (name, content) in self.files {
             if *name == path {
                 return Some(*content);
             }
         }
         None
+    }
+
+    // Notes that a path is opened.
+    fn note_path(&mut self, path: &str) -> Option<()>
+        ensures { self.new.trace ≡ self.old.trace }
+    {
+        self.opened.extend_from_slice(path.as_bytes()).ok()?;
+        self.opened.push(b'|').ok()
+    }
+
+    // The disk of the state file, which is lent once.
+    fn lend(&mut self, path: &str) -> Result<LentDisk<'a, MemoryDisk>, Refusal>
+        ensures trace { self.new.trace ≡ self.old.trace }
+        ensures err { IfErr result IsStateRefusal }
+    {
+        if self.is_locked {
+            return Err(Refusal::Locked);
+        }
+        if path != "k" || self.note_path(path).is_none() {
+            return Err(Refusal::FileFailed);
+        }
+        match self.state.take() {
+            Some(disk) => Ok(LentDisk { disk }),
+            None => Err(Refusal::FileFailed),
+        }
+    }
+
+    // Whether a path was opened.
+    fn has_opened(&self, path: &str) -> bool {
+        for opened in self.opened.as_slice().split(|byte| *byte == b'|') {
+            if opened == path.as_bytes() {
+                return true;
+            }
+        }
+        false
+    }
+
+    // Writes a path and after it these bytes to the list of what was written.
+    fn note_written(&mut self, path: &str, bytes: &[u8]) -> Option<()>
+        ensures { self.new.trace ≡ self.old.trace }
+    {
+        self.written.extend_from_slice(path.as_bytes()).ok()?;
+        self.written.push(b'|').ok()?;
+        self.written.extend_from_slice(bytes).ok()
     }
 }
 
@@ -133,10 +190,12 @@ impl OpenFile for ShelfFile<'_> {
     ghost remaining = { λ _. None };
 }
 
+impl Traced for Shelf<'_> {
+    ghost trace = { λ shelf. shelf.trace.events };
+}
+
 impl<'a> Folder for Shelf<'a> {
     type File = ShelfFile<'a>;
-
-    ghost trace = { λ shelf. shelf.trace.events };
 
     ghost content = { λ _ _. None };
 
@@ -149,6 +208,58 @@ impl<'a> Folder for Shelf<'a> {
     fn read(&mut self, file: &mut ShelfFile<'a>, buffer: &mut [u8]) -> io::Result<usize> {
         let answer = file.content.read(buffer);
         self.trace.note_read(file.role, answer, buffer)
+    }
+}
+
+impl Outlet for Shelf<'_> {
+    fn check_writable(&mut self, role: Role, path: &str) -> Result<(), Refusal> {
+        if self.has_opened(path) || path.starts_with("missing/") {
+            self.trace.note(&Event::NotWritable(role, path));
+            return Err(Refusal::FileFailed);
+        }
+        self.trace.note(&Event::Writable(role, path));
+        Ok(())
+    }
+
+    fn write(&mut self, role: Role, path: &str, bytes: &[u8]) -> Result<(), Refusal> {
+        if self.has_opened(path)
+            || path.starts_with("missing/")
+            || path.starts_with("full/")
+            || self.note_written(path, bytes).is_none()
+        {
+            self.trace.note(&Event::NotWritten(role, path));
+            return Err(Refusal::FileFailed);
+        }
+        self.trace.note(&Event::Written(role, path, bytes));
+        Ok(())
+    }
+}
+
+impl<'a> SignerFolder for Shelf<'a> {
+    type Disk = LentDisk<'a, MemoryDisk>;
+
+    type Random = RngSource<RandomFile<Content<'a>>>;
+
+    fn open_state(&mut self, path: &str) -> Result<LentDisk<'a, MemoryDisk>, Refusal> {
+        let opened = self.lend(path);
+        self.trace.note_opening(Role::State, path, opened)
+    }
+
+    fn open_or_make_state(&mut self, path: &str) -> Result<LentDisk<'a, MemoryDisk>, Refusal> {
+        let opened = self.lend(path);
+        self.trace.note(&match &opened {
+            Ok(_) => Event::Made(path),
+            Err(_) => Event::NotMade(path),
+        });
+        opened
+    }
+
+    fn open_random(&mut self, path: &str) -> Result<RngSource<RandomFile<Content<'a>>>, Refusal> {
+        let found = self.find(path).ok_or(Refusal::FileFailed);
+        match self.trace.note_opening(Role::Random, path, found) {
+            Ok(content) => Ok(RngSource::new(RandomFile::new(content))),
+            Err(refusal) => Err(refusal),
+        }
     }
 }
 
@@ -175,6 +286,7 @@ pub fn verify_to<O: Output>(
     let mut errors = Printer::new(Vec::new(rt.alloc()));
     let mut input: &[u8] = &[];
     run(
+        rt.alloc(),
         &mut ClapReader::new(rt.alloc()),
         &mut Shelf::new(rt, &files),
         &["verify", "p", "m", "s"],

@@ -2,7 +2,7 @@
 
 use super::place::{Place, run_words};
 use crate::file_disk::{FileDisk, StateFile};
-use crate::files::Machine;
+use crate::machine::Machine;
 use crate::refusal::Refusal;
 use crate::signing::{publish, retire, sign};
 use sign_core::{AnyPublic, SignFault, Signer, TapeSource};
@@ -32,7 +32,7 @@ fn path(rt: &HostRuntime, folder: &Place, name: &str) -> Result<PathBuf, Refusal
 }
 
 // Makes a key of one LMS tree in the file k, and writes its public key to p.
-fn make(rt: &HostRuntime, folder: &Place, random: &[u8]) -> Result<AnyPublic, Refusal> {
+pub fn make(rt: &HostRuntime, folder: &Place, random: &[u8]) -> Result<AnyPublic, Refusal> {
     let state = path(rt, folder, "k")?;
     let public = path(rt, folder, "p")?;
     let disk = FileDisk::new(StateFile::open_or_make(rt, state.as_str())?);

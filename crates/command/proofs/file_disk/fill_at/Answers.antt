@@ -2,7 +2,7 @@ use Rattle.std.proofs.Common.{◌≡◌, ◌+◌, ◌-◌, ◌++◌, rules, arit
 use Rattle.std.proofs.lemmas.Slice.{take-put_mid_below}
 use borrow.Rule.Slice.PartMut.{put_mid}
 use Rattle.typecodes.proofs.Written.{slice_range-put_mid, take_split}
-use Rattle.command.proofs.Placing.{read_on, read_again, read_ended, read_broke}
+use Rattle.command.proofs.Offsets.{read_on, read_again, read_ended, read_broke}
 use Rattle.command.proofs.file_disk.fill_at.Goals as goal
 use Rattle.command.proofs.file_disk.fill_at.Goals.{in-Ok, in-Err+else-ne}
 

@@ -1,5 +1,5 @@
 use Rattle.std.proofs.Common.{◌++◌, rules, ap, sym, ◌∙◌, take, inl, inr, take-add}
-use Rattle.command.proofs.Placing.{rest_of, written_on, written_again, written_nothing, write_broke}
+use Rattle.command.proofs.Offsets.{rest_of, written_on, written_again, written_nothing, write_broke}
 use Rattle.command.proofs.file_disk.write_all_at.Goals as goal
 use Rattle.command.proofs.file_disk.write_all_at.Goals.{in-Ok, in-Err+else-ne}
 

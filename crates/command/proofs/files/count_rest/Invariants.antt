@@ -8,4 +8,4 @@ invariant-loop-turn g l =
     (l.count < 2 ^ 60) × (l.turn ≤ l.count) × (g.D.File.OpenFile.role l.file ≡ g.D.File.OpenFile.role l.initial.file)
     × ((bytes : List ℕ) × (l.count ≡ length bytes)
     × Consumes (g.D.File.OpenFile.remaining l.initial.file) (g.D.File.OpenFile.remaining l.file) bytes
-    × ReadsOn (g.D.File.OpenFile.role l.initial.file) bytes (g.D.Folder.trace l.initial.folder) (g.D.Folder.trace l.folder))
+    × ReadsOn (g.D.File.OpenFile.role l.initial.file) bytes (g.D.Traced.trace l.initial.folder) (g.D.Traced.trace l.folder))

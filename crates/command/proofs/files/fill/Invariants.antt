@@ -9,4 +9,4 @@ invariant-loop-turn g l =
     (length l.buffer ≡ length l.initial.buffer) × (l.at ≤ length l.buffer)
     × Consumes (g.D.File.OpenFile.remaining l.initial.file) (g.D.File.OpenFile.remaining l.file) (take l.at l.buffer)
     × (g.D.File.OpenFile.role l.file ≡ g.D.File.OpenFile.role l.initial.file)
-    × Progress (ReadsOnce (g.D.File.OpenFile.role l.initial.file)) l.turn (take l.at l.buffer) (g.D.Folder.trace l.initial.folder) (g.D.Folder.trace l.folder)
+    × Progress (ReadsOnce (g.D.File.OpenFile.role l.initial.file)) l.turn (take l.at l.buffer) (g.D.Traced.trace l.initial.folder) (g.D.Traced.trace l.folder)

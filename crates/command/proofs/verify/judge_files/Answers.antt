@@ -31,6 +31,6 @@ returns-clause-order g c =
     let fills = fills_same _ _ _ s _ _ (size ∙ decisive_is) c.in_ok-n.ensures.trace in
     let (m, m_fits, judged, leaves) = c.judge-answer.ensures.judges p s reads (inl refl) in
     let folder = message-stays _ _ (λ reader. reader.folder.ghost_name) (λ old outcome new step. step.0) _ _ _ _ _ leaves in
-    let message = noted-message _ _ (λ reader. g.D.File.OpenFile.role reader.file.now) (λ reader. g.D.Folder.trace reader.folder.now)
+    let message = noted-message _ _ (λ reader. g.D.File.OpenFile.role reader.file.now) (λ reader. g.D.Traced.trace reader.folder.now)
     (record { role = λ old outcome new step. step.2; trace = λ old outcome new step. step.3 }) _ _ _ _ _ leaves in
-    inr (inr (p, s, g.D.Folder.trace c.read_key.new.folder, g.D.Folder.trace c.fill.new.folder, p_reads, fills, (m, judged, search rules)))
+    inr (inr (p, s, g.D.Traced.trace c.read_key.new.folder, g.D.Traced.trace c.fill.new.folder, p_reads, fills, (m, judged, search rules)))

@@ -1,0 +1,29 @@
+-- What callers see of a file of random bytes, and what drawing from it does.
+use Rattle.std.specs.Prelude.{ℕ, List, ◌⊎◌, ◌<◌, length, Result, Ok, Err}
+use Rattle.typecodes.specs.Message.{GivesAll, GivesText, Transition}
+use Rattle.command.specs.declared.random_file.RandomFile.{RandomFile}
+use Rattle.command.specs.declared.trace.Role.TheVariants.{Random}
+use Rattle.command.specs.FileDisk.{Breaks}
+use Rattle.command.specs.Trace.{Happening, ReadsOnce}
+
+-- the file
+abbrev pub random_file : {F : Type 0} → RandomFile F → F
+random_file random = random.file
+
+-- what happened to it, in order
+abbrev pub random_trace : {F : Type 0} → RandomFile F → List Happening
+random_trace random = random.trace.events
+
+-- A read of it happened to it, and nothing else.
+abbrev pub ReadsRandom : {F : Type 0} → Transition (RandomFile F)
+ReadsRandom old outcome new = ReadsOnce Random (random_trace old) outcome (random_trace new)
+
+-- It was read to its end, and gave fewer bytes than so many.
+abbrev pub EndsBefore : {M : Type 0} → Transition M → ℕ → M → M → Type 0
+EndsBefore transition size old new =
+    (first : List ℕ) × (length first < size) × GivesAll transition first old new
+
+-- These bytes were read, and no others. Or the file ended before it gave as many, or reading broke off.
+abbrev pub Draws : {M A E : Type 0} → Transition M → List ℕ → Result A E → M → M → Type 0
+Draws transition bytes (Ok _) old new = GivesText transition bytes old new
+Draws transition bytes (Err _) old new = EndsBefore transition (length bytes) old new ⊎ Breaks transition old new

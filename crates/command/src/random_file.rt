@@ -1,0 +1,97 @@
+//! The file of random bytes.
+
+ghost use Rattle.std.specs.Prelude.{◌≡◌, []};
+ghost use Rattle.typecodes.specs.Message.{GivesText};
+ghost use Rattle.command.specs.RandomFile.{Draws};
+
+use crate::trace::{Role, Trace};
+use rand_core::TryRng;
+use sign_core::SourceFault;
+use std::io;
+use std::io::{ErrorKind, Read};
+use typecodes::Message;
+
+/// A file of random bytes. It gives each of its bytes once, in their order, and none after its end.
+#[derive(Drop)]
+pub struct RandomFile<F> {
+    file: F,
+    trace: Trace,
+}
+
+impl<F: Read> RandomFile<F> {
+    ghost use Rattle.command.specs.RandomFile.{random_file, random_trace};
+
+    /// The file, of which nothing was read yet.
+    pub fn new(file: F) -> Self
+        ensures file { random_file result ≡ file }
+        ensures trace { random_trace result ≡ [] }
+    {
+        RandomFile {
+            file,
+            trace: Trace::new(),
+        }
+    }
+}
+
+impl<F: Read> Message for RandomFile<F> {
+    ghost use Rattle.command.specs.RandomFile.{ReadsRandom, random_file};
+
+    ghost remaining = { λ random. F.remaining (random_file random) };
+
+    ghost transition = { ReadsRandom };
+
+    fn read_into(&mut self, buffer: &mut [u8]) -> io::Result<usize> {
+        let answer = self.file.read(buffer);
+        self.trace.note_read(Role::Random, answer, buffer)
+    }
+}
+
+impl<F: Read> TryRng for RandomFile<F> {
+    ghost use Rattle.command.specs.RandomFile.{ReadsRandom};
+
+    type Error = SourceFault;
+
+    // These bytes were read, and no others.
+    ghost may_fill = { λ old bytes new. GivesText ReadsRandom bytes old new };
+
+    fn try_next_u32(&mut self) -> Result<u32, SourceFault> {
+        let mut bytes = [0; 4];
+        draw(self, &mut bytes)?;
+        Ok(u32::from_le_bytes(bytes))
+    }
+
+    fn try_next_u64(&mut self) -> Result<u64, SourceFault> {
+        let mut bytes = [0; 8];
+        draw(self, &mut bytes)?;
+        Ok(u64::from_le_bytes(bytes))
+    }
+
+    fn try_fill_bytes(&mut self, dst: &mut [u8]) -> Result<(), SourceFault> {
+        draw(self, dst)
+    }
+}
+
+// How many reads are tried for one draw.
+const TRIES: u32 = 1 << 20;
+
+// Reads until the buffer is full. A file that ends before has no more random bytes.
+fn draw<M: Message>(file: &mut M, into: &mut [u8]) -> Result<(), SourceFault>
+    ensures { Draws M.transition into.new result file.old file.new }
+{
+    let mut done = 0;
+    for turn in 0..TRIES {
+        if done >= into.len() {
+            return Ok(());
+        }
+        match file.read_into(&mut into[done..]) {
+            Ok(0) => return Err(SourceFault),
+            Ok(n) => done += n,
+            Err(error) => {
+                if error.kind() != ErrorKind::Interrupted {
+                    return Err(SourceFault);
+                }
+            }
+        }
+    }
+    Err(SourceFault)
+}
