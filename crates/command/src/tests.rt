@@ -1,4 +1,5 @@
 mod disks;
+mod failing_disks;
 mod failures;
 mod lent_disk;
 mod lines;
