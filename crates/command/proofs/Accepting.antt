@@ -1,5 +1,5 @@
--- What `clap` accepts: each line without a fault is one of the lines of `verify`.
-use Rattle.std.proofs.Common.{◌≡◌, ◌≢◌, ◌||◌, ◌∙◌, ◌⊎◌, ℕ, Bool, List, [], ◌∷◌, ◌++◌, Option, if◌then◌else◌, Some, None, true, false, refl, codes, length, ap, subst, sym, inl, inr, find, fold, lit<, option_map}
+-- What `clap` accepts: each line without a fault is one of a command.
+use Rattle.std.proofs.Common.{◌≡◌, ◌≢◌, ◌||◌, ◌∙◌, ◌⊎◌, ◌+◌, ℕ, zero, suc, Bool, List, [], ◌∷◌, ◌++◌, Option, Result, Ok, if◌then◌else◌, Some, None, true, false, refl, codes, length, ap, subst, sym, inl, inr, find, fold, lit<, option_map, arith}
 use Rattle.std.specs.Prelude.{⊤, slice_get, get_or, drop, encode_utf8}
 use Rattle.std.specs.Option.{option_map_or}
 use Rattle.std.specs.Str.{IsUtf8, bytes_eq, chars, encode_utf8_all}
@@ -10,13 +10,15 @@ use Rattle.clap.specs.Faults.{bundle_fault, bundle_step_fault, flag_word_fault, 
 use Rattle.clap.specs.Kinds.{Kinds, or_else}
 use Rattle.clap.specs.Lexer.{long_of, name_and_value, short_of}
 use Rattle.clap.specs.Simple.{filled, help_rule, names_of, version_rule, with_index}
-use Rattle.clap.specs.Walk.{Held as Collected, nothing_held as nothing_collected, Row, Step, Walk, answers_to, arg_by_long, arg_by_short, has_long, has_short, idle, subcommand_met, subcommand_or_other, takes_values, walk_from, walked}
-use Rattle.clap.specs.Words.{Rule, Text, fault_of}
+use Rattle.clap.specs.Walk.{Held as Collected, nothing_held as nothing_collected, Row, Step, Walk, answers_to, arg_by_long, arg_by_short, has_long, has_short, idle, subcommand_met, subcommand_or_other, takes_values, walked}
+use Rattle.clap.specs.Words.{Rule, Text, fault_of, subcommand_of}
 use Rattle.clap.proofs.OnLiterals.{clap_on_literals}
-use Rattle.command.specs.Line.{AreTexts, IsFileWord, IsLineOf, IsVerifyLine, NamesFiles, hbsign_app, line_of}
-use Rattle.command.specs.declared.line.Request.{Request}
-use Rattle.command.specs.declared.line.Request.TheVariants.{Verify}
-use Rattle.command.proofs.Walking.{IsTaken, is_no_hyphen, after_1, after_2, after_3, at, end_fault, leaf, leaf_fault, line_walk, line_well, stopped_at, turn_passes, whole, whole_fault, word_is_value, word_walks}
+use Rattle.clap.specs.Simple.{Shape}
+use Rattle.command.specs.Line.{AreTexts, GivesValues, IsCommandLine, IsLineOf, IsPlainWord, Task, hbsign_app, retire, retire_number, task_found, verify}
+use Rattle.command.specs.LineFault.{lacks, line_faults}
+use Rattle.command.specs.Number.{number_in}
+use Rattle.command.specs.Retire.{most_leaves}
+use Rattle.command.proofs.Walking.{Enters, IsTaken, TakesValue, at, end_fault, enters_retire, enters_verify, entered_faults, finds_retire, finds_task, finds_verify, is_no_hyphen, retire_1, retire_2, retire_shape, takes_either, takes_message, takes_public, takes_signature, takes_state, takes_upto, turn_passes, verify_1, verify_2, verify_3, verify_shape, whole, word_is_value, word_walks}
 
 -- where nothing is wrong with two parts, nothing is wrong with either
 pub none_of : (a b : Kinds) → or_else a b ≡ [] → (a ≡ []) × (b ≡ [])
@@ -73,7 +75,7 @@ flags_fail c again y ys h asks some none =
     bundle_fails c again (slice_get (chars (y ∷ ys)) 0) x (y ∷ ys) h _ is asks none
 
 -- each name of a flag is of one that asks
-abbrev AllAsk : Bool → List Rule → Type 0
+abbrev pub AllAsk : Bool → List Rule → Type 0
 AllAsk again c = ((name : Text) → Asks again (arg_by_long c name)) × ((x : ℕ) → Asks again (arg_by_short c x))
 
 asks_if : (again b : Bool) (this other : Option Rule) → Asks again this → Asks again other → Asks again (if b then this else other)
@@ -95,11 +97,18 @@ help_asks i = (refl, λ rows none. cc)
 version_asks : (i : ℕ) → Asks false (Some (version_at i))
 version_asks i = (refl, λ rows none. cc)
 
-leaf_asks : AllAsk leaf.args_override_self leaf.rules
+verify_asks : AllAsk verify_shape.args_override_self verify_shape.rules
 unfolding clap_on_literals
-leaf_asks = (
+verify_asks = (
   λ name. asks_if false (has_long (help_at 4) name) (Some (help_at 4)) None (help_asks 4) tt,
   λ x. asks_if false (has_short (help_at 4) x) (Some (help_at 4)) None (help_asks 4) tt,
+)
+
+retire_asks : AllAsk retire_shape.args_override_self retire_shape.rules
+unfolding clap_on_literals
+retire_asks = (
+  λ name. asks_if false (has_long (help_at 3) name) (Some (help_at 3)) None (help_asks 3) tt,
+  λ x. asks_if false (has_short (help_at 3) x) (Some (help_at 3)) None (help_asks 3) tt,
 )
 
 whole_asks : AllAsk whole.top.args_override_self whole.top.rules
@@ -115,8 +124,8 @@ whole_asks = (
 abbrev IsOption : Text → Type 0
 IsOption word = (y : ℕ) × (ys : Text) × (word ≡ 45 ∷ y ∷ ys) × (word ≢ 45 ∷ 45 ∷ [])
 
--- each word is a file's, or `--`, or looks like an option
-word_is : (word : Text) → IsFileWord word ⊎ (word ≡ 45 ∷ 45 ∷ []) ⊎ IsOption word
+-- each word is plain, or `--`, or looks like an option
+word_is : (word : Text) → IsPlainWord word ⊎ (word ≡ 45 ∷ 45 ∷ []) ⊎ IsOption word
 word_is [] = inl tt
 word_is (x ∷ []) = inl tt
 word_is (x ∷ y ∷ ys) = elim (cases_eq x 45) [
@@ -127,7 +136,7 @@ word_is (x ∷ y ∷ ys) = elim (cases_eq x 45) [
   ]
 ]
   where
-    word_ends : (x y : ℕ) (ys : Text) → x ≡ 45 → y ≡ 45 → IsFileWord (x ∷ y ∷ ys) ⊎ ((x ∷ y ∷ ys) ≡ 45 ∷ 45 ∷ []) ⊎ IsOption (x ∷ y ∷ ys)
+    word_ends : (x y : ℕ) (ys : Text) → x ≡ 45 → y ≡ 45 → IsPlainWord (x ∷ y ∷ ys) ⊎ ((x ∷ y ∷ ys) ≡ 45 ∷ 45 ∷ []) ⊎ IsOption (x ∷ y ∷ ys)
     word_ends x y [] hyphen second = inr (inl cc)
     word_ends x y (z ∷ zs) hyphen second = inr (inr (y, z ∷ zs, ap (λ b. b ∷ y ∷ z ∷ zs) hyphen, λ same. cc))
 
@@ -164,162 +173,187 @@ option_fails c again word h asks skip text (y, ys, same, other) none =
 -- ---- words that are walked over
 
 -- Nothing is wrong with the words from here, nor with what they come to.
-abbrev Passes : Walk → List Text → Type 0
-Passes w words = (walk_fault leaf [] w words ≡ []) × (end_fault (fold (walked leaf.rules []) w words) ≡ [])
+abbrev Passes : Shape → Walk → List Text → Type 0
+Passes s w words = (walk_fault s [] w words ≡ []) × (end_fault s (fold (walked s.rules []) w words) ≡ [])
 
 -- then nothing is with the first word, nor with the others after it
-passes_on : (w : Walk) (word : Text) (words : List Text) → Passes w (word ∷ words)
-    → (turn_fault leaf [] w word ≡ []) × (walk_fault leaf [] (walked leaf.rules [] w word) words ≡ [])
-    × (end_fault (fold (walked leaf.rules []) (walked leaf.rules [] w word) words) ≡ [])
+passes_on : (s : Shape) (w : Walk) (word : Text) (words : List Text) → Passes s w (word ∷ words)
+    → (turn_fault s [] w word ≡ []) × (walk_fault s [] (walked s.rules [] w word) words ≡ [])
+    × (end_fault s (fold (walked s.rules []) (walked s.rules [] w word) words) ≡ [])
 unfolding walk_fault
-passes_on w word words (walks, ends) = (
-  (none_of (turn_fault leaf [] w word) (walk_fault leaf [] (walked leaf.rules [] w word) words) walks).0,
-  (none_of (turn_fault leaf [] w word) (walk_fault leaf [] (walked leaf.rules [] w word) words) walks).1,
+passes_on s w word words (walks, ends) = (
+  (none_of (turn_fault s [] w word) (walk_fault s [] (walked s.rules [] w word) words) walks).0,
+  (none_of (turn_fault s [] w word) (walk_fault s [] (walked s.rules [] w word) words) walks).1,
   ends,
 )
 
--- where all three files were taken no word is a fourth,
-no_fourth : (b : Bool) (p m s word : Text) → IsTaken b word → turn_fault leaf [] (at b (after_3 p m s) 4) word ≢ []
-unfolding clap_on_literals
-no_fourth b p m s word taken none =
-    let fault = sym (turn_passes leaf b 4 word (after_3 p m s) taken) ∙ none in cc
+-- A command with flags that ask alone waits for as many values, each of which is taken, and for no more; and before the last of them the
+-- words don't end.
+abbrev pub Waits : Shape → ℕ → ℕ → Collected → Type 0
+Waits s zero position h = (h.skip ≡ 0) × ((b : Bool) (word : Text) → IsTaken b word → turn_fault s [] (at b h position) word ≢ [])
+Waits s (suc n) position h = (h.skip ≡ 0) × ((b : Bool) → end_fault s (at b h position) ≢ [])
+    × ((word : Text) → (next : Collected) × TakesValue s position h word next × Waits s n (position + 1) next)
 
--- and where one lacks the words don't end
-some_third : (b : Bool) (p m : Text) → end_fault (at b (after_2 p m) 3) ≢ []
-unfolding clap_on_literals
-some_third b p m none = cc
-
-some_second : (b : Bool) (p : Text) → end_fault (at b (after_1 p) 2) ≢ []
-unfolding clap_on_literals
-some_second b p none = cc
-
-some_first : (b : Bool) → end_fault (at b nothing_collected 1) ≢ []
-unfolding clap_on_literals
-some_first b none = cc
-
--- ---- the words of files
+skips_none : (s : Shape) (n position : ℕ) (h : Collected) → Waits s n position h → h.skip ≡ 0
+skips_none s zero position h waits = waits.0
+skips_none s (suc n) position h waits = waits.0
 
 -- a word that looks like an option isn't walked over, where no `--` stands before it
-option_stops : (position : ℕ) (word : Text) (h : Collected) → h.skip ≡ 0 → IsUtf8 word → IsOption word
-    → turn_fault leaf [] (at false h position) word ≢ []
-option_stops position word h skip text option none =
+option_stops : (s : Shape) (position : ℕ) (word : Text) (h : Collected) → AllAsk s.args_override_self s.rules → h.skip ≡ 0 → IsUtf8 word
+    → IsOption word → turn_fault s [] (at false h position) word ≢ []
+option_stops s position word h asks skip text option none =
     elim (cases_Bool (bytes_eq word (45 ∷ 45 ∷ []))) [
       | inl same ↦ option.3 ((bytes_eq-Decides word (45 ∷ 45 ∷ [])).0 same)
-      | inr differs ↦ option_fails leaf.rules leaf.args_override_self word h leaf_asks skip text option
+      | inr differs ↦ option_fails s.rules s.args_override_self word h asks skip text option
           (else_none _ [] _ differs (none_of _ _ none).0)
     ]
 
--- after `--`, and after a file's word, the others pass
-after_hyphens : (h : Collected) (position : ℕ) (words : List Text) → Passes (at false h position) ((45 ∷ 45 ∷ []) ∷ words)
-    → Passes (at true h position) words
+-- after `--`, and after a value, the others pass
+after_hyphens : (s : Shape) (h : Collected) (position : ℕ) (words : List Text) → Passes s (at false h position) ((45 ∷ 45 ∷ []) ∷ words)
+    → Passes s (at true h position) words
 unfolding walked
-after_hyphens h position words passes =
-    let rest = passes_on (at false h position) (45 ∷ 45 ∷ []) words passes in (rest.1, rest.2)
+after_hyphens s h position words passes =
+    let rest = passes_on s (at false h position) (45 ∷ 45 ∷ []) words passes in (rest.1, rest.2)
 
-after_word : (w next : Walk) (word : Text) (words : List Text) → walked leaf.rules [] w word ≡ next → Passes w (word ∷ words)
-    → Passes next words
-after_word w next word words step passes =
-    let rest = passes_on w word words passes in subst (λ (to : Walk). Passes to words) step (rest.1, rest.2)
+after_value : (s : Shape) (b : Bool) (position : ℕ) (h next : Collected) (word : Text) (words : List Text) → IsTaken b word
+    → TakesValue s position h word next → Passes s (at b h position) (word ∷ words) → Passes s (at b next (position + 1)) words
+after_value s b position h next word words taken takes passes =
+    let rest = passes_on s (at b h position) word words passes in
+    subst (λ (to : Walk). Passes s to words)
+    (word_walks s.rules b position word h taken ∙ takes_either s b position h word next takes) (rest.1, rest.2)
 
-after_first : (b : Bool) (p : Text) (words : List Text) → IsTaken b p → Passes (at b nothing_collected 1) (p ∷ words)
-    → Passes (at b (after_1 p) 2) words
-after_first true p words taken = after_word _ _ p words (word_walks leaf.rules true 1 p nothing_collected taken)
-after_first false p words taken = after_word _ _ p words (word_walks leaf.rules false 1 p nothing_collected taken)
+-- After `--` the words are the values that are still to come.
+rest_given : (s : Shape) (n position : ℕ) (h : Collected) (words : List Text) → Waits s n position h → Passes s (at true h position) words
+    → length words ≡ n
+rest_given s zero position h [] waits passes = refl
+rest_given s zero position h (word ∷ words) waits passes = absurd (waits.1 true word tt (passes_on s _ word words passes).0)
+rest_given s (suc n) position h [] waits passes = absurd (waits.1 true passes.1)
+rest_given s (suc n) position h (word ∷ words) waits passes =
+    let (next, takes, more) = waits.2 word in
+    ap suc (rest_given s n (position + 1) next words more (after_value s true position h next word words tt takes passes))
 
-after_second : (b : Bool) (p m : Text) (words : List Text) → IsTaken b m → Passes (at b (after_1 p) 2) (m ∷ words)
-    → Passes (at b (after_2 p m) 3) words
-after_second true p m words taken = after_word _ _ m words (word_walks leaf.rules true 2 m (after_1 p) taken)
-after_second false p m words taken = after_word _ _ m words (word_walks leaf.rules false 2 m (after_1 p) taken)
+-- A value stands before what gives the others, and `--` before all of them.
+gives_more : (word : Text) (words values : List Text) → IsPlainWord word → GivesValues words values
+    → GivesValues (word ∷ words) (word ∷ values)
+gives_more word words values plain (inl (same, are)) = inl (ap (λ l. word ∷ l) same, (plain, are))
+gives_more word words values plain (inr (before, after, same, given, are)) =
+    inr (word ∷ before, after, ap (λ l. word ∷ l) same, ap (λ l. word ∷ l) given, (plain, are))
 
-after_third : (b : Bool) (p m s : Text) (words : List Text) → IsTaken b s → Passes (at b (after_2 p m) 3) (s ∷ words)
-    → Passes (at b (after_3 p m s) 4) words
-after_third true p m s words taken = after_word _ _ s words (word_walks leaf.rules true 3 s (after_2 p m) taken)
-after_third false p m s words taken = after_word _ _ s words (word_walks leaf.rules false 3 s (after_2 p m) taken)
+gives_all : (word : Text) (words : List Text) → word ≡ 45 ∷ 45 ∷ [] → GivesValues (word ∷ words) words
+gives_all word words hyphens = inr ([], words, ap (λ w. w ∷ words) hyphens, refl, tt)
 
--- After `--` the words are the files that are still to come.
-rest_none : (p m s : Text) (words : List Text) → Passes (at true (after_3 p m s) 4) words → words ≡ []
-rest_none p m s [] passes = refl
-rest_none p m s (word ∷ words) passes = absurd (no_fourth true p m s word tt (passes_on _ _ _ passes).0)
+past : (s : Shape) (h : Collected) (position : ℕ) (word : Text) (words : List Text) → word ≡ 45 ∷ 45 ∷ []
+    → Passes s (at false h position) (word ∷ words) → Passes s (at true h position) words
+past s h position word words hyphens passes =
+    after_hyphens s h position words (subst (λ w. Passes s (at false h position) (w ∷ words)) hyphens passes)
 
-rest_third : (p m : Text) (words : List Text) → Passes (at true (after_2 p m) 3) words → (s : Text) × (words ≡ s ∷ [])
-rest_third p m [] passes = absurd (some_third true p m passes.1)
-rest_third p m (s ∷ words) passes = (s, ap (λ l. s ∷ l) (rest_none p m s words (after_third true p m s words tt passes)))
-
-rest_second : (p : Text) (words : List Text) → Passes (at true (after_1 p) 2) words → (m : Text) × (s : Text) × (words ≡ m ∷ s ∷ [])
-rest_second p [] passes = absurd (some_second true p passes.1)
-rest_second p (m ∷ words) passes =
-    let (s, same) = rest_third p m words (after_second true p m words tt passes) in (m, s, ap (λ l. m ∷ l) same)
-
-rest_first : (words : List Text) → Passes (at true nothing_collected 1) words → (p : Text) × (m : Text) × (s : Text) × (words ≡ p ∷ m ∷ s ∷ [])
-rest_first [] passes = absurd (some_first true passes.1)
-rest_first (p ∷ words) passes =
-    let (m, s, same) = rest_second p words (after_first true p words tt passes) in (p, m, s, ap (λ l. p ∷ l) same)
-
--- A file's word stands before what names the others, and `--` before all of them.
-names_more : (word : Text) (words files : List Text) → IsFileWord word → NamesFiles words files → NamesFiles (word ∷ words) (word ∷ files)
-names_more word words files file (inl (same, are)) = inl (ap (λ l. word ∷ l) same, (file, are))
-names_more word words files file (inr (before, after, same, names, are)) =
-    inr (word ∷ before, after, ap (λ l. word ∷ l) same, ap (λ l. word ∷ l) names, (file, are))
-
-names_all : (word : Text) (words files : List Text) → word ≡ 45 ∷ 45 ∷ [] → words ≡ files → NamesFiles (word ∷ words) files
-names_all word words files hyphens same = inr ([], files, ap (λ w. w ∷ words) hyphens ∙ ap (λ l. (45 ∷ 45 ∷ []) ∷ l) same, refl, tt)
-
-past : (h : Collected) (position : ℕ) (word : Text) (words : List Text) → word ≡ 45 ∷ 45 ∷ [] → Passes (at false h position) (word ∷ words)
-    → Passes (at true h position) words
-past h position word words hyphens passes =
-    after_hyphens h position words (subst (λ w. Passes (at false h position) (w ∷ words)) hyphens passes)
-
--- Before it they name the files that are still to come.
-none_named : (p m s : Text) (words : List Text) → AreTexts words → Passes (at false (after_3 p m s) 4) words → NamesFiles words []
-none_named p m s [] texts passes = inl (refl, tt)
-none_named p m s (word ∷ words) texts passes = elim (word_is word) [
-  | inl file ↦ absurd (no_fourth false p m s word file (passes_on _ _ _ passes).0)
-  | inr (inl hyphens) ↦ names_all word words [] hyphens (rest_none p m s words (past _ _ word words hyphens passes))
-  | inr (inr option) ↦ absurd (option_stops 4 word (after_3 p m s) refl texts.0 option (passes_on _ _ _ passes).0)
-]
-
-third_named : (p m : Text) (words : List Text) → AreTexts words → Passes (at false (after_2 p m) 3) words
-    → (s : Text) × NamesFiles words (s ∷ [])
-third_named p m [] texts passes = absurd (some_third false p m passes.1)
-third_named p m (word ∷ words) texts passes = elim (word_is word) [
-  | inl file ↦ (word, names_more word words [] file (none_named p m word words texts.1 (after_third false p m word words file passes)))
-  | inr (inl hyphens) ↦ let (s, same) = rest_third p m words (past _ _ word words hyphens passes) in (s, names_all word words _ hyphens same)
-  | inr (inr option) ↦ absurd (option_stops 3 word (after_2 p m) refl texts.0 option (passes_on _ _ _ passes).0)
-]
-
-second_named : (p : Text) (words : List Text) → AreTexts words → Passes (at false (after_1 p) 2) words
-    → (m : Text) × (s : Text) × NamesFiles words (m ∷ s ∷ [])
-second_named p [] texts passes = absurd (some_second false p passes.1)
-second_named p (word ∷ words) texts passes = elim (word_is word) [
-  | inl file ↦
-      let (s, names) = third_named p word words texts.1 (after_second false p word words file passes) in
-      (word, s, names_more word words _ file names)
+-- Before it they give the values that are still to come.
+all_given : (s : Shape) (n position : ℕ) (h : Collected) (words : List Text) → AllAsk s.args_override_self s.rules → Waits s n position h
+    → AreTexts words → Passes s (at false h position) words → (values : List Text) × (length values ≡ n) × GivesValues words values
+all_given s zero position h [] asks waits texts passes = ([], refl, inl (refl, tt))
+all_given s (suc n) position h [] asks waits texts passes = absurd (waits.1 false passes.1)
+all_given s zero position h (word ∷ words) asks waits texts passes = elim (word_is word) [
+  | inl plain ↦ absurd (waits.1 false word plain (passes_on s _ word words passes).0)
   | inr (inl hyphens) ↦
-      let (m, s, same) = rest_second p words (past _ _ word words hyphens passes) in (m, s, names_all word words _ hyphens same)
-  | inr (inr option) ↦ absurd (option_stops 2 word (after_1 p) refl texts.0 option (passes_on _ _ _ passes).0)
+      (words, rest_given s zero position h words waits (past s h position word words hyphens passes), gives_all word words hyphens)
+  | inr (inr option) ↦ absurd (option_stops s position word h asks waits.0 texts.0 option (passes_on s _ word words passes).0)
+]
+all_given s (suc n) position h (word ∷ words) asks waits texts passes = elim (word_is word) [
+  | inl plain ↦
+      let (next, takes, more) = waits.2 word in
+      let (values, long, given) = all_given s n (position + 1) next words asks more texts.1
+      (after_value s false position h next word words plain takes passes) in
+      (word ∷ values, ap suc long, gives_more word words values plain given)
+  | inr (inl hyphens) ↦
+      (words, rest_given s (suc n) position h words waits (past s h position word words hyphens passes), gives_all word words hyphens)
+  | inr (inr option) ↦ absurd (option_stops s position word h asks waits.0 texts.0 option (passes_on s _ word words passes).0)
 ]
 
-all_named : (words : List Text) → AreTexts words → Passes (at false nothing_collected 1) words
-    → (p : Text) × (m : Text) × (s : Text) × NamesFiles words (p ∷ m ∷ s ∷ [])
-all_named [] texts passes = absurd (some_first false passes.1)
-all_named (word ∷ words) texts passes = elim (word_is word) [
-  | inl file ↦
-      let (m, s, names) = second_named word words texts.1 (after_first false word words file passes) in
-      (word, m, s, names_more word words _ file names)
-  | inr (inl hyphens) ↦
-      let (p, m, s, same) = rest_first words (past _ _ word words hyphens passes) in (p, m, s, names_all word words _ hyphens same)
-  | inr (inr option) ↦ absurd (option_stops 1 word nothing_collected refl texts.0 option (passes_on _ _ _ passes).0)
-]
+-- ---- the commands
+
+-- where all values were taken no word is one more
+verify_full : (p m s : Text) (b : Bool) (word : Text) → IsTaken b word → turn_fault verify_shape [] (at b (verify_3 p m s) 4) word ≢ []
+unfolding clap_on_literals
+verify_full p m s b word taken none =
+    let fault = sym (turn_passes verify_shape b 4 word (verify_3 p m s) taken) ∙ none in cc
+
+retire_full : (state upto : Text) (b : Bool) (word : Text) → IsTaken b word → turn_fault retire_shape [] (at b (retire_2 state upto) 3) word ≢ []
+unfolding clap_on_literals
+retire_full state upto b word taken none =
+    let fault = sym (turn_passes retire_shape b 3 word (retire_2 state upto) taken) ∙ none in cc
+
+-- and where one lacks the words don't end
+verify_lacks : (b : Bool) → end_fault verify_shape (at b nothing_collected 1) ≢ []
+unfolding clap_on_literals
+verify_lacks b none = cc
+
+verify_lacks_1 : (p : Text) (b : Bool) → end_fault verify_shape (at b (verify_1 p) 2) ≢ []
+unfolding clap_on_literals
+verify_lacks_1 p b none = cc
+
+verify_lacks_2 : (p m : Text) (b : Bool) → end_fault verify_shape (at b (verify_2 p m) 3) ≢ []
+unfolding clap_on_literals
+verify_lacks_2 p m b none = cc
+
+retire_lacks : (b : Bool) → end_fault retire_shape (at b nothing_collected 1) ≢ []
+unfolding clap_on_literals
+retire_lacks b none = cc
+
+retire_lacks_1 : (state : Text) (b : Bool) → end_fault retire_shape (at b (retire_1 state) 2) ≢ []
+unfolding clap_on_literals
+retire_lacks_1 state b none = cc
+
+verify_waits : Waits verify_shape 3 1 nothing_collected
+verify_waits = (
+  refl,
+  verify_lacks,
+  λ p. (
+    verify_1 p,
+    takes_public p,
+    (
+      refl,
+      verify_lacks_1 p,
+      λ m. (
+        verify_2 p m,
+        takes_message p m,
+        (refl, verify_lacks_2 p m, λ s. (verify_3 p m s, takes_signature p m s, (refl, verify_full p m s))),
+      ),
+    ),
+  ),
+)
+
+retire_waits : Waits retire_shape 2 1 nothing_collected
+retire_waits = (
+  refl,
+  retire_lacks,
+  λ state. (
+    retire_1 state,
+    takes_state state,
+    (refl, retire_lacks_1 state, λ upto. (retire_2 state upto, takes_upto state upto, (refl, retire_full state upto))),
+  ),
+)
+
+-- where nothing is wrong with a line of a command, nothing is with the words after its name
+command_passes : (name : Text) (s : Shape) (names : List Text) → Enters name s → fault_of hbsign_app (name ∷ names) ≡ []
+    → Passes s (at false nothing_collected 1) names
+command_passes name s names enters none =
+    let level = (none_of _ [] (sym (entered_faults name s names enters) ∙ none)).0 in
+    none_of _ _ level
+
+three_values : (values : List Text) → length values ≡ 3 → (p : Text) × (m : Text) × (s : Text) × (values ≡ p ∷ m ∷ s ∷ [])
+three_values [] long = absurd cc
+three_values (p ∷ []) long = absurd cc
+three_values (p ∷ m ∷ []) long = absurd cc
+three_values (p ∷ m ∷ s ∷ []) long = (p, m, s, refl)
+three_values (p ∷ m ∷ s ∷ more ∷ rest) long = absurd (omega (arith, long))
+
+two_values : (values : List Text) → length values ≡ 2 → (a : Text) × (b : Text) × (values ≡ a ∷ b ∷ [])
+two_values [] long = absurd cc
+two_values (a ∷ []) long = absurd cc
+two_values (a ∷ b ∷ []) long = (a, b, refl)
+two_values (a ∷ b ∷ more ∷ rest) long = absurd (omega (arith, long))
 
 -- ---- the program's words
-
--- what is wrong with the words after `verify`, where nothing is with the line
-leaf_passes : (names : List Text) → fault_of hbsign_app (codes "verify" ∷ names) ≡ [] → Passes (at false nothing_collected 1) names
-leaf_passes names none =
-    let fault = ap (λ w. whole_fault w (walk_fault whole.top (names_of whole) (walk_from nothing_collected) (codes "verify" ∷ names))) (line_walk names)
-    ∙ ap (whole_fault (stopped_at names)) (line_well names) ∙ leaf_fault names in
-    let level = (none_of _ [] (sym fault ∙ none)).0 in
-    none_of _ _ level
 
 -- what is wrong with a first word, where it names this subcommand or none
 abbrev first_fault : Option Text → Text → Kinds
@@ -328,22 +362,24 @@ first_fault named word = or_else (other_fault whole.top named word nothing_colle
     (subcommand_or_other whole.top.rules named idle 1 word nothing_collected).1)
 
 -- a word that is no subcommand's name names none
-find_none : {A : Type 0} (test : A → Bool) (x y : A) → test x ≡ false → test y ≡ false → find test (x ∷ y ∷ []) ≡ None
-find_none test x y first second = rw (first, second) refl
+find_none : {A : Type 0} (test : A → Bool) (x y z : A) → test x ≡ false → test y ≡ false → test z ≡ false
+    → find test (x ∷ y ∷ z ∷ []) ≡ None
+find_none test x y z first second third = rw (first, second, third) refl
 
 or_none : (b : Bool) → b ≡ false → (b || false) ≡ false
 or_none b isnt = rw isnt refl
 
-names_none : (word : Text) → bytes_eq (codes "verify") word ≡ false → bytes_eq (codes "help") word ≡ false
-    → subcommand_met (names_of whole) idle word ≡ None
-names_none word verify help = ap (option_map (λ s. s.0)) (find_none (answers_to word) (codes "verify", []) (codes "help", []) (or_none _ verify) (or_none _ help))
+names_none : (word : Text) → bytes_eq (codes "verify") word ≡ false → bytes_eq (codes "retire") word ≡ false
+    → bytes_eq (codes "help") word ≡ false → subcommand_met (names_of whole) idle word ≡ None
+names_none word no_verify no_retire no_help = ap (option_map (λ s. s.0))
+    (find_none (answers_to word) (codes "verify", []) (codes "retire", []) (codes "help", []) (or_none _ no_verify) (or_none _ no_retire) (or_none _ no_help))
 
 -- such a word isn't accepted first,
-file_fails : (word : Text) → IsFileWord word → first_fault None word ≢ []
-file_fails word file none =
+plain_fails : (word : Text) → IsPlainWord word → first_fault None word ≢ []
+plain_fails word plain none =
     let step = (none_of (other_fault whole.top None word nothing_collected) _ none).1 in
     let stray = subst (λ (met : Collected × Step). step_fault whole.top 1 met.0 met.1 ≡ [])
-    (word_is_value whole.top.rules false 1 word nothing_collected file) step in
+    (word_is_value whole.top.rules false 1 word nothing_collected plain) step in
     cc
 
 first_option_fails : (word : Text) → IsUtf8 word → IsOption word → first_fault None word ≢ []
@@ -374,38 +410,74 @@ first_passes : (word : Text) (words : List Text) → fault_of hbsign_app (word �
 unfolding walk_fault
 first_passes word words none = (none_of _ _ (none_of _ _ none).0).0
 
-is_verify : (word : Text) (words : List Text) → IsUtf8 word → fault_of hbsign_app (word ∷ words) ≡ [] → word ≡ codes "verify"
-is_verify word words text none = elim (cases_Bool (bytes_eq (codes "verify") word)) [
-  | inl same ↦ sym ((bytes_eq-Decides (codes "verify") word).0 same)
-  | inr verify ↦ elim (cases_Bool (bytes_eq (codes "help") word)) [
-    | inl same ↦ absurd (help_fails (subst (λ w. first_fault (subcommand_met (names_of whole) idle w) w ≡ [])
-        (sym ((bytes_eq-Decides (codes "help") word).0 same)) (first_passes word words none)))
-    | inr help ↦
-        let passes = subst (λ named. first_fault named word ≡ []) (names_none word verify help) (first_passes word words none) in
-        elim (word_is word) [
-          | inl file ↦ absurd (file_fails word file passes)
-          | inr (inl hyphens) ↦ absurd (hyphens_fail words (subst (λ w. fault_of hbsign_app (w ∷ words) ≡ []) hyphens none))
-          | inr (inr option) ↦ absurd (first_option_fails word text option passes)
-        ]
+is_named : (word : Text) (words : List Text) → IsUtf8 word → fault_of hbsign_app (word ∷ words) ≡ []
+    → (word ≡ codes "verify") ⊎ (word ≡ codes "retire")
+is_named word words text none = elim (cases_Bool (bytes_eq (codes "verify") word)) [
+  | inl same ↦ inl (sym ((bytes_eq-Decides (codes "verify") word).0 same))
+  | inr no_verify ↦ elim (cases_Bool (bytes_eq (codes "retire") word)) [
+    | inl same ↦ inr (sym ((bytes_eq-Decides (codes "retire") word).0 same))
+    | inr no_retire ↦ elim (cases_Bool (bytes_eq (codes "help") word)) [
+      | inl same ↦ absurd (help_fails (subst (λ w. first_fault (subcommand_met (names_of whole) idle w) w ≡ [])
+          (sym ((bytes_eq-Decides (codes "help") word).0 same)) (first_passes word words none)))
+      | inr no_help ↦
+          let passes = subst (λ named. first_fault named word ≡ []) (names_none word no_verify no_retire no_help) (first_passes word words none) in
+          elim (word_is word) [
+            | inl plain ↦ absurd (plain_fails word plain passes)
+            | inr (inl hyphens) ↦ absurd (hyphens_fail words (subst (λ w. fault_of hbsign_app (w ∷ words) ≡ []) hyphens none))
+            | inr (inr option) ↦ absurd (first_option_fails word text option passes)
+          ]
+    ]
   ]
 ]
 
--- A line of texts without a fault is one of `verify`.
-pub accepted : (words : List Text) → AreTexts words → fault_of hbsign_app words ≡ []
-    → (p : Text) × (m : Text) × (s : Text) × IsVerifyLine words p m s
+-- A line of texts without a fault is one of `verify`, or of `retire`.
+accepted : (words : List Text) → AreTexts words → fault_of hbsign_app words ≡ []
+    → ((p : Text) × (m : Text) × (s : Text) × IsCommandLine words (codes "verify") (p ∷ m ∷ s ∷ []))
+    ⊎ ((state : Text) × (upto : Text) × IsCommandLine words (codes "retire") (state ∷ upto ∷ []))
 accepted [] texts none = absurd (nothing_fails none)
-accepted (word ∷ names) texts none =
-    let is = is_verify word names texts.0 none in
-    let (p, m, s, named) = all_named names texts.1 (leaf_passes names (subst (λ w. fault_of hbsign_app (w ∷ names) ≡ []) is none)) in
-    (p, m, s, (names, ap (λ w. w ∷ names) is, named))
+accepted (word ∷ names) texts none = elim (is_named word names texts.0 none) [
+  | inl is ↦
+      let (values, long, given) = all_given verify_shape 3 1 nothing_collected names verify_asks verify_waits texts.1
+      (command_passes (codes "verify") verify_shape names enters_verify (subst (λ w. fault_of hbsign_app (w ∷ names) ≡ []) is none)) in
+      let (p, m, s, same) = three_values values long in
+      inl (p, m, s, (names, ap (λ w. w ∷ names) is, subst (GivesValues names) same given))
+  | inr is ↦
+      let (values, long, given) = all_given retire_shape 2 1 nothing_collected names retire_asks retire_waits texts.1
+      (command_passes (codes "retire") retire_shape names enters_retire (subst (λ w. fault_of hbsign_app (w ∷ names) ≡ []) is none)) in
+      let (state, upto, same) = two_values values long in
+      inr (state, upto, (names, ap (λ w. w ∷ names) is, subst (GivesValues names) same given))
+]
 
--- So what such a line requests is to verify its files, where it is this of each line of `verify`.
-pub requested : (words : List Text) (request : Request) → fault_of hbsign_app words ≡ []
-    → ((p m s : Text) → IsVerifyLine words p m s → line_of request ≡ codes "verify" ∷ p ∷ m ∷ s ∷ []) → IsLineOf words request
-requested words (Verify files) none verifies = λ texts.
-    let (p, m, s, line) = accepted words texts none in
-    let same = verifies p m s line in
-    let public : files.public.now ≡ p = ap (λ (l : List Text). get_or l 1 []) same in
-    let message : files.message.now ≡ m = ap (λ (l : List Text). get_or l 2 []) same in
-    let signature : files.signature.now ≡ s = ap (λ (l : List Text). get_or l 3 []) same in
-    rw (public, message, signature) line
+ok_same : {A E : Type 0} (a b : A) → ◌≡◌ {A = Result A E} (Ok a) (Ok b) → a ≡ b
+ok_same a b same = cc
+
+-- the task of a line `retire` is that of its number
+is_retire : (words : List Text) (state text : Text) (task : Task) (number : Option ℕ) → number_in most_leaves text ≡ number
+    → IsCommandLine words (codes "retire") (state ∷ text ∷ []) → retire_number state number ≡ Ok task → IsLineOf words task
+is_retire words state text task (Some upto) spells line same =
+    subst (IsLineOf words) (ok_same (retire state upto) task same) (text, spells, line)
+is_retire words state text task None spells line same = absurd cc
+
+-- So where a task is found in such a line, the line is the task's.
+pub is_line_of : (words : List Text) (task : Task) → fault_of hbsign_app words ≡ [] → task_found (subcommand_of hbsign_app words) ≡ Ok task
+    → AreTexts words → IsLineOf words task
+is_line_of words task none found texts = elim (accepted words texts none) [
+  | inl (p, m, s, line) ↦
+      subst (IsLineOf words) (ok_same (verify p m s) task (sym (finds_verify words p m s line).1 ∙ found)) line
+  | inr (state, text, line) ↦
+      is_retire words state text task (number_in most_leaves text) refl line (sym (finds_retire words state text line).1 ∙ found)
+]
+
+-- A line in which a task is found has no fault,
+pub no_line_faults : (words : List Text) (task : Task) → fault_of hbsign_app words ≡ [] → task_found (subcommand_of hbsign_app words) ≡ Ok task
+    → line_faults words ≡ []
+no_line_faults words task none found =
+    ap (λ k. or_else k (lacks (task_found (subcommand_of hbsign_app words)))) none ∙ ap lacks found
+
+pub task_has_no_faults : (words : List Text) (task : Task) → IsLineOf words task → line_faults words ≡ []
+task_has_no_faults words task line = let (none, found) = finds_task words task line in no_line_faults words task none found
+
+-- and it is the line's.
+pub same_task : (words : List Text) (task other : Task) → task_found (subcommand_of hbsign_app words) ≡ Ok task → IsLineOf words other
+    → task ≡ other
+same_task words task other found line = ok_same task other (sym found ∙ (finds_task words other line).1)

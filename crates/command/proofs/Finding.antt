@@ -1,31 +1,65 @@
 -- From what a parse says to what is requested.
-use Rattle.std.proofs.Common.{◌≡◌, ◌∙◌, List, [], ◌∷◌, Option, Some, None, Result, Ok, Err, MatchResult, IfErr, IsErrAnd, inl, inr, ap, sym, subst, option_map, unwrap_or}
+use Rattle.std.proofs.Common.{◌≡◌, ◌∙◌, List, [], ◌∷◌, Option, Some, None, Result, Ok, Err, IfErr, IsErrAnd, IsSome, inl, inr, ap₂, refl, sym, subst, option_map, unwrap_or}
+use Rattle.std.specs.Prelude.{Box}
+use Rattle.std.specs.Box.{box_value}
 use Rattle.clap.specs.Kinds.{or_else}
-use Rattle.clap.specs.Words.{HasKind, Kinds, Row, Text, kind_of}
+use Rattle.clap.specs.Simple.{subcommand_rows}
+use Rattle.clap.specs.Words.{HasKind, Kinds, Row, Text, kind_of, subcommand_name_of, subcommand_rows_of}
 use Rattle.clap.specs.declared.error.Error.{Error}
 use Rattle.clap.specs.declared.error.kind.ErrorKind.TheVariants.{OutOfMemory}
-use Rattle.command.specs.Line.{Files, files_of, named_files}
+use Rattle.clap.specs.declared.parser.matches.ArgMatches.{ArgMatches}
+use Rattle.clap.specs.declared.parser.matches.ArgMatches.TheViews.{out-ArgMatches, out-SubCommand}
+use Rattle.clap.specs.declared.parser.matches.SubCommand.{SubCommand}
+use Rattle.command.specs.Line.{retire, retire_task, verify, verify_task}
+use Rattle.command.specs.Retire.{IsRetire}
+use Rattle.command.specs.declared.line.Lack.{Lack}
+use Rattle.command.specs.declared.line.Lack.TheVariants.{Command, Number}
+use Rattle.command.specs.declared.retire.Retire.{Retire}
 
--- the rows of the subcommand that was met have its files
-pub rows_have : (met : Option (Text × List Row)) (rows : List Row) (name : Text) (files : Files)
-    → Some rows ≡ option_map (λ p. p.1) met → named_files met ≡ Some (name, files) → files_of rows ≡ files
-rows_have None rows name files same named = cc
-rows_have (Some met) rows name files same named =
-    ap (λ (o : Option (List Row)). files_of (unwrap_or o rows)) same ∙ ap (λ (o : Option (Text × Files)). (unwrap_or o (name, files)).1) named
+-- the name and the rows of the subcommand that was met
+met_is : (met : Option (Text × List Row)) (name : Text) (rows : List Row) → Some name ≡ option_map (λ p. p.0) met
+    → Some rows ≡ option_map (λ p. p.1) met → met ≡ Some (name, rows)
+met_is None name rows named has = cc
+met_is (Some met) name rows named has =
+    ap₂ (λ (n : Option Text) (r : Option (List Row)). Some (unwrap_or n name, unwrap_or r rows)) (sym named) (sym has)
 
--- three files that are the line's are those that were found
-pub same_files : (p m s p' m' s' : Text) (files : Files) → files ≡ (Some p, Some m, Some s) → files ≡ (Some p', Some m', Some s')
-    → p ∷ m ∷ s ∷ [] ≡ p' ∷ m' ∷ s' ∷ []
-same_files p m s p' m' s' files these those =
-    ap (λ (f : Files). unwrap_or f.0 [] ∷ unwrap_or f.1 [] ∷ unwrap_or f.2 [] ∷ []) (sym these ∙ those)
+named : {Z : Type 0} (o : Option (Box SubCommand Z)) → option_map (λ b. (out-SubCommand (box_value b)).name.now) o
+    ≡ option_map (λ p. p.0) (subcommand_rows o)
+named None = refl
+named (Some met) = refl
 
--- an error that is handed on keeps what holds of it, where a value has a clause of its own
-pub handed_on : {T : Type 0} (r : Result T Error) (e : Error) (P : T → Type 0) (Q : Error → Type 0)
-    → IsErrAnd r (λ x. x ≡ e) → Q e → MatchResult r P Q
-handed_on (Ok x) e P Q same holds = absurd same
-handed_on (Err x) e P Q same holds = subst Q (sym same) holds
+pub subcommand_is : (matches : ArgMatches) (name : Text) (rows : List Row) → Some name ≡ subcommand_name_of matches
+    → Some rows ≡ option_map (λ p. p.1) (subcommand_rows_of matches) → subcommand_rows_of matches ≡ Some (name, rows)
+subcommand_is matches name rows is has =
+    met_is (subcommand_rows_of matches) name rows (is ∙ named (out-ArgMatches matches).subcommand) has
 
--- the same, where no value has one
+-- the task of `verify`, where all three files are given
+pub all_files : (public message signature : Option Text) (p m s : Text) → public ≡ Some p → message ≡ Some m → signature ≡ Some s
+    → Ok (verify p m s) ≡ verify_task public message signature
+all_files public message signature p m s p_is m_is s_is = rw (p_is, m_is, s_is) refl
+
+-- .. and where one isn't
+pub not_all_files : (public message signature : Option Text) → (IsSome public × IsSome message × IsSome signature → ⊥)
+    → Err Command ≡ verify_task public message signature
+not_all_files (Some p) (Some m) (Some s) none = absurd (none (refl, refl, refl))
+not_all_files (Some p) (Some m) None none = refl
+not_all_files (Some p) None signature none = refl
+not_all_files None message signature none = refl
+
+-- the task of `retire`, where its words say what they have to
+pub is_retire_task : (state upto : Option Text) (words : Retire) → IsRetire state upto (Ok words)
+    → Ok (retire words.state.now words.upto) ≡ retire_task state upto
+is_retire_task state upto words (state_is, (text, upto_is, spells)) = rw (state_is, upto_is, spells) refl
+
+-- .. and where not
+pub no_retire_task : (state upto : Option Text) (lack : Lack) → IsRetire state upto (Err lack) → Err lack ≡ retire_task state upto
+no_retire_task state upto Number (text, path, state_is, upto_is, spells) = rw (state_is, upto_is, spells) refl
+no_retire_task None upto Command lacks = refl
+no_retire_task (Some path) None Command lacks = refl
+no_retire_task (Some path) (Some text) Command (inl none) = absurd cc
+no_retire_task (Some path) (Some text) Command (inr none) = absurd cc
+
+-- an error that is handed on keeps what holds of it
 pub handed_err : {T : Type 0} (r : Result T Error) (e : Error) (Q : Error → Type 0) → IsErrAnd r (λ x. x ≡ e) → Q e → IfErr r Q
 handed_err (Ok x) e Q same holds = absurd same
 handed_err (Err x) e Q same holds = subst Q (sym same) holds

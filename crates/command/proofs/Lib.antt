@@ -12,3 +12,4 @@ pub mod Visiting
 pub mod Walking
 pub mod Walks
 pub mod MessageReading
+pub mod Numbers

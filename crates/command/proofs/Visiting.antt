@@ -1,14 +1,15 @@
 -- Files that are opened and read in turn.
-use Rattle.std.proofs.Common.{◌≡◌, ◌∙◌, ℕ, List, [], ◌∷◌, ◌++◌, Option, Result, Ok, Err, IsErrAnd, codes, inl, inr, ap, subst, append_assoc}
+use Rattle.std.proofs.Common.{◌≡◌, ◌∙◌, ℕ, List, [], ◌∷◌, ◌++◌, Option, Result, Ok, Err, IsErrAnd, inl, inr, ap, subst, append_assoc}
+use Rattle.state_file.specs.declared.disk.Disk as disk
+use Rattle.state_file.specs.declared.store.Store as store
+use Rattle.state_file.specs.declared.store.file_store.FileStore.{FileStore}
+use Rattle.command.specs.declared.answer.Done.{Done}
 use Rattle.command.specs.Verify.{AnswersOf, FailsToOpen, OpensInTurn, ReadsInTurn, Verifies, all_opened}
 use Rattle.command.specs.Files.{Shows}
-use Rattle.command.specs.Line.{AreTexts, IsLineOf, IsVerifyLine, Serves, line_of, paths_of}
+use Rattle.command.specs.Line.{Serves, Task}
 use Rattle.command.specs.Trace.{Happening}
-use Rattle.command.specs.declared.line.Request.{Request}
-use Rattle.command.specs.declared.line.Request.TheVariants.{Verify}
 use Rattle.command.specs.declared.refusal.Refusal.{Refusal}
 use Rattle.command.specs.declared.refusal.Refusal.TheVariants.{FileFailed}
-use Rattle.command.specs.declared.verify.Verify.{Verify as VerifyFiles}
 use Rattle.command.specs.declared.trace.Role.{Role}
 use Rattle.command.specs.declared.trace.Role.TheVariants as role
 use Rattle.command.proofs.Contents.{answers_of_files, failed_answer}
@@ -45,31 +46,8 @@ verifies_opened content p m s p_left m_left s_left p_role s_role m_role answer o
       (subst (λ r. ReadsInTurn r s_role m_role answer opened new) p_is reads)))),
 )
 
--- a request to verify these files
-pub serves_files : {A : Type 0} (request : Request) (files : VerifyFiles) (content : List ℕ → Option (List ℕ)) (answer : Result A Refusal)
-    (old new : List Happening) → line_of request ≡ codes "verify" ∷ paths_of files
-    → Verifies content files.public.now files.message.now files.signature.now answer old new → Serves request content answer old new
-serves_files (Verify those) files content answer old new same verifies =
-    let first : files.public.now ≡ those.public.now = cc in
-    let second : files.message.now ≡ those.message.now = cc in
-    let third : files.signature.now ≡ those.signature.now = cc in
-    subst (λ x. Verifies content those.public.now those.message.now x answer old new) third
-    (subst (λ x. Verifies content those.public.now x files.signature.now answer old new) second
-    (subst (λ x. Verifies content x files.message.now files.signature.now answer old new) first verifies))
-
--- a request of a line is to verify its files,
-pub serves_some : {A : Type 0} (words : List (List ℕ)) (request : Request) (content : List ℕ → Option (List ℕ)) (answer : Result A Refusal)
-    (old new : List Happening) → IsLineOf words request → Serves request content answer old new
-    → (p : List ℕ) × (m : List ℕ) × (s : List ℕ) × (AreTexts words → IsVerifyLine words p m s) × Verifies content p m s answer old new
-serves_some words (Verify files) content answer old new line serves = (files.public.now, files.message.now, files.signature.now, line, serves)
-
--- those of its line
-pub serves_line : {A : Type 0} (request : Request) (p m s : List ℕ) (content : List ℕ → Option (List ℕ)) (answer : Result A Refusal) (old new : List Happening)
-    → line_of request ≡ codes "verify" ∷ p ∷ m ∷ s ∷ [] → Serves request content answer old new → Verifies content p m s answer old new
-serves_line (Verify files) p m s content answer old new same serves =
-    let first : files.public.now ≡ p = cc in
-    let second : files.message.now ≡ m = cc in
-    let third : files.signature.now ≡ s = cc in
-    subst (λ x. Verifies content p m x answer old new) third
-    (subst (λ x. Verifies content p x files.signature.now answer old new) second
-    (subst (λ x. Verifies content x files.message.now files.signature.now answer old new) first serves))
+-- one task is served as another that is the same
+pub serves_same : {K : Type 0} {bound : _} (d : disk.Ghosts K) (g : store.Ghosts (FileStore K bound)) (content : List ℕ → Option (List ℕ))
+    (answer : Result Done Refusal) (old new : List Happening) (task other : Task) → task ≡ other → Serves d g content task answer old new
+    → Serves d g content other answer old new
+serves_same d g content answer old new task other same serves = subst (λ t. Serves d g content t answer old new) same serves

@@ -1,14 +1,15 @@
 -- What `clap` makes of the words of a line.
-use Rattle.std.proofs.Common.{◌≡◌, ◌≢◌, ◌==◌, ◌∙◌, ℕ, Bool, List, [], ◌∷◌, ◌++◌, Some, None, true, false, refl, codes, nat_eq, fold, is_some, ap, subst, sym, inl, inr, append-nil, append_assoc}
+use Rattle.std.proofs.Common.{◌≡◌, ◌≢◌, ◌==◌, ◌∙◌, ◌+◌, ℕ, Bool, List, [], ◌∷◌, ◌++◌, Ok, Some, None, true, false, refl, codes, nat_eq, fold, is_some, ap, ap₂, subst, sym, inl, inr, append-nil, append_assoc}
 use Rattle.std.specs.Prelude.{⊤}
 use Rattle.std.proofs.lemmas.Bool.{cases_eq, ne_eqb}
 use Rattle.clap.specs.Simple.{App, Shape, built, built_leaf, entered, names_of, inherited, with_leaf_noted, marked_built}
 use Rattle.clap.specs.Walk.{Held as Collected, Names, Walk, idle, walked, word_met, value, to_positional, arg_by_index, rows_after, nothing_held as nothing_collected, walk_from, finished, settled, walk}
 use Rattle.clap.specs.Faults.{turn_fault, step_fault, word_fault, walk_fault, settle_fault, defaults_fault, check_fault, entered_fault, level_fault}
 use Rattle.clap.specs.Kinds.{Kinds, or_else}
-use Rattle.clap.specs.Words.{Rule, is_simple, subcommand_of, fault_of, is_simple_and_free}
+use Rattle.clap.specs.Words.{Rule, Text, is_simple, subcommand_of, fault_of, is_simple_and_free}
 use Rattle.clap.proofs.OnLiterals.{clap_on_literals}
-use Rattle.command.specs.Line.{AreFileWords, IsFileWord, IsVerifyLine, NamesFiles, files_of, hbsign_app, named_files}
+use Rattle.command.specs.Line.{ArePlainWords, GivesValues, IsCommandLine, IsLineOf, IsPlainWord, Task, hbsign_app, retire, retire_number, retire_task, task_found, verify}
+use Rattle.command.specs.Retire.{retire_app}
 use Rattle.command.specs.Verify.{verify_app}
 
 -- the program is one whose matches and faults `clap` gives
@@ -25,25 +26,25 @@ abbrev pub at : Bool → Collected → ℕ → Walk
 at trailing collected position =
     record { held = collected; waiting = idle; position = position; is_trailing = trailing; stopped = None }
 
--- a word that is taken for a file: it is no option, or stands after `--`
+-- a word that is taken for a value: it is no option, or stands after `--`
 abbrev pub IsTaken : Bool → List ℕ → Type 0
 IsTaken true word = ⊤
-IsTaken false word = IsFileWord word
+IsTaken false word = IsPlainWord word
 
 -- a first byte that is no hyphen, in both spellings of the test
 pub is_no_hyphen : (byte : ℕ) → byte ≢ 45 → (nat_eq byte 45 ≡ false) × ((byte == 45) ≡ false)
-is_no_hyphen byte file = (ne_eqb byte 45 file, ne_eqb byte 45 file)
+is_no_hyphen byte plain = (ne_eqb byte 45 plain, ne_eqb byte 45 plain)
 
--- a file's word is a value
+-- such a word is a value
 pub word_is_value : (c : List Rule) (b : Bool) (position : ℕ) (word : List ℕ) (h : Collected) → IsTaken b word
     → word_met c [] b idle position word h ≡ (h, value)
 word_is_value c true position word h taken = refl
-word_is_value c false position [] h file = refl
-word_is_value c false position (x ∷ []) h file = elim (cases_eq x 45) [
+word_is_value c false position [] h plain = refl
+word_is_value c false position (x ∷ []) h plain = elim (cases_eq x 45) [
   | inl same ↦ rw same refl
   | inr other ↦ rw ((is_no_hyphen x other).0, (is_no_hyphen x other).1) refl
 ]
-word_is_value c false position (x ∷ y ∷ xs) h file = rw ((is_no_hyphen x file).0, (is_no_hyphen x file).1) refl
+word_is_value c false position (x ∷ y ∷ xs) h plain = rw ((is_no_hyphen x plain).0, (is_no_hyphen x plain).1) refl
 
 -- so the walk takes it to the positional whose turn it is
 pub word_walks : (c : List Rule) (b : Bool) (position : ℕ) (word : List ℕ) (h : Collected) → IsTaken b word
@@ -54,189 +55,143 @@ word_walks c b position word h taken = rw (word_is_value c b position word h tak
 -- nothing is wrong with it as a word
 word_passes : (s : Shape) (b : Bool) (word : List ℕ) (h : Collected) → IsTaken b word → word_fault s [] b idle word h ≡ []
 word_passes s true word h taken = refl
-word_passes s false [] h file = refl
-word_passes s false (x ∷ []) h file = elim (cases_eq x 45) [
+word_passes s false [] h plain = refl
+word_passes s false (x ∷ []) h plain = elim (cases_eq x 45) [
   | inl same ↦ rw same refl
   | inr other ↦ rw ((is_no_hyphen x other).0, (is_no_hyphen x other).1) refl
 ]
-word_passes s false (x ∷ y ∷ xs) h file = rw ((is_no_hyphen x file).0, (is_no_hyphen x file).1) refl
+word_passes s false (x ∷ y ∷ xs) h plain = rw ((is_no_hyphen x plain).0, (is_no_hyphen x plain).1) refl
 
 -- so its turn fails only by that positional
 pub turn_passes : (s : Shape) (b : Bool) (position : ℕ) (word : List ℕ) (h : Collected) → IsTaken b word
     → turn_fault s [] (at b h position) word ≡ step_fault s position h value
 turn_passes s b position word h taken = rw (word_is_value s.rules b position word h taken, word_passes s b word h taken) refl
 
--- the built command `verify`
-abbrev pub leaf : Shape
-leaf = built_leaf (inherited (with_leaf_noted (marked_built hbsign_app.top)) verify_app.top)
+-- ---- the walk of a command
 
 -- The walk goes over these words without a fault, and ends so.
-abbrev Goes : Walk → List (List ℕ) → Walk → Type 0
-Goes from words to = (fold (walked leaf.rules []) from words ≡ to) × (walk_fault leaf [] from words ≡ [])
+abbrev Goes : Shape → Walk → List Text → Walk → Type 0
+Goes s from words to = (fold (walked s.rules []) from words ≡ to) × (walk_fault s [] from words ≡ [])
 
 -- over no word,
-stays : (w : Walk) → Goes w [] w
+stays : (s : Shape) (from to : Walk) → from ≡ to → Goes s from [] to
 unfolding walk_fault
-stays w = (refl, refl)
+stays s from to same = (same, refl)
 
 -- and over one more in front
-goes : (from next to : Walk) (word : List ℕ) (words : List (List ℕ)) → walked leaf.rules [] from word ≡ next
-    → turn_fault leaf [] from word ≡ [] → Goes next words to → Goes from (word ∷ words) to
+goes : (s : Shape) (from next to : Walk) (word : Text) (words : List Text) → walked s.rules [] from word ≡ next
+    → turn_fault s [] from word ≡ [] → Goes s next words to → Goes s from (word ∷ words) to
 unfolding walk_fault
-goes from next to word words step well (ends, passes) = (
-  ap (λ w. fold (walked leaf.rules []) w words) step ∙ ends,
-  ap (λ k. or_else k (walk_fault leaf [] (walked leaf.rules [] from word) words)) well
-      ∙ ap (λ w. walk_fault leaf [] w words) step ∙ passes,
+goes s from next to word words step well (ends, passes) = (
+  ap (λ w. fold (walked s.rules []) w words) step ∙ ends,
+  ap (λ k. or_else k (walk_fault s [] (walked s.rules [] from word) words)) well
+      ∙ ap (λ w. walk_fault s [] w words) step ∙ passes,
 )
 
--- what the parser has after the first file,
-abbrev pub after_1 : List ℕ → Collected
-after_1 p = record nothing_collected { pending = Some (codes "PUBLIC", p ∷ []) }
-
--- after the second,
-abbrev pub after_2 : List ℕ → List ℕ → Collected
-after_2 p m = (to_positional leaf.rules (arg_by_index leaf.rules 2) m (at false (after_1 p) 2) (after_1 p)).held
-
--- and after the third
-abbrev pub after_3 : List ℕ → List ℕ → List ℕ → Collected
-after_3 p m s = (to_positional leaf.rules (arg_by_index leaf.rules 3) s (at false (after_2 p m) 3) (after_2 p m)).held
-
 -- the walk goes on after `--`
-over_hyphens : (h : Collected) (position : ℕ) (words : List (List ℕ)) (to : Walk) → Goes (at true h position) words to
-    → Goes (at false h position) (codes "--" ∷ words) to
+over_hyphens : (s : Shape) (h : Collected) (position : ℕ) (words : List Text) (to : Walk) → Goes s (at true h position) words to
+    → Goes s (at false h position) (codes "--" ∷ words) to
 unfolding walked
-over_hyphens h position words to rest = goes _ (at true h position) to (codes "--") words refl refl rest
+over_hyphens s h position words to rest = goes s (at false h position) (at true h position) to (codes "--") words refl refl rest
 
--- and over each file
-over_1 : (b : Bool) (p : List ℕ) (words : List (List ℕ)) (to : Walk) → IsTaken b p → Goes (at b (after_1 p) 2) words to
-    → Goes (at b nothing_collected 1) (p ∷ words) to
-over_1 true p words to taken rest =
-    goes _ _ to p words (word_walks leaf.rules true 1 p nothing_collected taken) (turn_passes leaf true 1 p nothing_collected taken) rest
-over_1 false p words to taken rest =
-    goes _ _ to p words (word_walks leaf.rules false 1 p nothing_collected taken) (turn_passes leaf false 1 p nothing_collected taken) rest
+-- What the positional of this place takes, before `--` or after it: then there are these matches, and it is the next one's turn.
+abbrev pub Takes : Shape → Bool → ℕ → Collected → Text → Collected → Type 0
+Takes s b position h word next =
+    to_positional s.rules (arg_by_index s.rules position) word (at b h position) h ≡ at b next (position + 1)
 
-over_2 : (b : Bool) (p m : List ℕ) (words : List (List ℕ)) (to : Walk) → IsTaken b m → Goes (at b (after_2 p m) 3) words to
-    → Goes (at b (after_1 p) 2) (m ∷ words) to
-over_2 true p m words to taken rest =
-    goes _ _ to m words (word_walks leaf.rules true 2 m (after_1 p) taken) (turn_passes leaf true 2 m (after_1 p) taken) rest
-over_2 false p m words to taken rest =
-    goes _ _ to m words (word_walks leaf.rules false 2 m (after_1 p) taken) (turn_passes leaf false 2 m (after_1 p) taken) rest
+pub record TakesValue (s : Shape) (position : ℕ) (h : Collected) (word : Text) (next : Collected) : Type 0 where
+  pub before : Takes s false position h word next
+  pub after : Takes s true position h word next
+  pub well : step_fault s position h value ≡ []
 
-over_3 : (b : Bool) (p m s : List ℕ) (words : List (List ℕ)) (to : Walk) → IsTaken b s → Goes (at b (after_3 p m s) 4) words to
-    → Goes (at b (after_2 p m) 3) (s ∷ words) to
-over_3 true p m s words to taken rest =
-    goes _ _ to s words (word_walks leaf.rules true 3 s (after_2 p m) taken) (turn_passes leaf true 3 s (after_2 p m) taken) rest
-over_3 false p m s words to taken rest =
-    goes _ _ to s words (word_walks leaf.rules false 3 s (after_2 p m) taken) (turn_passes leaf false 3 s (after_2 p m) taken) rest
+pub takes_either : (s : Shape) (b : Bool) (position : ℕ) (h : Collected) (word : Text) (next : Collected)
+    → TakesValue s position h word next → Takes s b position h word next
+takes_either s true position h word next takes = takes.after
+takes_either s false position h word next takes = takes.before
 
--- The walk over words that name three files ends with the three.
-abbrev Takes : List (List ℕ) → List ℕ → List ℕ → List ℕ → Type 0
-Takes words p m s = (b : Bool) × Goes (walk_from nothing_collected) words (at b (after_3 p m s) 4)
+-- Values are taken from this place on: in the end there are these matches, and it is this place's turn.
+abbrev pub TakesAll : Shape → ℕ → Collected → List Text → ℕ → Collected → Type 0
+TakesAll s position h [] last to = (h ≡ to) × (position ≡ last)
+TakesAll s position h (word ∷ words) last to =
+    (next : Collected) × TakesValue s position h word next × TakesAll s (position + 1) next words last to
 
-takes_with_hyphens : (p m s : List ℕ) (before after : List (List ℕ)) → p ∷ m ∷ s ∷ [] ≡ before ++ after
-    → AreFileWords before → Takes (before ++ codes "--" ∷ after) p m s
-takes_with_hyphens p m s [] after same files =
-    subst (λ l. Takes (codes "--" ∷ l) p m s) same
-    (true, over_hyphens _ _ _ _ (over_1 true p _ _ tt (over_2 true p m _ _ tt (over_3 true p m s _ _ tt (stays _)))))
-takes_with_hyphens p m s (a ∷ []) after same (first, none) =
-    let head : a ≡ p = cc in
-    let rest : ◌≡◌ {A = List (List ℕ)} (m ∷ s ∷ []) after = cc in
-    subst (λ x. Takes (x ∷ codes "--" ∷ after) p m s) (sym head)
-    (subst (λ l. Takes (p ∷ codes "--" ∷ l) p m s) rest
-    (true, over_1 false p _ _ (subst IsFileWord head first) (over_hyphens _ _ _ _ (over_2 true p m _ _ tt (over_3 true p m s _ _ tt (stays _))))))
-takes_with_hyphens p m s (a ∷ b ∷ []) after same (first, (second, none)) =
-    let head : a ≡ p = cc in
-    let next : b ≡ m = cc in
-    let rest : ◌≡◌ {A = List (List ℕ)} (s ∷ []) after = cc in
-    subst (λ x. Takes (x ∷ b ∷ codes "--" ∷ after) p m s) (sym head)
-    (subst (λ x. Takes (p ∷ x ∷ codes "--" ∷ after) p m s) (sym next)
-    (subst (λ l. Takes (p ∷ m ∷ codes "--" ∷ l) p m s) rest
-    (true, over_1 false p _ _ (subst IsFileWord head first) (over_2 false p m _ _ (subst IsFileWord next second) (over_hyphens _ _ _ _ (over_3 true p m s _ _ tt (stays _)))))))
-takes_with_hyphens p m s (a ∷ b ∷ d ∷ []) after same (first, (second, (third, none))) =
-    let head : a ≡ p = cc in
-    let next : b ≡ m = cc in
-    let last : d ≡ s = cc in
-    let rest : ◌≡◌ {A = List (List ℕ)} [] after = cc in
-    subst (λ x. Takes (x ∷ b ∷ d ∷ codes "--" ∷ after) p m s) (sym head)
-    (subst (λ x. Takes (p ∷ x ∷ d ∷ codes "--" ∷ after) p m s) (sym next)
-    (subst (λ x. Takes (p ∷ m ∷ x ∷ codes "--" ∷ after) p m s) (sym last)
-    (subst (λ l. Takes (p ∷ m ∷ s ∷ codes "--" ∷ l) p m s) rest
-    (true, over_1 false p _ _ (subst IsFileWord head first) (over_2 false p m _ _ (subst IsFileWord next second) (over_3 false p m s _ _ (subst IsFileWord last third) (over_hyphens _ _ _ _ (stays _))))))))
-takes_with_hyphens p m s (a ∷ b ∷ d ∷ e ∷ more) after same files = cc
+abbrev AllTaken : Bool → List Text → Type 0
+AllTaken b [] = ⊤
+AllTaken b (word ∷ words) = IsTaken b word × AllTaken b words
 
-takes_all : (names : List (List ℕ)) (p m s : List ℕ) → NamesFiles names (p ∷ m ∷ s ∷ []) → Takes names p m s
-takes_all names p m s (inl (same, (first, (second, (third, none))))) =
-    subst (λ l. Takes l p m s) (sym same)
-    (false, over_1 false p _ _ first (over_2 false p m _ _ second (over_3 false p m s _ _ third (stays _))))
-takes_all names p m s (inr (before, after, same, files, plain)) =
-    subst (λ l. Takes l p m s) (sym same) (takes_with_hyphens p m s before after files plain)
+plain_taken : (words : List Text) → ArePlainWords words → AllTaken false words
+plain_taken [] plain = tt
+plain_taken (word ∷ words) (first, others) = (first, plain_taken words others)
 
--- the rows at its end have the three files
-finds_all : (p m s : List ℕ) → files_of (finished leaf.rules (after_3 p m s)) ≡ (Some p, Some m, Some s)
-finds_all p m s = refl
+any_taken : (words : List Text) → AllTaken true words
+any_taken [] = tt
+any_taken (word ∷ words) = (tt, any_taken words)
 
--- where the walk over the line stops: at the word `verify`, with these words after it
-abbrev pub stopped_at : List (List ℕ) → Walk
-stopped_at words = record (walk_from nothing_collected) { stopped = Some (codes "verify", words) }
+-- the walk goes over the words of values,
+over_all : (s : Shape) (b : Bool) (position : ℕ) (h : Collected) (words : List Text) (last : ℕ) (to : Collected)
+    → AllTaken b words → TakesAll s position h words last to → Goes s (at b h position) words (at b to last)
+over_all s b position h [] last to taken (same, ends) = stays s (at b h position) (at b to last) (ap₂ (λ x n. at b x n) same ends)
+over_all s b position h (word ∷ words) last to (first, others) (next, takes, rest) =
+    goes s (at b h position) (at b next (position + 1)) (at b to last) word words
+    (word_walks s.rules b position word h first ∙ takes_either s b position h word next takes)
+    (turn_passes s b position word h first ∙ takes.well)
+    (over_all s b (position + 1) next words last to others rest)
+
+-- where `--` stands among them, too
+over_before : (s : Shape) (position : ℕ) (h : Collected) (before after : List Text) (last : ℕ) (to : Collected)
+    → ArePlainWords before → TakesAll s position h (before ++ after) last to
+    → Goes s (at false h position) (before ++ codes "--" ∷ after) (at true to last)
+over_before s position h [] after last to plain takes =
+    over_hyphens s h position after (at true to last) (over_all s true position h after last to (any_taken after) takes)
+over_before s position h (word ∷ before) after last to (first, others) (next, takes, rest) =
+    goes s (at false h position) (at false next (position + 1)) (at true to last) word (before ++ codes "--" ∷ after)
+    (word_walks s.rules false position word h first ∙ takes.before)
+    (turn_passes s false position word h first ∙ takes.well)
+    (over_before s (position + 1) next before after last to others rest)
+
+over_given : (s : Shape) (position : ℕ) (h : Collected) (words values : List Text) (last : ℕ) (to : Collected)
+    → GivesValues words values → TakesAll s position h values last to
+    → (b : Bool) × Goes s (at false h position) words (at b to last)
+over_given s position h words values last to (inl (same, plain)) takes = (
+  false,
+  subst (λ l. Goes s (at false h position) l (at false to last)) (sym same)
+      (over_all s false position h values last to (plain_taken values plain) takes),
+)
+over_given s position h words values last to (inr (before, after, same, parts, plain)) takes = (
+  true,
+  subst (λ l. Goes s (at false h position) l (at true to last)) (sym same)
+      (over_before s position h before after last to plain (subst (λ l. TakesAll s position h l last to) parts takes)),
+)
+
+-- the faults at the end of a walk that enters no subcommand
+abbrev pub end_fault : Shape → Walk → Kinds
+end_fault s w = or_else (settle_fault s.rules s.args_override_self w.held)
+    (or_else (defaults_fault (settled s.rules w.held).rows s.rules) (check_fault s (finished s.rules w.held) false))
+
+-- ---- the program's walk, up to a command's name
+
+-- where it stops: at this name, with these words after it
+abbrev pub stopped_at : Text → List Text → Walk
+stopped_at name words = record (walk_from nothing_collected) { stopped = Some (name, words) }
 
 -- more words are added to those,
-stops : (c : List Rule) (subcommands : Names) (words more : List (List ℕ))
-    → fold (walked c subcommands) (stopped_at words) more ≡ stopped_at (words ++ more)
+stops : (c : List Rule) (subcommands : Names) (name : Text) (words more : List Text)
+    → fold (walked c subcommands) (stopped_at name words) more ≡ stopped_at name (words ++ more)
 unfolding walked
-stops c subcommands words [] = ap stopped_at (sym (append-nil words))
-stops c subcommands words (word ∷ more) =
-    stops c subcommands (words ++ word ∷ []) more ∙ ap stopped_at (append_assoc words (word ∷ []) more)
+stops c subcommands name words [] = ap (stopped_at name) (sym (append-nil words))
+stops c subcommands name words (word ∷ more) =
+    stops c subcommands name (words ++ word ∷ []) more ∙ ap (stopped_at name) (append_assoc words (word ∷ []) more)
 
 -- without a fault
-stops_well : (s : Shape) (subcommands : Names) (words more : List (List ℕ)) → walk_fault s subcommands (stopped_at words) more ≡ []
+stops_well : (s : Shape) (subcommands : Names) (name : Text) (words more : List Text)
+    → walk_fault s subcommands (stopped_at name words) more ≡ []
 unfolding walked walk_fault
-stops_well s subcommands words [] = refl
-stops_well s subcommands words (word ∷ more) = stops_well s subcommands (words ++ word ∷ []) more
+stops_well s subcommands name words [] = refl
+stops_well s subcommands name words (word ∷ more) = stops_well s subcommands name (words ++ word ∷ []) more
 
 -- the built program
 abbrev pub whole : App
 whole = built hbsign_app
-
-first_step : walked whole.top.rules (names_of whole) (walk_from nothing_collected) (codes "verify") ≡ stopped_at []
-unfolding clap_on_literals
-first_step = refl
-
-first_well : turn_fault whole.top (names_of whole) (walk_from nothing_collected) (codes "verify") ≡ []
-unfolding clap_on_literals
-first_well = refl
-
-pub line_walk : (names : List (List ℕ)) → walk whole.top.rules (names_of whole) nothing_collected (codes "verify" ∷ names) ≡ stopped_at names
-line_walk names = ap (λ w. fold (walked whole.top.rules (names_of whole)) w names) first_step ∙ stops whole.top.rules (names_of whole) [] names
-
-pub line_well : (names : List (List ℕ)) → walk_fault whole.top (names_of whole) (walk_from nothing_collected) (codes "verify" ∷ names) ≡ []
-unfolding walk_fault
-line_well names =
-    ap (λ k. or_else k (walk_fault whole.top (names_of whole) (walked whole.top.rules (names_of whole) (walk_from nothing_collected) (codes "verify")) names)) first_well
-    ∙ ap (λ w. walk_fault whole.top (names_of whole) w names) first_step ∙ stops_well whole.top (names_of whole) [] names
-
--- so the line enters `verify` with the words after it
-found_leaf : (names : List (List ℕ)) → entered whole (Some (codes "verify", names)) ≡ Some (codes "verify", rows_after leaf.rules [] names)
-unfolding clap_on_literals
-found_leaf names = refl
-
-entered_leaf : (names : List (List ℕ)) → subcommand_of hbsign_app (codes "verify" ∷ names) ≡ Some (codes "verify", rows_after leaf.rules [] names)
-entered_leaf names = ap (λ (w : Walk). entered whole w.stopped) (line_walk names) ∙ found_leaf names
-
--- the faults at the end of a walk that enters no subcommand
-abbrev pub end_fault : Walk → Kinds
-end_fault w = or_else (settle_fault leaf.rules leaf.args_override_self w.held)
-    (or_else (defaults_fault (settled leaf.rules w.held).rows leaf.rules) (check_fault leaf (finished leaf.rules w.held) false))
-
--- none is at the end of the line
-ends_well : (b : Bool) (p m s : List ℕ) → end_fault (at b (after_3 p m s) 4) ≡ []
-unfolding clap_on_literals
-ends_well b p m s = refl
-
--- so `verify` takes the three files
-verifies_well : (names : List (List ℕ)) (p m s : List ℕ) → Takes names p m s → level_fault leaf [] nothing_collected names false [] ≡ []
-verifies_well names p m s (b, (ends, passes)) =
-    ap (λ k. or_else k (end_fault (walk leaf.rules [] nothing_collected names))) passes
-    ∙ ap end_fault ends ∙ ends_well b p m s
 
 -- the faults of the line, from those of its walk and what the walk comes to
 abbrev pub whole_fault : Walk → Kinds → Kinds
@@ -245,27 +200,144 @@ whole_fault w walking = or_else walking (or_else (entered_fault whole w.stopped)
     (or_else (defaults_fault (settled whole.top.rules w.held).rows whole.top.rules)
     (check_fault whole.top (finished whole.top.rules w.held) (is_some (entered whole w.stopped))))))
 
--- they are those of `verify`
-pub leaf_fault : (names : List (List ℕ)) → whole_fault (stopped_at names) [] ≡ or_else (level_fault leaf [] nothing_collected names false []) []
+-- A word that is the name of the command of this shape: the walk stops at it, and the faults and rows of the words after it are the
+-- command's.
+pub record Enters (name : Text) (s : Shape) : Type 0 where
+  pub step : walked whole.top.rules (names_of whole) (walk_from nothing_collected) name ≡ stopped_at name []
+  pub well : turn_fault whole.top (names_of whole) (walk_from nothing_collected) name ≡ []
+  pub rows : (words : List Text) → entered whole (Some (name, words)) ≡ Some (name, rows_after s.rules [] words)
+  pub fault : (words : List Text)
+      → whole_fault (stopped_at name words) [] ≡ or_else (level_fault s [] nothing_collected words false []) []
+
+line_walk : (name : Text) (s : Shape) (names : List Text) → Enters name s
+    → walk whole.top.rules (names_of whole) nothing_collected (name ∷ names) ≡ stopped_at name names
+line_walk name s names enters =
+    ap (λ w. fold (walked whole.top.rules (names_of whole)) w names) enters.step ∙ stops whole.top.rules (names_of whole) name [] names
+
+line_well : (name : Text) (s : Shape) (names : List Text) → Enters name s
+    → walk_fault whole.top (names_of whole) (walk_from nothing_collected) (name ∷ names) ≡ []
+unfolding walk_fault
+line_well name s names enters =
+    ap (λ k. or_else k (walk_fault whole.top (names_of whole) (walked whole.top.rules (names_of whole) (walk_from nothing_collected) name) names)) enters.well
+    ∙ ap (λ w. walk_fault whole.top (names_of whole) w names) enters.step ∙ stops_well whole.top (names_of whole) name [] names
+
+-- so the line's rows and faults are those of the command
+pub entered_rows : (name : Text) (s : Shape) (names : List Text) → Enters name s
+    → subcommand_of hbsign_app (name ∷ names) ≡ Some (name, rows_after s.rules [] names)
+entered_rows name s names enters = ap (λ (w : Walk). entered whole w.stopped) (line_walk name s names enters) ∙ enters.rows names
+
+pub entered_faults : (name : Text) (s : Shape) (names : List Text) → Enters name s
+    → fault_of hbsign_app (name ∷ names) ≡ or_else (level_fault s [] nothing_collected names false []) []
+entered_faults name s names enters =
+    ap (λ w. whole_fault w (walk_fault whole.top (names_of whole) (walk_from nothing_collected) (name ∷ names))) (line_walk name s names enters)
+    ∙ ap (whole_fault (stopped_at name names)) (line_well name s names enters) ∙ enters.fault names
+
+-- A line of a command whose values are all taken, and with which nothing is wrong in the end, has no fault, and these rows.
+takes_line : (words : List Text) (name : Text) (values : List Text) (s : Shape) (last : ℕ) (to : Collected) → Enters name s
+    → TakesAll s 1 nothing_collected values last to → ((b : Bool) → end_fault s (at b to last) ≡ []) → IsCommandLine words name values
+    → (fault_of hbsign_app words ≡ []) × (subcommand_of hbsign_app words ≡ Some (name, finished s.rules to))
+takes_line words name values s last to enters takes well (names, same, given) =
+    let (b, (ends, passes)) = over_given s 1 nothing_collected names values last to given takes in
+    let level : level_fault s [] nothing_collected names false [] ≡ [] =
+    ap (λ k. or_else k (end_fault s (walk s.rules [] nothing_collected names))) passes ∙ ap (end_fault s) ends ∙ well b in (
+      ap (fault_of hbsign_app) same ∙ entered_faults name s names enters ∙ ap (λ k. or_else k []) level,
+      ap (subcommand_of hbsign_app) same ∙ entered_rows name s names enters
+          ∙ ap (λ (w : Walk). Some (name, finished s.rules w.held)) ends,
+    )
+
+-- ---- verify
+
+-- the built command
+abbrev pub verify_shape : Shape
+verify_shape = built_leaf (inherited (with_leaf_noted (marked_built hbsign_app.top)) verify_app.top)
+
+pub enters_verify : Enters (codes "verify") verify_shape
 unfolding clap_on_literals
-leaf_fault names = refl
+enters_verify = record { step = refl; well = refl; rows = λ words. refl; fault = λ words. refl }
 
--- and no fault is in the line
-verifies_name : (names : List (List ℕ)) (p m s : List ℕ) → Takes names p m s → fault_of hbsign_app (codes "verify" ∷ names) ≡ []
-verifies_name names p m s takes =
-    ap (λ w. whole_fault w (walk_fault whole.top (names_of whole) (walk_from nothing_collected) (codes "verify" ∷ names))) (line_walk names)
-    ∙ ap (whole_fault (stopped_at names)) (line_well names) ∙ leaf_fault names
-    ∙ ap (λ k. or_else k []) (verifies_well names p m s takes)
+-- what the parser has after a first word,
+abbrev pub first_held : Text → Text → Collected
+first_held id word = record nothing_collected { pending = Some (id, word ∷ []) }
 
-pub no_fault : (words : List (List ℕ)) (p m s : List ℕ) → IsVerifyLine words p m s → fault_of hbsign_app words ≡ []
-no_fault words p m s (names, same, files) = ap (fault_of hbsign_app) same ∙ verifies_name names p m s (takes_all names p m s files)
+-- and after one more
+abbrev pub next_held : Shape → ℕ → Text → Collected → Collected
+next_held s position word h = (to_positional s.rules (arg_by_index s.rules position) word (at false h position) h).held
 
-finds : (names : List (List ℕ)) (p m s : List ℕ) → Takes names p m s → files_of (rows_after leaf.rules [] names) ≡ (Some p, Some m, Some s)
-finds names p m s (b, (ends, passes)) = ap (λ (w : Walk). files_of (finished leaf.rules w.held)) ends ∙ finds_all p m s
+abbrev pub verify_1 : Text → Collected
+verify_1 p = first_held (codes "PUBLIC") p
 
--- the command and the files of the line, as the parse finds them
-pub finds_line : (words : List (List ℕ)) (p m s : List ℕ) → IsVerifyLine words p m s
-    → named_files (subcommand_of hbsign_app words) ≡ Some (codes "verify", (Some p, Some m, Some s))
-finds_line words p m s (names, same, files) =
-    ap (λ w. named_files (subcommand_of hbsign_app w)) same ∙ ap named_files (entered_leaf names)
-    ∙ ap (λ those. Some (codes "verify", those)) (finds names p m s (takes_all names p m s files))
+abbrev pub verify_2 : Text → Text → Collected
+verify_2 p m = next_held verify_shape 2 m (verify_1 p)
+
+abbrev pub verify_3 : Text → Text → Text → Collected
+verify_3 p m s = next_held verify_shape 3 s (verify_2 p m)
+
+pub takes_public : (p : Text) → TakesValue verify_shape 1 nothing_collected p (verify_1 p)
+takes_public p = record { before = refl; after = refl; well = refl }
+
+pub takes_message : (p m : Text) → TakesValue verify_shape 2 (verify_1 p) m (verify_2 p m)
+takes_message p m = record { before = refl; after = refl; well = refl }
+
+pub takes_signature : (p m s : Text) → TakesValue verify_shape 3 (verify_2 p m) s (verify_3 p m s)
+takes_signature p m s = record { before = refl; after = refl; well = refl }
+
+verify_ends : (p m s : Text) (b : Bool) → end_fault verify_shape (at b (verify_3 p m s) 4) ≡ []
+unfolding clap_on_literals
+verify_ends p m s b = refl
+
+verify_found : (p m s : Text) → task_found (Some (codes "verify", finished verify_shape.rules (verify_3 p m s))) ≡ Ok (verify p m s)
+verify_found p m s = refl
+
+-- ---- retire
+
+abbrev pub retire_shape : Shape
+retire_shape = built_leaf (inherited (with_leaf_noted (marked_built hbsign_app.top)) retire_app.top)
+
+pub enters_retire : Enters (codes "retire") retire_shape
+unfolding clap_on_literals
+enters_retire = record { step = refl; well = refl; rows = λ words. refl; fault = λ words. refl }
+
+abbrev pub retire_1 : Text → Collected
+retire_1 state = first_held (codes "STATE") state
+
+abbrev pub retire_2 : Text → Text → Collected
+retire_2 state upto = next_held retire_shape 2 upto (retire_1 state)
+
+pub takes_state : (state : Text) → TakesValue retire_shape 1 nothing_collected state (retire_1 state)
+takes_state state = record { before = refl; after = refl; well = refl }
+
+pub takes_upto : (state upto : Text) → TakesValue retire_shape 2 (retire_1 state) upto (retire_2 state upto)
+takes_upto state upto = record { before = refl; after = refl; well = refl }
+
+retire_ends : (state upto : Text) (b : Bool) → end_fault retire_shape (at b (retire_2 state upto) 3) ≡ []
+unfolding clap_on_literals
+retire_ends state upto b = refl
+
+retire_found : (state upto : Text)
+    → task_found (Some (codes "retire", finished retire_shape.rules (retire_2 state upto))) ≡ retire_task (Some state) (Some upto)
+retire_found state upto = refl
+
+-- ---- every line of a task
+
+-- A line `verify` has no fault, and this task,
+pub finds_verify : (words : List Text) (p m s : Text) → IsCommandLine words (codes "verify") (p ∷ m ∷ s ∷ [])
+    → (fault_of hbsign_app words ≡ []) × (task_found (subcommand_of hbsign_app words) ≡ Ok (verify p m s))
+finds_verify words p m s line =
+    let (none, rows) = takes_line words (codes "verify") (p ∷ m ∷ s ∷ []) verify_shape 4 (verify_3 p m s) enters_verify
+    (verify_1 p, takes_public p, (verify_2 p m, takes_message p m, (verify_3 p m s, takes_signature p m s, (refl, refl))))
+    (verify_ends p m s) line in (none, ap task_found rows ∙ verify_found p m s)
+
+-- and so has a line `retire`, where the number is one.
+pub finds_retire : (words : List Text) (state upto : Text) → IsCommandLine words (codes "retire") (state ∷ upto ∷ [])
+    → (fault_of hbsign_app words ≡ []) × (task_found (subcommand_of hbsign_app words) ≡ retire_task (Some state) (Some upto))
+finds_retire words state upto line =
+    let (none, rows) = takes_line words (codes "retire") (state ∷ upto ∷ []) retire_shape 3 (retire_2 state upto) enters_retire
+    (retire_1 state, takes_state state, (retire_2 state upto, takes_upto state upto, (refl, refl)))
+    (retire_ends state upto) line in (none, ap task_found rows ∙ retire_found state upto)
+
+-- So the line of a task has no fault, and the task is found in it.
+pub finds_task : (words : List Text) (task : Task) → IsLineOf words task
+    → (fault_of hbsign_app words ≡ []) × (task_found (subcommand_of hbsign_app words) ≡ Ok task)
+finds_task words (verify p m s) line = finds_verify words p m s line
+finds_task words (retire state upto) (text, spells, line) =
+    let (none, found) = finds_retire words state text line in (none, found ∙ ap (retire_number state) spells)

@@ -1,9 +1,9 @@
 -- The line that reports each answer, and the exit status.
 use Rattle.std.proofs.Common.{arith, ap, sym, refl, inl, inr, ◌∙◌}
 use Rattle.std.proofs.lemmas.Bool.{false≢true, or_right}
-use Rattle.std.specs.Prelude.{ℕ, List, [], ◌∷◌, codes, ◌++◌, Result, Ok, Err, ◌≡◌, ◌⊎◌, true}
+use Rattle.std.specs.Prelude.{ℕ, List, [], ◌∷◌, codes, decimal, ◌++◌, Result, Ok, Err, ◌≡◌, ◌⊎◌, true}
 use Rattle.command.specs.declared.answer.Done.{Done}
-use Rattle.command.specs.declared.answer.Done.TheVariants.{Verified}
+use Rattle.command.specs.declared.answer.Done.TheVariants.{Retired, Verified}
 use Rattle.command.specs.declared.refusal.Refusal.{Refusal}
 use Rattle.command.specs.declared.refusal.Refusal.TheVariants.{Signature, OutOfMemory, FileFailed}
 use Rattle.command.specs.declared.refusal.Refusal.TheVariants.{Signer, Opening, Preparing}
@@ -17,6 +17,7 @@ use Rattle.command.specs.Output.{Taken, Writes, Fails}
 
 abbrev pub done_line : Done → List ℕ
 done_line Verified = codes "verified"
+done_line (Retired upto) = codes "retired upto " ++ decimal upto
 
 -- the line with its end
 abbrev pub answer_line : Result Done Refusal → List ℕ
@@ -48,6 +49,7 @@ Reports answer old new status =
 -- No answer's line begins with a capital letter.
 pub line_is_lower : (answer : Result Done Refusal) → BeginsWithCapital (answer_line answer) → ⊥
 line_is_lower (Ok Verified) capital = omega (arith, capital)
+line_is_lower (Ok (Retired upto)) capital = omega (arith, capital)
 line_is_lower (Err refusal) capital = omega (arith, capital)
 
 -- A text that begins with an answer's line has a line that begins with a lowercase letter,
@@ -55,6 +57,7 @@ line_is_lowercase : (answer : Result Done Refusal) (after : List ℕ)
     → has_lowercase_line 10 (answer_line answer ++ after) ≡ true
 unfolding has_lowercase_line
 line_is_lowercase (Ok Verified) after = refl
+line_is_lowercase (Ok (Retired upto)) after = refl
 line_is_lowercase (Err refusal) after = refl
 
 -- and so has one in which this stands after a line's end.

@@ -2,12 +2,15 @@ pub mod Answer
 pub mod FileDisk
 pub mod FileId
 pub mod Files
+pub mod KeyFile
 pub mod Line
 pub mod LineFault
+pub mod Number
 pub mod Output
 pub mod Program
 pub mod RandomFile
 pub mod Refusal
+pub mod Retire
 pub mod Signing
 pub mod Trace
 pub mod Verify

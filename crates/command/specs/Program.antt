@@ -1,24 +1,24 @@
 -- What a run of the program does: what it prints, and what it does to files.
 use Rattle.std.specs.Prelude.{ℕ, List, Option, Result, ◌≡◌, ◌⊎◌, codes, ◌<◌, length, Err, [], string_bytes}
+use Rattle.state_file.specs.declared.disk.Disk as disk
+use Rattle.state_file.specs.declared.store.Store as store
+use Rattle.state_file.specs.declared.store.file_store.FileStore.{FileStore}
 use Rattle.command.specs.declared.refusal.Refusal.{Refusal}
 use Rattle.command.specs.declared.answer.Done.{Done}
 use Rattle.command.specs.declared.line_fault.LineFault.{LineFault}
 use Rattle.command.specs.declared.line_fault.LineFault.TheVariants as fault
 use Rattle.command.specs.declared.refusal.Refusal.TheVariants.{OutOfMemory}
-use Rattle.clap.specs.Words.{fault_of}
-use Rattle.command.specs.Line.{AreTexts, IsVerifyLine, hbsign_app}
-use Rattle.command.specs.LineFault.{HasLineFault, HasText}
-use Rattle.command.specs.Verify.{Verifies}
+use Rattle.command.specs.Line.{AreTexts, IsLineOf, Serves, Task}
+use Rattle.command.specs.LineFault.{HasLineFault, HasText, line_faults}
 use Rattle.command.specs.Answer.{Reports}
 use Rattle.command.specs.Output.{Taken, Writes, Fails}
 use Rattle.command.specs.Trace.{Happening}
 
--- `verify` of these paths is answered, and the answer reported.
-abbrev pub ReportsVerify : (List ℕ → Option (List ℕ)) → List ℕ → List ℕ → List ℕ → List Happening → List Happening
-    → Taken → Taken → ℕ → Type 0
-ReportsVerify content public message signature before after old new status =
-    (answer : Result Done Refusal) × Verifies content public message signature answer before after
-    × Reports answer old new status
+-- A task is served, and the answer reported.
+abbrev pub ReportsTask : {K : Type 0} {bound : _} → disk.Ghosts K → store.Ghosts (FileStore K bound)
+    → (List ℕ → Option (List ℕ)) → Task → List Happening → List Happening → Taken → Taken → ℕ → Type 0
+ReportsTask d g content task before after old new status =
+    (answer : Result Done Refusal) × Serves d g content task answer before after × Reports answer old new status
 
 -- A text that was requested was written, with status 0, or the output failed.
 abbrev pub Helps : List ℕ → Taken → Taken → ℕ → Type 0
@@ -54,19 +54,19 @@ abbrev pub ReportsNoMemory : Type 0 → List Happening → List Happening → Ta
 ReportsNoMemory refused before after old new status =
     refused × (after ≡ before) × Reports (Err OutOfMemory) old new status
 
--- What a run of the program on these words does to files and the output: of words without a fault it answers `verify`
--- of some paths, and where the words are texts, they are a line `verify` of these paths; of others it does what their
--- fault requests, and opens no file; or there is no memory.
-abbrev pub Runs : List (List ℕ) → (List ℕ → Option (List ℕ)) → Type 0 → List Happening → List Happening
-    → Taken → Taken → ℕ → Type 0
-Runs words content refused before after old new status =
-    ((fault_of hbsign_app words ≡ []) × ((p : List ℕ) × (m : List ℕ) × (s : List ℕ)
-    × (AreTexts words → IsVerifyLine words p m s) × ReportsVerify content p m s before after old new status))
+-- What a run of the program on these words does to files and the output: of words without a fault it serves some task,
+-- and where the words are texts, they are a line of this task; of others it does what their fault requests, and opens no
+-- file; or there is no memory.
+abbrev pub Runs : {K : Type 0} {bound : _} → disk.Ghosts K → store.Ghosts (FileStore K bound) → List (List ℕ)
+    → (List ℕ → Option (List ℕ)) → Type 0 → List Happening → List Happening → Taken → Taken → ℕ → Type 0
+Runs d g words content refused before after old new status =
+    ((line_faults words ≡ []) × ((task : Task) × (AreTexts words → IsLineOf words task)
+    × ReportsTask d g content task before after old new status))
     ⊎ ((after ≡ before) × ExplainsLine words old new status)
     ⊎ ReportsNoMemory refused before after old new status
 
--- Of a line `verify p m s` it answers for these paths, unless there is no memory.
-abbrev pub RunsVerify : (List ℕ → Option (List ℕ)) → List ℕ → List ℕ → List ℕ → Type 0
-    → List Happening → List Happening → Taken → Taken → ℕ → Type 0
-RunsVerify content p m s refused before after old new status =
-    ReportsVerify content p m s before after old new status ⊎ ReportsNoMemory refused before after old new status
+-- Of a line of a task it serves the task, unless there is no memory.
+abbrev pub RunsTask : {K : Type 0} {bound : _} → disk.Ghosts K → store.Ghosts (FileStore K bound)
+    → (List ℕ → Option (List ℕ)) → Task → Type 0 → List Happening → List Happening → Taken → Taken → ℕ → Type 0
+RunsTask d g content task refused before after old new status =
+    ReportsTask d g content task before after old new status ⊎ ReportsNoMemory refused before after old new status

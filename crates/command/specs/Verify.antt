@@ -14,15 +14,15 @@ use Rattle.command.specs.Files.{FailsToRead, Fills}
 use Rattle.typecodes.specs.Message.{IsContent, Transition}
 use Rattle.command.specs.Trace.{Happening, opened, not_opened, nothing_known, ReadsOnce, ReadsToEnd}
 
--- a file that has to be named
-abbrev pub file_rule : List ℕ → Rule
-file_rule name = record (new_rule name) { required = true }
+-- a word that has to be given
+abbrev pub required_rule : List ℕ → Rule
+required_rule name = record (new_rule name) { required = true }
 
 -- `verify PUBLIC MESSAGE SIGNATURE`
 abbrev pub verify_app : App
 verify_app =
-    with_rule (with_rule (with_rule (new_app (codes "verify")) (file_rule (codes "PUBLIC")))
-    (file_rule (codes "MESSAGE"))) (file_rule (codes "SIGNATURE"))
+    with_rule (with_rule (with_rule (new_app (codes "verify")) (required_rule (codes "PUBLIC")))
+    (required_rule (codes "MESSAGE"))) (required_rule (codes "SIGNATURE"))
 
 -- the three files of a line were opened in turn
 abbrev pub all_opened : List ℕ → List ℕ → List ℕ → List Happening

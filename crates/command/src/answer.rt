@@ -1,7 +1,8 @@
 //! What a command answers, and how this is reported.
 
-ghost use Rattle.std.specs.Prelude.{◌≡◌};
+ghost use Rattle.std.specs.Prelude.{◌≡◌, ◌++◌, codes};
 ghost use Rattle.command.specs.Answer.{Reports, done_line, status_of};
+ghost use Rattle.command.specs.Output.{text_of};
 
 use crate::output::{Output, Part};
 use crate::refusal::Refusal;
@@ -14,15 +15,22 @@ use typecodes::Refusal as SignatureRefusal;
 pub enum Done {
     /// The signature is the key's for the message.
     Verified,
+    /// The leaves of the current bottom tree below this one sign nothing any more.
+    Retired(u32),
 }
 
 impl Done {
-    // Its line, without the end.
-    fn line(&self) -> &'static str
-        ensures { result.now ≡ done_line self.now }
+    // Its line with the end, in parts.
+    fn line(&self) -> [Part<'static>; 3]
+        ensures { text_of result ≡ done_line self.now ++ codes "\n" }
     {
         match self {
-            Done::Verified => "verified",
+            Done::Verified => [Part::Text("verified"), Part::Text(""), Part::Text("\n")],
+            Done::Retired(upto) => [
+                Part::Text("retired upto "),
+                Part::Number(u64::from(*upto)),
+                Part::Text("\n"),
+            ],
         }
     }
 }
@@ -38,7 +46,7 @@ pub fn report<O: Output>(answer: &Answer, output: &mut O) -> u8
     ensures { Reports answer.now (O.taken output.old) (O.taken output.new) result }
 {
     let printed = match answer {
-        Ok(done) => output.print(&[Part::Text(done.line()), Part::Text("\n")]),
+        Ok(done) => output.print(&done.line()),
         Err(refusal) => output.print(&refusal.line()),
     };
     match printed {

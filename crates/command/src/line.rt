@@ -1,18 +1,20 @@
 //! The words of a command line, as `clap` reads them.
 
-ghost use Rattle.std.specs.Prelude.{◌≡◌, ◌⊎◌, ◌+◌, ℕ, List, ◌∷◌, [], IfErr, IfOk};
-ghost use Rattle.std.specs.Prelude.{IfSome, IsSomeAnd, MatchResult, Some, codes, map};
-ghost use Rattle.clap.specs.Words.{HasKind, app_of, fault_of, kind_of, subcommand_name_of, subcommand_rows_of};
-ghost use Rattle.command.specs.Line.{IsLineOf, IsVerifyLine, command_of, hbsign_app, line_of, named_files, paths_of};
+ghost use Rattle.std.specs.Prelude.{◌≡◌, ◌≢◌, ◌⊎◌, ◌+◌, ℕ, [], Ok, IfErr, IfOk, MatchResult, map};
+ghost use Rattle.clap.specs.Words.{HasKind, app_of, fault_of, kind_of, subcommand_of, subcommand_rows_of};
+ghost use Rattle.command.specs.Line.{AreTexts, IsLineOf, hbsign_app, lack_kind, task_found, task_of, task_or_lack};
+ghost use Rattle.command.specs.Line.{Task as LineTask};
 ghost use Rattle.command.specs.LineFault.{CountsRefusals, HasLineFault, HasText, line_faults};
 
 use crate::answer::Answer;
-use crate::files::Folder;
+use crate::files::SignerFolder;
 use crate::line_fault::LineFault;
+use crate::retire::Retire;
 use crate::texts::Texts;
 use crate::verify::Verify;
 use clap::error::ErrorKind;
 use clap::{ArgMatches, Command, Error};
+use state_file::{Disk, FileStore, Store};
 use std::alloc::{AllocError, Global};
 use std::convert::AsStr;
 use typecodes::Count;
@@ -22,24 +24,50 @@ use typecodes::Count;
 pub enum Request<'a> {
     /// To verify a signature.
     Verify(Verify<'a>),
+    /// To retire leaves.
+    Retire(Retire<'a>),
 }
 
 impl<'a> Request<'a> {
-    ghost use Rattle.command.specs.Line.{Serves};
+    ghost use Rattle.command.specs.Line.{Serves, task_of};
 
     /// Does what is requested, and gives the answer.
-    pub fn answer<D: Folder>(&self, folder: &mut D) -> Answer
-        ensures { Serves self.now (D.content folder.old) result (D.trace folder.old) (D.trace folder.new) }
-    {
-        self.files().answer(folder)
-    }
-
-    // The files of a request to verify.
-    fn files(&self) -> Verify<'a>
-        ensures { line_of self.now ≡ codes "verify" ∷ paths_of result }
+    pub fn answer<D: SignerFolder>(&self, alloc: Global, folder: &mut D) -> Answer
+        ensures { Serves D.Disk.Disk ⟦<FileStore<D::Disk> as Store>⟧ (D.content folder.old) (task_of self.now) result
+            (D.trace folder.old) (D.trace folder.new) }
     {
         match self {
-            Request::Verify(files) => *files,
+            Request::Verify(files) => files.answer(folder),
+            Request::Retire(words) => words.answer(alloc, folder),
+        }
+    }
+}
+
+/// Why words in which `clap` finds nothing wrong request nothing.
+#[derive(Clone, Copy, Debug, PartialEq, Eq)]
+pub enum Lack {
+    /// No command was given.
+    Command,
+    /// UPTO is no decimal number, or too great a one.
+    Number,
+}
+
+impl Lack {
+    // The kind of error that it is.
+    fn kind(self) -> ErrorKind
+        ensures { result ≡ lack_kind self }
+    {
+        match self {
+            Lack::Command => ErrorKind::MissingSubcommand,
+            Lack::Number => ErrorKind::ValueValidation,
+        }
+    }
+
+    // What is said of it.
+    fn message(self) -> &'static str {
+        match self {
+            Lack::Command => "no command was given",
+            Lack::Number => "UPTO is a decimal number up to 33554432",
         }
     }
 }
@@ -53,13 +81,13 @@ pub trait LineReader {
     ghost refusals: { Self → ℕ };
 
     /// Reads the words of a line, without the program's name. The fault is one that `clap` gives for these words, or
-    /// there is no memory.
+    /// that of what lacks, or there is no memory.
     fn read<'a, S: AsStr>(&mut self, words: &'a [S]) -> Result<Request<'a>, LineFault>
-        ensures verifies { (p m s : List ℕ) → IsVerifyLine (map S.text words.now) p m s
-            → MatchResult result (λ request. line_of request ≡ codes "verify" ∷ p ∷ m ∷ s ∷ [])
-            (λ fault. fault ≡ LineFault.OutOfMemory) }
-        ensures ok { IfOk result (λ _. fault_of hbsign_app (map S.text words.now) ≡ []) }
-        ensures accepts { IfOk result (IsLineOf (map S.text words.now)) }
+        ensures requests { (task : LineTask) → IsLineOf (map S.text words.now) task
+            → MatchResult result (λ request. task_of request ≡ task) (λ fault. fault ≡ LineFault.OutOfMemory) }
+        ensures ok { IfOk result (λ _. line_faults (map S.text words.now) ≡ []) }
+        ensures accepts { IfOk result (λ request.
+            AreTexts (map S.text words.now) → IsLineOf (map S.text words.now) (task_of request)) }
         ensures err { IfErr result (λ fault. (fault ≡ LineFault.OutOfMemory)
             ⊎ HasLineFault (map S.text words.now) fault) }
         ensures text { IfErr result HasText }
@@ -103,18 +131,16 @@ impl LineReader for ClapReader {
 
 // Reads the words of a line.
 fn read<'a, S: AsStr>(alloc: Global, words: &'a [S]) -> Result<Request<'a>, Error>
-    ensures verifies { (p m s : List ℕ) → IsVerifyLine (map S.text words.now) p m s
-        → MatchResult result (λ request. line_of request ≡ codes "verify" ∷ p ∷ m ∷ s ∷ [])
-        (λ error. kind_of error ≡ ErrorKind.OutOfMemory) }
     ensures ok { IfOk result (λ _. fault_of hbsign_app (map S.text words.now) ≡ []) }
-    ensures accepts { IfOk result (IsLineOf (map S.text words.now)) }
+    ensures found { IfOk result (λ request.
+        task_found (subcommand_of hbsign_app (map S.text words.now)) ≡ Ok (task_of request)) }
     ensures err { IfErr result (HasKind (line_faults (map S.text words.now))) }
 {
     let mut command = hbsign(alloc)?;
     let matches = command.try_get_matches_from_mut(words)?;
     match find_request(&matches) {
-        Some(request) => Ok(request),
-        None => Err(command.error(ErrorKind::MissingSubcommand, "no command was given")?),
+        Ok(request) => Ok(request),
+        Err(lack) => Err(command.error(lack.kind(), lack.message())?),
     }
 }
 
@@ -129,19 +155,26 @@ fn hbsign<'a>(alloc: Global) -> Result<Command<'a>, AllocError>
         .no_binary_name(true)
         .subcommand_required(true)
         .arg_required_else_help(true)
-        .subcommand(Verify::command(alloc)?)
+        .subcommand(Verify::command(alloc)?)?
+        .subcommand(Retire::command(alloc)?)
 }
 
 // The request: the subcommand that was used, with its words.
-fn find_request<'a>(matches: &ArgMatches<'a>) -> Option<Request<'a>>
-    ensures named { IfSome result (λ request. subcommand_name_of matches.now ≡ Some (command_of request)) }
-    ensures files { (p m s : List ℕ)
-        → named_files (subcommand_rows_of matches.now) ≡ Some (codes "verify", (Some p, Some m, Some s))
-        → IsSomeAnd result (λ request. line_of request ≡ codes "verify" ∷ p ∷ m ∷ s ∷ []) }
+fn find_request<'a>(matches: &ArgMatches<'a>) -> Result<Request<'a>, Lack>
+    ensures { task_or_lack result ≡ task_found (subcommand_rows_of matches.now) }
 {
-    let (name, words) = matches.subcommand()?;
+    let Some((name, words)) = matches.subcommand() else {
+        return Err(Lack::Command);
+    };
     match name {
-        Verify::NAME => Some(Request::Verify(Verify::of(words)?)),
-        _ => None,
+        Verify::NAME => match Verify::of(words) {
+            Some(files) => Ok(Request::Verify(files)),
+            None => Err(Lack::Command),
+        },
+        Retire::NAME => match Retire::of(words) {
+            Ok(words) => Ok(Request::Retire(words)),
+            Err(lack) => Err(lack),
+        },
+        _ => Err(Lack::Command),
     }
 }

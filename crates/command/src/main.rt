@@ -6,26 +6,30 @@
 //! ```
 //!
 //! `program::run` is the whole program, over a reader of lines, a folder of files, an input and two outputs. It reads
-//! the line (`line`; `line_fault` is why one gives no request, and `texts` makes the text that says so), does what is
-//! requested (a module for each command, as `verify`) and reports what came of it (`answer`, `refusal`). `files` has the
-//! traits by which it meets files, `machine` those of a machine (which they are: `file_id`), `output` is where it writes,
-//! and `trace` is what contracts see of what it does to files. `signing` is what the commands will do with a signer,
-//! `file_disk` the disk under it, on a state file, and `random_file` its random bytes; no command uses them yet. The
-//! contract of `run`: which files are opened and read, in which order, and that the line printed and the exit status are
-//! those of the right answer.
+//! the line (`line`; `number` reads its numbers, `line_fault` is why one gives no request, and `texts` makes the text
+//! that says so), does what is requested (a module for each command, as `verify` and `retire`) and reports what came of
+//! it (`answer`, `refusal`). `files` has the traits by which it meets files, `machine` those of a machine (which they
+//! are: `file_id`), `output` is where it writes, and `trace` is what contracts see of what it does to files. `key_file`
+//! is what the commands do with a signer on the disk of a state file, `signing` the signer's steps over any store,
+//! `file_disk` the disk over a file of the machine, and `random_file` random bytes of one. The contract of `run`: which
+//! files are opened and read, in which order, and that the line printed and the exit status are those of the right
+//! answer.
 #![tactic(auto)]
 
 mod answer;
 mod file_disk;
 mod file_id;
 mod files;
+mod key_file;
 mod line;
 mod line_fault;
 mod machine;
+mod number;
 mod output;
 mod program;
 mod random_file;
 mod refusal;
+mod retire;
 mod signing;
 #[cfg(test)]
 mod tests;
@@ -46,6 +50,7 @@ fn main(rt: HostRuntime) -> ExitCode {
     let mut errors = Printer::new(io::writer(&stderr));
     ExitCode::from(match words(&rt) {
         Ok(words) => program::run(
+            rt.alloc(),
             &mut ClapReader::new(rt.alloc()),
             &mut Machine::new(&rt),
             words.as_slice(),

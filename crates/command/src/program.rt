@@ -1,18 +1,19 @@
 //! The whole program.
 
-ghost use Rattle.std.specs.Prelude.{◌≡◌, ◌≢◌, ◌+◌, ◌<◌, ◌⊎◌, ℕ, List, [], length, map};
-ghost use Rattle.clap.specs.Words.{fault_of};
-ghost use Rattle.command.specs.Line.{IsVerifyLine, hbsign_app};
-ghost use Rattle.command.specs.LineFault.{HasText};
-ghost use Rattle.command.specs.Program.{Explains, Helps, Refuses, Runs, RunsVerify, Says};
+ghost use Rattle.std.specs.Prelude.{◌≡◌, ◌≢◌, ◌+◌, ◌<◌, ◌⊎◌, [], length, map};
+ghost use Rattle.command.specs.Line.{IsLineOf, Task as LineTask};
+ghost use Rattle.command.specs.LineFault.{HasText, line_faults};
+ghost use Rattle.command.specs.Program.{Explains, Helps, Refuses, Runs, RunsTask, Says};
 ghost use Rattle.command.specs.Output.{Fails, Writes};
 
 use crate::answer::{OUTPUT_FAILED, report};
-use crate::files::Folder;
+use crate::files::SignerFolder;
 use crate::line::LineReader;
 use crate::line_fault::LineFault;
 use crate::output::{Output, Part};
 use crate::refusal::Refusal;
+use state_file::{Disk, FileStore, Store};
+use std::alloc::Global;
 use std::convert::AsStr;
 use std::io::Read;
 
@@ -27,6 +28,7 @@ const VERSION_LINE: &str = "hbsign 0.1.0\n";
 /// A line on the output reports what came of it. A line that is refused is explained on `errors`
 /// alone.
 pub fn run<L, D, S, I, O, E>(
+    alloc: Global,
     lines: &mut L,
     folder: &mut D,
     words: &[S],
@@ -36,24 +38,26 @@ pub fn run<L, D, S, I, O, E>(
 ) -> u8
 where
     L: LineReader,
-    D: Folder,
+    D: SignerFolder,
     S: AsStr,
     I: Read,
     O: Output,
     E: Output,
-    ensures runs { Runs (map S.text words.now) (D.content folder.old) (L.refusals lines.new ≡ L.refusals lines.old + 1)
+    ensures runs { Runs D.Disk.Disk ⟦<FileStore<D::Disk> as Store>⟧ (map S.text words.now) (D.content folder.old)
+        (L.refusals lines.new ≡ L.refusals lines.old + 1)
         (D.trace folder.old) (D.trace folder.new) (O.taken output.old) (O.taken output.new) result }
-    ensures verifies { (p m s : List ℕ) → IsVerifyLine (map S.text words.now) p m s
-        → RunsVerify (D.content folder.old) p m s (L.refusals lines.new ≡ L.refusals lines.old + 1)
+    ensures requests { (task : LineTask) → IsLineOf (map S.text words.now) task
+        → RunsTask D.Disk.Disk ⟦<FileStore<D::Disk> as Store>⟧ (D.content folder.old) task
+        (L.refusals lines.new ≡ L.refusals lines.old + 1)
         (D.trace folder.old) (D.trace folder.new) (O.taken output.old) (O.taken output.new) result }
     ensures input { _input.new ≡ _input.old }
-    ensures opens_none { fault_of hbsign_app (map S.text words.now) ≢ [] → D.trace folder.new ≡ D.trace folder.old }
+    ensures opens_none { line_faults (map S.text words.now) ≢ [] → D.trace folder.new ≡ D.trace folder.old }
     ensures refuses { result ≡ 2
         → Refuses (O.taken output.old) (O.taken output.new) (E.taken errors.old) (E.taken errors.new) }
     ensures silent { result ≢ 2 → E.taken errors.new ≡ E.taken errors.old }
 {
     match lines.read(words) {
-        Ok(request) => report(&request.answer(folder), output),
+        Ok(request) => report(&request.answer(alloc, folder), output),
         Err(fault) => explain(&fault, output, errors),
     }
 }

@@ -1,10 +1,12 @@
 mod disks;
 mod failing_disks;
 mod failures;
+mod key_files;
 mod lent_disk;
 mod lines;
 mod place;
 mod randoms;
+mod retiring;
 mod sample;
 mod shelf;
 mod signing;

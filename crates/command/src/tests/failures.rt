@@ -127,6 +127,7 @@ fn ends_with_3_where_an_output_fails(rt: HostRuntime) -> Result<(), Fail> {
         let mut errors = Printer::new(Broken { is_full: false });
         let mut input: &[u8] = &[];
         let ended = run(
+            rt.alloc(),
             &mut ClapReader::new(rt.alloc()),
             &mut Machine::new(&rt),
             words,

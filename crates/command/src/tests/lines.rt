@@ -49,6 +49,10 @@ fn explains_a_wrong_line(rt: HostRuntime) -> Result<(), Fail> {
         "verify a b c d",
         "verify a b c --nonsense",
         "sign",
+        "retire",
+        "retire a",
+        "retire a 5 c",
+        "retire a five",
         "--nonsense",
     ] {
         let words: Vec<&str> = line.split_whitespace().collect(rt.alloc())?;
@@ -63,6 +67,9 @@ fn explains_a_wrong_line(rt: HostRuntime) -> Result<(), Fail> {
 // What a text of help begins with, and what it names.
 const PROGRAM: &[u8] = b"Hash-based signatures on files\n\nUsage: hbsign";
 
+const RETIRE: &[u8] =
+    b"Gives up the leaves of the current bottom tree below a number\n\nUsage: hbsign retire";
+
 const VERIFY: &[u8] = b"Verifies a signature of a message\n\nUsage: hbsign verify";
 
 #[test]
@@ -74,6 +81,8 @@ fn helps(rt: HostRuntime) -> Result<(), Fail> {
         ("help verify", VERIFY),
         ("verify --help", VERIFY),
         ("verify a --help b", VERIFY),
+        ("retire --help", RETIRE),
+        ("help retire", RETIRE),
     ] {
         let words: Vec<&str> = line.split_whitespace().collect(rt.alloc())?;
         let outcome = run_words(&rt, &words);

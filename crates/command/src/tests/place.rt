@@ -1,6 +1,6 @@
 //! A folder of a test's own, and runs of the program.
 
-use crate::files::Folder;
+use crate::files::SignerFolder;
 use crate::line::ClapReader;
 use crate::machine::Machine;
 use crate::output::Printer;
@@ -84,11 +84,12 @@ pub fn run_words(rt: &HostRuntime, words: &[&str]) -> Outcome {
     run_in(rt, &mut Machine::new(rt), words)
 }
 
-pub fn run_in<D: Folder>(rt: &HostRuntime, folder: &mut D, words: &[&str]) -> Outcome {
+pub fn run_in<D: SignerFolder>(rt: &HostRuntime, folder: &mut D, words: &[&str]) -> Outcome {
     let mut output = Printer::new(Vec::new(rt.alloc()));
     let mut errors = Printer::new(Vec::new(rt.alloc()));
     let mut input: &[u8] = &[];
     let status = run(
+        rt.alloc(),
         &mut ClapReader::new(rt.alloc()),
         folder,
         words,

@@ -295,6 +295,7 @@ pub fn verify_to<O: Output>(
     let mut errors = Printer::new(Vec::new(rt.alloc()));
     let mut input: &[u8] = &[];
     run(
+        rt.alloc(),
         &mut ClapReader::new(rt.alloc()),
         &mut Shelf::new(rt, &files),
         &["verify", "p", "m", "s"],

@@ -32,7 +32,7 @@ fn path(rt: &HostRuntime, folder: &Place, name: &str) -> Result<PathBuf, Refusal
 }
 
 // Makes a key of one LMS tree in the file k, and writes its public key to p.
-fn make(rt: &HostRuntime, folder: &Place, random: &[u8]) -> Result<AnyPublic, Refusal> {
+pub fn make(rt: &HostRuntime, folder: &Place, random: &[u8]) -> Result<AnyPublic, Refusal> {
     let state = path(rt, folder, "k")?;
     let public = path(rt, folder, "p")?;
     let disk = FileDisk::new(StateFile::open_or_make(rt, state.as_str())?);

@@ -1,26 +1,47 @@
-use Rattle.std.proofs.Common.{◌≡◌, ◌∙◌, ◌∷◌, refl, sym, ap, codes, Some, IsSome, subst}
-use Rattle.clap.specs.Words.{found_of, rows_of, subcommand_rows_of}
+use Rattle.std.proofs.Common.{◌≡◌, ◌∙◌, IsSome, sym, subst, ap, ap₂, codes}
+use Rattle.clap.specs.Words.{first_of, found_of, rows_of}
 use Rattle.clap.proofs.WalkLemmas.{first_value-rows}
-use Rattle.command.specs.Line.{Files, files_of}
-use Rattle.command.proofs.Finding.{rows_have, same_files}
+use Rattle.command.specs.Line.{retire_task, task_found, task_named}
+use Rattle.command.proofs.Finding.{all_files, is_retire_task, no_retire_task, not_all_files, subcommand_is}
 use Rattle.command.proofs.line.find_request.Goals as goal
 
-pub returns-in_err-of-in-verify-clause-files : goal.returns-in_err-of-in-verify-clause-files
-returns-in_err-of-in-verify-clause-files c p m s named =
-    let files = rows_have (subcommand_rows_of c.args.matches.now) (rows_of (found_of c.in_ok-name.words.now)) _ _ c.in_ok-name.ensures.rows named in
-    let found = found_of c.in_ok-name.words.now in
-    let public = first_value-rows found (codes "PUBLIC") ∙ ap (λ (f : Files). f.0) files in
-    let message = first_value-rows found (codes "MESSAGE") ∙ ap (λ (f : Files). f.1) files in
-    let signature = first_value-rows found (codes "SIGNATURE") ∙ ap (λ (f : Files). f.2) files in
-    let none = c.in_err-of-in-verify.ensures.found.1 (subst IsSome (sym public) refl, subst IsSome (sym message) refl, subst IsSome (sym signature) refl) in
-    cc
+pub returns-in-Some-of : goal.returns-in-Some-of
+returns-in-Some-of c =
+    let is : c.in-Some.name.now ≡ codes "verify" = c.in-verify.is in
+    let found = found_of c.in-Some.words.now in
+    let met = subcommand_is c.args.matches.now c.in-Some.name.now (rows_of found) c.in-Some.ensures.name c.in-Some.ensures.rows in
+    all_files _ _ _ _ _ _ (sym (first_value-rows found (codes "PUBLIC")) ∙ c.in-Some-of.ensures.public)
+    (sym (first_value-rows found (codes "MESSAGE")) ∙ c.in-Some-of.ensures.message)
+    (sym (first_value-rows found (codes "SIGNATURE")) ∙ c.in-Some-of.ensures.signature)
+    ∙ sym (ap task_found met ∙ ap (λ n. task_named n (rows_of found)) is)
 
-pub returns-in_ok-of-in-verify-clause-files : goal.returns-in_ok-of-in-verify-clause-files
-returns-in_ok-of-in-verify-clause-files c p m s named =
-    let found = found_of c.in_ok-name.words.now in
-    let those = rows_have (subcommand_rows_of c.args.matches.now) (rows_of found) _ _ c.in_ok-name.ensures.rows named in
-    let public = sym (first_value-rows found (codes "PUBLIC")) ∙ c.in_ok-of-in-verify.ensures.public in
-    let message = sym (first_value-rows found (codes "MESSAGE")) ∙ c.in_ok-of-in-verify.ensures.message in
-    let signature = sym (first_value-rows found (codes "SIGNATURE")) ∙ c.in_ok-of-in-verify.ensures.signature in
-    let these : files_of (rows_of found) ≡ (Some c.in_ok-of-in-verify.field-0.public.now, Some c.in_ok-of-in-verify.field-0.message.now, Some c.in_ok-of-in-verify.field-0.signature.now) = rw (public, message, signature) refl in
-    ap (λ paths. codes "verify" ∷ paths) (same_files _ _ _ p m s (files_of (rows_of found)) these those)
+pub returns-in-None : goal.returns-in-None
+returns-in-None c =
+    let is : c.in-Some.name.now ≡ codes "verify" = c.in-verify.is in
+    let found = found_of c.in-Some.words.now in
+    let met = subcommand_is c.args.matches.now c.in-Some.name.now (rows_of found) c.in-Some.ensures.name c.in-Some.ensures.rows in
+    not_all_files (first_of (codes "PUBLIC") (rows_of found)) (first_of (codes "MESSAGE") (rows_of found)) (first_of (codes "SIGNATURE") (rows_of found))
+    (λ all. let none = c.in-None.ensures.found.1 (
+      subst IsSome (sym (first_value-rows found (codes "PUBLIC"))) all.0,
+      subst IsSome (sym (first_value-rows found (codes "MESSAGE"))) all.1,
+      subst IsSome (sym (first_value-rows found (codes "SIGNATURE"))) all.2,
+    ) in cc)
+    ∙ sym (ap task_found met ∙ ap (λ n. task_named n (rows_of found)) is)
+
+pub returns-in-Ok : goal.returns-in-Ok
+returns-in-Ok c =
+    let is : c.in-Some.name.now ≡ codes "retire" = c.in-retire.is in
+    let found = found_of c.in-Some.words.now in
+    let met = subcommand_is c.args.matches.now c.in-Some.name.now (rows_of found) c.in-Some.ensures.name c.in-Some.ensures.rows in
+    is_retire_task _ _ c.in-Ok.words c.in-Ok.ensures
+    ∙ ap₂ retire_task (first_value-rows found (codes "STATE")) (first_value-rows found (codes "UPTO"))
+    ∙ sym (ap task_found met ∙ ap (λ n. task_named n (rows_of found)) is)
+
+pub returns-in-Err : goal.returns-in-Err
+returns-in-Err c =
+    let is : c.in-Some.name.now ≡ codes "retire" = c.in-retire.is in
+    let found = found_of c.in-Some.words.now in
+    let met = subcommand_is c.args.matches.now c.in-Some.name.now (rows_of found) c.in-Some.ensures.name c.in-Some.ensures.rows in
+    no_retire_task _ _ c.in-Err.lack c.in-Err.ensures
+    ∙ ap₂ retire_task (first_value-rows found (codes "STATE")) (first_value-rows found (codes "UPTO"))
+    ∙ sym (ap task_found met ∙ ap (λ n. task_named n (rows_of found)) is)

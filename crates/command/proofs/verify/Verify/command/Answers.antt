@@ -2,14 +2,14 @@ use Rattle.std.proofs.Common.{rules, ap, ap₂, codes, false, ◌≡◌, ◌∙�
 use Rattle.std.proofs.lemmas.Result.{IfOk-weaker}
 use Rattle.clap.specs.Simple.{app_of_fields}
 use Rattle.clap.specs.Words.{App, app_of, new_app, rule_of, with_rule, with_subcommand}
-use Rattle.command.specs.Verify.{file_rule}
+use Rattle.command.specs.Verify.{required_rule}
 use Rattle.command.proofs.verify.Verify.command.Goals as goal
 
 pub returns : goal.returns
 returns c =
-    let public_is : rule_of c.required.result ≡ file_rule (codes "PUBLIC") = search rules in
-    let message_is : rule_of c.required-2.result ≡ file_rule (codes "MESSAGE") = search rules in
-    let signature_is : rule_of c.required-3.result ≡ file_rule (codes "SIGNATURE") = search rules in
+    let public_is : rule_of c.required.result ≡ required_rule (codes "PUBLIC") = search rules in
+    let message_is : rule_of c.required-2.result ≡ required_rule (codes "MESSAGE") = search rules in
+    let signature_is : rule_of c.required-3.result ≡ required_rule (codes "SIGNATURE") = search rules in
     let bare_is : app_of c.about.result ≡ new_app (codes "verify") = ap app_of_fields c.about.ensures ∙ c.new.ensures.app in
     let two_are = c.in_ok-arg-2.ensures.shape (search rules)
     ∙ ap₂ with_rule (c.in_ok-arg.ensures.shape (search rules) ∙ ap₂ with_rule bare_is public_is) message_is in

@@ -1,0 +1,14 @@
+use Rattle.std.proofs.Common.{◌∙◌, ap, inr}
+use Rattle.state_file.specs.FileStore.{disk_of}
+use Rattle.command.proofs.key_file.retire.Goals as goal
+
+pub returns-in-Ok : goal.returns-in-Ok
+returns-in-Ok g c =
+    inr (
+      c.new.result,
+      c.in-Ok.signer,
+      c.retire-retired.new.signer,
+      c.in-Ok.ensures,
+      c.retire-retired.ensures,
+      c.into_disk.ensures ∙ ap disk_of c.into_store.ensures,
+    )

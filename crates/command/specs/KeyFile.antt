@@ -1,0 +1,112 @@
+-- A signer on the disk of a state file: how it is opened, and what a command does with it.
+use Rattle.std.specs.Prelude.{◌≡◌, ◌⊎◌, ℕ, List, [], Result, Ok, Err, IfErr, IfOk, IsTrue, OnOk, false, length, max}
+use Rattle.typecodes.specs.declared.message.Message as message
+use Rattle.typecodes.specs.declared.spec.Spec.{Spec}
+use Rattle.state_file.specs.declared.disk.Disk as disk
+use Rattle.state_file.specs.declared.file.format.FormatFault.{FormatFault}
+use Rattle.state_file.specs.declared.file.opening.OpenFault.{OpenFault}
+use Rattle.state_file.specs.declared.refused.Refused.{Refused}
+use Rattle.state_file.specs.declared.store.Store as store
+use Rattle.state_file.specs.declared.store.file_store.FileStore.{FileStore}
+use Rattle.state_file.specs.Disk.{LeavesOnly, MayLeave}
+use Rattle.state_file.specs.DiskCalls.{CountsFailures}
+use Rattle.state_file.specs.File.{SpellsRecords}
+use Rattle.state_file.specs.FileStore.{disk_after, disk_of, has_stopped, outcome_of, records_of}
+use Rattle.state_file.specs.Format.{Formats, LeftByFormat, is_failed_format}
+use Rattle.state_file.specs.Opening.{ReportsContent, Settles, is_failed_opening}
+use Rattle.sign_core.specs.declared.fault.SignFault.{SignFault}
+use Rattle.sign_core.specs.declared.source.Source as source
+use Rattle.sign_core.specs.declared.source.TapeSource.{TapeSource}
+use Rattle.sign_core.specs.Signer.{Creates, Opens, Signs, View}
+use Rattle.command.specs.declared.refusal.Refusal.{Refusal}
+use Rattle.command.specs.declared.refusal.Refusal.TheVariants.{Opening, Preparing, Signer}
+use Rattle.command.specs.Signing.{RetiresBelow}
+
+-- The records of a disk were found, or it was reported why there are none. The disk is synced, and holds what it held;
+-- all that a stop may leave meanwhile is what one might have left before.
+pub record FindsRecords {K : Type 0} {bound : _} (d : disk.Ghosts K) (given : K)
+    (result : Result (FileStore K bound) (Refused K OpenFault)) : Type 0 where
+  pub records : IsTrue (d.honest given) → IfOk result (λ found. SpellsRecords (d.state given).content (records_of found))
+  pub running : IfOk result (λ found. has_stopped found ≡ false)
+  pub fault : IsTrue (d.honest given) → IfErr result (λ refused. ReportsContent (d.state given).content refused.fault)
+  pub moments : IsTrue (d.honest given)
+      → LeavesOnly d.moment d.left_since given (disk_after result) (MayLeave (d.state given))
+  pub settled : IsTrue (d.honest given)
+      → Settles (d.state given).content (d.state (disk_after result)) (outcome_of result)
+  pub failures : CountsFailures d is_failed_opening given (disk_after result) (outcome_of result)
+
+-- what a refusal hands back, with its fault
+abbrev pub refused_with : {T F : Type 0} → F → T → Refused T F
+refused_with fault given = record { fault = fault; given = given }
+
+-- A signer was opened on a disk: the disk's records were found, and the signer opened on them. Or one of the two was
+-- refused, which is reported, and the disk is handed back.
+abbrev pub OpensOn : {K R : Type 0} {bound : _} → disk.Ghosts K → store.Ghosts (FileStore K bound) → (given : K)
+    → (random : R) → Result (View (FileStore K bound) R) (Refused K Refusal) → Type 0
+OpensOn {K} {R} {bound} d g given random (Ok signer) =
+    (found : FileStore K bound) × FindsRecords d given (Ok found) × Opens g found random (Ok signer)
+OpensOn {K} {R} {bound} d g given random (Err refused) =
+    ((fault : OpenFault) × FindsRecords {bound = bound} d given (Err (refused_with fault refused.given))
+    × (refused.fault ≡ Opening fault))
+    ⊎ ((found : FileStore K bound) × (fault : SignFault) × (after : FileStore K bound) × (unused : R)
+    × FindsRecords d given (Ok found) × Opens g found random (Err (refused_with fault (after, unused)))
+    × (refused.fault ≡ Signer fault) × (refused.given ≡ disk_of after))
+
+-- Leaves were retired on a disk: a signer was opened on it, made the step, and gave its store's disk back; or it
+-- couldn't be opened. A retire draws nothing.
+abbrev pub RetiresOn : {K : Type 0} {bound : _} → disk.Ghosts K → store.Ghosts (FileStore K bound) → (old new : K)
+    → (upto : ℕ) → Result Unit Refusal → Type 0
+RetiresOn {K} {bound} d g old new upto answer =
+    ((random : TapeSource) × (refusal : Refusal) × (answer ≡ Err refusal)
+    × OpensOn {bound = bound} d g old random (Err (refused_with refusal new)))
+    ⊎ ((random : TapeSource) × (before after : View (FileStore K bound) TapeSource)
+    × OpensOn d g old random (Ok before) × RetiresBelow g before after upto answer × (new ≡ disk_of after.store))
+
+-- A disk was prepared for a key, or refused. Where it is honest it then holds no slot and a closed gate, and what a stop
+-- leaves meanwhile is no key.
+pub record PreparesDisk {K : Type 0} {bound : _} (d : disk.Ghosts K) (given : K)
+    (result : Result (FileStore K bound) (Refused K FormatFault)) : Type 0 where
+  pub records : IfOk result (λ prepared. (records_of prepared ≡ []) × (has_stopped prepared ≡ false))
+  pub answer : IsTrue (d.honest given)
+      → Formats (d.state given).content (d.state (disk_after result)) (outcome_of result)
+  pub len : IsTrue (d.honest given)
+      → OnOk result (length (d.state (disk_after result)).content ≡ max (length (d.state given).content) 1)
+  pub moments : IsTrue (d.honest given)
+      → LeavesOnly d.moment d.left_since given (disk_after result) (LeftByFormat (d.state given))
+  pub failures : CountsFailures d is_failed_format given (disk_after result) (outcome_of result)
+
+-- A key was made on a disk: the disk was prepared, and a signer made on it. Or one of the two was refused, which is
+-- reported, and the disk is handed back.
+abbrev pub MakesOn : {K R : Type 0} {bound : _} → disk.Ghosts K → store.Ghosts (FileStore K bound) → source.Ghosts R
+    → (given : K) → Spec → (random : R) → Result (View (FileStore K bound) R) (Refused K Refusal) → Type 0
+MakesOn {K} {R} {bound} d g r given spec random (Ok signer) =
+    (prepared : FileStore K bound) × PreparesDisk d given (Ok prepared) × Creates g r spec prepared random (Ok signer)
+MakesOn {K} {R} {bound} d g r given spec random (Err refused) =
+    ((fault : FormatFault) × PreparesDisk {bound = bound} d given (Err (refused_with fault refused.given))
+    × (refused.fault ≡ Preparing fault))
+    ⊎ ((prepared : FileStore K bound) × (fault : SignFault) × (after : FileStore K bound) × (drawn : R)
+    × PreparesDisk d given (Ok prepared) × Creates g r spec prepared random (Err (refused_with fault (after, drawn)))
+    × (refused.fault ≡ Signer fault) × (refused.given ≡ disk_of after))
+
+-- What a request came to: a signature, which the output has, or a refusal, which is reported.
+abbrev pub IsSigned : Result (List ℕ) SignFault → (output : List ℕ) → Result Unit Refusal → Type 0
+IsSigned (Ok signature) output answer = (output ≡ signature) × (answer ≡ Ok tt)
+IsSigned (Err fault) output answer = answer ≡ Err (Signer fault)
+
+-- The signer made a step of signing this name's message, and what it answered is reported.
+abbrev pub SignsFor : {S R M : Type 0} → store.Ghosts S → source.Ghosts R → message.Ghosts M → (old new : View S R)
+    → (name : List ℕ) → (before after : M) → (capacity : ℕ) → (output : List ℕ) → Result Unit Refusal → Type 0
+SignsFor g r m old new name before after capacity output answer =
+    (signed : Result (List ℕ) SignFault) × Signs g r m old new name before after capacity signed
+    × IsSigned signed output answer
+
+-- A message was signed under a name on a disk: a signer was opened on it, made the step, and gave its store's disk back;
+-- or it couldn't be opened, and the message is as it was.
+abbrev pub SignsOn : {K R M : Type 0} {bound : _} → disk.Ghosts K → store.Ghosts (FileStore K bound) → source.Ghosts R
+    → message.Ghosts M → (old new : K) → (random : R) → (name : List ℕ) → (before after : M) → (capacity : ℕ)
+    → (output : List ℕ) → Result Unit Refusal → Type 0
+SignsOn {K} {R} {M} {bound} d g r m old new random name before after capacity output answer =
+    ((refusal : Refusal) × (answer ≡ Err refusal) × (after ≡ before)
+    × OpensOn {bound = bound} d g old random (Err (refused_with refusal new)))
+    ⊎ ((opened left : View (FileStore K bound) R) × OpensOn d g old random (Ok opened)
+    × SignsFor g r m opened left name before after capacity output answer × (new ≡ disk_of left.store))

@@ -1,0 +1,50 @@
+-- `retire STATE UPTO`: its words, and what it does.
+use Rattle.std.specs.Prelude.{◌≡◌, ◌⊎◌, ◌++◌, ◌∷◌, [], ℕ, List, codes, Option, Some, None, Result, Ok, Err}
+use Rattle.clap.specs.Words.{App, Text, new_app, with_rule}
+use Rattle.state_file.specs.declared.disk.Disk as disk
+use Rattle.state_file.specs.declared.store.Store as store
+use Rattle.state_file.specs.declared.store.file_store.FileStore.{FileStore}
+use Rattle.command.specs.declared.answer.Done.{Done}
+use Rattle.command.specs.declared.answer.Done.TheVariants.{Retired}
+use Rattle.command.specs.declared.line.Lack.{Lack}
+use Rattle.command.specs.declared.line.Lack.TheVariants.{Command, Number}
+use Rattle.command.specs.declared.refusal.Refusal.{Refusal}
+use Rattle.command.specs.declared.retire.Retire.{Retire}
+use Rattle.command.specs.declared.trace.Role.TheVariants as role
+use Rattle.command.specs.FileDisk.{IsStateRefusal}
+use Rattle.command.specs.KeyFile.{RetiresOn}
+use Rattle.command.specs.Number.{number_in}
+use Rattle.command.specs.Trace.{Happening, not_opened, opened}
+use Rattle.command.specs.Verify.{required_rule}
+
+-- the command
+abbrev pub retire_app : App
+retire_app = with_rule (with_rule (new_app (codes "retire")) (required_rule (codes "STATE")))
+    (required_rule (codes "UPTO"))
+
+-- the leaves of the greatest tree, 2^25
+abbrev pub most_leaves : ℕ
+most_leaves = 33554432
+
+-- what the values of the words say: a state file and a number; or one isn't given, or UPTO spells no such number
+abbrev pub IsRetire : Option Text → Option Text → Result Retire Lack → Type 0
+IsRetire state upto (Ok words) = (state ≡ Some words.state.now)
+    × ((text : Text) × (upto ≡ Some text) × (number_in most_leaves text ≡ Some words.upto))
+IsRetire state upto (Err Number) = (text : Text) × (path : Text) × (state ≡ Some path) × (upto ≡ Some text)
+    × (number_in most_leaves text ≡ None)
+IsRetire state upto (Err Command) = (state ≡ None) ⊎ (upto ≡ None)
+
+-- the answer, for what came of retiring the leaves below a number
+abbrev pub retire_answer : ℕ → Result Unit Refusal → Result Done Refusal
+retire_answer upto (Ok _) = Ok (Retired upto)
+retire_answer upto (Err refusal) = Err refusal
+
+-- The state file at this path couldn't be opened, or is locked, which is reported. Or it was opened, on its disk the
+-- leaves were retired, and what came of it is the answer. No other file was opened.
+abbrev pub RetiresIn : {K : Type 0} {bound : _} → disk.Ghosts K → store.Ghosts (FileStore K bound) → (state : List ℕ)
+    → (upto : ℕ) → Result Done Refusal → (old new : List Happening) → Type 0
+RetiresIn {K} d g state upto answer old new =
+    ((refusal : Refusal) × IsStateRefusal refusal × (answer ≡ Err refusal)
+    × (new ≡ old ++ not_opened role.State state ∷ []))
+    ⊎ ((before after : K) × (retired : Result Unit Refusal) × RetiresOn d g before after upto retired
+    × (answer ≡ retire_answer upto retired) × (new ≡ old ++ opened role.State state ∷ []))

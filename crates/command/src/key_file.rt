@@ -1,0 +1,134 @@
+//! The signer of a key over the disk of its state file, and what the commands do with it.
+
+ghost use Rattle.std.specs.Prelude.{◌≡◌, vec_capacity};
+ghost use Rattle.state_file.specs.FileStore.{disk_of};
+ghost use Rattle.command.specs.KeyFile.{FindsRecords, MakesOn, OpensOn, PreparesDisk, RetiresOn, SignsFor, SignsOn};
+
+use crate::refusal::Refusal;
+use crate::signing;
+use sign_core::{SignFault, Signer, Source, TapeSource};
+use state_file::{Disk, FileStore, FormatFault, OpenFault, Refused, Store};
+use std::alloc::Global;
+use typecodes::{Message, Name, Spec};
+
+// Finds the records of a disk. A refusal hands the disk back.
+fn find_records<D: Disk + Drop>(disk: D) -> Result<FileStore<D>, Refused<D, OpenFault>>
+    ensures { FindsRecords D.Disk disk result }
+{
+    FileStore::open(disk)
+}
+
+// A signer's refusal, with the disk of its store.
+fn handed_back<D: Disk + Drop, R: Source + Drop>(
+    refused: Refused<(FileStore<D>, R), SignFault>,
+) -> Refused<D, Refusal>
+    ensures fault { result.fault ≡ Refusal.Signer refused.fault }
+    ensures given { result.given ≡ disk_of refused.given.0 }
+{
+    let Refused { fault, given } = refused;
+    let (store, _) = given;
+    Refused {
+        fault: Refusal::Signer(fault),
+        given: store.into_disk(),
+    }
+}
+
+/// Opens the signer of the key on a disk. A refusal hands the disk back.
+pub fn open_signer<D: Disk + Drop, R: Source + Drop>(
+    alloc: Global,
+    disk: D,
+    random: R,
+) -> Result<Signer<FileStore<D>, R>, Refused<D, Refusal>>
+    ensures { OpensOn D.Disk ⟦<FileStore<D> as Store>⟧ disk random result }
+{
+    match find_records(disk) {
+        Ok(store) => match Signer::open(alloc, store, random) {
+            Ok(signer) => Ok(signer),
+            Err(refused) => Err(handed_back(refused)),
+        },
+        Err(refused) => Err(Refused {
+            fault: Refusal::Opening(refused.fault),
+            given: refused.given,
+        }),
+    }
+}
+
+/// Retires the leaves below `upto` of the current bottom tree of the key on a disk, and gives the disk back.
+pub fn retire<D: Disk + Drop>(alloc: Global, disk: D, upto: u32) -> (D, Result<(), Refusal>)
+    ensures { RetiresOn D.Disk ⟦<FileStore<D> as Store>⟧ disk result.0 upto result.1 }
+{
+    match open_signer(alloc, disk, TapeSource::new(&[])) {
+        Ok(signer) => {
+            let mut signer = signer;
+            let retired = signing::retire(&mut signer, upto);
+            (signer.into_store().into_disk(), retired)
+        }
+        Err(refused) => (refused.given, Err(refused.fault)),
+    }
+}
+
+// Prepares a disk for a key. A refusal hands the disk back.
+fn prepare<D: Disk + Drop>(disk: D) -> Result<FileStore<D>, Refused<D, FormatFault>>
+    ensures { PreparesDisk D.Disk disk result }
+{
+    FileStore::format(disk)
+}
+
+/// Makes a key on a disk that has none, and gives the signer of it. A refusal hands the disk back.
+pub fn make<D: Disk + Drop, R: Source + Drop>(
+    alloc: Global,
+    disk: D,
+    spec: Spec,
+    random: R,
+) -> Result<Signer<FileStore<D>, R>, Refused<D, Refusal>>
+    ensures { MakesOn D.Disk ⟦<FileStore<D> as Store>⟧ R.Source disk spec random result }
+{
+    match prepare(disk) {
+        Ok(store) => match Signer::create(alloc, spec, store, random) {
+            Ok(signer) => Ok(signer),
+            Err(refused) => Err(handed_back(refused)),
+        },
+        Err(refused) => Err(Refused {
+            fault: Refusal::Preparing(refused.fault),
+            given: refused.given,
+        }),
+    }
+}
+
+// Signs a message under a name. On Ok `signature` holds the signature.
+fn sign_with<S: Store, R: Source, M: Message>(
+    signer: &mut Signer<S, R>,
+    name: &Name,
+    message: &mut M,
+    signature: &mut Vec<u8>,
+) -> Result<(), Refusal>
+    ensures { SignsFor S.Store R.Source M.Message signer.old signer.new name.now message.old message.new
+        (vec_capacity signature.old) signature.new.items result }
+{
+    match signer.sign(name, message, signature) {
+        Ok(()) => Ok(()),
+        Err(fault) => Err(Refusal::Signer(fault)),
+    }
+}
+
+/// Signs a message under a name with the key on a disk, and gives the disk back. On Ok `signature` holds the signature.
+pub fn sign<D: Disk + Drop, R: Source + Drop, M: Message>(
+    alloc: Global,
+    disk: D,
+    random: R,
+    name: &Name,
+    message: &mut M,
+    signature: &mut Vec<u8>,
+) -> (D, Result<(), Refusal>)
+    ensures { SignsOn D.Disk ⟦<FileStore<D> as Store>⟧ R.Source M.Message disk result.0 random name.now message.old
+        message.new (vec_capacity signature.old) signature.new.items result.1 }
+{
+    match open_signer(alloc, disk, random) {
+        Ok(signer) => {
+            let mut signer = signer;
+            let signed = sign_with(&mut signer, name, message, signature);
+            (signer.into_store().into_disk(), signed)
+        }
+        Err(refused) => (refused.given, Err(refused.fault)),
+    }
+}

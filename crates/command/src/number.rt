@@ -1,0 +1,25 @@
+//! Decimal numbers in the words of a line.
+
+ghost use Rattle.std.specs.Prelude.{◌≡◌};
+ghost use Rattle.command.specs.Number.{number_in};
+
+/// The number that a text spells by digits alone, where there is one at least and the number is at most this.
+pub fn read_number(text: &[u8], most: u32) -> Option<u32>
+    ensures { result ≡ number_in most text.now }
+{
+    if text.is_empty() {
+        return None;
+    }
+    let mut number = 0;
+    for byte in text {
+        if !byte.is_ascii_digit() {
+            return None;
+        }
+        let longer = u64::from(number) * 10 + u64::from(*byte - b'0');
+        if longer > u64::from(most) {
+            return None;
+        }
+        number = longer as u32;
+    }
+    Some(number)
+}

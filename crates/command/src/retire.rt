@@ -1,0 +1,82 @@
+//! `retire STATE UPTO`.
+
+ghost use Rattle.std.specs.Prelude.{◌≡◌, IfOk, codes};
+ghost use Rattle.clap.specs.declared.builder.command.Command.{Command as ClapCommand};
+ghost use Rattle.clap.specs.Words.{AddsSubcommand, app_of, first_value, found_of, with_subcommand};
+ghost use Rattle.command.specs.Retire.{IsRetire, RetiresIn, retire_app};
+
+use crate::answer::{Answer, Done};
+use crate::files::SignerFolder;
+use crate::key_file;
+use crate::line::Lack;
+use crate::number::read_number;
+use clap::{Arg, ArgMatches, Command};
+use state_file::{Disk, FileStore, Store};
+use std::alloc::{AllocError, Global};
+
+/// The words of the line.
+#[derive(Clone, Copy, Debug)]
+pub struct Retire<'a> {
+    /// The path of the state file.
+    pub state: &'a str,
+    /// The leaves below this one are retired.
+    pub upto: u32,
+}
+
+// The leaves of the greatest tree.
+const MOST_LEAVES: u32 = 33_554_432;
+
+impl<'a> Retire<'a> {
+    /// The command's name on the line.
+    pub const NAME: &'static str = "retire";
+
+    /// The command, for `clap`.
+    pub fn command(alloc: Global) -> Result<Command<'a>, AllocError>
+        ensures { IfOk result (λ command. (old new : ClapCommand) → AddsSubcommand old command new
+            → app_of new ≡ with_subcommand (app_of old) retire_app.top) }
+    {
+        Command::new(alloc, Retire::NAME)
+            .about("Gives up the leaves of the current bottom tree below a number")
+            .after_help("Example:\n  $ hbsign retire firmware.key 8\n  retired upto 8")
+            .arg(
+                Arg::new(alloc, "STATE")
+                    .help("State file, which has the secret of the key and what it signed")
+                    .required(true),
+            )?
+            .arg(
+                Arg::new(alloc, "UPTO")
+                    .help("Decimal number of the first leaf that stays, up to 33554432")
+                    .required(true),
+            )
+    }
+
+    /// What the words say.
+    pub fn of(matches: &ArgMatches<'a>) -> Result<Self, Lack>
+        ensures { IsRetire (first_value (found_of matches.now) (codes "STATE"))
+            (first_value (found_of matches.now) (codes "UPTO")) result }
+    {
+        let Some(state) = matches.get_str("STATE") else {
+            return Err(Lack::Command);
+        };
+        let Some(upto) = matches.get_str("UPTO") else {
+            return Err(Lack::Command);
+        };
+        match read_number(upto.as_bytes(), MOST_LEAVES) {
+            Some(upto) => Ok(Retire { state, upto }),
+            None => Err(Lack::Number),
+        }
+    }
+
+    /// Opens the state file, and retires the leaves.
+    pub fn answer<D: SignerFolder>(&self, alloc: Global, folder: &mut D) -> Answer
+        ensures { RetiresIn D.Disk.Disk ⟦<FileStore<D::Disk> as Store>⟧ self.now.state.now self.now.upto result
+            (D.trace folder.old) (D.trace folder.new) }
+    {
+        let disk = folder.open_state(self.state)?;
+        let (_disk, retired) = key_file::retire(alloc, disk, self.upto);
+        match retired {
+            Ok(()) => Ok(Done::Retired(self.upto)),
+            Err(refusal) => Err(refusal),
+        }
+    }
+}
