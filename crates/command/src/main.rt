@@ -11,7 +11,7 @@
 //! it (`answer`, `refusal`). `files` has the traits by which it meets files, `machine` those of a machine (which they
 //! are: `file_id`), `output` is where it writes, and `trace` is what contracts see of what it does to files. `key_file`
 //! is what the commands do with a signer on the disk of a state file, `signing` the signer's steps over any store,
-//! `file_disk` the disk over a file of the machine, and `random_file` its random bytes. The contract of `run`: which
+//! `file_disk` the disk over a file of the machine, and `random_file` random bytes of one. The contract of `run`: which
 //! files are opened and read, in which order, and that the line printed and the exit status are those of the right
 //! answer.
 #![tactic(auto)]

@@ -1,4 +1,5 @@
 mod disks;
+mod failing_disks;
 mod failures;
 mod key_files;
 mod lent_disk;

@@ -100,7 +100,7 @@ impl Read for Content<'_> {
 #[derive(Drop)]
 pub struct Shelf<'a> {
     files: &'a [(&'a str, Content<'a>)],
-    pub state: Option<&'a mut MemoryDisk>,
+    state: Option<&'a mut MemoryDisk>,
     pub is_locked: bool,
     pub opened: Vec<u8>,
     // what was written: each path, and after it the bytes
@@ -110,9 +110,18 @@ pub struct Shelf<'a> {
 
 impl<'a> Shelf<'a> {
     pub fn new(rt: &HostRuntime, files: &'a [(&'a str, Content<'a>)]) -> Shelf<'a> {
+        Shelf::over(rt, files, None)
+    }
+
+    // With this disk as the state file.
+    pub fn over(
+        rt: &HostRuntime,
+        files: &'a [(&'a str, Content<'a>)],
+        state: Option<&'a mut MemoryDisk>,
+    ) -> Shelf<'a> {
         Shelf {
             files,
-            state: None,
+            state,
             is_locked: false,
             opened: Vec::new(rt.alloc()),
             written: Vec::new(rt.alloc()),
