@@ -1,0 +1,4 @@
+pub mod Judging
+pub mod LeafIndex
+pub mod Levels
+pub mod Twice

@@ -1,0 +1,4 @@
+pub mod Given
+pub mod InMemory
+pub mod LeafIndex
+pub mod Uses
