@@ -1,9 +1,12 @@
 //! Audits of a key, by those who don't trust its state file or its signer.
 //!
 //! `check_given` takes signatures that a key has given out, with their messages: are all valid, and has no leaf of a
-//! tree signed two digests? Its model is `specs/Given.antt`, over the leaf uses that `sign_core` reads off a signature's
-//! bytes. No secret is needed, and no records: what two copies of one state file signed is found wherever both signed
-//! with one leaf.
+//! tree signed two digests? Its model is `specs/Given.antt`, over the leaf uses that `sign_core` reads off the bytes of
+//! signatures. No secret is needed, and no records: two copies of one state file are found wherever both signed with
+//! one leaf.
+//!
+//! The tag of a record is that of its slot in every file of these records (`tag_laws`, `specs/Tags.antt`). So a file's
+//! last tag, kept elsewhere, is an anchor for it.
 //!
 //! ```rust
 //! use key_audit::{Given, GivenFault, check_given};
@@ -20,8 +23,12 @@
 
 mod given;
 mod in_memory;
+mod laws;
 mod leaf;
 mod leaf_index;
+#[cfg(test)]
+mod tests;
 mod uses;
 
 pub use crate::given::{Given, GivenFault, check_given};
+pub use crate::laws::tag_laws;
