@@ -1,0 +1,5 @@
+pub mod Judging
+pub mod LeafIndex
+pub mod Levels
+pub mod Tags
+pub mod Twice

@@ -1,0 +1,79 @@
+-- Signatures of one key that were given out, with their messages: which are valid, which two use one leaf for different
+-- digests, and what a check of them answers.
+use Rattle.std.specs.Prelude.{◌≡◌, ◌≢◌, ℕ, ◌<◌, ◌^◌, List, length, slice_get, Some, Result, Ok, Err, Contains}
+use Rattle.sign_core.specs.declared.key.AnyPublic.{AnyPublic}
+use Rattle.sign_core.specs.Once.{IsOneLeaf, Verifies}
+use Rattle.sign_core.specs.Uses.{LeafUse, MakesUses}
+use Rattle.key_audit.specs.declared.given.Given.{Given}
+use Rattle.key_audit.specs.declared.given.GivenFault.{GivenFault}
+use Rattle.key_audit.specs.declared.given.GivenFault.TheVariants.{NotValid, LeafTwice, OutOfMemory}
+
+-- ---- one signature
+
+-- It signs its message under the key, and the message has fewer than 2^60 bytes, as every one that is signed.
+pub record IsValid (public : AnyPublic) (given : Given) : Type 0 where
+  pub verifies : Verifies public given.message.items given.signature.items
+  pub short : length given.message.items < 2 ^ 60
+
+-- It makes this use of a leaf, at one of its levels.
+abbrev pub Uses : AnyPublic → Given → LeafUse → Type 0
+Uses public given used = (uses : List LeafUse)
+    × MakesUses public given.message.items given.signature.items uses × Contains uses used
+
+-- ---- two of them
+
+-- They use one leaf of one tree, each at any of its levels, for different digests.
+pub record UseLeafTwice (public : AnyPublic) (a b : Given) : Type 0 where
+  pub first : LeafUse
+  pub second : LeafUse
+  pub by_a : Uses public a first
+  pub by_b : Uses public b second
+  pub leaf : IsOneLeaf first second
+  pub digests : first.digest ≢ second.digest
+
+-- Those at two places do.
+pub record IsTwice (public : AnyPublic) (given : List Given) (i j : ℕ) : Type 0 where
+  pub a : Given
+  pub b : Given
+  pub at_i : slice_get given i ≡ Some a
+  pub at_j : slice_get given j ≡ Some b
+  pub twice : UseLeafTwice public a b
+
+-- ---- all of them
+
+-- All are valid.
+abbrev pub AreValid : AnyPublic → List Given → Type 0
+AreValid public given = (k : ℕ) (each : Given) → slice_get given k ≡ Some each → IsValid public each
+
+-- No two at different places below n use one leaf for different digests.
+abbrev pub NoneTwice : AnyPublic → List Given → ℕ → Type 0
+NoneTwice public given n = (i j : ℕ) → i ≢ j → i < n → j < n → IsTwice public given i j → ⊥
+
+-- That at place i is the first that isn't valid.
+pub record IsFirstNotValid (public : AnyPublic) (given : List Given) (i : ℕ) : Type 0 where
+  pub each : Given
+  pub stands : slice_get given i ≡ Some each
+  pub not_valid : IsValid public each → ⊥
+  pub first : (k : ℕ) (other : Given) → k < i → slice_get given k ≡ Some other → IsValid public other
+
+-- That at place j is the first that uses a leaf of an earlier one for another digest, and that at place i is the first
+-- of these.
+pub record IsFirstTwice (public : AnyPublic) (given : List Given) (i j : ℕ) : Type 0 where
+  pub earlier : i < j
+  pub twice : IsTwice public given i j
+  pub first : NoneTwice public given j
+  pub least : (k : ℕ) → k < i → IsTwice public given k j → ⊥
+
+-- What the check answers. Ok: all are valid, and no two at different places use one leaf for different digests. Memory
+-- is wanted only where all are valid, and for one at least.
+abbrev pub Checks : {A : Type 0} → AnyPublic → List Given → Result A GivenFault → Type 0
+Checks public given (Ok _) = AreValid public given × NoneTwice public given (length given)
+Checks public given (Err (NotValid i)) = IsFirstNotValid public given i
+Checks public given (Err (LeafTwice i j)) = AreValid public given × IsFirstTwice public given i j
+Checks public given (Err OutOfMemory) = AreValid public given × (0 < length given)
+
+-- the number that reports a fault
+abbrev pub fault_number : GivenFault → ℕ
+fault_number (NotValid i) = 60
+fault_number (LeafTwice i j) = 61
+fault_number OutOfMemory = 46

@@ -1,0 +1,101 @@
+//! Which leaves the signatures before one have used, and for which digests.
+
+ghost use Rattle.std.specs.Prelude.{◌≡◌, [], Contains, OnOk};
+ghost use Rattle.key_audit.specs.LeafIndex.{AddsUse, AddsUses, AreKept, IsLeastOther};
+ghost use Rattle.key_audit.specs.LeafIndex.{earlier, place_of_other};
+
+use crate::leaf::Leaf;
+use crate::uses::LeafUse;
+use std::alloc::{AllocError, Global};
+use std::collections::HashMap;
+
+/// What is kept of a leaf: the place of the first signature that uses it, the digest for which it does so first, and
+/// whether all uses have this digest.
+#[derive(Clone, Copy)]
+pub(crate) struct FirstUse {
+    pub(crate) place: usize,
+    pub(crate) digest: [u8; 32],
+    pub(crate) is_only: bool,
+}
+
+/// The leaves that were used.
+#[derive(Drop)]
+pub(crate) struct LeafIndex {
+    entries: HashMap<Leaf, FirstUse>,
+}
+
+impl LeafIndex {
+    /// None were.
+    pub(crate) fn new(alloc: Global) -> Self
+        ensures { AreKept (Contains []) result.entries }
+    {
+        LeafIndex {
+            entries: HashMap::new(alloc),
+        }
+    }
+
+    // The place of the first signature that used a leaf for another digest.
+    fn other_place(&self, used: &LeafUse) -> Option<usize>
+        ensures { result ≡ place_of_other self.now.entries used.now }
+    {
+        let first = self.entries.get(&used.leaf)?;
+        if first.is_only && first.digest == used.digest {
+            None
+        } else {
+            Some(first.place)
+        }
+    }
+
+    /// The place of the first signature that used one of these leaves for another digest, if there is one.
+    pub(crate) fn least_other(&self, uses: &[LeafUse]) -> Option<usize>
+        ensures { IsLeastOther self.now.entries uses.now result }
+    {
+        let mut least = None;
+        for used in uses {
+            least = earlier(least, self.other_place(used));
+        }
+        least
+    }
+
+    // Adds a use by the signature at a place. Refused where there is no memory for one more leaf; nothing changes then.
+    fn add_use(&mut self, used: &LeafUse, place: usize) -> Result<(), AllocError>
+        ensures { OnOk result (AddsUse place used.now self.old.entries self.new.entries) }
+    {
+        let first = match self.entries.get(&used.leaf) {
+            Some(first) => FirstUse {
+                is_only: first.is_only && first.digest == used.digest,
+                ..*first
+            },
+            None => FirstUse {
+                place,
+                digest: used.digest,
+                is_only: true,
+            },
+        };
+        match self.entries.insert(used.leaf.copied(), first) {
+            Ok(_) => Ok(()),
+            Err(_) => Err(AllocError),
+        }
+    }
+
+    /// Adds the uses of the signature at a place, which comes after all others. Refused where memory is.
+    pub(crate) fn add(&mut self, uses: &[LeafUse], place: usize) -> Result<(), AllocError>
+        ensures { OnOk result (AddsUses place uses.now self.old.entries self.new.entries) }
+    {
+        for used in uses {
+            self.add_use(used, place)?;
+        }
+        Ok(())
+    }
+}
+
+// The lesser of two places.
+fn earlier(a: Option<usize>, b: Option<usize>) -> Option<usize>
+    ensures { result ≡ earlier a b }
+{
+    match (a, b) {
+        (Some(a), Some(b)) => Some(a.min(b)),
+        (Some(a), None) => Some(a),
+        (None, b) => b,
+    }
+}
