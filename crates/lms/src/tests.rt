@@ -18,7 +18,13 @@ const fn fault(place: u32, cause: Cause) -> ReadFault {
     ReadFault { place, cause }
 }
 
-// The two types, and zeros.
+const ZERO_KEY: LmsPublic = LmsPublic {
+    pair: PAIR,
+    identifier: [0; 16],
+    root: [0; 32],
+};
+
+// Its bytes: the two types, and zeros.
 fn zero_key() -> [u8; 56] {
     let mut bytes = [0; 56];
     bytes[3] = 5;
@@ -39,11 +45,7 @@ fn keys_are_read(rt: HostRuntime) {
     let mut bytes = zero_key();
     bytes[8] = 1;
     bytes[55] = 2;
-    let mut key = LmsPublic {
-        pair: PAIR,
-        identifier: [0; 16],
-        root: [0; 32],
-    };
+    let mut key = ZERO_KEY;
     key.identifier[0] = 1;
     key.root[31] = 2;
     assert_eq!(rt; LmsPublic::read(&bytes), Ok(key));
@@ -68,13 +70,8 @@ fn keys_are_read(rt: HostRuntime) {
 
 // What the bytes are refused with, under the key of zeros.
 fn refusal(rt: &impl Abort, signature: &[u8]) -> Refusal {
-    let key = LmsPublic {
-        pair: PAIR,
-        identifier: [0; 16],
-        root: [0; 32],
-    };
     let mut message: &[u8] = b"message";
-    verify(&key, &mut message, signature).expect_err(rt, "a signature of zeros")
+    verify(&ZERO_KEY, &mut message, signature).expect_err(rt, "a signature of zeros")
 }
 
 #[test]
@@ -119,11 +116,7 @@ fn the_last_leaf_is_read(rt: HostRuntime) {
 fn levels_are_reported(rt: HostRuntime) -> Result<(), Fail> {
     let zeros = zero_signature();
     let view = LmsSigView::read(&zeros)?;
-    let mut key = LmsPublic {
-        pair: PAIR,
-        identifier: [0; 16],
-        root: [0; 32],
-    };
+    let mut key = ZERO_KEY;
     let mut message: &[u8] = b"message";
     for (tree, ots) in [(LmsType::H10, OtsType::W8), (LmsType::H5, OtsType::W4)] {
         key.pair = LmsPair { tree, ots };
@@ -438,5 +431,43 @@ fn random_pieces_lead_to_the_verdict_on_the_whole(rt: HostRuntime) {
             ((Ok(()), Ok(())), (refused, refused)),
             "{seed}"
         );
+    }
+}
+
+// Gives so many zeros, and then fails.
+#[derive(Drop)]
+struct Failing {
+    left: usize,
+}
+
+impl Read for Failing {
+    fn read(&mut self, buffer: &mut [u8]) -> io::Result<usize> {
+        let n = self.left.min(buffer.len());
+        if n == 0 {
+            return Err(io::Error::from(io::ErrorKind::BrokenPipe));
+        }
+        buffer[..n].fill(0);
+        self.left -= n;
+        Ok(n)
+    }
+}
+
+// A message that fails is reported before the root. Other types come before it, as does what can't be read, and
+// the message is then as it was.
+#[test]
+fn failing_messages_are_reported(rt: HostRuntime) {
+    let zeros = zero_signature();
+    let higher = higher_signature();
+    let cut = Refusal::Unreadable(fault(1260, Cause::Truncated));
+    for count in 0..201usize {
+        for (signature, refusal, left) in [
+            (&zeros[..], Refusal::MessageRead, 0),
+            (&higher, Refusal::TypeMismatch(0), count),
+            (&zeros[..1291], cut, count),
+        ] {
+            let mut message = Failing { left: count };
+            let verdict = verify(&ZERO_KEY, &mut message, signature);
+            assert_eq!(rt; (verdict, message.left), (Err(refusal), left), "{count}");
+        }
     }
 }

@@ -72,3 +72,6 @@ pub fn read_piece<M: Message>(message: &mut M, buffer: &mut [u8]) -> Result<usiz
     }
     Err(MessageFailed)
 }
+
+#[cfg(test)]
+mod tests;
