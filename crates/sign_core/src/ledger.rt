@@ -6,14 +6,20 @@ ghost use Rattle.std.specs.Prelude.{option_map, slice_get, MatchOption, OnOk, On
 ghost use Rattle.sign_core.specs.Records.{binding_in, can_follow, can_follow_legal, deepest, free_at};
 ghost use Rattle.sign_core.specs.Records.{has_identifier, has_moved, is_free, key_in};
 ghost use Rattle.sign_core.specs.Ledger.{TakesMemory};
+ghost use Rattle.sign_core.specs.Textbook.{public_in};
 
+use crate::key::AnyPublic;
 use crate::trees::{CurrentTrees, Tree};
+use arrayvec::ArrayVec;
+use hss::HssPublic;
+use lms::LmsPublic;
 use state_file::{Bound, Extend, Key, Record, RecordList, Secret};
 use std::alloc::{AllocError, Global};
 use std::collections::HashMap;
 use std::marker::Model;
 use thiserror::Error;
 use typecodes::Name;
+use xmss::XmssPublic;
 
 /// Why records aren't taken up.
 #[derive(Clone, Copy, Debug, PartialEq, Eq, Error)]
@@ -68,6 +74,44 @@ fn takes_memory(entry: &Record) -> bool
     matches!(entry, Record::Extend(_) | Record::Bound(_))
 }
 
+// The public key that a key's record says.
+fn public_of(key: &Key) -> AnyPublic
+    ensures { public_in key.now ≡ Some result }
+{
+    match &key.secret {
+        Secret::Lms {
+            pair,
+            identifier,
+            ..
+        } => AnyPublic::Lms(LmsPublic {
+            pair: *pair,
+            identifier: *identifier,
+            root: key.root,
+        }),
+        Secret::Hss {
+            levels,
+            identifier,
+            ..
+        } => AnyPublic::Hss(HssPublic {
+            levels: levels.count(),
+            top: LmsPublic {
+                pair: levels.as_slice()[0],
+                identifier: *identifier,
+                root: key.root,
+            },
+        }),
+        Secret::Xmss {
+            tree,
+            public_seed,
+            ..
+        } => AnyPublic::Xmss(XmssPublic {
+            tree: *tree,
+            root: key.root,
+            seed: *public_seed,
+        }),
+    }
+}
+
 /// The records of a key, a legal list of them.
 #[derive(Drop)]
 pub struct Ledger {
@@ -102,6 +146,7 @@ impl Model for Ledger {
 
 impl Ledger {
     ghost use Rattle.state_file.specs.Laws.{IsLegal, levels_of};
+    ghost use Rattle.state_file.specs.declared.record.Key.{Key as K};
     ghost use Rattle.state_file.specs.declared.record.Record.TheVariants.{Key as KeyRecord, Extend as ExtendRecord};
     ghost use Rattle.state_file.specs.declared.record.Record.TheVariants.{Bound as BoundRecord, Retire as RetireRecord};
     ghost use Rattle.state_file.specs.declared.record.Record.TheVariants.{Moved as MovedRecord};
@@ -110,6 +155,8 @@ impl Ledger {
     ghost use Rattle.sign_core.specs.declared.ledger.LedgerFault.TheVariants.{Illegal, OutOfMemory};
     ghost use Rattle.sign_core.specs.Trees.{tree_at};
     ghost use Rattle.sign_core.specs.Textbook.{AllHaveSizes, HasSizes};
+    ghost use Rattle.sign_core.specs.Once.{public_of_key};
+    ghost use Rattle.sign_core.specs.Records.{free_counts};
 
     /// That of a key with no record after it.
     pub(crate) fn new(alloc: Global, key: Key) -> Self
@@ -176,15 +223,22 @@ impl Ledger {
         &self.key
     }
 
+    /// The public key of record 0.
+    pub fn public_key(&self) -> AnyPublic
+        ensures { public_of_key (key_in self.now.records) ≡ Some result }
+    {
+        public_of(&self.key)
+    }
+
     /// How many records there are.
-    pub(crate) fn len(&self) -> u32
+    pub fn len(&self) -> u32
         ensures { result ≡ length self.now.records }
     {
         self.count
     }
 
-    /// Whether the last record is a Moved.
-    pub(crate) fn has_moved(&self) -> bool
+    /// Whether the last record is a Moved: the records go on in another file.
+    pub fn has_moved(&self) -> bool
         ensures { result ≡ has_moved self.now.records }
     {
         self.moved
@@ -230,8 +284,20 @@ impl Ledger {
         self.trees.get(usize::from(level))
     }
 
-    /// How many leaves of a level's current tree are free.
-    pub(crate) fn left(&self, level: u8) -> u32
+    /// How many leaves are free at each level, in its current tree; 0 where it has none.
+    pub fn left(&self) -> ArrayVec<u32, 8>
+        ensures { (key : K) → key_in self.now.records ≡ Some key →
+            result.items ≡ free_counts key.secret self.now.records }
+    {
+        let mut counts = ArrayVec::new();
+        for level in 0..self.key.secret.levels() {
+            counts.push(self.free_leaves(level));
+        }
+        counts
+    }
+
+    // How many leaves of a level's current tree are free.
+    fn free_leaves(&self, level: u8) -> u32
         requires { level < levels_of self.now.key.secret }
         ensures { result ≡ free_at self.now.key.secret self.now.records level }
     {
@@ -247,7 +313,7 @@ impl Ledger {
         ensures { result ≡ deepest self.now.key.secret self.now.records }
     {
         for level in (0..self.key.secret.levels()).rev() {
-            if self.left(level) > 0 {
+            if self.free_leaves(level) > 0 {
                 return Some(level);
             }
         }

@@ -7,7 +7,7 @@ ghost use Rattle.sign_core.specs.Source.{DrawsBytes};
 ghost use Rattle.sign_core.specs.Once.{AreFields};
 ghost use Rattle.sign_core.specs.Signer.{DrawsSecret, Hinders, IsAnsweredByKey, IsAppended, IsTakenUp};
 ghost use Rattle.sign_core.specs.Signer.{IsTied, LoadsAll, LoadsRecord, LooksForKey, MakesKey, TakesUpLoaded};
-ghost use Rattle.sign_core.specs.Textbook.{HasSizes, SecretHasSizes, lms_secret, public_in, root_by};
+ghost use Rattle.sign_core.specs.Textbook.{HasSizes, SecretHasSizes, lms_secret, root_by};
 ghost use Rattle.state_file.specs.declared.record.Record.TheVariants.{Key as KeyRecord};
 ghost use Rattle.typecodes.specs.Layout.{AreBytes};
 ghost use Rattle.typecodes.specs.Spec.{IsSpec};
@@ -23,14 +23,13 @@ use crate::key::AnyPublic;
 use crate::ledger::{Ledger, LedgerFault};
 use crate::source::{Source, draw};
 use arrayvec::ArrayVec;
-use hss::HssPublic;
-use lms::{LmsPublic, LmsSecret, LmsTree};
+use lms::{LmsSecret, LmsTree};
 use merkle::root;
 use state_file::{Key, Record, Refused, Secret, Store, StoreFault, Version};
 use std::alloc::Global;
 use std::marker::Model;
 use typecodes::{LmsPair, Spec};
-use xmss::{XmssPublic, XmssSecret, XmssTree};
+use xmss::{XmssSecret, XmssTree};
 
 /// Signs messages under names, each new name with a leaf of its own. What it signed stands in its store, and it draws
 /// its secrets and randomizers from its source.
@@ -66,44 +65,6 @@ fn append<S: Store>(store: &mut S, entry: &Record) -> Result<(), SignFault>
         StoreFault::OutOfMemory => SignFault::OutOfMemory,
         _ => SignFault::StoreFailed,
     })
-}
-
-// The public key that a key's record says.
-fn public_of(key: &Key) -> AnyPublic
-    ensures { public_in key.now ≡ Some result }
-{
-    match &key.secret {
-        Secret::Lms {
-            pair,
-            identifier,
-            ..
-        } => AnyPublic::Lms(LmsPublic {
-            pair: *pair,
-            identifier: *identifier,
-            root: key.root,
-        }),
-        Secret::Hss {
-            levels,
-            identifier,
-            ..
-        } => AnyPublic::Hss(HssPublic {
-            levels: levels.count(),
-            top: LmsPublic {
-                pair: levels.as_slice()[0],
-                identifier: *identifier,
-                root: key.root,
-            },
-        }),
-        Secret::Xmss {
-            tree,
-            public_seed,
-            ..
-        } => AnyPublic::Xmss(XmssPublic {
-            tree: *tree,
-            root: key.root,
-            seed: *public_seed,
-        }),
-    }
 }
 
 // Looks whether a store has no record yet.
@@ -367,7 +328,7 @@ impl<S: Store, R: Source> Signer<S, R> {
     pub fn public_key(&self) -> AnyPublic
         ensures { public_of_key (key_in self.now.records) ≡ Some result }
     {
-        public_of(self.ledger.key())
+        self.ledger.public_key()
     }
 
     /// How many leaves are free at each level, in its current tree.
@@ -375,11 +336,7 @@ impl<S: Store, R: Source> Signer<S, R> {
         ensures { (key : K) → key_in self.now.records ≡ Some key →
             result.items ≡ free_counts key.secret self.now.records }
     {
-        let mut counts = ArrayVec::new();
-        for level in 0..self.ledger.key().secret.levels() {
-            counts.push(self.ledger.left(level));
-        }
-        counts
+        self.ledger.left()
     }
 
     // Refuses where the signer is closed, or its records go on elsewhere.

@@ -8,15 +8,15 @@ pub loop-level-init : goal.loop-level-init
 loop-level-init c = λ below after within.
     absurd (omega (arith, after, within, c.levels-level.ensures, ap (λ (t : Table). levels_of t.key.secret) c.self.view_is))
 
-pub returns-then-left-gt0 : goal.returns-then-left-gt0
-returns-then-left-gt0 c =
+pub returns-then-free_leaves-gt0 : goal.returns-then-free_leaves-gt0
+returns-then-free_leaves-gt0 c =
     deepest_found c.args.self.now.key.secret c.args.self.now.records c.loop-level.level c.loop-level-test.true
     (omega (arith, c.loop-level.auto.level, c.levels-level.ensures, ap (λ (t : Table). levels_of t.key.secret) c.self.view_is))
-    (omega (arith, c.if-left-gt0.true, c.left.ensures)) c.loop-level.invariant
+    (omega (arith, c.if-free_leaves-gt0.true, c.free_leaves.ensures)) c.loop-level.invariant
 
 pub loop-level-preserved : goal.loop-level-preserved
 loop-level-preserved c =
-    none_free_up c.args.self.now.key.secret c.args.self.now.records c.loop-level.level (omega (arith, c.if-left-gt0.false, c.left.ensures))
+    none_free_up c.args.self.now.key.secret c.args.self.now.records c.loop-level.level (omega (arith, c.if-free_leaves-gt0.false, c.free_leaves.ensures))
     c.loop-level.invariant
 
 pub returns : goal.returns
