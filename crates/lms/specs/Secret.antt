@@ -34,6 +34,10 @@ path_in secret q = path_of (leaves_of secret) (joins_of secret) (height_of secre
 abbrev pub digest_in : LmsSecret → ℕ → List ℕ → List ℕ → List ℕ
 digest_in secret q randomizer message = message_digest_of secret.identifier q randomizer message
 
+-- the secret that a tree's leaves are made from
+abbrev pub secret_of : LmsTree → LmsSecret
+secret_of tree = tree.secret
+
 -- how many leaves of a tree were made
 abbrev pub leaves_made : LmsTree → ℕ
 leaves_made tree = tree.made

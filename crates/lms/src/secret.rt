@@ -35,17 +35,17 @@ impl LmsSecret {
 /// secret it has no `Debug`.
 #[derive(Drop)]
 pub struct LmsTree {
-    pub secret: LmsSecret,
+    secret: LmsSecret,
     // How many leaves were made, for contracts alone.
     made: Count,
 }
 
 impl LmsTree {
-    ghost use Rattle.lms.specs.Secret.{leaves_made};
+    ghost use Rattle.lms.specs.Secret.{leaves_made, secret_of};
 
     /// The tree of a secret, of which no leaf was made yet.
     pub fn new(secret: LmsSecret) -> Self
-        ensures secret { result.secret ≡ secret }
+        ensures secret { secret_of result ≡ secret }
         ensures made { leaves_made result ≡ 0 }
     {
         LmsTree {
@@ -56,9 +56,9 @@ impl LmsTree {
 }
 
 impl NodeHash for LmsTree {
-    ghost use Rattle.lms.specs.Secret.{joins_of};
+    ghost use Rattle.lms.specs.Secret.{joins_of, secret_of};
 
-    ghost join_of = { λ tree. joins_of tree.secret };
+    ghost join_of = { λ tree. joins_of (secret_of tree) };
 
     fn join(&self, height: u8, index: u32, left: &[u8; 32], right: &[u8; 32]) -> [u8; 32] {
         self.secret.nodes().join(height, index, left, right)
@@ -66,9 +66,9 @@ impl NodeHash for LmsTree {
 }
 
 impl TreeHash for LmsTree {
-    ghost use Rattle.lms.specs.Secret.{leaves_made, leaves_of};
+    ghost use Rattle.lms.specs.Secret.{leaves_made, leaves_of, secret_of};
 
-    ghost leaf_of = { λ tree. leaves_of tree.secret };
+    ghost leaf_of = { λ tree. leaves_of (secret_of tree) };
 
     ghost made = { leaves_made };
 

@@ -91,6 +91,7 @@ impl<'a> LmsSigView<'a> {
     pub fn q(&self) -> u32
         ensures value { result ≡ (signature_of self.now).q }
         ensures range { result ≡ big_number 4 (take 4 (bytes_of self.now)) }
+        ensures inside { result < 2 ^ height_of (pair_of self.now).tree }
     {
         self.q
     }

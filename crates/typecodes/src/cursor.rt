@@ -6,8 +6,9 @@ use crate::fault::{Cause, ReadFault};
 use crate::types::{LmsType, OtsType, XmssType};
 use byteorder::{BigEndian, ByteOrder};
 
-/// Reads the fields of its bytes one after the other, without copying.
-#[derive(Clone, Copy, Debug)]
+/// Reads the fields of its bytes one after the other, without copying. It has no `Debug`, since the bytes may hold a
+/// secret, as a state file's do.
+#[derive(Clone, Copy)]
 pub struct Cursor<'a> {
     /// The bytes, whole.
     pub bytes: &'a [u8],
