@@ -1,12 +1,12 @@
 -- The tags of a content's slots are those of its records.
-use Rattle.std.proofs.Common.{◌≡◌, ℕ, zero, suc, ◌+◌, ◌*◌, ◌<◌, List, [], ◌∷◌, length, take, drop, refl, sym, ap₂, subst, ◌∙◌, arith}
+use Rattle.std.proofs.Common.{◌≡◌, ℕ, zero, suc, ◌+◌, ◌*◌, ◌<◌, List, [], ◌∷◌, ◌++◌, length, take, drop, refl, sym, ap₂, subst, ◌∙◌, arith}
 use Rattle.std.proofs.lemmas.Option.{same_Some}
 use Rattle.typecodes.specs.Layout.{AreBytes, Spells}
 use Rattle.state_file.specs.declared.record.Record.{Record}
 use Rattle.state_file.specs.File.{SpellsRecords, fields_at, previous_tag, tag_of}
 use Rattle.state_file.specs.Slot.{slot_record}
 use Rattle.state_file.proofs.OneWay.{one_way-slot_record}
-use Rattle.sign_core.proofs.Lists.{slice_get_some}
+use Rattle.sign_core.proofs.Lists.{slice_get_some, slice_get_stays}
 use Rattle.key_audit.specs.Tags.{IsTagBefore, TagLaw}
 
 bytes_take : (n : ℕ) (xs : List ℕ) → AreBytes xs → AreBytes (take n xs)
@@ -43,8 +43,14 @@ tag_before content records (suc k) are spells inside =
       holds.tagged,
     )
 
+lasts_before : (records more : List Record) (k : ℕ) (tag : List ℕ) → IsTagBefore records k tag → IsTagBefore (records ++ more) k tag
+lasts_before records more zero tag is = is
+lasts_before records more (suc k) tag (entry, fields, previous, at, are, spelled, before, is) =
+    (entry, fields, previous, slice_get_stays records more k entry at, are, spelled, lasts_before records more k previous before, is)
+
 pub tag_law : TagLaw
 tag_law = record {
   one = λ records k a b first second. one_before records (suc k) a b first second;
   stands = λ content records k are spells inside. tag_before content records (suc k) are spells (omega (arith, inside));
+  lasts = λ records more k tag is. lasts_before records more (suc k) tag is;
 }

@@ -1,5 +1,7 @@
+pub mod Audit
 pub mod Given
 pub mod InMemory
 pub mod LeafIndex
+pub mod Loading
 pub mod Tags
 pub mod Uses

@@ -1,5 +1,5 @@
 -- The tags of the slots of a state file, by its records alone.
-use Rattle.std.specs.Prelude.{◌≡◌, ℕ, zero, suc, ◌<◌, List, length, replicate, slice_get, Some}
+use Rattle.std.specs.Prelude.{◌≡◌, ℕ, zero, suc, ◌<◌, List, ◌++◌, length, replicate, slice_get, Some}
 use Rattle.typecodes.specs.Layout.{AreBytes, Spells}
 use Rattle.state_file.specs.declared.record.Record.{Record}
 use Rattle.state_file.specs.File.{SpellsRecords, tag_at, tag_of}
@@ -24,3 +24,5 @@ pub record TagLaw : Type 0 where
   -- and the slots of a content that spells the records have these
   pub stands : (content : List ℕ) (records : List Record) (k : ℕ) → AreBytes content → SpellsRecords content records
       → k < length records → IsTag records k (tag_at content k)
+  -- and keep it, whatever records follow
+  pub lasts : (records more : List Record) (k : ℕ) (tag : List ℕ) → IsTag records k tag → IsTag (records ++ more) k tag

@@ -1,15 +1,22 @@
 //! Audits of a key, by those who don't trust its state file or its signer.
 //!
+//! `audit` reads a state file: are its records those of a key, what do they say of it, and do they fit an anchor, which
+//! is how many there once were and the tag of the last of them? Its model is `specs/Audit.antt`. The tag of a record is
+//! that of its slot in every file of these records (`tag_laws`, `specs/Tags.antt`), and it stays, whatever records
+//! follow. So a file's last tag, kept elsewhere, tells whether the file was put back behind it (`audit_laws`).
+//!
 //! `check_given` takes signatures that a key has given out, with their messages: are all valid, and has no leaf of a
 //! tree signed two digests? Its model is `specs/Given.antt`, over the leaf uses that `sign_core` reads off the bytes of
 //! signatures. No secret is needed, and no records: two copies of one state file are found wherever both signed with
 //! one leaf.
 //!
-//! The tag of a record is that of its slot in every file of these records (`tag_laws`, `specs/Tags.antt`). So a file's
-//! last tag, kept elsewhere, is an anchor for it.
-//!
 //! ```rust
-//! use key_audit::{Given, GivenFault, check_given};
+//! use key_audit::{Anchor, AuditFault, Given, GivenFault, audit, check_given};
+//!
+//! // a file, and later the same file without its last record
+//! let report = audit(rt.alloc(), &mut store, None)?;
+//! let anchor = Anchor { count: report.records, tag: report.tag };
+//! assert_eq!(rt; audit(rt.alloc(), &mut put_back, Some(anchor)), Err(AuditFault::AnchorCount));
 //!
 //! // two messages that two copies of one key signed with the same leaf
 //! let given = [
@@ -21,14 +28,18 @@
 //! ```
 #![tactic(auto)]
 
+mod auditing;
 mod given;
 mod in_memory;
 mod laws;
 mod leaf;
 mod leaf_index;
+mod report;
 #[cfg(test)]
 mod tests;
 mod uses;
 
+pub use crate::auditing::audit;
 pub use crate::given::{Given, GivenFault, check_given};
-pub use crate::laws::tag_laws;
+pub use crate::laws::{audit_laws, tag_laws};
+pub use crate::report::{Anchor, AuditFault, Report};

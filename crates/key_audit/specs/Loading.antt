@@ -1,0 +1,88 @@
+-- What the parts of an audit do: loads of records, and reads of tags.
+use Rattle.std.specs.Prelude.{◌≡◌, ℕ, ◌<◌, ◌≤◌, Bool, false, IsTrue, List, [], length}
+use Rattle.std.specs.Prelude.{Option, Some, None, IsSome, Result, Ok, Err}
+use Rattle.state_file.specs.declared.disk.Disk as disk
+use Rattle.state_file.specs.declared.record.Record.{Record}
+use Rattle.state_file.specs.declared.store.file_store.FileStore.{FileStore}
+use Rattle.state_file.specs.File.{tag_at}
+use Rattle.state_file.specs.FileStore.{disk_of, records_of}
+use Rattle.state_file.specs.Store.{IsRecordAt}
+use Rattle.sign_core.specs.Records.{first_illegal}
+use Rattle.key_audit.specs.declared.report.Anchor.{Anchor}
+use Rattle.key_audit.specs.declared.report.AuditFault.{AuditFault}
+use Rattle.key_audit.specs.declared.report.AuditFault.TheVariants.{Stopped, NoKey, Damaged, Illegal, DeviceFailed}
+use Rattle.key_audit.specs.declared.report.AuditFault.TheVariants.{OutOfMemory, AnchorCount, AnchorTag}
+use Rattle.key_audit.specs.Audit.{IsBeyond, IsTagged, IsWithin, Judges, ReadsStore}
+
+-- What the load of record k finds.
+abbrev pub Finds : (honest : Bool) → List Record → (k : ℕ) → Result (Option Record) AuditFault → Type 0
+Finds honest list k (Ok None) = length list ≤ k
+Finds honest list k (Ok (Some entry)) = (k < length list) × IsRecordAt honest list k entry
+Finds honest list k (Err Stopped) = Unit {0}
+Finds honest list k (Err (Damaged slot)) = (honest ≡ false) × (slot ≡ k) × (k < length list)
+Finds honest list k (Err DeviceFailed) = Unit {0}
+Finds honest list k (Err _) = ⊥
+
+pub record LoadsRecord {D : Type 0} (d : disk.Ghosts D) (old new : FileStore D d) (k : ℕ)
+    (answer : Result (Option Record) AuditFault) : Type 0 where
+  pub store : ReadsStore d old new answer
+  pub finds : Finds (d.honest (disk_of old)) (records_of old) k answer
+
+-- These are as many records as a store has, and where it is honest its own.
+pub record AreLoaded (honest : Bool) (list records : List Record) : Type 0 where
+  pub long : length records ≡ length list
+  pub same : IsTrue honest → records ≡ list
+
+-- why a store's records weren't loaded
+abbrev pub StopsLoading : (honest : Bool) → List Record → AuditFault → Type 0
+StopsLoading honest list Stopped = Unit {0}
+StopsLoading honest list (Damaged k) = (honest ≡ false) × (k < length list)
+StopsLoading honest list DeviceFailed = Unit {0}
+StopsLoading honest list OutOfMemory = 0 < length list
+StopsLoading honest list _ = ⊥
+
+-- why records aren't those of a key
+abbrev pub IsRefused : List Record → AuditFault → Type 0
+IsRefused records NoKey = records ≡ []
+IsRefused records (Illegal k) = first_illegal records ≡ Some k
+IsRefused records OutOfMemory = 0 < length records
+IsRefused records _ = ⊥
+
+-- why a store's records weren't loaded, or aren't those of a key
+abbrev pub IsNoLedger : (honest : Bool) → List Record → AuditFault → Type 0
+IsNoLedger honest list fault =
+    (loaded : List Record) × AreLoaded honest list loaded × Judges honest loaded None (Err fault)
+
+-- ---- tags
+
+-- the tag of slot k of a disk
+abbrev pub IsSlotTag : {D : Type 0} (d : disk.Ghosts D) → D → ℕ → List ℕ → Type 0
+IsSlotTag d on k tag = tag ≡ tag_at (d.state on).content k
+
+-- What the read of the tag of slot k gives.
+abbrev pub GivesTag : (IsTagOf : ℕ → List ℕ → Type 0) → (honest : Bool) → (k : ℕ) → Result (List ℕ) AuditFault → Type 0
+GivesTag IsTagOf honest k (Ok tag) = IsTrue honest → IsTagOf k tag
+GivesTag IsTagOf honest k (Err Stopped) = Unit {0}
+GivesTag IsTagOf honest k (Err DeviceFailed) = Unit {0}
+GivesTag IsTagOf honest k (Err _) = ⊥
+
+pub record ReadsTag {D : Type 0} (d : disk.Ghosts D) (old new : FileStore D d) (k : ℕ)
+    (answer : Result (List ℕ) AuditFault) : Type 0 where
+  pub store : ReadsStore d old new answer
+  pub gives : GivesTag (IsSlotTag d (disk_of old)) (d.honest (disk_of old)) k answer
+
+-- What is answered to an anchor, if one is given, by a store of these records.
+abbrev pub Fits : (IsTagOf : ℕ → List ℕ → Type 0) → (honest : Bool) → List Record → Option Anchor
+    → Result (Unit {0}) AuditFault → Type 0
+Fits IsTagOf honest list anchor (Ok _) = IsWithin anchor list × (IsTrue honest → IsTagged IsTagOf anchor)
+Fits IsTagOf honest list anchor (Err Stopped) = Unit {0}
+Fits IsTagOf honest list anchor (Err DeviceFailed) = Unit {0}
+Fits IsTagOf honest list anchor (Err AnchorCount) = IsBeyond anchor list
+Fits IsTagOf honest list anchor (Err AnchorTag) =
+    IsSome anchor × IsWithin anchor list × (IsTrue honest → IsTagged IsTagOf anchor → ⊥)
+Fits IsTagOf honest list anchor (Err _) = ⊥
+
+pub record ChecksAnchor {D : Type 0} (d : disk.Ghosts D) (old new : FileStore D d) (anchor : Option Anchor)
+    (answer : Result (Unit {0}) AuditFault) : Type 0 where
+  pub store : ReadsStore d old new answer
+  pub fits : Fits (IsSlotTag d (disk_of old)) (d.honest (disk_of old)) (records_of old) anchor answer

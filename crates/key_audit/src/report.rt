@@ -1,0 +1,79 @@
+//! What an audit of a state file is given and answers.
+
+use arrayvec::ArrayVec;
+use sign_core::AnyPublic;
+use thiserror::Error;
+
+/// A state file as it once was: how many records it had, and the tag of the last of them.
+#[derive(Clone, Copy, Debug, PartialEq, Eq)]
+pub struct Anchor {
+    /// How many records there were.
+    pub count: u32,
+    /// The tag of the last of them.
+    pub tag: [u8; 32],
+}
+
+/// What the records of a state file say of its key.
+#[derive(Debug, PartialEq, Eq, Drop)]
+pub struct Report {
+    /// The public key.
+    pub public: AnyPublic,
+    /// How many records there are.
+    pub records: u32,
+    /// The tag of the last of them. It is an anchor for the file, with their number.
+    pub tag: [u8; 32],
+    /// How many leaves are free at each level, in its current tree; 0 where it has none.
+    pub left: ArrayVec<u32, 8>,
+    /// The version of the file in which the records go on, if they do.
+    pub moved: Option<u16>,
+}
+
+/// Why a state file isn't accepted.
+#[derive(Clone, Copy, Debug, PartialEq, Eq, Error)]
+pub enum AuditFault {
+    /// 26: a call failed, and the place wasn't opened again since.
+    #[error("a call failed, and the place was not opened again since")]
+    Stopped,
+    /// 40: there is no record.
+    #[error("there is no record")]
+    NoKey,
+    /// 43: slot k spells no record, or its tag is wrong.
+    #[error("slot {0} spells no record")]
+    Damaged(u32),
+    /// 44: record k isn't legal where it stands; those before it are.
+    #[error("record {0} isn't legal where it stands")]
+    Illegal(u32),
+    /// 45: the device failed.
+    #[error("the device failed")]
+    DeviceFailed,
+    /// 46: memory was refused.
+    #[error("memory was refused")]
+    OutOfMemory,
+    /// 47: there are fewer records than the anchor counts, or it counts none.
+    #[error("there are fewer records than the anchor counts, or it counts none")]
+    AnchorCount,
+    /// 48: the last record that the anchor counts has another tag.
+    #[error("the last record that the anchor counts has another tag")]
+    AnchorTag,
+}
+
+impl AuditFault {
+    ghost use Rattle.std.specs.Prelude.{◌≡◌};
+    ghost use Rattle.key_audit.specs.Audit.{audit_number};
+
+    /// The number that reports the fault: 26, 40 or 43 to 48.
+    pub fn number(self) -> u8
+        ensures { result ≡ audit_number self }
+    {
+        match self {
+            AuditFault::Stopped => 26,
+            AuditFault::NoKey => 40,
+            AuditFault::Damaged(_) => 43,
+            AuditFault::Illegal(_) => 44,
+            AuditFault::DeviceFailed => 45,
+            AuditFault::OutOfMemory => 46,
+            AuditFault::AnchorCount => 47,
+            AuditFault::AnchorTag => 48,
+        }
+    }
+}
