@@ -10,15 +10,15 @@ use Rattle.clap.specs.Faults.{bundle_fault, bundle_step_fault, flag_word_fault, 
 use Rattle.clap.specs.Kinds.{Kinds, or_else}
 use Rattle.clap.specs.Lexer.{long_of, name_and_value, short_of}
 use Rattle.clap.specs.Simple.{filled, help_rule, names_of, version_rule, with_index}
-use Rattle.clap.specs.Walk.{Held as Collected, nothing_held as nothing_collected, Row, Step, Walk, answers_to, arg_by_long, arg_by_short, has_long, has_short, idle, subcommand_met, subcommand_or_other, takes_values, walked}
+use Rattle.clap.specs.Walk.{Held as Collected, nothing_held as nothing_collected, Row, Step, Walk, answers_to, arg_by_long, arg_by_short, has_long, has_short, idle, rows_after, subcommand_met, subcommand_or_other, takes_values, walked}
 use Rattle.clap.specs.Words.{Rule, Text, fault_of, subcommand_of}
 use Rattle.clap.proofs.OnLiterals.{clap_on_literals}
 use Rattle.clap.specs.Simple.{Shape}
-use Rattle.command.specs.Line.{AreTexts, GivesValues, IsCommandLine, IsLineOf, IsPlainWord, Task, hbsign_app, retire, retire_number, task_found, verify}
+use Rattle.command.specs.Line.{AreTexts, Finds, GivesValues, IsCommandLine, IsLineOf, IsPlainWord, Task, hbsign_app, make, make_task, retire, retire_number, sign, sign_task, task_found, task_named, verify}
 use Rattle.command.specs.LineFault.{lacks, line_faults}
 use Rattle.command.specs.Number.{number_in}
 use Rattle.command.specs.Retire.{most_leaves}
-use Rattle.command.proofs.Walking.{Enters, IsTaken, TakesValue, at, end_fault, enters_retire, enters_verify, entered_faults, finds_retire, finds_task, finds_verify, is_no_hyphen, retire_1, retire_2, retire_shape, takes_either, takes_message, takes_public, takes_signature, takes_state, takes_upto, turn_passes, verify_1, verify_2, verify_3, verify_shape, whole, word_is_value, word_walks}
+use Rattle.command.proofs.Walking.{Enters, IsTaken, TakesValue, at, end_fault, enters_make, enters_retire, enters_sign, enters_verify, entered_faults, entered_rows, finds_retire, finds_task, finds_verify, is_no_hyphen, make_shape, retire_1, retire_2, retire_shape, sign_shape, takes_either, takes_message, takes_public, takes_signature, takes_state, takes_upto, turn_passes, verify_1, verify_2, verify_3, verify_shape, whole, word_is_value, word_walks}
 
 -- where nothing is wrong with two parts, nothing is wrong with either
 pub none_of : (a b : Kinds) → or_else a b ≡ [] → (a ≡ []) × (b ≡ [])
@@ -362,17 +362,19 @@ first_fault named word = or_else (other_fault whole.top named word nothing_colle
     (subcommand_or_other whole.top.rules named idle 1 word nothing_collected).1)
 
 -- a word that is no subcommand's name names none
-find_none : {A : Type 0} (test : A → Bool) (x y z : A) → test x ≡ false → test y ≡ false → test z ≡ false
-    → find test (x ∷ y ∷ z ∷ []) ≡ None
-find_none test x y z first second third = rw (first, second, third) refl
+find_none : {A : Type 0} (test : A → Bool) (v w x y z : A) → test v ≡ false → test w ≡ false → test x ≡ false → test y ≡ false
+    → test z ≡ false → find test (v ∷ w ∷ x ∷ y ∷ z ∷ []) ≡ None
+find_none test v w x y z first second third fourth fifth = rw (first, second, third, fourth, fifth) refl
 
 or_none : (b : Bool) → b ≡ false → (b || false) ≡ false
 or_none b isnt = rw isnt refl
 
-names_none : (word : Text) → bytes_eq (codes "verify") word ≡ false → bytes_eq (codes "retire") word ≡ false
-    → bytes_eq (codes "help") word ≡ false → subcommand_met (names_of whole) idle word ≡ None
-names_none word no_verify no_retire no_help = ap (option_map (λ s. s.0))
-    (find_none (answers_to word) (codes "verify", []) (codes "retire", []) (codes "help", []) (or_none _ no_verify) (or_none _ no_retire) (or_none _ no_help))
+names_none : (word : Text) → bytes_eq (codes "make") word ≡ false → bytes_eq (codes "sign") word ≡ false
+    → bytes_eq (codes "verify") word ≡ false → bytes_eq (codes "retire") word ≡ false → bytes_eq (codes "help") word ≡ false
+    → subcommand_met (names_of whole) idle word ≡ None
+names_none word no_make no_sign no_verify no_retire no_help = ap (option_map (λ s. s.0))
+    (find_none (answers_to word) (codes "make", []) (codes "sign", []) (codes "verify", []) (codes "retire", []) (codes "help", [])
+    (or_none _ no_make) (or_none _ no_sign) (or_none _ no_verify) (or_none _ no_retire) (or_none _ no_help))
 
 -- such a word isn't accepted first,
 plain_fails : (word : Text) → IsPlainWord word → first_fault None word ≢ []
@@ -410,62 +412,103 @@ first_passes : (word : Text) (words : List Text) → fault_of hbsign_app (word �
 unfolding walk_fault
 first_passes word words none = (none_of _ _ (none_of _ _ none).0).0
 
-is_named : (word : Text) (words : List Text) → IsUtf8 word → fault_of hbsign_app (word ∷ words) ≡ []
-    → (word ≡ codes "verify") ⊎ (word ≡ codes "retire")
-is_named word words text none = elim (cases_Bool (bytes_eq (codes "verify") word)) [
-  | inl same ↦ inl (sym ((bytes_eq-Decides (codes "verify") word).0 same))
-  | inr no_verify ↦ elim (cases_Bool (bytes_eq (codes "retire") word)) [
-    | inl same ↦ inr (sym ((bytes_eq-Decides (codes "retire") word).0 same))
-    | inr no_retire ↦ elim (cases_Bool (bytes_eq (codes "help") word)) [
-      | inl same ↦ absurd (help_fails (subst (λ w. first_fault (subcommand_met (names_of whole) idle w) w ≡ [])
-          (sym ((bytes_eq-Decides (codes "help") word).0 same)) (first_passes word words none)))
-      | inr no_help ↦
-          let passes = subst (λ named. first_fault named word ≡ []) (names_none word no_verify no_retire no_help) (first_passes word words none) in
-          elim (word_is word) [
-            | inl plain ↦ absurd (plain_fails word plain passes)
-            | inr (inl hyphens) ↦ absurd (hyphens_fail words (subst (λ w. fault_of hbsign_app (w ∷ words) ≡ []) hyphens none))
-            | inr (inr option) ↦ absurd (first_option_fails word text option passes)
-          ]
-    ]
-  ]
+-- the first word of a line that is accepted is a command's name
+data IsCommandName (word : Text) : Type 0 where
+  is_make : word ≡ codes "make" → IsCommandName word
+  is_sign : word ≡ codes "sign" → IsCommandName word
+  is_verify : word ≡ codes "verify" → IsCommandName word
+  is_retire : word ≡ codes "retire" → IsCommandName word
+
+-- for any other name
+other_fails : (word : Text) (words : List Text) → IsUtf8 word → fault_of hbsign_app (word ∷ words) ≡ []
+    → bytes_eq (codes "make") word ≡ false → bytes_eq (codes "sign") word ≡ false → bytes_eq (codes "verify") word ≡ false
+    → bytes_eq (codes "retire") word ≡ false → ⊥
+other_fails word words text none no_make no_sign no_verify no_retire = elim (cases_Bool (bytes_eq (codes "help") word)) [
+  | inl same ↦ help_fails (subst (λ w. first_fault (subcommand_met (names_of whole) idle w) w ≡ [])
+      (sym ((bytes_eq-Decides (codes "help") word).0 same)) (first_passes word words none))
+  | inr no_help ↦
+      let passes = subst (λ named. first_fault named word ≡ []) (names_none word no_make no_sign no_verify no_retire no_help) (first_passes word words none) in
+      elim (word_is word) [
+        | inl plain ↦ plain_fails word plain passes
+        | inr (inl hyphens) ↦ hyphens_fail words (subst (λ w. fault_of hbsign_app (w ∷ words) ≡ []) hyphens none)
+        | inr (inr option) ↦ first_option_fails word text option passes
+      ]
 ]
 
--- A line of texts without a fault is one of `verify`, or of `retire`.
-accepted : (words : List Text) → AreTexts words → fault_of hbsign_app words ≡ []
-    → ((p : Text) × (m : Text) × (s : Text) × IsCommandLine words (codes "verify") (p ∷ m ∷ s ∷ []))
-    ⊎ ((state : Text) × (upto : Text) × IsCommandLine words (codes "retire") (state ∷ upto ∷ []))
-accepted [] texts none = absurd (nothing_fails none)
-accepted (word ∷ names) texts none = elim (is_named word names texts.0 none) [
-  | inl is ↦
-      let (values, long, given) = all_given verify_shape 3 1 nothing_collected names verify_asks verify_waits texts.1
-      (command_passes (codes "verify") verify_shape names enters_verify (subst (λ w. fault_of hbsign_app (w ∷ names) ≡ []) is none)) in
-      let (p, m, s, same) = three_values values long in
-      inl (p, m, s, (names, ap (λ w. w ∷ names) is, subst (GivesValues names) same given))
-  | inr is ↦
-      let (values, long, given) = all_given retire_shape 2 1 nothing_collected names retire_asks retire_waits texts.1
-      (command_passes (codes "retire") retire_shape names enters_retire (subst (λ w. fault_of hbsign_app (w ∷ names) ≡ []) is none)) in
-      let (state, upto, same) = two_values values long in
-      inr (state, upto, (names, ap (λ w. w ∷ names) is, subst (GivesValues names) same given))
+is_named : (word : Text) (words : List Text) → IsUtf8 word → fault_of hbsign_app (word ∷ words) ≡ [] → IsCommandName word
+is_named word words text none = elim (cases_Bool (bytes_eq (codes "make") word)) [
+  | inl same ↦ is_make (sym ((bytes_eq-Decides (codes "make") word).0 same))
+  | inr no_make ↦ elim (cases_Bool (bytes_eq (codes "sign") word)) [
+    | inl same ↦ is_sign (sym ((bytes_eq-Decides (codes "sign") word).0 same))
+    | inr no_sign ↦ elim (cases_Bool (bytes_eq (codes "verify") word)) [
+      | inl same ↦ is_verify (sym ((bytes_eq-Decides (codes "verify") word).0 same))
+      | inr no_verify ↦ elim (cases_Bool (bytes_eq (codes "retire") word)) [
+        | inl same ↦ is_retire (sym ((bytes_eq-Decides (codes "retire") word).0 same))
+        | inr no_retire ↦ absurd (other_fails word words text none no_make no_sign no_verify no_retire)
+      ]
+    ]
+  ]
 ]
 
 ok_same : {A E : Type 0} (a b : A) → ◌≡◌ {A = Result A E} (Ok a) (Ok b) → a ≡ b
 ok_same a b same = cc
 
 -- the task of a line `retire` is that of its number
-is_retire : (words : List Text) (state text : Text) (task : Task) (number : Option ℕ) → number_in most_leaves text ≡ number
+of_retire : (words : List Text) (state text : Text) (task : Task) (number : Option ℕ) → number_in most_leaves text ≡ number
     → IsCommandLine words (codes "retire") (state ∷ text ∷ []) → retire_number state number ≡ Ok task → IsLineOf words task
-is_retire words state text task (Some upto) spells line same =
+of_retire words state text task (Some upto) spells line same =
     subst (IsLineOf words) (ok_same (retire state upto) task same) (text, spells, line)
-is_retire words state text task None spells line same = absurd cc
+of_retire words state text task None spells line same = absurd cc
 
--- So where a task is found in such a line, the line is the task's.
+-- that of a line `make` is one
+of_make : (words : List Text) (state public spec random : Option Text) (task : Task) → make_task state public spec random ≡ Ok task
+    → Finds words task → IsLineOf words task
+of_make words (Some s) (Some p) (Some x) (Some r) task same found =
+    let is = ok_same (make s p x r) task same in subst (IsLineOf words) is (subst (Finds words) (sym is) found)
+of_make words None public spec random task same found = absurd cc
+of_make words (Some s) None spec random task same found = absurd cc
+of_make words (Some s) (Some p) None random task same found = absurd cc
+of_make words (Some s) (Some p) (Some x) None task same found = absurd cc
+
+-- and so is that of a line `sign`
+of_sign : (words : List Text) (state name message out random : Option Text) (task : Task) → sign_task state name message out random ≡ Ok task
+    → Finds words task → IsLineOf words task
+of_sign words (Some s) (Some n) (Some m) (Some o) (Some r) task same found =
+    let is = ok_same (sign s n m o r) task same in subst (IsLineOf words) is (subst (Finds words) (sym is) found)
+of_sign words None name message out random task same found = absurd cc
+of_sign words (Some s) None message out random task same found = absurd cc
+of_sign words (Some s) (Some n) None out random task same found = absurd cc
+of_sign words (Some s) (Some n) (Some m) None random task same found = absurd cc
+of_sign words (Some s) (Some n) (Some m) (Some o) None task same found = absurd cc
+
+-- the task that is found in a line of a command is the command's
+found_in : (name : Text) (s : Shape) (word : Text) (names : List Text) (task : Task) → Enters name s → word ≡ name
+    → task_found (subcommand_of hbsign_app (word ∷ names)) ≡ Ok task → task_named name (rows_after s.rules [] names) ≡ Ok task
+found_in name s word names task enters is found =
+    sym (ap task_found (entered_rows name s names enters)) ∙ subst (λ w. task_found (subcommand_of hbsign_app (w ∷ names)) ≡ Ok task) is found
+
+-- So where a task is found in a line of texts that has no fault, the line is the task's.
 pub is_line_of : (words : List Text) (task : Task) → fault_of hbsign_app words ≡ [] → task_found (subcommand_of hbsign_app words) ≡ Ok task
     → AreTexts words → IsLineOf words task
-is_line_of words task none found texts = elim (accepted words texts none) [
-  | inl (p, m, s, line) ↦
-      subst (IsLineOf words) (ok_same (verify p m s) task (sym (finds_verify words p m s line).1 ∙ found)) line
-  | inr (state, text, line) ↦
-      is_retire words state text task (number_in most_leaves text) refl line (sym (finds_retire words state text line).1 ∙ found)
+is_line_of [] task none found texts = absurd (nothing_fails none)
+is_line_of (word ∷ names) task none found texts = elim (is_named word names texts.0 none) [
+  | is_make is ↦ of_make (word ∷ names) _ _ _ _ task (found_in (codes "make") make_shape word names task enters_make is found) (none, found)
+  | is_sign is ↦ of_sign (word ∷ names) _ _ _ _ _ task (found_in (codes "sign") sign_shape word names task enters_sign is found) (none, found)
+  | is_verify is ↦
+      let (values, long, given) = all_given verify_shape 3 1 nothing_collected names verify_asks verify_waits texts.1
+      (command_passes (codes "verify") verify_shape names enters_verify (subst (λ w. fault_of hbsign_app (w ∷ names) ≡ []) is none)) in
+      let (p, m, s, same) = three_values values long in
+      let line : IsCommandLine (word ∷ names) (codes "verify") (p ∷ m ∷ s ∷ []) =
+      (names, ap (λ w. w ∷ names) is, subst (GivesValues names) same given) in
+      subst (IsLineOf (word ∷ names)) (ok_same (verify p m s) task (sym (finds_verify (word ∷ names) p m s line).1 ∙ found)) line
+  | is_retire is ↦
+      let (values, long, given) = all_given retire_shape 2 1 nothing_collected names retire_asks retire_waits texts.1
+      (command_passes (codes "retire") retire_shape names enters_retire (subst (λ w. fault_of hbsign_app (w ∷ names) ≡ []) is none)) in
+      let (state, text, same) = two_values values long in
+      let line : IsCommandLine (word ∷ names) (codes "retire") (state ∷ text ∷ []) =
+      (names, ap (λ w. w ∷ names) is, subst (GivesValues names) same given) in
+      of_retire (word ∷ names) state text task (number_in most_leaves text) refl line
+      (sym (finds_retire (word ∷ names) state text line).1 ∙ found)
 ]
 
 -- A line in which a task is found has no fault,

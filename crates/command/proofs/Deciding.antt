@@ -32,7 +32,7 @@ use Rattle.sign_core.specs.Key.{KeyVerdict}
 use Rattle.command.specs.Verify.{Decides, Judgement, decisive}
 use Rattle.command.specs.declared.refusal.Refusal.{Refusal}
 use Rattle.command.specs.declared.refusal.Refusal.TheVariants.{Key, Signature, OutOfMemory, FileFailed}
-use Rattle.command.specs.declared.refusal.Refusal.TheVariants.{Signer, Opening, Preparing, Locked}
+use Rattle.command.specs.declared.refusal.Refusal.TheVariants.{Signer, Opening, Preparing, Locked, BadName, BadSpec}
 use Rattle.command.proofs.Taking.{TakesAtMost, Any, most-greater, most-bind, most-if, most-done, most-refuse, most-number, most-block, most-typed, most-values, spells-first, fault-first}
 
 -- ---- LMS: 4 + 4 + 32 + 265 * 32 + 4 + 25 * 32 bytes
@@ -224,6 +224,8 @@ decided_by count public message signature (Err (Signer fault)) less never = absu
 decided_by count public message signature (Err (Opening fault)) less never = absurd never
 decided_by count public message signature (Err (Preparing fault)) less never = absurd never
 decided_by count public message signature (Err Locked) less never = absurd never
+decided_by count public message signature (Err BadName) less never = absurd never
+decided_by count public message signature (Err BadSpec) less never = absurd never
 
 pub decisive_is : 74989 ≡ decisive
 unfolding decisive

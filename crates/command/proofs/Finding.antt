@@ -10,11 +10,15 @@ use Rattle.clap.specs.declared.error.kind.ErrorKind.TheVariants.{OutOfMemory}
 use Rattle.clap.specs.declared.parser.matches.ArgMatches.{ArgMatches}
 use Rattle.clap.specs.declared.parser.matches.ArgMatches.TheViews.{out-ArgMatches, out-SubCommand}
 use Rattle.clap.specs.declared.parser.matches.SubCommand.{SubCommand}
-use Rattle.command.specs.Line.{retire, retire_task, verify, verify_task}
+use Rattle.command.specs.Line.{make, make_task, retire, retire_task, sign, sign_task, verify, verify_task}
+use Rattle.command.specs.Make.{IsMake}
 use Rattle.command.specs.Retire.{IsRetire}
+use Rattle.command.specs.Sign.{IsSign}
 use Rattle.command.specs.declared.line.Lack.{Lack}
 use Rattle.command.specs.declared.line.Lack.TheVariants.{Command, Number}
+use Rattle.command.specs.declared.make.Make.{Make}
 use Rattle.command.specs.declared.retire.Retire.{Retire}
+use Rattle.command.specs.declared.sign.Sign.{Sign}
 
 -- the name and the rows of the subcommand that was met
 met_is : (met : Option (Text × List Row)) (name : Text) (rows : List Row) → Some name ≡ option_map (λ p. p.0) met
@@ -45,6 +49,54 @@ not_all_files (Some p) (Some m) (Some s) none = absurd (none (refl, refl, refl))
 not_all_files (Some p) (Some m) None none = refl
 not_all_files (Some p) None signature none = refl
 not_all_files None message signature none = refl
+
+-- the task of `make`, where all its words are given
+pub is_make_task : (state public spec random : Option Text) (words : Make) → IsMake state public spec random (Some words)
+    → Ok (make words.state.now words.public.now words.spec.now words.random.now) ≡ make_task state public spec random
+is_make_task state public spec random words (state_is, public_is, spec_is, random_is) = rw (state_is, public_is, spec_is, random_is) refl
+
+-- .. and where not
+pub no_make_task : (state public spec random : Option Text) → IsMake state public spec random None → Err Command ≡ make_task state public spec random
+no_make_task None public spec random lacks = refl
+no_make_task (Some s) None spec random lacks = refl
+no_make_task (Some s) (Some p) None random lacks = refl
+no_make_task (Some s) (Some p) (Some x) None lacks = refl
+no_make_task (Some s) (Some p) (Some x) (Some r) (inl none) = absurd cc
+no_make_task (Some s) (Some p) (Some x) (Some r) (inr (inl none)) = absurd cc
+no_make_task (Some s) (Some p) (Some x) (Some r) (inr (inr (inl none))) = absurd cc
+no_make_task (Some s) (Some p) (Some x) (Some r) (inr (inr (inr none))) = absurd cc
+
+-- the task of `sign`, where all its words are given
+pub is_sign_task : (state name message out random : Option Text) (words : Sign) → IsSign state name message out random (Some words)
+    → Ok (sign words.state.now words.name.now words.message.now words.out.now words.random.now) ≡ sign_task state name message out random
+is_sign_task state name message out random words (state_is, name_is, message_is, out_is, random_is) =
+    rw (state_is, name_is, message_is, out_is, random_is) refl
+
+-- .. and where not
+pub no_sign_task : (state name message out random : Option Text) → IsSign state name message out random None
+    → Err Command ≡ sign_task state name message out random
+no_sign_task None name message out random lacks = refl
+no_sign_task (Some s) None message out random lacks = refl
+no_sign_task (Some s) (Some n) None out random lacks = refl
+no_sign_task (Some s) (Some n) (Some m) None random lacks = refl
+no_sign_task (Some s) (Some n) (Some m) (Some o) None lacks = refl
+no_sign_task (Some s) (Some n) (Some m) (Some o) (Some r) (inl none) = absurd cc
+no_sign_task (Some s) (Some n) (Some m) (Some o) (Some r) (inr (inl none)) = absurd cc
+no_sign_task (Some s) (Some n) (Some m) (Some o) (Some r) (inr (inr (inl none))) = absurd cc
+no_sign_task (Some s) (Some n) (Some m) (Some o) (Some r) (inr (inr (inr (inl none)))) = absurd cc
+no_sign_task (Some s) (Some n) (Some m) (Some o) (Some r) (inr (inr (inr (inr none)))) = absurd cc
+
+-- values that are the same say the same
+pub same_make : {s t p q x y r u : Option Text} (words : Option Make) → s ≡ t → p ≡ q → x ≡ y → r ≡ u → IsMake s p x r words → IsMake t q y u words
+same_make {s = s} {t = t} {p = p} {q = q} {x = x} {y = y} {r = r} {u = u} words state public spec random is =
+    subst (λ a. IsMake a q y u words) state (subst (λ a. IsMake s a y u words) public
+    (subst (λ a. IsMake s p a u words) spec (subst (λ a. IsMake s p x a words) random is)))
+
+pub same_sign : {s t n o m l p q r u : Option Text} (words : Option Sign) → s ≡ t → n ≡ o → m ≡ l → p ≡ q → r ≡ u → IsSign s n m p r words
+    → IsSign t o l q u words
+same_sign {s = s} {t = t} {n = n} {o = o} {m = m} {l = l} {p = p} {q = q} {r = r} {u = u} words state name message out random is =
+    subst (λ a. IsSign a o l q u words) state (subst (λ a. IsSign s a l q u words) name (subst (λ a. IsSign s n a q u words) message
+    (subst (λ a. IsSign s n m a u words) out (subst (λ a. IsSign s n m p a words) random is))))
 
 -- the task of `retire`, where its words say what they have to
 pub is_retire_task : (state upto : Option Text) (words : Retire) → IsRetire state upto (Ok words)

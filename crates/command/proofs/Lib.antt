@@ -2,8 +2,10 @@ pub mod Accepting
 pub mod Contents
 pub mod Deciding
 pub mod Explaining
+pub mod HexText
 pub mod Finding
 pub mod Judging
+pub mod KeyLines
 pub mod Reading
 pub mod Offsets
 pub mod LowercaseLines
@@ -13,3 +15,4 @@ pub mod Walking
 pub mod Walks
 pub mod MessageReading
 pub mod Numbers
+pub mod SigningReads

@@ -12,7 +12,7 @@ use Rattle.command.specs.Trace.{Happening, ReadsOnce, nothing_known}
 use Rattle.command.specs.Verify.{AnswerLeaves}
 use Rattle.command.specs.declared.refusal.Refusal.{Refusal}
 use Rattle.command.specs.declared.refusal.Refusal.TheVariants.{Key, Signature, OutOfMemory, FileFailed}
-use Rattle.command.specs.declared.refusal.Refusal.TheVariants.{Signer, Opening, Preparing, Locked}
+use Rattle.command.specs.declared.refusal.Refusal.TheVariants.{Signer, Opening, Preparing, Locked, BadName, BadSpec}
 use Rattle.command.specs.declared.trace.Role.{Role}
 
 -- a key that can't be read leaves the message
@@ -75,6 +75,8 @@ answer-carried step remaining other left public text old new before after (Err (
 answer-carried step remaining other left public text old new before after (Err (Opening fault)) to never = absurd never
 answer-carried step remaining other left public text old new before after (Err (Preparing fault)) to never = absurd never
 answer-carried step remaining other left public text old new before after (Err Locked) to never = absurd never
+answer-carried step remaining other left public text old new before after (Err BadName) to never = absurd never
+answer-carried step remaining other left public text old new before after (Err BadSpec) to never = absurd never
 
 -- ---- from the message to its file
 
@@ -127,7 +129,7 @@ noted-message step remaining role_of trace_of notes public text old new answer =
 -- ---- what no read changes
 
 -- none of them does
-stays : {M X : Type 0} (step : Transition M) (part : M → X) → ((old : M) (outcome : ReadOutcome) (new : M) → step old outcome new → part new ≡ part old)
+pub stays : {M X : Type 0} (step : Transition M) (part : M → X) → ((old : M) (outcome : ReadOutcome) (new : M) → step old outcome new → part new ≡ part old)
     → (outcomes : List ReadOutcome) (old new : M) → Transitions step outcomes old new → part new ≡ part old
 stays step part kept [] old new same = ap part same
 stays step part kept (outcome ∷ later) old new (next, first, reads) =
@@ -169,6 +171,8 @@ answer-ends step remaining public text old new (Err (Signer fault)) never = absu
 answer-ends step remaining public text old new (Err (Opening fault)) never = absurd never
 answer-ends step remaining public text old new (Err (Preparing fault)) never = absurd never
 answer-ends step remaining public text old new (Err Locked) never = absurd never
+answer-ends step remaining public text old new (Err BadName) never = absurd never
+answer-ends step remaining public text old new (Err BadSpec) never = absurd never
 
 ends-stays : {M X : Type 0} (step : Transition M) (remaining : M → Option (List ℕ)) (part : M → X)
     → ((old : M) (outcome : ReadOutcome) (new : M) → step old outcome new → part new ≡ part old)

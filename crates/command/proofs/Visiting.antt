@@ -1,11 +1,12 @@
 -- Files that are opened and read in turn.
 use Rattle.std.proofs.Common.{◌≡◌, ◌∙◌, ℕ, List, [], ◌∷◌, ◌++◌, Option, Result, Ok, Err, IsErrAnd, inl, inr, ap, subst, append_assoc}
+use Rattle.sign_core.specs.declared.source.Source as source
 use Rattle.state_file.specs.declared.disk.Disk as disk
 use Rattle.state_file.specs.declared.store.Store as store
 use Rattle.state_file.specs.declared.store.file_store.FileStore.{FileStore}
 use Rattle.command.specs.declared.answer.Done.{Done}
 use Rattle.command.specs.Verify.{AnswersOf, FailsToOpen, OpensInTurn, ReadsInTurn, Verifies, all_opened}
-use Rattle.command.specs.Files.{Shows}
+use Rattle.command.specs.Files.{FilesSeen, Shows}
 use Rattle.command.specs.Line.{Serves, Task}
 use Rattle.command.specs.Trace.{Happening}
 use Rattle.command.specs.declared.refusal.Refusal.{Refusal}
@@ -47,7 +48,7 @@ verifies_opened content p m s p_left m_left s_left p_role s_role m_role answer o
 )
 
 -- one task is served as another that is the same
-pub serves_same : {K : Type 0} {bound : _} (d : disk.Ghosts K) (g : store.Ghosts (FileStore K bound)) (content : List ℕ → Option (List ℕ))
-    (answer : Result Done Refusal) (old new : List Happening) (task other : Task) → task ≡ other → Serves d g content task answer old new
-    → Serves d g content other answer old new
-serves_same d g content answer old new task other same serves = subst (λ t. Serves d g content t answer old new) same serves
+pub serves_same : {K R : Type 0} {bound : _} (d : disk.Ghosts K) (g : store.Ghosts (FileStore K bound)) (r : source.Ghosts R) (files : FilesSeen K)
+    (answer : Result Done Refusal) (old new : List Happening) (task other : Task) → task ≡ other → Serves d g r files task answer old new
+    → Serves d g r files other answer old new
+serves_same d g r files answer old new task other same serves = subst (λ t. Serves d g r files t answer old new) same serves

@@ -8,8 +8,10 @@ use Rattle.clap.specs.Faults.{turn_fault, step_fault, word_fault, walk_fault, se
 use Rattle.clap.specs.Kinds.{Kinds, or_else}
 use Rattle.clap.specs.Words.{Rule, Text, is_simple, subcommand_of, fault_of, is_simple_and_free}
 use Rattle.clap.proofs.OnLiterals.{clap_on_literals}
-use Rattle.command.specs.Line.{ArePlainWords, GivesValues, IsCommandLine, IsLineOf, IsPlainWord, Task, hbsign_app, retire, retire_number, retire_task, task_found, verify}
+use Rattle.command.specs.Line.{ArePlainWords, GivesValues, IsCommandLine, IsLineOf, IsPlainWord, Task, hbsign_app, make, retire, retire_number, retire_task, sign, task_found, verify}
+use Rattle.command.specs.Make.{make_app}
 use Rattle.command.specs.Retire.{retire_app}
+use Rattle.command.specs.Sign.{sign_app}
 use Rattle.command.specs.Verify.{verify_app}
 
 -- the program is one whose matches and faults `clap` gives
@@ -317,6 +319,22 @@ retire_found : (state upto : Text)
     → task_found (Some (codes "retire", finished retire_shape.rules (retire_2 state upto))) ≡ retire_task (Some state) (Some upto)
 retire_found state upto = refl
 
+-- ---- make and sign
+
+abbrev pub make_shape : Shape
+make_shape = built_leaf (inherited (with_leaf_noted (marked_built hbsign_app.top)) make_app.top)
+
+pub enters_make : Enters (codes "make") make_shape
+unfolding clap_on_literals
+enters_make = record { step = refl; well = refl; rows = λ words. refl; fault = λ words. refl }
+
+abbrev pub sign_shape : Shape
+sign_shape = built_leaf (inherited (with_leaf_noted (marked_built hbsign_app.top)) sign_app.top)
+
+pub enters_sign : Enters (codes "sign") sign_shape
+unfolding clap_on_literals
+enters_sign = record { step = refl; well = refl; rows = λ words. refl; fault = λ words. refl }
+
 -- ---- every line of a task
 
 -- A line `verify` has no fault, and this task,
@@ -338,6 +356,8 @@ finds_retire words state upto line =
 -- So the line of a task has no fault, and the task is found in it.
 pub finds_task : (words : List Text) (task : Task) → IsLineOf words task
     → (fault_of hbsign_app words ≡ []) × (task_found (subcommand_of hbsign_app words) ≡ Ok task)
+finds_task words (make state public spec random) found = found
+finds_task words (sign state name message out random) found = found
 finds_task words (verify p m s) line = finds_verify words p m s line
 finds_task words (retire state upto) (text, spells, line) =
     let (none, found) = finds_retire words state text line in (none, found ∙ ap (retire_number state) spells)

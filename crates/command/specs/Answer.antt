@@ -3,9 +3,10 @@ use Rattle.std.proofs.Common.{arith, ap, sym, refl, inl, inr, ◌∙◌}
 use Rattle.std.proofs.lemmas.Bool.{false≢true, or_right}
 use Rattle.std.specs.Prelude.{ℕ, List, [], ◌∷◌, codes, decimal, ◌++◌, Result, Ok, Err, ◌≡◌, ◌⊎◌, true}
 use Rattle.command.specs.declared.answer.Done.{Done}
-use Rattle.command.specs.declared.answer.Done.TheVariants.{Retired, Verified}
+use Rattle.command.specs.declared.answer.Done.TheVariants.{Made, Retired, Signed, Verified}
+use Rattle.hex.specs.Hex.{encode_lower}
 use Rattle.command.specs.declared.refusal.Refusal.{Refusal}
-use Rattle.command.specs.declared.refusal.Refusal.TheVariants.{Signature, OutOfMemory, FileFailed}
+use Rattle.command.specs.declared.refusal.Refusal.TheVariants.{Signature, OutOfMemory, FileFailed, BadName, BadSpec}
 use Rattle.command.specs.declared.refusal.Refusal.TheVariants.{Signer, Opening, Preparing}
 use Rattle.sign_core.specs.declared.fault.SignFault.TheVariants as sign
 use Rattle.state_file.specs.declared.file.opening.OpenFault.TheVariants as opening
@@ -18,15 +19,19 @@ use Rattle.command.specs.Output.{Taken, Writes, Fails}
 abbrev pub done_line : Done → List ℕ
 done_line Verified = codes "verified"
 done_line (Retired upto) = codes "retired upto " ++ decimal upto
+done_line (Made public) = codes "public " ++ encode_lower public.items
+done_line (Signed name size) = codes "signed " ++ name ++ codes " " ++ decimal size ++ codes " bytes"
 
 -- the line with its end
 abbrev pub answer_line : Result Done Refusal → List ℕ
 answer_line (Ok done) = done_line done ++ codes "\n"
 answer_line (Err refusal) = refusal_line refusal ++ codes "\n"
 
--- 0 for what is done, 3 where the machine fails, and 1 for every other refusal
+-- 0 for what is done, 2 for a name or a spec that is refused, 3 where the machine fails, and 1 for every other refusal
 abbrev pub status_of : Result Done Refusal → ℕ
 status_of (Ok done) = 0
+status_of (Err BadName) = 2
+status_of (Err BadSpec) = 2
 status_of (Err OutOfMemory) = 3
 status_of (Err FileFailed) = 3
 status_of (Err (Signature MessageRead)) = 3
@@ -40,6 +45,10 @@ status_of (Err (Signer sign.DeviceFailed)) = 3
 status_of (Err (Signer sign.NoMemoryToOpen)) = 3
 status_of (Err _) = 1
 
+-- It was refused as a word of the line: a name, or a spec.
+abbrev pub IsOfWord : Result Done Refusal → Type 0
+IsOfWord answer = (answer ≡ Err BadName) ⊎ (answer ≡ Err BadSpec)
+
 -- The answer was reported: its line was written, and the status is its own; or the output failed, and the status
 -- is 3. What an output has taken stands before and after.
 abbrev pub Reports : Result Done Refusal → Taken → Taken → ℕ → Type 0
@@ -50,6 +59,8 @@ Reports answer old new status =
 pub line_is_lower : (answer : Result Done Refusal) → BeginsWithCapital (answer_line answer) → ⊥
 line_is_lower (Ok Verified) capital = omega (arith, capital)
 line_is_lower (Ok (Retired upto)) capital = omega (arith, capital)
+line_is_lower (Ok (Made public)) capital = omega (arith, capital)
+line_is_lower (Ok (Signed name size)) capital = omega (arith, capital)
 line_is_lower (Err refusal) capital = omega (arith, capital)
 
 -- A text that begins with an answer's line has a line that begins with a lowercase letter,
@@ -58,6 +69,8 @@ line_is_lowercase : (answer : Result Done Refusal) (after : List ℕ)
 unfolding has_lowercase_line
 line_is_lowercase (Ok Verified) after = refl
 line_is_lowercase (Ok (Retired upto)) after = refl
+line_is_lowercase (Ok (Made public)) after = refl
+line_is_lowercase (Ok (Signed name size)) after = refl
 line_is_lowercase (Err refusal) after = refl
 
 -- and so has one in which this stands after a line's end.

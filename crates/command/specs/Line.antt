@@ -2,21 +2,25 @@
 use Rattle.std.specs.Prelude.{true, codes, ◌≢◌, ⊤, ℕ, List, [], ◌∷◌, ◌≡◌}
 use Rattle.std.specs.Prelude.{◌⊎◌, ◌++◌, Option, Some, None, Result, Ok, Err, if◌then◌else◌}
 use Rattle.std.specs.Str.{IsUtf8, bytes_eq}
-use Rattle.clap.specs.Words.{App, new_app, with_subcommand, Text, Row, first_of}
+use Rattle.clap.specs.Words.{App, new_app, with_subcommand, Text, Row, fault_of, first_of, subcommand_of}
 use Rattle.clap.specs.declared.error.kind.ErrorKind.{ErrorKind}
 use Rattle.clap.specs.declared.error.kind.ErrorKind.TheVariants as kind
+use Rattle.sign_core.specs.declared.source.Source as source
 use Rattle.state_file.specs.declared.disk.Disk as disk
 use Rattle.state_file.specs.declared.store.Store as store
 use Rattle.state_file.specs.declared.store.file_store.FileStore.{FileStore}
 use Rattle.command.specs.declared.line.Lack.{Lack}
 use Rattle.command.specs.declared.line.Lack.TheVariants.{Command, Number}
 use Rattle.command.specs.declared.line.Request.{Request}
-use Rattle.command.specs.declared.line.Request.TheVariants.{Verify, Retire}
+use Rattle.command.specs.declared.line.Request.TheVariants.{Make, Sign, Verify, Retire}
 use Rattle.command.specs.declared.answer.Done.{Done}
 use Rattle.command.specs.declared.refusal.Refusal.{Refusal}
+use Rattle.command.specs.Files.{FilesSeen}
+use Rattle.command.specs.Make.{MakesIn, make_app}
 use Rattle.command.specs.Number.{number_in}
 use Rattle.command.specs.Verify.{verify_app, Verifies}
 use Rattle.command.specs.Retire.{RetiresIn, most_leaves, retire_app}
+use Rattle.command.specs.Sign.{SignsIn, sign_app}
 use Rattle.command.specs.Trace.{Happening}
 
 -- the program, before its commands
@@ -32,7 +36,8 @@ bare_app = record (new_app (codes "hbsign")) {
 
 -- the program
 abbrev pub hbsign_app : App
-hbsign_app = with_subcommand (with_subcommand bare_app verify_app.top) retire_app.top
+hbsign_app = with_subcommand (with_subcommand (with_subcommand (with_subcommand bare_app make_app.top) sign_app.top)
+    verify_app.top) retire_app.top
 
 -- ---- the words of a line
 
@@ -67,18 +72,16 @@ IsCommandLine words name values = (after : List (List ℕ)) × (words ≡ name �
 
 -- a command, and what its words name
 pub data Task : Type 0 where
+  make : (state public spec random : List ℕ) → Task
+  sign : (state name message out random : List ℕ) → Task
   verify : (public message signature : List ℕ) → Task
   retire : (state : List ℕ) (upto : ℕ) → Task
 
--- the line of a task: `verify PUBLIC MESSAGE SIGNATURE`, or `retire STATE UPTO`
-abbrev pub IsLineOf : List (List ℕ) → Task → Type 0
-IsLineOf words (verify public message signature) =
-    IsCommandLine words (codes "verify") (public ∷ message ∷ signature ∷ [])
-IsLineOf words (retire state upto) = (text : List ℕ) × (number_in most_leaves text ≡ Some upto)
-    × IsCommandLine words (codes "retire") (state ∷ text ∷ [])
-
 -- what a request is
 abbrev pub task_of : Request → Task
+task_of (Make words) = make words.state.now words.public.now words.spec.now words.random.now
+task_of (Sign words) =
+    sign words.state.now words.name.now words.message.now words.out.now words.random.now
 task_of (Verify files) = verify files.public.now files.message.now files.signature.now
 task_of (Retire words) = retire words.state.now words.upto
 
@@ -89,7 +92,17 @@ task_or_lack (Err lack) = Err lack
 
 -- ---- what `clap` finds in a line
 
--- the task of `verify`, by the values of its words
+-- the task of `make`, by the values of its words
+abbrev pub make_task : (state public spec random : Option Text) → Result Task Lack
+make_task (Some state) (Some public) (Some spec) (Some random) = Ok (make state public spec random)
+make_task _ _ _ _ = Err Command
+
+-- that of `sign`
+abbrev pub sign_task : (state name message out random : Option Text) → Result Task Lack
+sign_task (Some state) (Some name) (Some message) (Some out) (Some random) = Ok (sign state name message out random)
+sign_task _ _ _ _ _ = Err Command
+
+-- that of `verify`
 abbrev pub verify_task : Option Text → Option Text → Option Text → Result Task Lack
 verify_task (Some public) (Some message) (Some signature) = Ok (verify public message signature)
 verify_task _ _ _ = Err Command
@@ -106,17 +119,37 @@ retire_task _ _ = Err Command
 -- the task of a command's name and the rows of its values
 abbrev pub task_named : Text → List Row → Result Task Lack
 task_named name rows =
-    if bytes_eq name (codes "verify")
+    if bytes_eq name (codes "make")
+    then make_task (first_of (codes "STATE") rows) (first_of (codes "PUBLIC") rows) (first_of (codes "SPEC") rows)
+    (first_of (codes "random") rows)
+    else (if bytes_eq name (codes "sign")
+    then sign_task (first_of (codes "STATE") rows) (first_of (codes "NAME") rows) (first_of (codes "MESSAGE") rows)
+    (first_of (codes "OUT") rows) (first_of (codes "random") rows)
+    else (if bytes_eq name (codes "verify")
     then verify_task (first_of (codes "PUBLIC") rows) (first_of (codes "MESSAGE") rows)
     (first_of (codes "SIGNATURE") rows)
     else (if bytes_eq name (codes "retire")
     then retire_task (first_of (codes "STATE") rows) (first_of (codes "UPTO") rows)
-    else Err Command)
+    else Err Command)))
 
 -- the task of the command that was found, if one was
 abbrev pub task_found : Option (Text × List Row) → Result Task Lack
 task_found None = Err Command
 task_found (Some (name, rows)) = task_named name rows
+
+-- In these words `clap` finds nothing wrong, and this task.
+abbrev pub Finds : List (List ℕ) → Task → Type 0
+Finds words task = (fault_of hbsign_app words ≡ []) × (task_found (subcommand_of hbsign_app words) ≡ Ok task)
+
+-- The line of a task: `verify PUBLIC MESSAGE SIGNATURE`, or `retire STATE UPTO`; and of `make` and `sign`, which have an
+-- option, each in which `clap` finds it.
+abbrev pub IsLineOf : List (List ℕ) → Task → Type 0
+IsLineOf words (make state public spec random) = Finds words (make state public spec random)
+IsLineOf words (sign state name message out random) = Finds words (sign state name message out random)
+IsLineOf words (verify public message signature) =
+    IsCommandLine words (codes "verify") (public ∷ message ∷ signature ∷ [])
+IsLineOf words (retire state upto) = (text : List ℕ) × (number_in most_leaves text ≡ Some upto)
+    × IsCommandLine words (codes "retire") (state ∷ text ∷ [])
 
 -- the kind of error that a lack is
 abbrev pub lack_kind : Lack → ErrorKind
@@ -126,8 +159,12 @@ lack_kind Number = kind.ValueValidation
 -- ---- how a task is served
 
 -- A task is served so.
-abbrev pub Serves : {K : Type 0} {bound : _} → disk.Ghosts K → store.Ghosts (FileStore K bound) → (Text → Option Text)
-    → Task → Result Done Refusal → List Happening → List Happening → Type 0
-Serves d g content (verify public message signature) answer old new =
-    Verifies content public message signature answer old new
-Serves d g content (retire state upto) answer old new = RetiresIn d g state upto answer old new
+abbrev pub Serves : {K R : Type 0} {bound : _} → disk.Ghosts K → store.Ghosts (FileStore K bound) → source.Ghosts R
+    → FilesSeen K → Task → Result Done Refusal → List Happening → List Happening → Type 0
+Serves d g r files (make state public spec random) answer old new =
+    MakesIn d g r files state public spec random answer old new
+Serves d g r files (sign state name message out random) answer old new =
+    SignsIn d g r files state name message out random answer old new
+Serves d g r files (verify public message signature) answer old new =
+    Verifies files.content public message signature answer old new
+Serves d g r files (retire state upto) answer old new = RetiresIn d g files state upto answer old new

@@ -3,12 +3,15 @@ use Rattle.std.specs.Prelude.{ℕ, List, [], Option, ◌≡◌, ◌+◌, ◌++�
 use Rattle.std.specs.List.{fold}
 use Rattle.std.specs.Io.KnownBytes.{Appends}
 use Rattle.command.specs.declared.output.Part.{Part}
-use Rattle.command.specs.declared.output.Part.TheVariants.{Text, Number}
+use Rattle.command.specs.declared.output.Part.TheVariants.{Text, Number, Bytes, Hex}
+use Rattle.hex.specs.Hex.{encode_lower}
 
 -- the text of a part
 abbrev pub part_text : Part → List ℕ
 part_text (Text text) = text.now
 part_text (Number number) = decimal number
+part_text (Bytes bytes) = bytes.now
+part_text (Hex bytes) = encode_lower bytes.now
 
 -- the text of parts, one after another
 abbrev pub text_of : List Part → List ℕ

@@ -1,5 +1,6 @@
 -- What a run of the program does: what it prints, and what it does to files.
 use Rattle.std.specs.Prelude.{ℕ, List, Option, Result, ◌≡◌, ◌⊎◌, codes, ◌<◌, length, Err, [], string_bytes}
+use Rattle.sign_core.specs.declared.source.Source as source
 use Rattle.state_file.specs.declared.disk.Disk as disk
 use Rattle.state_file.specs.declared.store.Store as store
 use Rattle.state_file.specs.declared.store.file_store.FileStore.{FileStore}
@@ -8,17 +9,18 @@ use Rattle.command.specs.declared.answer.Done.{Done}
 use Rattle.command.specs.declared.line_fault.LineFault.{LineFault}
 use Rattle.command.specs.declared.line_fault.LineFault.TheVariants as fault
 use Rattle.command.specs.declared.refusal.Refusal.TheVariants.{OutOfMemory}
+use Rattle.command.specs.Files.{FilesSeen}
 use Rattle.command.specs.Line.{AreTexts, IsLineOf, Serves, Task}
 use Rattle.command.specs.LineFault.{HasLineFault, HasText, line_faults}
-use Rattle.command.specs.Answer.{Reports}
+use Rattle.command.specs.Answer.{IsOfWord, Reports, answer_line}
 use Rattle.command.specs.Output.{Taken, Writes, Fails}
 use Rattle.command.specs.Trace.{Happening}
 
 -- A task is served, and the answer reported.
-abbrev pub ReportsTask : {K : Type 0} {bound : _} → disk.Ghosts K → store.Ghosts (FileStore K bound)
-    → (List ℕ → Option (List ℕ)) → Task → List Happening → List Happening → Taken → Taken → ℕ → Type 0
-ReportsTask d g content task before after old new status =
-    (answer : Result Done Refusal) × Serves d g content task answer before after × Reports answer old new status
+abbrev pub ReportsTask : {K R : Type 0} {bound : _} → disk.Ghosts K → store.Ghosts (FileStore K bound)
+    → source.Ghosts R → FilesSeen K → Task → List Happening → List Happening → Taken → Taken → ℕ → Type 0
+ReportsTask d g r files task before after old new status =
+    (answer : Result Done Refusal) × Serves d g r files task answer before after × Reports answer old new status
 
 -- A text that was requested was written, with status 0, or the output failed.
 abbrev pub Helps : List ℕ → Taken → Taken → ℕ → Type 0
@@ -33,8 +35,18 @@ abbrev pub Says : Taken → Taken → Type 0
 Says old new = ((text : List ℕ) × (0 < length text) × Writes text old new) ⊎ Fails old new
 
 -- A line was refused: nothing is on the output, and a text on the output for errors, or this failed.
+abbrev pub RefusesLine : Taken → Taken → Taken → Taken → Type 0
+RefusesLine old new errors_old errors_new = (new ≡ old) × Says errors_old errors_new
+
+-- A word of the line, a name or a spec, was refused: this answer's line is on the output, and nothing on that for errors.
+abbrev pub RefusesWord : Taken → Taken → Taken → Taken → Type 0
+RefusesWord old new errors_old errors_new =
+    (answer : Result Done Refusal) × IsOfWord answer × Writes (answer_line answer) old new × (errors_new ≡ errors_old)
+
+-- A line or a word of it was refused.
 abbrev pub Refuses : Taken → Taken → Taken → Taken → Type 0
-Refuses old new errors_old errors_new = (new ≡ old) × Says errors_old errors_new
+Refuses old new errors_old errors_new =
+    RefusesLine old new errors_old errors_new ⊎ RefusesWord old new errors_old errors_new
 
 -- What comes of a line with this fault: the text of help, the version, nothing on the output and status 2, or the
 -- answer that there is no memory.
@@ -57,16 +69,16 @@ ReportsNoMemory refused before after old new status =
 -- What a run of the program on these words does to files and the output: of words without a fault it serves some task,
 -- and where the words are texts, they are a line of this task; of others it does what their fault requests, and opens no
 -- file; or there is no memory.
-abbrev pub Runs : {K : Type 0} {bound : _} → disk.Ghosts K → store.Ghosts (FileStore K bound) → List (List ℕ)
-    → (List ℕ → Option (List ℕ)) → Type 0 → List Happening → List Happening → Taken → Taken → ℕ → Type 0
-Runs d g words content refused before after old new status =
+abbrev pub Runs : {K R : Type 0} {bound : _} → disk.Ghosts K → store.Ghosts (FileStore K bound) → source.Ghosts R
+    → List (List ℕ) → FilesSeen K → Type 0 → List Happening → List Happening → Taken → Taken → ℕ → Type 0
+Runs d g r words files refused before after old new status =
     ((line_faults words ≡ []) × ((task : Task) × (AreTexts words → IsLineOf words task)
-    × ReportsTask d g content task before after old new status))
+    × ReportsTask d g r files task before after old new status))
     ⊎ ((after ≡ before) × ExplainsLine words old new status)
     ⊎ ReportsNoMemory refused before after old new status
 
 -- Of a line of a task it serves the task, unless there is no memory.
-abbrev pub RunsTask : {K : Type 0} {bound : _} → disk.Ghosts K → store.Ghosts (FileStore K bound)
-    → (List ℕ → Option (List ℕ)) → Task → Type 0 → List Happening → List Happening → Taken → Taken → ℕ → Type 0
-RunsTask d g content task refused before after old new status =
-    ReportsTask d g content task before after old new status ⊎ ReportsNoMemory refused before after old new status
+abbrev pub RunsTask : {K R : Type 0} {bound : _} → disk.Ghosts K → store.Ghosts (FileStore K bound)
+    → source.Ghosts R → FilesSeen K → Task → Type 0 → List Happening → List Happening → Taken → Taken → ℕ → Type 0
+RunsTask d g r files task refused before after old new status =
+    ReportsTask d g r files task before after old new status ⊎ ReportsNoMemory refused before after old new status

@@ -3,7 +3,7 @@ use Rattle.std.specs.declared.io.ErrorKind.{ErrorKind}
 use Rattle.std.specs.declared.io.ErrorKind.TheVariants as kind
 use Rattle.command.specs.declared.refusal.Refusal.{Refusal}
 use Rattle.command.specs.declared.refusal.Refusal.TheVariants.{OutOfMemory, FileFailed, Key, Signature}
-use Rattle.command.specs.declared.refusal.Refusal.TheVariants.{Signer, Opening, Preparing, Locked}
+use Rattle.command.specs.declared.refusal.Refusal.TheVariants.{Signer, Opening, Preparing, Locked, BadName, BadSpec}
 use Rattle.sign_core.specs.declared.fault.SignFault.{SignFault}
 use Rattle.sign_core.specs.declared.fault.SignFault.TheVariants as sign
 use Rattle.state_file.specs.declared.file.opening.OpenFault.{OpenFault}
@@ -103,6 +103,8 @@ number_of (Preparing fault) = format_number_of fault
 number_of OutOfMemory = 46
 number_of FileFailed = 53
 number_of Locked = 54
+number_of BadName = 34
+number_of BadSpec = 51
 
 -- the name of a fault
 abbrev pub fault_name_of : Cause → List ℕ
@@ -127,6 +129,8 @@ name_of (Preparing fault) = format_name_of fault
 name_of OutOfMemory = codes "OutOfMemory"
 name_of FileFailed = codes "FileFailed"
 name_of Locked = codes "Locked"
+name_of BadName = codes "BadName"
+name_of BadSpec = codes "BadSpec"
 
 -- what follows the name: where, of what length, at which level or in which slot
 abbrev pub detail_of : Refusal → List ℕ

@@ -11,11 +11,12 @@ use Rattle.command.specs.declared.line.Lack.TheVariants.{Command, Number}
 use Rattle.command.specs.declared.refusal.Refusal.{Refusal}
 use Rattle.command.specs.declared.retire.Retire.{Retire}
 use Rattle.command.specs.declared.trace.Role.TheVariants as role
+use Rattle.command.specs.Argument.{required_rule}
 use Rattle.command.specs.FileDisk.{IsStateRefusal}
+use Rattle.command.specs.Files.{FilesSeen}
 use Rattle.command.specs.KeyFile.{RetiresOn}
 use Rattle.command.specs.Number.{number_in}
-use Rattle.command.specs.Trace.{Happening, not_opened, opened}
-use Rattle.command.specs.Verify.{required_rule}
+use Rattle.command.specs.Trace.{Happening, opened, opening_state}
 
 -- the command
 abbrev pub retire_app : App
@@ -39,12 +40,13 @@ abbrev pub retire_answer : ℕ → Result Unit Refusal → Result Done Refusal
 retire_answer upto (Ok _) = Ok (Retired upto)
 retire_answer upto (Err refusal) = Err refusal
 
--- The state file at this path couldn't be opened, or is locked, which is reported. Or it was opened, on its disk the
--- leaves were retired, and what came of it is the answer. No other file was opened.
-abbrev pub RetiresIn : {K : Type 0} {bound : _} → disk.Ghosts K → store.Ghosts (FileStore K bound) → (state : List ℕ)
-    → (upto : ℕ) → Result Done Refusal → (old new : List Happening) → Type 0
-RetiresIn {K} d g state upto answer old new =
+-- The state file at this path couldn't be opened, or is locked, which is reported. Or it was opened; on the disk that
+-- this gave the leaves were retired, once, and it was closed; what came of it is the answer. No other file was opened.
+abbrev pub RetiresIn : {K : Type 0} {bound : _} → disk.Ghosts K → store.Ghosts (FileStore K bound) → FilesSeen K
+    → (state : List ℕ) → (upto : ℕ) → Result Done Refusal → (old new : List Happening) → Type 0
+RetiresIn {K} d g files state upto answer old new =
     ((refusal : Refusal) × IsStateRefusal refusal × (answer ≡ Err refusal)
-    × (new ≡ old ++ not_opened role.State state ∷ []))
-    ⊎ ((before after : K) × (retired : Result Unit Refusal) × RetiresOn d g before after upto retired
+    × (new ≡ old ++ opening_state {A = K} state (Err refusal) ∷ []))
+    ⊎ ((before after : K) × (retired : Result Unit Refusal) × files.IsOpened before
+    × RetiresOn d g before after upto retired × files.IsClosed after
     × (answer ≡ retire_answer upto retired) × (new ≡ old ++ opened role.State state ∷ []))

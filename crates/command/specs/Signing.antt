@@ -1,14 +1,13 @@
 -- What a command does with a signer: a step of the signer first, and only after its Ok a file is written.
 use Rattle.std.specs.Prelude.{ℕ, List, ◌≡◌, [], ◌∷◌, ◌++◌, length, Result, Ok, Err, Option, Some}
-use Rattle.typecodes.specs.declared.message.Message as message
+use Rattle.arrayvec.specs.ArrayVec.{ArrayVec}
 use Rattle.state_file.specs.declared.record.Key.{Key}
 use Rattle.state_file.specs.declared.store.Store as store
 use Rattle.sign_core.specs.declared.fault.SignFault.{SignFault}
 use Rattle.sign_core.specs.declared.key.AnyPublic.{AnyPublic}
-use Rattle.sign_core.specs.declared.source.Source as source
 use Rattle.sign_core.specs.Key.{SpellsKey}
 use Rattle.sign_core.specs.Once.{public_of_key}
-use Rattle.sign_core.specs.Signer.{Retires, Signs, View}
+use Rattle.sign_core.specs.Signer.{Retires, View}
 use Rattle.command.specs.declared.refusal.Refusal.{Refusal}
 use Rattle.command.specs.declared.refusal.Refusal.TheVariants.{FileFailed, Signer}
 use Rattle.command.specs.declared.trace.Role.TheVariants as role
@@ -24,18 +23,16 @@ Delivers (Ok signature) path old new (Ok size) =
 Delivers (Ok signature) path old new (Err refusal) =
     (refusal ≡ FileFailed) × (new ≡ old ++ not_written role.Signature path ∷ [])
 
--- The signer made a step of signing this name's message, and what it answered was delivered.
-abbrev pub SignsInto : {S R M : Type 0} → store.Ghosts S → source.Ghosts R → message.Ghosts M → (old new : View S R)
-    → (name : List ℕ) → (before after : M) → (capacity : ℕ) → (path : List ℕ) → (was now : List Happening)
-    → Result ℕ Refusal → Type 0
-SignsInto g r m old new name before after capacity path was now answer =
-    (signed : Result (List ℕ) SignFault) × Signs g r m old new name before after capacity signed
-    × Delivers signed path was now answer
+-- the bytes of a public key, 56 to 68
+abbrev pub PublicBytes : Type 0
+PublicBytes = ArrayVec ℕ
 
--- A public key was written to its file, as its spelling and nothing else; or the file can't be written.
-abbrev pub Publishes : Option Key → (path : List ℕ) → (old new : List Happening) → Result AnyPublic Refusal → Type 0
-Publishes key path old new (Ok public) = (public_of_key key ≡ Some public)
-    × ((bytes : List ℕ) × SpellsKey public bytes × (new ≡ old ++ written role.Public path bytes ∷ []))
+-- A public key was written to its file, as its spelling and nothing else, which is the answer; or the file can't be
+-- written.
+abbrev pub Publishes : Option Key → (path : List ℕ) → (old new : List Happening) → Result PublicBytes Refusal → Type 0
+Publishes key path old new (Ok bytes) =
+    ((public : AnyPublic) × (public_of_key key ≡ Some public) × SpellsKey public bytes.items)
+    × (new ≡ old ++ written role.Public path bytes.items ∷ [])
 Publishes key path old new (Err refusal) =
     (refusal ≡ FileFailed) × (new ≡ old ++ not_written role.Public path ∷ [])
 

@@ -1,14 +1,17 @@
 -- What happens to files.
 use Rattle.std.specs.Prelude.{ℕ, List, ◌≡◌, ◌+◌, [], ◌∷◌, ◌++◌, ◌≢◌, ◌≤◌, ◌^◌, length, Result, Ok, Err, Option, None}
 use Rattle.std.specs.declared.io.ErrorKind.{ErrorKind}
+use Rattle.command.specs.declared.refusal.Refusal.{Refusal}
+use Rattle.command.specs.declared.refusal.Refusal.TheVariants.{Locked}
 use Rattle.command.specs.declared.trace.Role.{Role}
+use Rattle.command.specs.declared.trace.Role.TheVariants.{State}
 use Rattle.command.specs.declared.trace.Event.{Event}
 use Rattle.command.specs.declared.trace.Event.TheVariants as event
 use Rattle.std.specs.declared.io.ErrorKind.TheVariants.{Interrupted}
 use Rattle.typecodes.specs.Message.{Gave, GivesText, GivesAll, ReadOutcome, Transitions, Transition, interruptions}
 
 -- A file was opened by this path, or couldn't be; a state file was opened, and was made where there was none, or
--- couldn't be; a read of a file gave these bytes, or failed. Of a file that is read and written at offsets: its length
+-- couldn't be; a state file is locked by another; a read of a file gave these bytes, or failed. Of a file that is read and written at offsets: its length
 -- was asked for; a read at an offset, for so many bytes, gave these; a write of bytes at an offset took these, which
 -- are the first of them; it was synced. Of a file that is to be written: it is none of those that were opened, and
 -- nothing is known by which it can't be written, or this isn't so; it has these bytes and no others, or couldn't be
@@ -18,6 +21,7 @@ pub data Happening : Type 0 where
   not_opened : Role → List ℕ → Happening
   made : List ℕ → Happening
   not_made : List ℕ → Happening
+  locked : List ℕ → Happening
   given : Role → List ℕ → Happening
   failed : Role → ErrorKind → Happening
   measured : Result ℕ ErrorKind → Happening
@@ -34,6 +38,7 @@ happening_of (event.Opened role path) = opened role path.now
 happening_of (event.NotOpened role path) = not_opened role path.now
 happening_of (event.Made path) = made path.now
 happening_of (event.NotMade path) = not_made path.now
+happening_of (event.Locked path) = locked path.now
 happening_of (event.Given role bytes) = given role bytes.now
 happening_of (event.Failed role kind) = failed role kind
 happening_of (event.Measured length) = measured length
@@ -52,10 +57,17 @@ abbrev pub opening : {A E : Type 0} → Role → List ℕ → Result A E → Hap
 opening role path (Ok file) = opened role path
 opening role path (Err error) = not_opened role path
 
+-- what a call that opens a state file does to it
+abbrev pub opening_state : {A : Type 0} → List ℕ → Result A Refusal → Happening
+opening_state path (Ok file) = opened State path
+opening_state path (Err Locked) = locked path
+opening_state path (Err _) = not_opened State path
+
 -- what a call that opens a state file, or makes it, does to it
-abbrev pub making : {A E : Type 0} → List ℕ → Result A E → Happening
+abbrev pub making : {A : Type 0} → List ℕ → Result A Refusal → Happening
 making path (Ok file) = made path
-making path (Err error) = not_made path
+making path (Err Locked) = locked path
+making path (Err _) = not_made path
 
 -- what a call that asks whether a file may be written does
 abbrev pub checking : {A E : Type 0} → Role → (path : List ℕ) → Result A E → Happening

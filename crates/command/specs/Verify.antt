@@ -1,22 +1,19 @@
 -- What `verify` answers to three files: the judgement of their bytes, and what it does to the files for it.
 use Rattle.std.specs.Prelude.{[], ◌∷◌, ◌≡◌, ◌⊎◌, ◌++◌, ℕ, true, List, codes, take, Result, Ok, Err, ⊤, Option, IsErrAnd}
-use Rattle.clap.specs.Words.{Rule, new_rule, App, new_app, with_rule}
+use Rattle.clap.specs.Words.{App, new_app, with_rule}
+use Rattle.command.specs.Argument.{required_rule}
 use Rattle.command.specs.declared.trace.Role.TheVariants as role
 use Rattle.sign_core.specs.declared.key.AnyPublic.{AnyPublic}
 use Rattle.sign_core.specs.Key.{KeyHasFault, KeyLeavesMessage, KeyVerdict, SpellsKey}
 use Rattle.command.specs.declared.refusal.Refusal.{Refusal}
 use Rattle.command.specs.declared.refusal.Refusal.TheVariants.{Key, Signature, OutOfMemory, FileFailed}
-use Rattle.command.specs.declared.refusal.Refusal.TheVariants.{Signer, Opening, Preparing, Locked}
+use Rattle.command.specs.declared.refusal.Refusal.TheVariants.{Signer, Opening, Preparing, Locked, BadName, BadSpec}
 use Rattle.std.specs.declared.io.ErrorKind.{ErrorKind}
 use Rattle.command.specs.declared.trace.Role.{Role}
 use Rattle.command.specs.Refusal.{refusal_of}
 use Rattle.command.specs.Files.{FailsToRead, Fills}
 use Rattle.typecodes.specs.Message.{IsContent, Transition}
 use Rattle.command.specs.Trace.{Happening, opened, not_opened, nothing_known, ReadsOnce, ReadsToEnd}
-
--- a word that has to be given
-abbrev pub required_rule : List ℕ → Rule
-required_rule name = record (new_rule name) { required = true }
 
 -- `verify PUBLIC MESSAGE SIGNATURE`
 abbrev pub verify_app : App
@@ -57,6 +54,8 @@ Judgement public message signature (Err (Signer fault)) = ⊥
 Judgement public message signature (Err (Opening fault)) = ⊥
 Judgement public message signature (Err (Preparing fault)) = ⊥
 Judgement public message signature (Err Locked) = ⊥
+Judgement public message signature (Err BadName) = ⊥
+Judgement public message signature (Err BadSpec) = ⊥
 
 -- The same of files: opening or reading one may also fail.
 abbrev pub Answers : {A : Type 0} → List ℕ → List ℕ → List ℕ → Result A Refusal → Type 0
@@ -70,6 +69,8 @@ Answers public message signature (Err (Signer fault)) = ⊥
 Answers public message signature (Err (Opening fault)) = ⊥
 Answers public message signature (Err (Preparing fault)) = ⊥
 Answers public message signature (Err Locked) = ⊥
+Answers public message signature (Err BadName) = ⊥
+Answers public message signature (Err BadSpec) = ⊥
 
 -- Of what is known of three files, this is the answer for some contents that fit: for the contents, where all are
 -- known.
@@ -102,6 +103,8 @@ AnswerLeaves step remaining public text old new (Err (Signer fault)) = ⊥
 AnswerLeaves step remaining public text old new (Err (Opening fault)) = ⊥
 AnswerLeaves step remaining public text old new (Err (Preparing fault)) = ⊥
 AnswerLeaves step remaining public text old new (Err Locked) = ⊥
+AnswerLeaves step remaining public text old new (Err BadName) = ⊥
+AnswerLeaves step remaining public text old new (Err BadSpec) = ⊥
 
 -- The answer is this failure, reported by its number.
 abbrev pub IsRefusalOf : {A : Type 0} → ErrorKind → Result A Refusal → Type 0

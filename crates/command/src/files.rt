@@ -7,7 +7,7 @@ ghost use Rattle.std.specs.declared.option.Option.{Option};
 ghost use Rattle.typecodes.specs.Message.{read_outcome};
 ghost use Rattle.command.specs.Files.{FillsOrFails, ReadsAllOrFails, ReadsKey, Shows};
 ghost use Rattle.command.specs.FileDisk.{IsStateRefusal};
-ghost use Rattle.command.specs.Trace.{ReadsOnce, checking, making, opening, writing};
+ghost use Rattle.command.specs.Trace.{ReadsOnce, checking, making, opening, opening_state, writing};
 ghost use Rattle.command.specs.declared.trace.Role.{Role as FileRole};
 
 use crate::refusal::Refusal;
@@ -76,11 +76,18 @@ pub trait SignerFolder: Folder + Outlet {
     /// The source over a file of random bytes.
     type Random: Source + Drop;
 
+    // this is a disk as opening a state file gives it
+    ghost is_opened: { Self.Disk → Type 0 };
+
+    // the state file that was closed last had this disk
+    ghost is_closed: { Self → Self.Disk → Type 0 };
+
     /// Opens the state file at this very path for reading and writing, and locks it without waiting. It is a regular
     /// file, and is never made.
     fn open_state(&mut self, path: &str) -> Result<Self::Disk, Refusal>
-        ensures trace { Self.trace self.new ≡ Self.trace self.old ++ opening Role.State path.now result ∷ [] }
+        ensures trace { Self.trace self.new ≡ Self.trace self.old ++ opening_state path.now result ∷ [] }
         ensures content { (other : List ℕ) → Self.content self.new other ≡ Self.content self.old other }
+        ensures opened { IfOk result is_opened }
         ensures err { IfErr result IsStateRefusal };
 
     /// The same, but that a file is made where there is none, which its owner alone may read and write, and whose name
@@ -89,7 +96,13 @@ pub trait SignerFolder: Folder + Outlet {
         ensures trace { Self.trace self.new ≡ Self.trace self.old ++ making path.now result ∷ [] }
         ensures content { (other : List ℕ) → other ≢ path.now
             → Self.content self.new other ≡ Self.content self.old other }
+        ensures opened { IfOk result is_opened }
         ensures err { IfErr result IsStateRefusal };
+
+    /// Closes a state file, which frees its lock.
+    fn close_state(&mut self, disk: Self::Disk)
+        ensures trace { Self.trace self.new ≡ Self.trace self.old }
+        ensures closed { is_closed self.new disk };
 
     /// Opens the file of random bytes at this very path. The source gives its bytes from the first on.
     fn open_random(&mut self, path: &str) -> Result<Self::Random, Refusal>

@@ -9,7 +9,9 @@ ghost use Rattle.command.specs.LineFault.{CountsRefusals, HasLineFault, HasText,
 use crate::answer::Answer;
 use crate::files::SignerFolder;
 use crate::line_fault::LineFault;
+use crate::make::Make;
 use crate::retire::Retire;
+use crate::sign::Sign;
 use crate::texts::Texts;
 use crate::verify::Verify;
 use clap::error::ErrorKind;
@@ -22,6 +24,10 @@ use typecodes::Count;
 /// What a line requests.
 #[derive(Clone, Copy, Debug)]
 pub enum Request<'a> {
+    /// To make a key.
+    Make(Make<'a>),
+    /// To sign a message.
+    Sign(Sign<'a>),
     /// To verify a signature.
     Verify(Verify<'a>),
     /// To retire leaves.
@@ -29,14 +35,18 @@ pub enum Request<'a> {
 }
 
 impl<'a> Request<'a> {
+    ghost use Rattle.command.specs.Files.{files_seen};
     ghost use Rattle.command.specs.Line.{Serves, task_of};
 
     /// Does what is requested, and gives the answer.
     pub fn answer<D: SignerFolder>(&self, alloc: Global, folder: &mut D) -> Answer
-        ensures { Serves D.Disk.Disk ⟦<FileStore<D::Disk> as Store>⟧ (D.content folder.old) (task_of self.now) result
+        ensures { Serves D.Disk.Disk ⟦<FileStore<D::Disk> as Store>⟧ D.Random.Source
+            (files_seen (D.content folder.old) D.is_opened (D.is_closed folder.new)) (task_of self.now) result
             (D.trace folder.old) (D.trace folder.new) }
     {
         match self {
+            Request::Make(words) => words.answer(alloc, folder),
+            Request::Sign(words) => words.answer(alloc, folder),
             Request::Verify(files) => files.answer(folder),
             Request::Retire(words) => words.answer(alloc, folder),
         }
@@ -155,6 +165,8 @@ fn hbsign<'a>(alloc: Global) -> Result<Command<'a>, AllocError>
         .no_binary_name(true)
         .subcommand_required(true)
         .arg_required_else_help(true)
+        .subcommand(Make::command(alloc)?)?
+        .subcommand(Sign::command(alloc)?)?
         .subcommand(Verify::command(alloc)?)?
         .subcommand(Retire::command(alloc)?)
 }
@@ -167,6 +179,14 @@ fn find_request<'a>(matches: &ArgMatches<'a>) -> Result<Request<'a>, Lack>
         return Err(Lack::Command);
     };
     match name {
+        Make::NAME => match Make::of(words) {
+            Some(words) => Ok(Request::Make(words)),
+            None => Err(Lack::Command),
+        },
+        Sign::NAME => match Sign::of(words) {
+            Some(words) => Ok(Request::Sign(words)),
+            None => Err(Lack::Command),
+        },
         Verify::NAME => match Verify::of(words) {
             Some(files) => Ok(Request::Verify(files)),
             None => Err(Lack::Command),

@@ -1,6 +1,6 @@
 //! The files of a machine: how they are opened, read and written.
 
-ghost use Rattle.std.specs.Prelude.{◌≡◌, ◌++◌, ◌∷◌, [], List, None, IfErr};
+ghost use Rattle.std.specs.Prelude.{◌≡◌, ◌++◌, ◌∷◌, [], List, None, IfErr, ⊤};
 ghost use Rattle.command.specs.Trace.{Happening, opening};
 
 use crate::file_disk::{FileDisk, StateFile, folder_of};
@@ -171,11 +171,26 @@ impl<R: Files<File = File>> SignerFolder for Machine<R> {
 
     type Random = RngSource<RandomFile<File>>;
 
+    // nothing is known of a disk over a file of the machine
+    ghost is_opened = { λ _. ⊤ };
+
+    ghost is_closed = { λ _ _. ⊤ };
+
     fn open_state(&mut self, path: &str) -> Result<FileDisk<StateFile>, Refusal> {
-        let opened = StateFile::open(&self.rt, path);
-        let file = self.trace.note_opening(Role::State, path, opened)?;
-        self.opened.note(Role::State, file.id());
-        Ok(FileDisk::new(file))
+        match StateFile::open(&self.rt, path) {
+            Ok(file) => {
+                self.trace.note(&Event::Opened(Role::State, path));
+                self.opened.note(Role::State, file.id());
+                Ok(FileDisk::new(file))
+            }
+            Err(refusal) => {
+                self.trace.note(&match refusal {
+                    Refusal::Locked => Event::Locked(path),
+                    _ => Event::NotOpened(Role::State, path),
+                });
+                Err(refusal)
+            }
+        }
     }
 
     fn open_or_make_state(&mut self, path: &str) -> Result<FileDisk<StateFile>, Refusal> {
@@ -186,10 +201,17 @@ impl<R: Files<File = File>> SignerFolder for Machine<R> {
                 Ok(FileDisk::new(file))
             }
             Err(refusal) => {
-                self.trace.note(&Event::NotMade(path));
+                self.trace.note(&match refusal {
+                    Refusal::Locked => Event::Locked(path),
+                    _ => Event::NotMade(path),
+                });
                 Err(refusal)
             }
         }
+    }
+
+    fn close_state(&mut self, disk: FileDisk<StateFile>) {
+        drop(disk);
     }
 
     fn open_random(&mut self, path: &str) -> Result<RngSource<RandomFile<File>>, Refusal> {

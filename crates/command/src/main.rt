@@ -17,6 +17,7 @@
 #![tactic(auto)]
 
 mod answer;
+mod argument;
 mod file_disk;
 mod file_id;
 mod files;
@@ -24,12 +25,14 @@ mod key_file;
 mod line;
 mod line_fault;
 mod machine;
+mod make;
 mod number;
 mod output;
 mod program;
 mod random_file;
 mod refusal;
 mod retire;
+mod sign;
 mod signing;
 #[cfg(test)]
 mod tests;

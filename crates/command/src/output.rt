@@ -2,6 +2,7 @@
 
 ghost use Rattle.std.specs.Prelude.{◌≡◌, OnOk};
 ghost use Rattle.std.specs.Io.KnownBytes.{Appends};
+ghost use Rattle.hex.specs.Hex.{encode_lower};
 ghost use Rattle.command.specs.Output.{CountsFailure, Prints, Taken, part_text, taken_of, text_of};
 
 use std::io;
@@ -15,6 +16,10 @@ pub enum Part<'a> {
     Text(&'a str),
     /// A number, by its decimal digits.
     Number(u64),
+    /// These bytes, as they are.
+    Bytes(&'a [u8]),
+    /// These bytes, each by its two lower-case hex digits.
+    Hex(&'a [u8]),
 }
 
 /// What takes the texts of the program.
@@ -73,7 +78,23 @@ fn write_part<W: Write>(writer: &mut W, part: &Part<'_>) -> io::Result<()>
     match part {
         Part::Text(text) => writer.write_all(text.as_bytes()),
         Part::Number(number) => writer.write_fmt(*number),
+        Part::Bytes(bytes) => writer.write_all(bytes),
+        Part::Hex(bytes) => write_hex(writer, bytes),
     }
+}
+
+// Writes bytes by their hex digits.
+fn write_hex<W: Write>(writer: &mut W, bytes: &[u8]) -> io::Result<()>
+    ensures { OnOk result
+        (Appends (W.contents writer.old) (W.contents writer.new) (encode_lower bytes.now)) }
+{
+    for byte in bytes {
+        let mut digits = [0; 2];
+        // Two digits fit.
+        let _ = hex::encode_to_slice([*byte], &mut digits);
+        writer.write_all(&digits)?;
+    }
+    Ok(())
 }
 
 /// What was answered, which is counted where it is a failure. No other function counts.

@@ -1,9 +1,10 @@
 //! The whole program.
 
 ghost use Rattle.std.specs.Prelude.{◌≡◌, ◌≢◌, ◌+◌, ◌<◌, ◌⊎◌, [], length, map};
+ghost use Rattle.command.specs.Files.{files_seen};
 ghost use Rattle.command.specs.Line.{IsLineOf, Task as LineTask};
 ghost use Rattle.command.specs.LineFault.{HasText, line_faults};
-ghost use Rattle.command.specs.Program.{Explains, Helps, Refuses, Runs, RunsTask, Says};
+ghost use Rattle.command.specs.Program.{Explains, Helps, Refuses, RefusesLine, Runs, RunsTask, Says};
 ghost use Rattle.command.specs.Output.{Fails, Writes};
 
 use crate::answer::{OUTPUT_FAILED, report};
@@ -26,7 +27,7 @@ const VERSION_LINE: &str = "hbsign 0.1.0\n";
 /// Does what the words of a line request, without the program's name, and gives the exit status.
 ///
 /// A line on the output reports what came of it. A line that is refused is explained on `errors`
-/// alone.
+/// alone, and status 2 is that of such a line, or of a name or a spec that is refused.
 pub fn run<L, D, S, I, O, E>(
     alloc: Global,
     lines: &mut L,
@@ -43,11 +44,13 @@ where
     I: Read,
     O: Output,
     E: Output,
-    ensures runs { Runs D.Disk.Disk ⟦<FileStore<D::Disk> as Store>⟧ (map S.text words.now) (D.content folder.old)
+    ensures runs { Runs D.Disk.Disk ⟦<FileStore<D::Disk> as Store>⟧ D.Random.Source (map S.text words.now)
+        (files_seen (D.content folder.old) D.is_opened (D.is_closed folder.new))
         (L.refusals lines.new ≡ L.refusals lines.old + 1)
         (D.trace folder.old) (D.trace folder.new) (O.taken output.old) (O.taken output.new) result }
     ensures requests { (task : LineTask) → IsLineOf (map S.text words.now) task
-        → RunsTask D.Disk.Disk ⟦<FileStore<D::Disk> as Store>⟧ (D.content folder.old) task
+        → RunsTask D.Disk.Disk ⟦<FileStore<D::Disk> as Store>⟧ D.Random.Source
+        (files_seen (D.content folder.old) D.is_opened (D.is_closed folder.new)) task
         (L.refusals lines.new ≡ L.refusals lines.old + 1)
         (D.trace folder.old) (D.trace folder.new) (O.taken output.old) (O.taken output.new) result }
     ensures input { _input.new ≡ _input.old }
@@ -55,6 +58,7 @@ where
     ensures refuses { result ≡ 2
         → Refuses (O.taken output.old) (O.taken output.new) (E.taken errors.old) (E.taken errors.new) }
     ensures silent { result ≢ 2 → E.taken errors.new ≡ E.taken errors.old }
+    ensures spares { line_faults (map S.text words.now) ≡ [] → E.taken errors.new ≡ E.taken errors.old }
 {
     match lines.read(words) {
         Ok(request) => report(&request.answer(alloc, folder), output),
@@ -68,8 +72,9 @@ fn explain<O: Output, E: Output>(fault: &LineFault, output: &mut O, errors: &mut
     requires { HasText fault.now }
     ensures explains { Explains fault.now (O.taken output.old) (O.taken output.new) result }
     ensures refuses { result ≡ 2
-        → Refuses (O.taken output.old) (O.taken output.new) (E.taken errors.old) (E.taken errors.new) }
+        → RefusesLine (O.taken output.old) (O.taken output.new) (E.taken errors.old) (E.taken errors.new) }
     ensures silent { result ≢ 2 → E.taken errors.new ≡ E.taken errors.old }
+    ensures spares { fault.now ≡ LineFault.OutOfMemory → E.taken errors.new ≡ E.taken errors.old }
 {
     match fault {
         LineFault::Help(text) => print(text.as_str(), output),

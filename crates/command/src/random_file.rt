@@ -11,6 +11,9 @@ use std::io;
 use std::io::{ErrorKind, Read};
 use typecodes::Message;
 
+/// The file of random bytes where a line names none: the system's random device.
+pub const DEFAULT_RANDOM: &str = "/dev/urandom";
+
 /// A file of random bytes. It gives each of its bytes once, in their order, and none after its end.
 #[derive(Drop)]
 pub struct RandomFile<F> {

@@ -33,6 +33,10 @@ pub enum Refusal {
     FileFailed,
     /// 54: the state file is locked.
     Locked,
+    /// 34: a name isn't 1 to 64 visible characters of ASCII.
+    BadName,
+    /// 51: a spec isn't one of those that `Spec::parse` reads.
+    BadSpec,
 }
 
 impl Refusal {
@@ -50,6 +54,8 @@ impl Refusal {
             Refusal::OutOfMemory => 46,
             Refusal::FileFailed => 53,
             Refusal::Locked => 54,
+            Refusal::BadName => 34,
+            Refusal::BadSpec => 51,
         }
     }
 
@@ -71,8 +77,11 @@ impl Refusal {
             Refusal::OutOfMemory => "OutOfMemory",
             Refusal::FileFailed => "FileFailed",
             Refusal::Locked => "Locked",
+            Refusal::BadName => "BadName",
+            Refusal::BadSpec => "BadSpec",
         }
     }
+
     // What follows the name: a word and a number, or nothing.
     fn detail(&self) -> [Part<'static>; 2]
         ensures { text_of result ≡ detail_of self.now }

@@ -3,14 +3,16 @@
 ghost use Rattle.std.specs.Prelude.{◌≡◌, IfOk, codes};
 ghost use Rattle.clap.specs.declared.builder.command.Command.{Command as ClapCommand};
 ghost use Rattle.clap.specs.Words.{AddsSubcommand, app_of, first_value, found_of, with_subcommand};
+ghost use Rattle.command.specs.Files.{files_seen};
 ghost use Rattle.command.specs.Retire.{IsRetire, RetiresIn, retire_app};
 
 use crate::answer::{Answer, Done};
+use crate::argument::required;
 use crate::files::SignerFolder;
 use crate::key_file;
 use crate::line::Lack;
 use crate::number::read_number;
-use clap::{Arg, ArgMatches, Command};
+use clap::{ArgMatches, Command};
 use state_file::{Disk, FileStore, Store};
 use std::alloc::{AllocError, Global};
 
@@ -38,16 +40,16 @@ impl<'a> Retire<'a> {
         Command::new(alloc, Retire::NAME)
             .about("Gives up the leaves of the current bottom tree below a number")
             .after_help("Example:\n  $ hbsign retire firmware.key 8\n  retired upto 8")
-            .arg(
-                Arg::new(alloc, "STATE")
-                    .help("State file, which has the secret of the key and what it signed")
-                    .required(true),
-            )?
-            .arg(
-                Arg::new(alloc, "UPTO")
-                    .help("Decimal number of the first leaf that stays, up to 33554432")
-                    .required(true),
-            )
+            .arg(required(
+                alloc,
+                "STATE",
+                "State file, which has the secret of the key and what it signed",
+            ))?
+            .arg(required(
+                alloc,
+                "UPTO",
+                "Decimal number of the first leaf that stays, up to 33554432",
+            ))
     }
 
     /// What the words say.
@@ -69,11 +71,13 @@ impl<'a> Retire<'a> {
 
     /// Opens the state file, and retires the leaves.
     pub fn answer<D: SignerFolder>(&self, alloc: Global, folder: &mut D) -> Answer
-        ensures { RetiresIn D.Disk.Disk ⟦<FileStore<D::Disk> as Store>⟧ self.now.state.now self.now.upto result
-            (D.trace folder.old) (D.trace folder.new) }
+        ensures { RetiresIn D.Disk.Disk ⟦<FileStore<D::Disk> as Store>⟧
+            (files_seen (D.content folder.old) D.is_opened (D.is_closed folder.new)) self.now.state.now self.now.upto
+            result (D.trace folder.old) (D.trace folder.new) }
     {
         let disk = folder.open_state(self.state)?;
-        let (_disk, retired) = key_file::retire(alloc, disk, self.upto);
+        let (disk, retired) = key_file::retire(alloc, disk, self.upto);
+        folder.close_state(disk);
         match retired {
             Ok(()) => Ok(Done::Retired(self.upto)),
             Err(refusal) => Err(refusal),

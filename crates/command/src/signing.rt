@@ -1,54 +1,36 @@
-//! What the commands do with a signer over any store: its own step first, and only after its Ok a file is written.
+//! What the commands do with a signer over any store, and what they write once it has answered Ok.
 
-ghost use Rattle.std.specs.Prelude.{vec_capacity};
+ghost use Rattle.std.specs.Prelude.{Ok};
 ghost use Rattle.sign_core.specs.Records.{key_in};
-ghost use Rattle.command.specs.Signing.{Delivers, Publishes, RetiresBelow, SignsInto};
+ghost use Rattle.command.specs.Signing.{Delivers, Publishes, RetiresBelow};
 
 use crate::files::Outlet;
 use crate::refusal::Refusal;
 use crate::trace::Role;
-use sign_core::{AnyPublic, Signer, Source};
+use arrayvec::ArrayVec;
+use sign_core::{Signer, Source};
 use state_file::Store;
-use typecodes::{Message, Name};
 
-/// Signs, writes the signature to its file, and gives its size. Where the file can't be written, what was recorded
-/// stays, and the same request gives the same signature again.
-pub fn sign<S: Store, R: Source, M: Message, W: Outlet>(
-    signer: &mut Signer<S, R>,
-    name: &Name,
-    message: &mut M,
-    signature: &mut Vec<u8>,
-    outlet: &mut W,
-    path: &str,
-) -> Result<usize, Refusal>
-    ensures { SignsInto S.Store R.Source M.Message signer.old signer.new name.now message.old message.new
-        (vec_capacity signature.old) path.now (W.trace outlet.old) (W.trace outlet.new) result }
-{
-    match signer.sign(name, message, signature) {
-        Ok(()) => deliver(outlet, path, signature.as_slice()),
-        Err(fault) => Err(Refusal::Signer(fault)),
-    }
-}
-
-// Writes a signature to its file, and gives its size.
-fn deliver<W: Outlet>(outlet: &mut W, path: &str, signature: &[u8]) -> Result<usize, Refusal>
+/// Writes a signature to its file, and gives its size. Where the file can't be written, what was recorded stays, and the
+/// same request gives the same signature again.
+pub fn deliver<W: Outlet>(outlet: &mut W, path: &str, signature: &[u8]) -> Result<usize, Refusal>
     ensures { Delivers (Ok signature.now) path.now (W.trace outlet.old) (W.trace outlet.new) result }
 {
     outlet.write(Role::Signature, path, signature)?;
     Ok(signature.len())
 }
 
-/// Writes the public key of a signer to its file, and gives the key.
+/// Writes the public key of a signer to its file, and gives its bytes.
 pub fn publish<S: Store, R: Source, W: Outlet>(
     signer: &Signer<S, R>,
     outlet: &mut W,
     path: &str,
-) -> Result<AnyPublic, Refusal>
+) -> Result<ArrayVec<u8, 68>, Refusal>
     ensures { Publishes (key_in signer.now.records) path.now (W.trace outlet.old) (W.trace outlet.new) result }
 {
-    let public = signer.public_key();
-    outlet.write(Role::Public, path, public.write().as_slice())?;
-    Ok(public)
+    let bytes = signer.public_key().write();
+    outlet.write(Role::Public, path, bytes.as_slice())?;
+    Ok(bytes)
 }
 
 /// Retires the leaves of the current bottom tree below `upto`.

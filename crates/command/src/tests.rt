@@ -2,6 +2,7 @@ mod disks;
 mod failing_disks;
 mod failures;
 mod key_files;
+mod key_lines;
 mod lent_disk;
 mod lines;
 mod place;

@@ -41,6 +41,8 @@ pub enum Event<'a> {
     Made(&'a str),
     /// It can't be opened or made.
     NotMade(&'a str),
+    /// The state file of this path is locked by another.
+    Locked(&'a str),
     /// A read gives these bytes.
     Given(Role, &'a [u8]),
     /// A read fails.

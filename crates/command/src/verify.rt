@@ -9,11 +9,12 @@ ghost use Rattle.command.specs.Files.{ReadsKey, Shows};
 ghost use Rattle.typecodes.specs.Message.{IsContent};
 
 use crate::answer::{Answer, Done};
+use crate::argument::required;
 use crate::files;
 use crate::files::{DECISIVE, FileReader, Folder};
 use crate::refusal::Refusal;
 use crate::trace::Role;
-use clap::{Arg, ArgMatches, Command};
+use clap::{ArgMatches, Command};
 use sign_core::{AnyPublic, KeyFault, verify_any};
 use std::alloc::{AllocError, Global};
 use typecodes::Message;
@@ -51,21 +52,9 @@ impl<'a> Verify<'a> {
     {
         Command::new(alloc, Verify::NAME)
             .about("Verifies a signature of a message")
-            .arg(
-                Arg::new(alloc, "PUBLIC")
-                    .help("File of the public key")
-                    .required(true),
-            )?
-            .arg(
-                Arg::new(alloc, "MESSAGE")
-                    .help("File of the message")
-                    .required(true),
-            )?
-            .arg(
-                Arg::new(alloc, "SIGNATURE")
-                    .help("File of the signature")
-                    .required(true),
-            )
+            .arg(required(alloc, "PUBLIC", "File of the public key"))?
+            .arg(required(alloc, "MESSAGE", "File of the message"))?
+            .arg(required(alloc, "SIGNATURE", "File of the signature"))
     }
 
     /// The files that the words name.

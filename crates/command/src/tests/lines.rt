@@ -48,7 +48,13 @@ fn explains_a_wrong_line(rt: HostRuntime) -> Result<(), Fail> {
         "verify a b",
         "verify a b c d",
         "verify a b c --nonsense",
+        "make",
+        "make k p",
+        "make k p lms:H5/W8 more",
         "sign",
+        "sign k n m",
+        "sign k n m s more",
+        "sign k n m s --random",
         "retire",
         "retire a",
         "retire a 5 c",
@@ -67,6 +73,10 @@ fn explains_a_wrong_line(rt: HostRuntime) -> Result<(), Fail> {
 // What a text of help begins with, and what it names.
 const PROGRAM: &[u8] = b"Hash-based signatures on files\n\nUsage: hbsign";
 
+const MAKE: &[u8] = b"Makes a key\n\nUsage: hbsign make";
+
+const SIGN: &[u8] = b"Signs a message under a name\n\nUsage: hbsign sign";
+
 const RETIRE: &[u8] =
     b"Gives up the leaves of the current bottom tree below a number\n\nUsage: hbsign retire";
 
@@ -81,6 +91,9 @@ fn helps(rt: HostRuntime) -> Result<(), Fail> {
         ("help verify", VERIFY),
         ("verify --help", VERIFY),
         ("verify a --help b", VERIFY),
+        ("make --help", MAKE),
+        ("sign -h", SIGN),
+        ("help sign", SIGN),
         ("retire --help", RETIRE),
         ("help retire", RETIRE),
     ] {

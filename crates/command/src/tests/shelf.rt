@@ -1,5 +1,5 @@
 //! Files in memory.
-ghost use Rattle.std.specs.Prelude.{◌≡◌, None, IfErr};
+ghost use Rattle.std.specs.Prelude.{◌≡◌, None, IfErr, ⊤};
 ghost use Rattle.command.specs.FileDisk.{IsStateRefusal};
 
 use super::lent_disk::LentDisk;
@@ -249,19 +249,31 @@ impl<'a> SignerFolder for Shelf<'a> {
 
     type Random = RngSource<RandomFile<Content<'a>>>;
 
+    ghost is_opened = { λ _. ⊤ };
+
+    ghost is_closed = { λ _ _. ⊤ };
+
     fn open_state(&mut self, path: &str) -> Result<LentDisk<'a, MemoryDisk>, Refusal> {
         let opened = self.lend(path);
-        self.trace.note_opening(Role::State, path, opened)
+        self.trace.note(&match &opened {
+            Ok(_) => Event::Opened(Role::State, path),
+            Err(Refusal::Locked) => Event::Locked(path),
+            Err(_) => Event::NotOpened(Role::State, path),
+        });
+        opened
     }
 
     fn open_or_make_state(&mut self, path: &str) -> Result<LentDisk<'a, MemoryDisk>, Refusal> {
         let opened = self.lend(path);
         self.trace.note(&match &opened {
             Ok(_) => Event::Made(path),
+            Err(Refusal::Locked) => Event::Locked(path),
             Err(_) => Event::NotMade(path),
         });
         opened
     }
+
+    fn close_state(&mut self, _disk: LentDisk<'a, MemoryDisk>) {}
 
     fn open_random(&mut self, path: &str) -> Result<RngSource<RandomFile<Content<'a>>>, Refusal> {
         let found = self.find(path).ok_or(Refusal::FileFailed);

@@ -4,8 +4,9 @@ use super::place::{Place, run_words};
 use crate::file_disk::{FileDisk, StateFile};
 use crate::machine::Machine;
 use crate::refusal::Refusal;
-use crate::signing::{publish, retire, sign};
-use sign_core::{AnyPublic, SignFault, Signer, TapeSource};
+use crate::signing::{deliver, publish, retire};
+use arrayvec::ArrayVec;
+use sign_core::{SignFault, Signer, TapeSource};
 use state_file::{FileStore, FormatFault};
 use std::fs;
 use std::path::PathBuf;
@@ -32,7 +33,7 @@ fn path(rt: &HostRuntime, folder: &Place, name: &str) -> Result<PathBuf, Refusal
 }
 
 // Makes a key of one LMS tree in the file k, and writes its public key to p.
-pub fn make(rt: &HostRuntime, folder: &Place, random: &[u8]) -> Result<AnyPublic, Refusal> {
+pub fn make(rt: &HostRuntime, folder: &Place, random: &[u8]) -> Result<ArrayVec<u8, 68>, Refusal> {
     let state = path(rt, folder, "k")?;
     let public = path(rt, folder, "p")?;
     let disk = FileDisk::new(StateFile::open_or_make(rt, state.as_str())?);
@@ -80,14 +81,10 @@ fn sign_name(
     let message = [message];
     let mut message = message.as_slice();
     let mut signature = Vec::new(rt.alloc());
-    sign(
-        &mut signer,
-        &name,
-        &mut message,
-        &mut signature,
-        &mut Machine::new(rt),
-        out.as_str(),
-    )
+    match signer.sign(&name, &mut message, &mut signature) {
+        Ok(()) => deliver(&mut Machine::new(rt), out.as_str(), signature.as_slice()),
+        Err(fault) => Err(Refusal::Signer(fault)),
+    }
 }
 
 // Retires the leaves below a number.

@@ -1,4 +1,4 @@
-use Rattle.std.proofs.Common.{ap, inr, sym}
+use Rattle.std.proofs.Common.{◌∙◌, ap, inr, sym}
 use Rattle.command.specs.Retire.{retire_answer}
 use Rattle.command.proofs.retire.Retire.answer.Goals as goal
 
@@ -8,18 +8,22 @@ returns-in-Ok g c =
       c.in_ok-disk.disk,
       c.retire-disk.result.0,
       c.retire-disk.result.1,
+      c.in_ok-disk.ensures.opened,
       c.retire-disk.ensures,
+      c.close_state.ensures.closed,
       sym (ap (retire_answer c.args.self.now.upto) c.in-Ok.is),
-      c.in_ok-disk.ensures.trace,
+      c.close_state.ensures.trace ∙ c.in_ok-disk.ensures.trace,
     )
 
-pub returns : goal.returns
-returns g c =
+pub returns-in-Err : goal.returns-in-Err
+returns-in-Err g c =
     inr (
       c.in_ok-disk.disk,
       c.retire-disk.result.0,
       c.retire-disk.result.1,
+      c.in_ok-disk.ensures.opened,
       c.retire-disk.ensures,
+      c.close_state.ensures.closed,
       sym (ap (retire_answer c.args.self.now.upto) c.in-Err.is),
-      c.in_ok-disk.ensures.trace,
+      c.close_state.ensures.trace ∙ c.in_ok-disk.ensures.trace,
     )

@@ -2,7 +2,7 @@ use Rattle.std.proofs.Common.{rules, ap, ap₂, codes, false, ◌≡◌, ◌∙�
 use Rattle.std.proofs.lemmas.Result.{IfOk-weaker}
 use Rattle.clap.specs.Simple.{app_of_fields}
 use Rattle.clap.specs.Words.{App, app_of, new_app, rule_of, with_rule, with_subcommand}
-use Rattle.command.specs.Verify.{required_rule}
+use Rattle.command.specs.Argument.{required_rule}
 use Rattle.command.proofs.verify.Verify.command.Goals as goal
 
 pub returns : goal.returns

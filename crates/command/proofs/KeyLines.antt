@@ -1,0 +1,75 @@
+-- From the step on the disk of a state file to the whole command.
+use Rattle.std.proofs.Common.{◌≡◌, ◌≢◌, ℕ, List, [], ◌∷◌, ◌++◌, Option, Result, Ok, Err, inr, refl, subst, sym}
+use Rattle.typecodes.specs.declared.spec.Spec.{Spec}
+use Rattle.typecodes.specs.Name.{IsName}
+use Rattle.typecodes.specs.Spec.{IsSpec, spec_text}
+use Rattle.sign_core.specs.declared.source.Source as source
+use Rattle.state_file.specs.declared.disk.Disk as disk
+use Rattle.state_file.specs.declared.store.Store as store
+use Rattle.state_file.specs.declared.store.file_store.FileStore.{FileStore}
+use Rattle.command.specs.declared.answer.Done.{Done}
+use Rattle.command.specs.declared.refusal.Refusal.{Refusal}
+use Rattle.command.specs.declared.trace.Role.TheVariants as role
+use Rattle.command.specs.Files.{FilesSeen, Shows}
+use Rattle.command.specs.Make.{MakesIn, MakesOpened, make_answer}
+use Rattle.command.specs.Sign.{DeliversSigned, SignsAndDelivers, SignsFile, SignsIn, SignsOpened, ready_to_sign, sign_answer}
+use Rattle.command.specs.Signing.{Delivers, PublicBytes}
+use Rattle.command.specs.Trace.{Happening, made, opened}
+
+-- a key was made on the disk of a state file that was opened and closed
+pub makes_in : {K R : Type 0} {bound : _} (d : disk.Ghosts K) (g : store.Ghosts (FileStore K bound)) (r : source.Ghosts R) (files : FilesSeen K)
+    (spec : Spec) (state public text random : List ℕ) (before after : K) (content : List ℕ → Option (List ℕ)) (published : Result PublicBytes Refusal)
+    (answer : Result Done Refusal) (old first last new : List Happening) → IsSpec spec → text ≡ spec_text spec
+    → ((other : List ℕ) → other ≢ state → content other ≡ files.content other) → files.IsOpened before
+    → MakesOpened {bound = bound} d g r content before after spec public random published first last → first ≡ old ++ made state ∷ []
+    → new ≡ last → files.IsClosed after → answer ≡ make_answer published → MakesIn {bound = bound} d g r files state public text random answer old new
+makes_in {bound = bound} d g r files spec state public text random before after content published answer old first last new is spelled known was makes begins ends closed answers =
+    let from = subst (λ t. MakesOpened {bound = bound} d g r content before after spec public random published t last) begins makes in
+    let to = subst (λ t. MakesOpened {bound = bound} d g r content before after spec public random published (old ++ made state ∷ []) t) (sym ends) from in
+    inr (spec, is, spelled, inr (before, after, content, published, known, was, to, closed, answers))
+
+-- ---- signing
+
+-- a signature was delivered, or a refusal
+pub delivered_ok : (signed : Result Unit Refusal) (value : Unit) (signature slice path : List ℕ) (old new : List Happening) (answer : Result ℕ Refusal)
+    → signed ≡ Ok value → slice ≡ signature → Delivers (Ok slice) path old new answer → DeliversSigned signed signature path old new answer
+delivered_ok signed value signature slice path old new answer is same delivers =
+    subst (λ s. DeliversSigned s signature path old new answer) (sym is) (subst (λ l. Delivers (Ok l) path old new answer) same delivers)
+
+pub delivered_err : (signed : Result Unit Refusal) (refusal : Refusal) (signature path : List ℕ) (old : List Happening) → signed ≡ Err refusal
+    → DeliversSigned signed signature path old old (Err refusal)
+delivered_err signed refusal signature path old is = subst (λ s. DeliversSigned s signature path old old (Err refusal)) (sym is) (refl, refl)
+
+-- a message was signed into an output that had no room yet
+pub signs_and_delivers : {K R : Type 0} {bound : _} (d : disk.Ghosts K) (g : store.Ghosts (FileStore K bound)) (r : source.Ghosts R) (before after : K)
+    (random : R) (name : List ℕ) (left : Option (List ℕ)) (out : List ℕ) (answer : Result ℕ Refusal) (old new : List Happening) (capacity : ℕ)
+    (signature : List ℕ) (signed : Result Unit Refusal) (read : List Happening) → capacity ≡ 0
+    → SignsFile {bound = bound} d g r before after random name left capacity signature signed old read
+    → DeliversSigned signed signature out read new answer
+    → SignsAndDelivers {bound = bound} d g r before after random name left out answer old new
+signs_and_delivers {bound = bound} d g r before after random name left out answer old new capacity signature signed read none signs delivers =
+    (signature, signed, read, subst (λ n. SignsFile {bound = bound} d g r before after random name left n signature signed old read) none signs, delivers)
+
+-- the other files were opened before
+pub signs_opened : {K R : Type 0} {bound : _} (d : disk.Ghosts K) (g : store.Ghosts (FileStore K bound)) (r : source.Ghosts R)
+    (content : List ℕ → Option (List ℕ)) (before after : K) (name message out random : List ℕ) (source : R) (left : Option (List ℕ))
+    (answer : Result ℕ Refusal) (old ready new : List Happening) → Shows (content random) (r.upcoming source) → Shows (content message) left
+    → ready ≡ old ++ ready_to_sign message out random
+    → SignsAndDelivers {bound = bound} d g r before after source name left out answer ready new
+    → SignsOpened {bound = bound} d g r content before after name message out random answer old new
+signs_opened {bound = bound} d g r content before after name message out random source left answer old ready new drawn shown begins signs =
+    inr (source, left, drawn, shown, subst (λ t. SignsAndDelivers {bound = bound} d g r before after source name left out answer t new) begins signs)
+
+-- a message was signed on the disk of a state file that was opened and closed
+pub signs_in : {K R : Type 0} {bound : _} (d : disk.Ghosts K) (g : store.Ghosts (FileStore K bound)) (r : source.Ghosts R) (files : FilesSeen K)
+    (state given name message out random : List ℕ) (before after : K) (content : List ℕ → Option (List ℕ)) (signed : Result ℕ Refusal)
+    (answer : Result Done Refusal) (old first last new : List Happening) → given ≡ name → IsName name
+    → ((other : List ℕ) → content other ≡ files.content other) → files.IsOpened before
+    → SignsOpened {bound = bound} d g r content before after given message out random signed first last → first ≡ old ++ opened role.State state ∷ []
+    → new ≡ last → files.IsClosed after → answer ≡ sign_answer name signed
+    → SignsIn {bound = bound} d g r files state name message out random answer old new
+signs_in {bound = bound} d g r files state given name message out random before after content signed answer old first last new same is known was signs begins ends closed answers =
+    let named = subst (λ n. SignsOpened {bound = bound} d g r content before after n message out random signed first last) same signs in
+    let from = subst (λ t. SignsOpened {bound = bound} d g r content before after name message out random signed t last) begins named in
+    let to = subst (λ t. SignsOpened {bound = bound} d g r content before after name message out random signed (old ++ opened role.State state ∷ []) t) (sym ends) from in
+    inr (is, inr (before, after, content, signed, known, was, to, closed, answers))

@@ -1,0 +1,19 @@
+-- The arguments of the commands, as `clap` knows them.
+use Rattle.std.specs.Prelude.{[], ◌∷◌, List, ℕ, Some, true, codes}
+use Rattle.clap.specs.Words.{Rule, new_rule}
+
+-- a word that has to be given
+abbrev pub required_rule : List ℕ → Rule
+required_rule name = record (new_rule name) { required = true }
+
+-- the file of random bytes where the line names none
+abbrev pub default_random : List ℕ
+default_random = codes "/dev/urandom"
+
+-- `--random FILE`
+abbrev pub random_rule : Rule
+random_rule = record (new_rule (codes "random")) {
+  long = Some (codes "random");
+  value_names = 1;
+  defaults = default_random ∷ [];
+}

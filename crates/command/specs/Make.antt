@@ -1,0 +1,96 @@
+-- `make STATE PUBLIC SPEC [--random FILE]`: its words, and what it does.
+use Rattle.std.specs.Prelude.{◌≡◌, ◌≢◌, ◌⊎◌, ◌++◌, ◌∷◌, [], ℕ, List, codes, Option, Some, None, Result, Ok, Err, IfOk, IfSome}
+use Rattle.clap.specs.Words.{App, Text, new_app, with_rule}
+use Rattle.typecodes.specs.declared.spec.Spec.{Spec}
+use Rattle.typecodes.specs.Spec.{IsSpec, spec_text}
+use Rattle.sign_core.specs.declared.source.Source as source
+use Rattle.sign_core.specs.Records.{key_in}
+use Rattle.sign_core.specs.Signer.{View}
+use Rattle.state_file.specs.declared.disk.Disk as disk
+use Rattle.state_file.specs.declared.store.Store as store
+use Rattle.state_file.specs.declared.store.file_store.FileStore.{FileStore}
+use Rattle.state_file.specs.FileStore.{disk_of}
+use Rattle.command.specs.declared.answer.Done.{Done}
+use Rattle.command.specs.declared.answer.Done.TheVariants.{Made}
+use Rattle.command.specs.declared.make.Make.{Make}
+use Rattle.command.specs.declared.refusal.Refusal.{Refusal}
+use Rattle.command.specs.declared.refusal.Refusal.TheVariants.{BadSpec, FileFailed}
+use Rattle.command.specs.declared.trace.Role.TheVariants as role
+use Rattle.command.specs.Argument.{random_rule, required_rule}
+use Rattle.command.specs.FileDisk.{IsStateRefusal}
+use Rattle.command.specs.Files.{FilesSeen, Shows}
+use Rattle.command.specs.KeyFile.{MakesOn, refused_with}
+use Rattle.command.specs.Signing.{PublicBytes, Publishes}
+use Rattle.command.specs.Trace.{Happening, made, making, not_opened, not_writable, opened, writable}
+
+-- the command
+abbrev pub make_app : App
+make_app = with_rule (with_rule (with_rule (with_rule (new_app (codes "make")) (required_rule (codes "STATE")))
+    (required_rule (codes "PUBLIC"))) (required_rule (codes "SPEC"))) random_rule
+
+-- What the values of the words say: three files and a spec; or one of the four isn't given.
+abbrev pub IsMake : (state public spec random : Option Text) → Option Make → Type 0
+IsMake state public spec random (Some words) = (state ≡ Some words.state.now) × (public ≡ Some words.public.now)
+    × (spec ≡ Some words.spec.now) × (random ≡ Some words.random.now)
+IsMake state public spec random None = (state ≡ None) ⊎ (public ≡ None) ⊎ (spec ≡ None) ⊎ (random ≡ None)
+
+-- Once the state file was opened, the file of random bytes was, and it was asked whether the public key's can be written.
+-- The one couldn't be opened, or the other can't be written.
+abbrev pub FailsToMake : (public random : List ℕ) → (old new : List Happening) → Type 0
+FailsToMake public random old new = (new ≡ old ++ not_opened role.Random random ∷ [])
+    ⊎ (new ≡ old ++ opened role.Random random ∷ not_writable role.Public public ∷ [])
+
+-- Both are so: this source gives the random bytes; or one isn't.
+abbrev pub ReadiesToMake : {R : Type 0} → (upcoming : R → Option (List ℕ)) → (content : List ℕ → Option (List ℕ))
+    → (public random : List ℕ) → Result R Refusal → (old new : List Happening) → Type 0
+ReadiesToMake upcoming content public random (Ok source) old new = Shows (content random) (upcoming source)
+    × (new ≡ old ++ opened role.Random random ∷ writable role.Public public ∷ [])
+ReadiesToMake upcoming content public random (Err refusal) old new =
+    (refusal ≡ FileFailed) × FailsToMake public random old new
+
+-- A key was made on a disk, and its public key written to its file; or one of the two was refused, which is reported.
+-- Afterwards the disk is what the signer, or the refusal, has of it.
+abbrev pub MakesAndPublishes : {K R : Type 0} {bound : _} → disk.Ghosts K → store.Ghosts (FileStore K bound)
+    → source.Ghosts R → (before after : K) → Spec → (random : R) → (public : List ℕ) → Result PublicBytes Refusal
+    → (old new : List Happening) → Type 0
+MakesAndPublishes {K} {R} {bound} d g r before after spec random public answer old new =
+    ((refusal : Refusal) × (answer ≡ Err refusal) × (new ≡ old)
+    × MakesOn {bound = bound} d g r before spec random (Err (refused_with refusal after)))
+    ⊎ ((signer : View (FileStore K bound) R) × MakesOn d g r before spec random (Ok signer)
+    × Publishes (key_in signer.records) public old new answer × (after ≡ disk_of signer.store))
+
+-- On the disk of a state file that was opened: the other files were, and a key made and published; or one can't be, and
+-- the disk is as it was.
+abbrev pub MakesOpened : {K R : Type 0} {bound : _} → disk.Ghosts K → store.Ghosts (FileStore K bound)
+    → source.Ghosts R → (content : List ℕ → Option (List ℕ)) → (before after : K) → Spec → (public random : List ℕ)
+    → Result PublicBytes Refusal → (old new : List Happening) → Type 0
+MakesOpened {K} {R} {bound} d g r content before after spec public random answer old new =
+    ((answer ≡ Err FileFailed) × (after ≡ before) × FailsToMake public random old new)
+    ⊎ ((source : R) × (ready : List Happening) × ReadiesToMake r.upcoming content public random (Ok source) old ready
+    × MakesAndPublishes {bound = bound} d g r before after spec source public answer ready new)
+
+-- the answer, for what came of making a key
+abbrev pub make_answer : Result PublicBytes Refusal → Result Done Refusal
+make_answer (Ok bytes) = Ok (Made bytes)
+make_answer (Err refusal) = Err refusal
+
+-- The state file at this path couldn't be opened or made, or is locked, which is reported. Or it was opened, and made
+-- where there was none; on the disk that this gave a key was made, once, and it was closed; what came of it is the answer.
+-- What the file of random bytes holds is known where it is another than the state file.
+abbrev pub MakesAt : {K R : Type 0} {bound : _} → disk.Ghosts K → store.Ghosts (FileStore K bound) → source.Ghosts R
+    → FilesSeen K → Spec → (state public random : List ℕ) → Result Done Refusal → (old new : List Happening) → Type 0
+MakesAt {K} {R} {bound} d g r files spec state public random answer old new =
+    ((refusal : Refusal) × IsStateRefusal refusal × (answer ≡ Err refusal)
+    × (new ≡ old ++ making {A = K} state (Err refusal) ∷ []))
+    ⊎ ((before after : K) × (content : List ℕ → Option (List ℕ)) × (published : Result PublicBytes Refusal)
+    × ((other : List ℕ) → other ≢ state → content other ≡ files.content other) × files.IsOpened before
+    × MakesOpened {bound = bound} d g r content before after spec public random published (old ++ made state ∷ []) new
+    × files.IsClosed after × (answer ≡ make_answer published))
+
+-- The words were refused as none of a spec, and no file was opened; or they are this spec's, for which a key was made.
+abbrev pub MakesIn : {K R : Type 0} {bound : _} → disk.Ghosts K → store.Ghosts (FileStore K bound) → source.Ghosts R
+    → FilesSeen K → (state public spec random : List ℕ) → Result Done Refusal → (old new : List Happening) → Type 0
+MakesIn {K} {R} {bound} d g r files state public text random answer old new =
+    (((spec : Spec) → IsSpec spec → text ≢ spec_text spec) × (answer ≡ Err BadSpec) × (new ≡ old))
+    ⊎ ((spec : Spec) × IsSpec spec × (text ≡ spec_text spec)
+    × MakesAt {bound = bound} d g r files spec state public random answer old new)

@@ -1,0 +1,129 @@
+-- `sign STATE NAME MESSAGE OUT [--random FILE]`: its words, and what it does.
+use Rattle.std.specs.Prelude.{◌≡◌, ◌⊎◌, ◌++◌, ◌∷◌, [], ℕ, List, codes, length, Option, Some, None, Result, Ok, Err}
+use Rattle.clap.specs.Words.{App, Text, new_app, with_rule}
+use Rattle.typecodes.specs.declared.message.Message as message
+use Rattle.typecodes.specs.Name.{IsName}
+use Rattle.sign_core.specs.declared.source.Source as source
+use Rattle.state_file.specs.declared.disk.Disk as disk
+use Rattle.state_file.specs.declared.store.Store as store
+use Rattle.state_file.specs.declared.store.file_store.FileStore.{FileStore}
+use Rattle.command.specs.declared.answer.Done.{Done}
+use Rattle.command.specs.declared.answer.Done.TheVariants.{Signed}
+use Rattle.command.specs.declared.refusal.Refusal.{Refusal}
+use Rattle.command.specs.declared.refusal.Refusal.TheVariants.{BadName, FileFailed}
+use Rattle.command.specs.declared.sign.Sign.{Sign}
+use Rattle.command.specs.declared.trace.Role.{Role}
+use Rattle.command.specs.declared.trace.Role.TheVariants as role
+use Rattle.command.specs.Argument.{random_rule, required_rule}
+use Rattle.command.specs.FileDisk.{IsStateRefusal}
+use Rattle.command.specs.Files.{FilesSeen, Shows}
+use Rattle.command.specs.KeyFile.{SignsOn}
+use Rattle.command.specs.Signing.{Delivers}
+use Rattle.command.specs.Trace.{Happening, ReadsOnce, not_opened, not_writable, opened, opening_state, writable}
+
+-- the command
+abbrev pub sign_app : App
+sign_app = with_rule (with_rule (with_rule (with_rule (with_rule (new_app (codes "sign")) (required_rule (codes "STATE")))
+    (required_rule (codes "NAME"))) (required_rule (codes "MESSAGE"))) (required_rule (codes "OUT"))) random_rule
+
+-- What the values of the words say: four files and a name; or one of the five isn't given.
+abbrev pub IsSign : (state name message out random : Option Text) → Option Sign → Type 0
+IsSign state name message out random (Some words) = (state ≡ Some words.state.now) × (name ≡ Some words.name.now)
+    × (message ≡ Some words.message.now) × (out ≡ Some words.out.now) × (random ≡ Some words.random.now)
+IsSign state name message out random None =
+    (state ≡ None) ⊎ (name ≡ None) ⊎ (message ≡ None) ⊎ (out ≡ None) ⊎ (random ≡ None)
+
+-- ---- the message, a file that is read
+
+-- what is left of the file, where that is known, and what happened to files
+abbrev pub MessageFile : Type 0
+MessageFile = Option (List ℕ) × List Happening
+
+-- a read of it happened, and nothing else
+abbrev pub message_file : message.Ghosts MessageFile
+message_file = record { remaining = λ file. file.0; transition = λ old outcome new. ReadsOnce role.Message old.1 outcome new.1 }
+
+-- ---- the files
+
+-- Once the state file was opened, the message's file was and then that of random bytes, and it was asked whether the
+-- signature's can be written. One of the first two couldn't be opened, or the last can't be written.
+abbrev pub FailsToSign : (message out random : List ℕ) → (old new : List Happening) → Type 0
+FailsToSign message out random old new = (new ≡ old ++ not_opened role.Message message ∷ [])
+    ⊎ (new ≡ old ++ opened role.Message message ∷ not_opened role.Random random ∷ [])
+    ⊎ (new ≡ old ++ opened role.Message message ∷ opened role.Random random ∷ not_writable role.Signature out ∷ [])
+
+-- all three are so
+abbrev pub ready_to_sign : (message out random : List ℕ) → List Happening
+ready_to_sign message out random =
+    opened role.Message message ∷ opened role.Random random ∷ writable role.Signature out ∷ []
+
+-- They are so: a file of which this role and these bytes are known, and this source; or one isn't.
+abbrev pub ReadiesToSign : {F R : Type 0} → (role_of : F → Role) → (remaining : F → Option (List ℕ))
+    → (upcoming : R → Option (List ℕ)) → (content : List ℕ → Option (List ℕ)) → (message out random : List ℕ)
+    → Result (F × R) Refusal → (old new : List Happening) → Type 0
+ReadiesToSign role_of remaining upcoming content message out random (Ok (file, source)) old new =
+    (role_of file ≡ role.Message) × Shows (content message) (remaining file)
+    × Shows (content random) (upcoming source) × (new ≡ old ++ ready_to_sign message out random)
+ReadiesToSign role_of remaining upcoming content message out random (Err refusal) old new =
+    (refusal ≡ FileFailed) × FailsToSign message out random old new
+
+-- ---- the step, and what it comes to
+
+-- A signature is written to its file, and its size is the answer; a refusal is the answer, and no file was opened.
+abbrev pub DeliversSigned : Result Unit Refusal → (signature path : List ℕ) → (old new : List Happening)
+    → Result ℕ Refusal → Type 0
+DeliversSigned (Ok _) signature path old new answer = Delivers (Ok signature) path old new answer
+DeliversSigned (Err refusal) signature path old new answer = (answer ≡ Err refusal) × (new ≡ old)
+
+-- A message's file, of which these bytes were left where that is known, was read and signed under a name on a disk.
+abbrev pub SignsFile : {K R : Type 0} {bound : _} → disk.Ghosts K → store.Ghosts (FileStore K bound) → source.Ghosts R
+    → (before after : K) → (random : R) → (name : List ℕ) → (left : Option (List ℕ)) → (capacity : ℕ)
+    → (signature : List ℕ) → Result Unit Refusal → (old new : List Happening) → Type 0
+SignsFile {bound = bound} d g r before after random name left capacity signature signed old new =
+    (rest : Option (List ℕ))
+    × SignsOn {bound = bound} d g r message_file before after random name (left, old) (rest, new) capacity signature signed
+
+-- The same, and what came of it was delivered.
+abbrev pub SignsAndDelivers : {K R : Type 0} {bound : _} → disk.Ghosts K → store.Ghosts (FileStore K bound)
+    → source.Ghosts R → (before after : K) → (random : R) → (name : List ℕ) → (left : Option (List ℕ))
+    → (out : List ℕ) → Result ℕ Refusal → (old new : List Happening) → Type 0
+SignsAndDelivers {bound = bound} d g r before after random name left out answer old new =
+    (signature : List ℕ) × (signed : Result Unit Refusal) × (read : List Happening)
+    × SignsFile {bound = bound} d g r before after random name left 0 signature signed old read
+    × DeliversSigned signed signature out read new answer
+
+-- On the disk of a state file that was opened: the other files were, and the message was signed; or one can't be, and
+-- the disk is as it was.
+abbrev pub SignsOpened : {K R : Type 0} {bound : _} → disk.Ghosts K → store.Ghosts (FileStore K bound)
+    → source.Ghosts R → (content : List ℕ → Option (List ℕ)) → (before after : K) → (name message out random : List ℕ)
+    → Result ℕ Refusal → (old new : List Happening) → Type 0
+SignsOpened {K} {R} {bound} d g r content before after name message out random answer old new =
+    ((answer ≡ Err FileFailed) × (after ≡ before) × FailsToSign message out random old new)
+    ⊎ ((source : R) × (left : Option (List ℕ)) × Shows (content random) (r.upcoming source)
+    × Shows (content message) left × SignsAndDelivers {bound = bound} d g r before after source name left out answer
+    (old ++ ready_to_sign message out random) new)
+
+-- the answer, for what came of signing under a name
+abbrev pub sign_answer : List ℕ → Result ℕ Refusal → Result Done Refusal
+sign_answer name (Ok size) = Ok (Signed name size)
+sign_answer name (Err refusal) = Err refusal
+
+-- The state file at this path couldn't be opened, or is locked, which is reported. Or it was opened; on the disk that
+-- this gave the message was signed, once, and it was closed; what came of it is the answer.
+abbrev pub SignsAt : {K R : Type 0} {bound : _} → disk.Ghosts K → store.Ghosts (FileStore K bound) → source.Ghosts R
+    → FilesSeen K → (state name message out random : List ℕ) → Result Done Refusal → (old new : List Happening) → Type 0
+SignsAt {K} {R} {bound} d g r files state name message out random answer old new =
+    ((refusal : Refusal) × IsStateRefusal refusal × (answer ≡ Err refusal)
+    × (new ≡ old ++ opening_state {A = K} state (Err refusal) ∷ []))
+    ⊎ ((before after : K) × (content : List ℕ → Option (List ℕ)) × (signed : Result ℕ Refusal)
+    × ((other : List ℕ) → content other ≡ files.content other) × files.IsOpened before
+    × SignsOpened {bound = bound} d g r content before after name message out random signed
+    (old ++ opened role.State state ∷ []) new
+    × files.IsClosed after × (answer ≡ sign_answer name signed))
+
+-- The word was refused as no name, and no file was opened; or it is one, under which the message was signed.
+abbrev pub SignsIn : {K R : Type 0} {bound : _} → disk.Ghosts K → store.Ghosts (FileStore K bound) → source.Ghosts R
+    → FilesSeen K → (state name message out random : List ℕ) → Result Done Refusal → (old new : List Happening) → Type 0
+SignsIn {bound = bound} d g r files state name message out random answer old new =
+    ((IsName name → ⊥) × (answer ≡ Err BadName) × (new ≡ old))
+    ⊎ (IsName name × SignsAt {bound = bound} d g r files state name message out random answer old new)

@@ -1,0 +1,143 @@
+//! `make STATE PUBLIC SPEC [--random FILE]`.
+
+ghost use Rattle.std.specs.Prelude.{◌≡◌, IfOk, codes};
+ghost use Rattle.clap.specs.declared.builder.command.Command.{Command as ClapCommand};
+ghost use Rattle.clap.specs.Words.{AddsSubcommand, app_of, first_value, found_of, with_subcommand};
+ghost use Rattle.command.specs.Files.{files_seen};
+ghost use Rattle.command.specs.Make.{IsMake, MakesAndPublishes, MakesIn, MakesOpened, ReadiesToMake, make_app};
+
+use crate::answer::{Answer, Done};
+use crate::argument::{random_file, required};
+use crate::files::SignerFolder;
+use crate::key_file;
+use crate::refusal::Refusal;
+use crate::signing::publish;
+use crate::trace::Role;
+use arrayvec::ArrayVec;
+use clap::{ArgMatches, Command};
+use state_file::{Disk, FileStore, Store};
+use std::alloc::{AllocError, Global};
+use typecodes::Spec;
+
+/// The words of the line.
+#[derive(Clone, Copy, Debug)]
+pub struct Make<'a> {
+    /// The path of the state file, which is made where there is none.
+    pub state: &'a str,
+    /// The path of the file that the public key is written to.
+    pub public: &'a str,
+    /// Which kind of key it is, as `lms:H5/W8`.
+    pub spec: &'a str,
+    /// The path of the file of random bytes.
+    pub random: &'a str,
+}
+
+impl<'a> Make<'a> {
+    /// The command's name on the line.
+    pub const NAME: &'static str = "make";
+
+    /// The command, for `clap`.
+    pub fn command(alloc: Global) -> Result<Command<'a>, AllocError>
+        ensures { IfOk result (λ command. (old new : ClapCommand) → AddsSubcommand old command new
+            → app_of new ≡ with_subcommand (app_of old) make_app.top) }
+    {
+        Command::new(alloc, Make::NAME)
+            .about("Makes a key")
+            .after_help(
+                "Example:\n  $ hbsign make firmware.key firmware.pub lms:H10/W8\n  public 0000000600000004..",
+            )
+            .arg(required(
+                alloc,
+                "STATE",
+                "State file, which is made where there is none; it has the secret of the key",
+            ))?
+            .arg(required(alloc, "PUBLIC", "File that the public key is written to"))?
+            .arg(required(
+                alloc,
+                "SPEC",
+                "lms:H10/W8, hss:H10/W8,H5/W4 (1 to 8 levels, the top one first) or xmss:10. H is a height of 5, \
+                         10, 15, 20 or 25, and W a width of 1, 2, 4 or 8; xmss has height 10, 16 or 20",
+            ))?
+            .arg(random_file(alloc))
+    }
+
+    /// What the words say.
+    pub fn of(matches: &ArgMatches<'a>) -> Option<Self>
+        ensures { IsMake (first_value (found_of matches.now) (codes "STATE"))
+            (first_value (found_of matches.now) (codes "PUBLIC")) (first_value (found_of matches.now) (codes "SPEC"))
+            (first_value (found_of matches.now) (codes "random")) result }
+    {
+        Some(Make {
+            state: matches.get_str("STATE")?,
+            public: matches.get_str("PUBLIC")?,
+            spec: matches.get_str("SPEC")?,
+            random: matches.get_str("random")?,
+        })
+    }
+
+    /// Opens the state file, which is made where there is none, makes a key in it, and writes its public key.
+    pub fn answer<D: SignerFolder>(&self, alloc: Global, folder: &mut D) -> Answer
+        ensures { MakesIn D.Disk.Disk ⟦<FileStore<D::Disk> as Store>⟧ D.Random.Source
+            (files_seen (D.content folder.old) D.is_opened (D.is_closed folder.new)) self.now.state.now
+            self.now.public.now self.now.spec.now self.now.random.now result (D.trace folder.old) (D.trace folder.new) }
+    {
+        let Ok(spec) = Spec::parse(self.spec) else {
+            return Err(Refusal::BadSpec);
+        };
+        let disk = folder.open_or_make_state(self.state)?;
+        let (disk, made) = self.make_on(alloc, folder, disk, spec);
+        folder.close_state(disk);
+        match made {
+            Ok(public) => Ok(Done::Made(public)),
+            Err(refusal) => Err(refusal),
+        }
+    }
+
+    // Makes a key on the disk of the state file, and writes its public key. The disk is given back.
+    fn make_on<D: SignerFolder>(
+        &self,
+        alloc: Global,
+        folder: &mut D,
+        disk: D::Disk,
+        spec: Spec,
+    ) -> (D::Disk, Result<ArrayVec<u8, 68>, Refusal>)
+        ensures { MakesOpened D.Disk.Disk ⟦<FileStore<D::Disk> as Store>⟧ D.Random.Source (D.content folder.old) disk
+            result.0 spec self.now.public.now self.now.random.now result.1 (D.trace folder.old) (D.trace folder.new) }
+    {
+        match self.open_files(folder) {
+            Ok(random) => make_key(alloc, folder, disk, spec, random, self.public),
+            Err(refusal) => (disk, Err(refusal)),
+        }
+    }
+
+    // Opens the file of random bytes, and asks whether that of the public key can be written.
+    fn open_files<D: SignerFolder>(&self, folder: &mut D) -> Result<D::Random, Refusal>
+        ensures { ReadiesToMake D.Random.upcoming (D.content folder.old) self.now.public.now self.now.random.now result
+            (D.trace folder.old) (D.trace folder.new) }
+    {
+        let random = folder.open_random(self.random)?;
+        folder.check_writable(Role::Public, self.public)?;
+        Ok(random)
+    }
+}
+
+// Makes a key on a disk, and writes its public key. The disk is given back.
+fn make_key<D: SignerFolder>(
+    alloc: Global,
+    folder: &mut D,
+    disk: D::Disk,
+    spec: Spec,
+    random: D::Random,
+    public: &str,
+) -> (D::Disk, Result<ArrayVec<u8, 68>, Refusal>)
+    ensures { MakesAndPublishes D.Disk.Disk ⟦<FileStore<D::Disk> as Store>⟧ D.Random.Source disk result.0 spec random
+        public.now result.1 (D.trace folder.old) (D.trace folder.new) }
+{
+    match key_file::make(alloc, disk, spec, random) {
+        Ok(signer) => {
+            let published = publish(&signer, folder, public);
+            (signer.into_store().into_disk(), published)
+        }
+        Err(refused) => (refused.given, Err(refused.fault)),
+    }
+}
