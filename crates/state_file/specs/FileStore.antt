@@ -1,6 +1,6 @@
 -- A store over a disk: what callers see of it, and what its promise rests on.
-use Rattle.std.specs.Prelude.{Bool, List, Result, Ok, Err, ◌≡◌, ◌≢◌, ◌⊎◌, ℕ, ◌+◌, ◌*◌, ◌<◌, ◌≤◌, true, [], ◌∷◌}
-use Rattle.std.specs.Prelude.{length, drop, slice_index, Some}
+use Rattle.std.specs.Prelude.{Bool, List, Result, Ok, Err, ◌≡◌, ◌≢◌, ◌⊎◌, ℕ, ◌+◌, ◌*◌, ◌<◌, ◌≤◌, true, false, [], ◌∷◌}
+use Rattle.std.specs.Prelude.{IfErr, IfOk, IsTrue, OnOk, length, drop, max, slice_index, Some}
 use Rattle.state_file.specs.declared.disk.Disk as disk
 use Rattle.state_file.specs.declared.store.file_store.FileStore.{FileStore}
 use Rattle.state_file.specs.declared.record.Record.{Record}
@@ -14,8 +14,13 @@ use Rattle.typecodes.proofs.Steps.{ends-spelled}
 use Rattle.state_file.specs.File.{HasNoKey, IsClosed, IsOpen, SpellsRecords, fields_at, open_value, StandsFor, IsFileOf}
 use Rattle.state_file.specs.File.{IsSyncedFile, LeftLists}
 use Rattle.state_file.specs.Disk.{DiskState, LeavesOnly, MayLeave, settled}
+use Rattle.state_file.specs.DiskCalls.{CountsFailures}
+use Rattle.state_file.specs.Format.{Formats, LeftByFormat, is_failed_format}
+use Rattle.state_file.specs.Opening.{ReportsContent, Settles, is_failed_opening}
 use Rattle.state_file.specs.Slot.{slot_record}
 use Rattle.state_file.specs.Store.{is_key}
+use Rattle.state_file.specs.declared.file.format.FormatFault.{FormatFault}
+use Rattle.state_file.specs.declared.file.opening.OpenFault.{OpenFault}
 use Rattle.state_file.specs.declared.record.Key.{Key}
 use Rattle.state_file.specs.declared.record.Record.TheVariants.{Key as KeyRecord, Extend, Bound, Retire, Moved}
 
@@ -51,6 +56,37 @@ disk_after (Err refused) = refused.given
 abbrev pub outcome_of : {A T F : Type 0} → Result A (Refused T F) → Result A F
 outcome_of (Ok a) = Ok a
 outcome_of (Err refused) = Err refused.fault
+
+-- The records of a disk were found, or it was reported why there are none. The disk is synced, and holds what it held;
+-- all that a stop may leave meanwhile is what one might have left before.
+pub record FindsRecords {D : Type 0} {bound : _} (d : disk.Ghosts D) (given : D)
+    (result : Result (FileStore D bound) (Refused D OpenFault)) : Type 0 where
+  pub records : IsTrue (d.honest given)
+      → IfOk result (λ found. SpellsRecords (d.state given).content (records_of found))
+  pub running : IfOk result (λ found. has_stopped found ≡ false)
+  pub unreadable : IfOk result (λ found. unreadable_of found ≡ [])
+  pub fault : IsTrue (d.honest given)
+      → IfErr result (λ refused. ReportsContent (d.state given).content refused.fault)
+  pub moments : IsTrue (d.honest given)
+      → LeavesOnly d.moment d.left_since given (disk_after result) (MayLeave (d.state given))
+  pub settled : IsTrue (d.honest given)
+      → Settles (d.state given).content (d.state (disk_after result)) (outcome_of result)
+  pub failures : CountsFailures d is_failed_opening given (disk_after result) (outcome_of result)
+
+-- A disk was prepared for a key, or it was refused. Where the disk is honest it then holds no slot and a closed gate, and
+-- what a stop leaves meanwhile is what one might have left before, or it has no key.
+pub record PreparesDisk {D : Type 0} {bound : _} (d : disk.Ghosts D) (given : D)
+    (result : Result (FileStore D bound) (Refused D FormatFault)) : Type 0 where
+  pub records : IfOk result (λ prepared. records_of prepared ≡ [])
+  pub running : IfOk result (λ prepared. has_stopped prepared ≡ false)
+  pub unreadable : IfOk result (λ prepared. unreadable_of prepared ≡ [])
+  pub answer : IsTrue (d.honest given)
+      → Formats (d.state given).content (d.state (disk_after result)) (outcome_of result)
+  pub len : IsTrue (d.honest given)
+      → OnOk result (length (d.state (disk_after result)).content ≡ max (length (d.state given).content) 1)
+  pub moments : IsTrue (d.honest given)
+      → LeavesOnly d.moment d.left_since given (disk_after result) (LeftByFormat (d.state given))
+  pub failures : CountsFailures d is_failed_format given (disk_after result) (outcome_of result)
 
 -- ---- what contents stand for
 

@@ -1,15 +1,11 @@
 //! A store over a disk.
 
 ghost use Rattle.std.specs.Prelude.{◌≡◌, ◌≢◌, ◌⊎◌, ◌≤◌, ◌<◌, ◌+◌, ◌∷◌, [], ◌++◌, true, false, IsTrue};
-ghost use Rattle.std.specs.Prelude.{IfOk, IfErr, OnOk, length, max};
-ghost use Rattle.state_file.specs.Disk.{LeavesOnly};
-ghost use Rattle.state_file.specs.Disk.{settled, ChangesOnly, MayLeave, Counts};
-ghost use Rattle.state_file.specs.File.{SpellsRecords, most_records, tag_at};
+ghost use Rattle.std.specs.Prelude.{IfOk, IfErr, OnOk, length};
+ghost use Rattle.state_file.specs.Disk.{ChangesOnly, Counts, LeavesOnly};
 ghost use Rattle.state_file.specs.DiskCalls.{CountsFailures, OnlyReads};
-ghost use Rattle.state_file.specs.File.{StandsFor, LeftLists, IsSyncedFile, IsSyncedFile-prop};
+ghost use Rattle.state_file.specs.File.{IsSyncedFile, IsSyncedFile-prop, LeftLists, StandsFor, most_records, tag_at};
 ghost use Rattle.state_file.specs.Gates.{AddsSlot, slot_and_gate};
-ghost use Rattle.state_file.specs.Format.{is_failed_format, Formats, LeftByFormat};
-ghost use Rattle.state_file.specs.Opening.{is_failed_opening, Settles, ReportsContent};
 ghost use Rattle.std.proofs.Common.{inl};
 ghost use Rattle.state_file.specs.Store.{Appends, CanFollow, Collects, Loads, ReadsTag, is_out_of_memory};
 ghost use Rattle.state_file.specs.Store.{is_device_failure, unreadable_slot};
@@ -44,8 +40,7 @@ pub struct FileStore<D: Disk> {
 }
 
 impl<D: Disk + Drop> FileStore<D> {
-    ghost use Rattle.state_file.specs.FileStore.{disk_after, disk_of, has_stopped, records_of, outcome_of};
-    ghost use Rattle.state_file.specs.FileStore.{unreadable_of};
+    ghost use Rattle.state_file.specs.FileStore.{FindsRecords, PreparesDisk, disk_of, records_of};
 
     /// How many records there are.
     pub fn count(&self) -> u32
@@ -65,15 +60,7 @@ impl<D: Disk + Drop> FileStore<D> {
     /// first alone changes, to zero; where there are 257 or more, nothing is written, whatever the answer. A
     /// refusal hands the disk back.
     pub fn format(disk: D) -> Result<Self, Refused<D, FormatFault>>
-        ensures records { IfOk result (λ store. (records_of store ≡ []) × (has_stopped store ≡ false)) }
-        ensures unreadable { IfOk result (λ store. unreadable_of store ≡ []) }
-        ensures answer { IsTrue (D.honest disk) →
-            Formats (D.state disk).content (D.state (disk_after result)) (outcome_of result) }
-        ensures len { IsTrue (D.honest disk) →
-            OnOk result (length (D.state (disk_after result)).content ≡ max (length (D.state disk).content) 1) }
-        ensures any_moment { IsTrue (D.honest disk) →
-            LeavesOnly D.moment D.left_since disk (disk_after result) (LeftByFormat (D.state disk)) }
-        ensures counts { CountsFailures D.Disk is_failed_format disk (disk_after result) (outcome_of result) }
+        ensures { PreparesDisk D.Disk disk result }
     {
         let mut disk = disk;
         match format(&mut disk) {
@@ -93,17 +80,7 @@ impl<D: Disk + Drop> FileStore<D> {
     /// the order of their numbers, and each hands the disk back, with its content as it was where the device
     /// didn't fail.
     pub fn open(disk: D) -> Result<Self, Refused<D, OpenFault>>
-        ensures records { IsTrue (D.honest disk) →
-            IfOk result (λ store. SpellsRecords (D.state disk).content (records_of store)) }
-        ensures running { IfOk result (λ store. has_stopped store ≡ false) }
-        ensures unreadable { IfOk result (λ store. unreadable_of store ≡ []) }
-        ensures fault { IsTrue (D.honest disk) →
-            IfErr result (λ refused. ReportsContent (D.state disk).content refused.fault) }
-        ensures any_moment { IsTrue (D.honest disk) →
-            LeavesOnly D.moment D.left_since disk (disk_after result) (MayLeave (D.state disk)) }
-        ensures settled { IsTrue (D.honest disk) →
-            Settles (D.state disk).content (D.state (disk_after result)) (outcome_of result) }
-        ensures counts { CountsFailures D.Disk is_failed_opening disk (disk_after result) (outcome_of result) }
+        ensures { FindsRecords D.Disk disk result }
     {
         let mut disk = disk;
         match find_records(&mut disk) {
