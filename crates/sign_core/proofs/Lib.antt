@@ -63,3 +63,4 @@ pub mod Lives
 pub mod Unbound
 pub mod Answered
 pub mod Damage
+pub mod RefusalOrder

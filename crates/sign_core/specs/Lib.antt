@@ -18,3 +18,4 @@ pub mod Links
 pub mod Request
 pub mod Writing
 pub mod Lives
+pub mod RefusalOrder

@@ -17,6 +17,7 @@ ghost use Rattle.sign_core.specs.Once.{CutLaw, IsBoundTo, LastingLaw, OnceLaw, S
 ghost use Rattle.sign_core.specs.Calls.{CallsLaw, StoppedLaw};
 ghost use Rattle.sign_core.specs.Lives.{LivesLaw};
 ghost use Rattle.sign_core.specs.Opened.{OpenedLaw};
+ghost use Rattle.sign_core.specs.RefusalOrder.{RefusalLaw};
 ghost use Rattle.sign_core.specs.SignerCalls.{SignerLaw};
 ghost use Rattle.sign_core.specs.Textbook.{AllHaveSizes, AreSound, damaged_in, public_in, signature_at, tree_before};
 
@@ -125,6 +126,22 @@ pub fn sound_law()
 /// The clauses stand in `specs/Opened.antt`.
 pub fn opened_law()
     ensures opened { OpenedLaw }
+{}
+
+/// Which refusal an event answers: of the causes that are there the first in the event's order decides, and where none
+/// is there the answer is Ok.
+///
+/// - A request: 26, 31; under a bound name 27, 21, 29, 28; under a new one 22, 30, 29, 28, then for each new tree 23
+///   where I isn't drawn, 24, 23 where SEED or C isn't, 25 or 29 of its append, and for the binding 23, 27, 25 or 29.
+/// - A retiring: 26, 31, 32; then Ok where it retires nothing; else 30, 25 or 29.
+/// - A create: what record 0 couldn't be loaded for, 50, 23, 29, 25 or 29 of its append.
+/// - An opening: 44 of the first record that isn't legal, if each one up to it was loaded; what one couldn't be loaded
+///   for; 40.
+///
+/// The clauses stand in `specs/RefusalOrder.antt`: each refusal has one of these causes, and none of those before it is
+/// there. No two refusals fit one event so.
+pub fn refusal_law()
+    ensures refusals { RefusalLaw }
 {}
 
 /// No event takes a record or a signature away, or puts another in its place.

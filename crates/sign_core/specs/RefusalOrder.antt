@@ -1,0 +1,186 @@
+-- Which refusal each event answers: of the causes that are there, the first one in this order decides.
+use Rattle.std.specs.Prelude.{◌≡◌, ◌≢◌, ◌⊎◌, ◌↔◌, ℕ, zero, suc, ◌+◌, ◌-◌, ◌<◌, ◌≤◌, true, false, List, [], ◌∷◌}
+use Rattle.std.specs.Prelude.{length, IsOk, Option, Some, None, Result, Ok, Err}
+use Rattle.typecodes.specs.declared.spec.Spec.{Spec}
+use Rattle.typecodes.specs.Spec.{IsSpec}
+use Rattle.state_file.specs.Laws.{bottom_of, levels_of}
+use Rattle.state_file.specs.declared.record.Bound.{Bound}
+use Rattle.state_file.specs.declared.record.Key.{Key}
+use Rattle.state_file.specs.declared.record.Record.{Record}
+use Rattle.state_file.specs.declared.record.Secret.{Secret}
+use Rattle.sign_core.specs.declared.key.AnyPublic.{AnyPublic}
+use Rattle.sign_core.specs.declared.fault.SignFault.{SignFault}
+use Rattle.sign_core.specs.declared.fault.SignFault.TheVariants.{Changed, Damaged, Exhausted, Illegal, KeyThere}
+use Rattle.sign_core.specs.declared.fault.SignFault.TheVariants.{LedgerFull, MessageRead, Moved, NoKey, OutOfMemory}
+use Rattle.sign_core.specs.declared.fault.SignFault.TheVariants.{RandomFailed, RandomRepeated, RetireRange, Stopped}
+use Rattle.sign_core.specs.declared.fault.SignFault.TheVariants.{StoreFailed}
+use Rattle.sign_core.specs.Records.{binding_in, deepest, first_illegal, free_at, has_identifier, has_moved, key_in}
+use Rattle.sign_core.specs.Records.{leaves_of_current, next_at, wanted_count}
+use Rattle.sign_core.specs.Textbook.{AllHaveSizes, damaged_in, digest_at, tree_before}
+use Rattle.sign_core.specs.Once.{AreDrawsOf, AreFields, key_sizes, randomizer_sizes}
+use Rattle.sign_core.specs.World.{Chance, Creation, Draw, Fate, Opening, State, cut_new, cut_old, no_memory}
+use Rattle.sign_core.specs.World.{created, first_draw, later_draws, opened, requested, retired}
+
+-- ---- causes in their order
+
+-- A fault is answered that has such a cause; or none has one, and what comes after decides.
+pub record Unless {A : Type 0} (HasCause : SignFault → Type 0) (Rest : Result A SignFault → Type 0)
+    (answer : Result A SignFault) : Type 0 where
+  pub decided : ((fault : SignFault) × HasCause fault × (answer ≡ Err fault))
+      ⊎ (((fault : SignFault) → HasCause fault → ⊥) × Rest answer)
+
+-- This fault alone has a cause: this one.
+abbrev pub Of : SignFault → (Cause : Type 0) → SignFault → Type 0
+Of named Cause fault = (fault ≡ named) × Cause
+
+-- a record of a chain of trees isn't sound (28)
+abbrev pub IsUnsound : (damaged : Option ℕ) → SignFault → Type 0
+IsUnsound damaged fault = (slot : ℕ) × (damaged ≡ Some slot) × (fault ≡ Damaged slot)
+
+-- an append is cut off (25), or its store finds no memory (29)
+abbrev pub AfterAppend : {A : Type 0} → Fate → (Rest : Result A SignFault → Type 0) → Result A SignFault → Type 0
+AfterAppend fate Rest =
+    Unless (Of StoreFailed ((fate ≡ cut_old) ⊎ (fate ≡ cut_new)))
+    (Unless (Of OutOfMemory (fate ≡ no_memory)) Rest)
+
+-- a signer is closed (26), or its records go on in another file (31)
+abbrev pub WhereOpen : {A : Type 0} → State → (Rest : Result A SignFault → Type 0) → Result A SignFault → Type 0
+WhereOpen state Rest =
+    Unless (Of Stopped (state.is_open ≡ false))
+    (Unless (Of Moved (has_moved state.records ≡ true)) Rest)
+
+-- ---- a request
+
+-- the message has another digest than the binding, under its leaf and C
+abbrev pub HasChanged : Key → List Record → (k : ℕ) → Bound → (given : Option (List ℕ)) → Type 0
+HasChanged key records k bound given = (message : List ℕ) × (given ≡ Some message)
+    × (digest_at key records k bound.leaf bound.randomizer message ≢ bound.digest)
+
+-- Under a name that is bound by the record at place k: 27, 21, 29, 28.
+abbrev pub RefusesRepeat : State → Key → (k : ℕ) → Bound → Chance → Result (List ℕ) SignFault → Type 0
+RefusesRepeat state key k bound chance =
+    let bottom = bottom_of key.secret in
+    Unless (Of MessageRead (chance.given ≡ None))
+    (Unless (Of Changed (HasChanged key state.records k bound chance.given))
+    (Unless (Of OutOfMemory (chance.has_room ≡ false))
+    (Unless (IsUnsound (damaged_in key bottom state.records (tree_before bottom state.records k))) IsOk)))
+
+-- no level has a free leaf
+abbrev pub HasNoLeaf : Secret → List Record → Type 0
+HasNoLeaf secret records = (level : ℕ) → level < levels_of secret → free_at secret records level ≡ 0
+
+-- this is drawn first
+abbrev pub BeginsWith : (fields : List (List ℕ)) → (identifier : List ℕ) → Type 0
+BeginsWith fields identifier = (others : List (List ℕ)) × (fields ≡ identifier ∷ others)
+
+-- For a new tree: 23 where I isn't drawn, 24 where it is known, 23 where SEED or C isn't drawn, and those of its
+-- append.
+abbrev pub RefusesTree : (IsKnown : List ℕ → Type 0) → Draw → (Rest : Result (List ℕ) SignFault → Type 0)
+    → Result (List ℕ) SignFault → Type 0
+RefusesTree IsKnown draw Rest =
+    Unless (Of RandomFailed (length draw.fields < 1))
+    (Unless (Of RandomRepeated ((identifier : List ℕ) × BeginsWith draw.fields identifier × IsKnown identifier))
+    (Unless (Of RandomFailed (length draw.fields < 3)) (AfterAppend draw.fate Rest)))
+
+-- For the wanted records, of which so many are new trees, one after the other: the I of each tree is known to those
+-- after it. And for the binding 23 where C isn't drawn, 27, and those of its append.
+abbrev pub RefusesWanted : Key → Chance → (below : ℕ) → List Draw → (IsKnown : List ℕ → Type 0)
+    → Result (List ℕ) SignFault → Type 0
+RefusesWanted key chance zero = λ draws IsKnown.
+    Unless (Of RandomFailed (length chance.bound.fields < length (randomizer_sizes key.secret)))
+    (Unless (Of MessageRead (chance.given ≡ None)) (AfterAppend chance.bound.fate IsOk))
+RefusesWanted key chance (suc below) = λ draws IsKnown.
+    let fields = (first_draw draws).fields in
+    RefusesTree IsKnown (first_draw draws)
+    (RefusesWanted key chance below (later_draws draws)
+    (λ identifier. IsKnown identifier ⊎ BeginsWith fields identifier))
+
+-- Under a new name, where this level is the deepest with a free leaf: 30, 29, 28, and those of the wanted records.
+abbrev pub RefusesAt : (limit : ℕ) → State → Key → Chance → (level : ℕ) → Result (List ℕ) SignFault → Type 0
+RefusesAt limit state key chance level =
+    let records = state.records in
+    Unless (Of LedgerFull (limit < length records + wanted_count key.secret level))
+    (Unless (Of OutOfMemory (chance.has_room ≡ false))
+    (Unless (IsUnsound (damaged_in key level records (tree_before level records (length records))))
+    (RefusesWanted key chance (bottom_of key.secret - level) chance.trees
+    (λ identifier. has_identifier records identifier ≡ true))))
+
+-- Under a new name: 22, and then those.
+abbrev pub RefusesNew : (limit : ℕ) → State → Key → Chance → Result (List ℕ) SignFault → Type 0
+RefusesNew limit state key chance =
+    Unless (Of Exhausted (HasNoLeaf key.secret state.records))
+    (λ answer. (level : ℕ) × (deepest key.secret state.records ≡ Some level)
+    × RefusesAt limit state key chance level answer)
+
+abbrev pub RefusesName : (limit : ℕ) → State → Key → Chance → Option (ℕ × Bound) → Result (List ℕ) SignFault → Type 0
+RefusesName limit state key chance (Some (k, bound)) = RefusesRepeat state key k bound chance
+RefusesName limit state key chance None = RefusesNew limit state key chance
+
+-- A request: 26, 31, and those of its name, by the binding that this has.
+abbrev pub RefusesRequest : (limit : ℕ) → State → Key → (name : List ℕ) → Chance → Result (List ℕ) SignFault → Type 0
+RefusesRequest limit state key name chance =
+    WhereOpen state (RefusesName limit state key chance (binding_in state.records name))
+
+-- ---- the other events
+
+-- A retiring that records nothing, as no leaf below this one is free, is Ok; else 30 and those of the append.
+abbrev pub RefusesRecord : (limit : ℕ) → State → (next upto : ℕ) → Fate → Result (Unit {0}) SignFault → Type 0
+RefusesRecord limit state next upto fate answer = ((upto ≤ next) × IsOk answer)
+    ⊎ ((next < upto)
+    × Unless (Of LedgerFull (limit < length state.records + 1)) (AfterAppend fate IsOk) answer)
+
+-- A retiring: 26, 31, 32, and those.
+abbrev pub RefusesRetire : (limit : ℕ) → State → Key → (upto : ℕ) → Fate → Result (Unit {0}) SignFault → Type 0
+RefusesRetire limit state key upto fate =
+    let bottom = bottom_of key.secret in
+    WhereOpen state
+    (Unless (Of RetireRange (leaves_of_current key.secret state.records bottom < upto))
+    (RefusesRecord limit state (next_at key.secret state.records bottom) upto fate))
+
+-- A create: what record 0 couldn't be loaded for, 50, 23, 29, and those of the append.
+abbrev pub RefusesCreate : {A : Type 0} → State → Spec → Creation → Result A SignFault → Type 0
+RefusesCreate state spec chance =
+    Unless (λ fault. chance.failed_load ≡ Some fault)
+    (Unless (Of KeyThere (0 < length state.records))
+    (Unless (Of RandomFailed (length chance.fields < length (key_sizes spec)))
+    (Unless (Of OutOfMemory (chance.has_room ≡ false)) (AfterAppend chance.fate IsOk))))
+
+-- a record isn't legal (44), and each that is before it or there could be loaded
+abbrev pub IsIllegalFirst : List Record → Opening → SignFault → Type 0
+IsIllegalFirst records chance fault = (k : ℕ) × (first_illegal records ≡ Some k) × (fault ≡ Illegal k)
+    × ((slot : ℕ) (other : SignFault) → chance ≡ Some (slot, other) → k < slot)
+
+-- An opening: 44, what a record couldn't be loaded for, 40.
+abbrev pub RefusesOpening : {A : Type 0} → State → Opening → Result A SignFault → Type 0
+RefusesOpening state chance =
+    Unless (IsIllegalFirst state.records chance)
+    (Unless (λ fault. (slot : ℕ) × (chance ≡ Some (slot, fault)))
+    (Unless (Of NoKey (state.records ≡ [])) IsOk))
+
+-- ---- the law
+
+-- Two answers refuse alike: with one fault, or neither does.
+abbrev pub RefuseAlike : {A : Type 0} → (one other : Result A SignFault) → Type 0
+RefuseAlike one other = (fault : SignFault) → (one ≡ Err fault) ↔ (other ≡ Err fault)
+
+-- Each answer is the refusal of the first cause that is there, and Ok where there is none; and no other answer is.
+pub record RefusalLaw : Type 0 where
+  pub request : (limit : ℕ) (state : State) (key : Key) (name : List ℕ) (chance : Chance)
+      → key_in state.records ≡ Some key → AreDrawsOf key.secret chance
+      → RefusesRequest limit state key name chance (requested limit state name chance).answer
+  pub retire : (limit : ℕ) (state : State) (key : Key) (upto : ℕ) (fate : Fate)
+      → key_in state.records ≡ Some key → RefusesRetire limit state key upto fate (retired limit state upto fate).answer
+  pub create : (state : State) (spec : Spec) (chance : Creation) → IsSpec spec
+      → AreFields (key_sizes spec) chance.fields → RefusesCreate state spec chance (created state spec chance).answer
+  pub opening : (state : State) (chance : Opening) → AllHaveSizes state.records
+      → RefusesOpening state chance (opened state chance).answer
+  pub one_request : (limit : ℕ) (state : State) (key : Key) (name : List ℕ) (chance : Chance)
+      (one other : Result (List ℕ) SignFault) → RefusesRequest limit state key name chance one
+      → RefusesRequest limit state key name chance other → RefuseAlike one other
+  pub one_retire : (limit : ℕ) (state : State) (key : Key) (upto : ℕ) (fate : Fate)
+      (one other : Result (Unit {0}) SignFault) → RefusesRetire limit state key upto fate one
+      → RefusesRetire limit state key upto fate other → RefuseAlike one other
+  pub one_create : (state : State) (spec : Spec) (chance : Creation) (one other : Result AnyPublic SignFault)
+      → RefusesCreate state spec chance one → RefusesCreate state spec chance other → RefuseAlike one other
+  pub one_opening : (state : State) (chance : Opening) (one other : Result AnyPublic SignFault)
+      → RefusesOpening state chance one → RefusesOpening state chance other → RefuseAlike one other
