@@ -13,6 +13,7 @@ pub mod Taking
 pub mod Visiting
 pub mod Walking
 pub mod Walks
+pub mod WithOption
 pub mod MessageReading
 pub mod Numbers
 pub mod SigningReads

@@ -72,16 +72,16 @@ turn_passes s b position word h taken = rw (word_is_value s.rules b position wor
 -- ---- the walk of a command
 
 -- The walk goes over these words without a fault, and ends so.
-abbrev Goes : Shape → Walk → List Text → Walk → Type 0
+abbrev pub Goes : Shape → Walk → List Text → Walk → Type 0
 Goes s from words to = (fold (walked s.rules []) from words ≡ to) × (walk_fault s [] from words ≡ [])
 
 -- over no word,
-stays : (s : Shape) (from to : Walk) → from ≡ to → Goes s from [] to
+pub stays : (s : Shape) (from to : Walk) → from ≡ to → Goes s from [] to
 unfolding walk_fault
 stays s from to same = (same, refl)
 
 -- and over one more in front
-goes : (s : Shape) (from next to : Walk) (word : Text) (words : List Text) → walked s.rules [] from word ≡ next
+pub goes : (s : Shape) (from next to : Walk) (word : Text) (words : List Text) → walked s.rules [] from word ≡ next
     → turn_fault s [] from word ≡ [] → Goes s next words to → Goes s from (word ∷ words) to
 unfolding walk_fault
 goes s from next to word words step well (ends, passes) = (
@@ -121,7 +121,7 @@ abbrev AllTaken : Bool → List Text → Type 0
 AllTaken b [] = ⊤
 AllTaken b (word ∷ words) = IsTaken b word × AllTaken b words
 
-plain_taken : (words : List Text) → ArePlainWords words → AllTaken false words
+pub plain_taken : (words : List Text) → ArePlainWords words → AllTaken false words
 plain_taken [] plain = tt
 plain_taken (word ∷ words) (first, others) = (first, plain_taken words others)
 
@@ -130,7 +130,7 @@ any_taken [] = tt
 any_taken (word ∷ words) = (tt, any_taken words)
 
 -- the walk goes over the words of values,
-over_all : (s : Shape) (b : Bool) (position : ℕ) (h : Collected) (words : List Text) (last : ℕ) (to : Collected)
+pub over_all : (s : Shape) (b : Bool) (position : ℕ) (h : Collected) (words : List Text) (last : ℕ) (to : Collected)
     → AllTaken b words → TakesAll s position h words last to → Goes s (at b h position) words (at b to last)
 over_all s b position h [] last to taken (same, ends) = stays s (at b h position) (at b to last) (ap₂ (λ x n. at b x n) same ends)
 over_all s b position h (word ∷ words) last to (first, others) (next, takes, rest) =
@@ -235,7 +235,7 @@ entered_faults name s names enters =
     ∙ ap (whole_fault (stopped_at name names)) (line_well name s names enters) ∙ enters.fault names
 
 -- A line of a command whose values are all taken, and with which nothing is wrong in the end, has no fault, and these rows.
-takes_line : (words : List Text) (name : Text) (values : List Text) (s : Shape) (last : ℕ) (to : Collected) → Enters name s
+pub takes_line : (words : List Text) (name : Text) (values : List Text) (s : Shape) (last : ℕ) (to : Collected) → Enters name s
     → TakesAll s 1 nothing_collected values last to → ((b : Bool) → end_fault s (at b to last) ≡ []) → IsCommandLine words name values
     → (fault_of hbsign_app words ≡ []) × (subcommand_of hbsign_app words ≡ Some (name, finished s.rules to))
 takes_line words name values s last to enters takes well (names, same, given) =

@@ -43,8 +43,8 @@ ReadsAllOrFails role left Fits (Ok value) old new =
     (bytes : List ℕ) × IsContent left bytes × Fits bytes value × ReadsToEnd role bytes old new
 ReadsAllOrFails role left Fits (Err error) old new = FailsToRead role (error_kind error) old new
 
--- What is seen of the files of a signer: what each path's file holds where that is known, whether a disk is as opening a
--- state file gives it, and whether it is that of the state file that was closed last.
+-- What is seen of the files of a signer: what each path's file holds where that is known, whether a disk is as opening
+-- a state file gives it, and whether it is that of the state file that was closed last.
 pub record FilesSeen (K : Type 0) : Type 1 where
   pub content : List ℕ → Option (List ℕ)
   pub IsOpened : K → Type 0

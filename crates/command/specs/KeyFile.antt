@@ -26,7 +26,8 @@ use Rattle.command.specs.Signing.{RetiresBelow}
 -- all that a stop may leave meanwhile is what one might have left before.
 pub record FindsRecords {K : Type 0} {bound : _} (d : disk.Ghosts K) (given : K)
     (result : Result (FileStore K bound) (Refused K OpenFault)) : Type 0 where
-  pub records : IsTrue (d.honest given) → IfOk result (λ found. SpellsRecords (d.state given).content (records_of found))
+  pub records : IsTrue (d.honest given)
+      → IfOk result (λ found. SpellsRecords (d.state given).content (records_of found))
   pub running : IfOk result (λ found. has_stopped found ≡ false)
   pub fault : IsTrue (d.honest given) → IfErr result (λ refused. ReportsContent (d.state given).content refused.fault)
   pub moments : IsTrue (d.honest given)
@@ -62,8 +63,8 @@ RetiresOn {K} {bound} d g old new upto answer =
     ⊎ ((random : TapeSource) × (before after : View (FileStore K bound) TapeSource)
     × OpensOn d g old random (Ok before) × RetiresBelow g before after upto answer × (new ≡ disk_of after.store))
 
--- A disk was prepared for a key, or refused. Where it is honest it then holds no slot and a closed gate, and what a stop
--- leaves meanwhile is no key.
+-- A disk was prepared for a key, or refused. Where it is honest it then holds no slot and a closed gate, and what a
+-- stop leaves meanwhile is no key.
 pub record PreparesDisk {K : Type 0} {bound : _} (d : disk.Ghosts K) (given : K)
     (result : Result (FileStore K bound) (Refused K FormatFault)) : Type 0 where
   pub records : IfOk result (λ prepared. (records_of prepared ≡ []) × (has_stopped prepared ≡ false))
@@ -100,8 +101,8 @@ SignsFor g r m old new name before after capacity output answer =
     (signed : Result (List ℕ) SignFault) × Signs g r m old new name before after capacity signed
     × IsSigned signed output answer
 
--- A message was signed under a name on a disk: a signer was opened on it, made the step, and gave its store's disk back;
--- or it couldn't be opened, and the message is as it was.
+-- A message was signed under a name on a disk: a signer was opened on it, made the step, and gave its store's disk
+-- back; or it couldn't be opened, and the message is as it was.
 abbrev pub SignsOn : {K R M : Type 0} {bound : _} → disk.Ghosts K → store.Ghosts (FileStore K bound) → source.Ghosts R
     → message.Ghosts M → (old new : K) → (random : R) → (name : List ℕ) → (before after : M) → (capacity : ℕ)
     → (output : List ℕ) → Result Unit Refusal → Type 0

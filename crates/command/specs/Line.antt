@@ -15,6 +15,7 @@ use Rattle.command.specs.declared.line.Request.{Request}
 use Rattle.command.specs.declared.line.Request.TheVariants.{Make, Sign, Verify, Retire}
 use Rattle.command.specs.declared.answer.Done.{Done}
 use Rattle.command.specs.declared.refusal.Refusal.{Refusal}
+use Rattle.command.specs.Argument.{default_random}
 use Rattle.command.specs.Files.{FilesSeen}
 use Rattle.command.specs.Make.{MakesIn, make_app}
 use Rattle.command.specs.Number.{number_in}
@@ -141,8 +142,8 @@ task_found (Some (name, rows)) = task_named name rows
 abbrev pub Finds : List (List ℕ) → Task → Type 0
 Finds words task = (fault_of hbsign_app words ≡ []) × (task_found (subcommand_of hbsign_app words) ≡ Ok task)
 
--- The line of a task: `verify PUBLIC MESSAGE SIGNATURE`, or `retire STATE UPTO`; and of `make` and `sign`, which have an
--- option, each in which `clap` finds it.
+-- The line of a task: `verify PUBLIC MESSAGE SIGNATURE`, or `retire STATE UPTO`; and of `make` and `sign`, which have
+-- an option, each in which `clap` finds it.
 abbrev pub IsLineOf : List (List ℕ) → Task → Type 0
 IsLineOf words (make state public spec random) = Finds words (make state public spec random)
 IsLineOf words (sign state name message out random) = Finds words (sign state name message out random)
@@ -150,6 +151,22 @@ IsLineOf words (verify public message signature) =
     IsCommandLine words (codes "verify") (public ∷ message ∷ signature ∷ [])
 IsLineOf words (retire state upto) = (text : List ℕ) × (number_in most_leaves text ≡ Some upto)
     × IsCommandLine words (codes "retire") (state ∷ text ∷ [])
+
+-- A line of values, with the option at its end or without it. None of the values looks like an option.
+abbrev pub IsLineWithOption : List (List ℕ) → (name : List ℕ) → (values : List (List ℕ)) → (random : List ℕ) → Type 0
+IsLineWithOption words name values random =
+    (IsCommandLine words name values × (random ≡ default_random))
+    ⊎ ((words ≡ name ∷ (values ++ codes "--random" ∷ random ∷ [])) × ArePlainWords values × IsPlainWord random)
+
+-- The line of a task as help shows it: `make STATE PUBLIC SPEC [--random FILE]`,
+-- `sign STATE NAME MESSAGE OUT [--random FILE]`, `verify PUBLIC MESSAGE SIGNATURE` or `retire STATE UPTO`.
+abbrev pub IsShownLineOf : List (List ℕ) → Task → Type 0
+IsShownLineOf words (make state public spec random) =
+    IsLineWithOption words (codes "make") (state ∷ public ∷ spec ∷ []) random
+IsShownLineOf words (sign state name message out random) =
+    IsLineWithOption words (codes "sign") (state ∷ name ∷ message ∷ out ∷ []) random
+IsShownLineOf words (verify public message signature) = IsLineOf words (verify public message signature)
+IsShownLineOf words (retire state upto) = IsLineOf words (retire state upto)
 
 -- the kind of error that a lack is
 abbrev pub lack_kind : Lack → ErrorKind

@@ -38,7 +38,8 @@ Says old new = ((text : List ℕ) × (0 < length text) × Writes text old new) �
 abbrev pub RefusesLine : Taken → Taken → Taken → Taken → Type 0
 RefusesLine old new errors_old errors_new = (new ≡ old) × Says errors_old errors_new
 
--- A word of the line, a name or a spec, was refused: this answer's line is on the output, and nothing on that for errors.
+-- A word of the line, a name or a spec, was refused: this answer's line is on the output, and nothing on that for
+-- errors.
 abbrev pub RefusesWord : Taken → Taken → Taken → Taken → Type 0
 RefusesWord old new errors_old errors_new =
     (answer : Result Done Refusal) × IsOfWord answer × Writes (answer_line answer) old new × (errors_new ≡ errors_old)
@@ -67,8 +68,8 @@ ReportsNoMemory refused before after old new status =
     refused × (after ≡ before) × Reports (Err OutOfMemory) old new status
 
 -- What a run of the program on these words does to files and the output: of words without a fault it serves some task,
--- and where the words are texts, they are a line of this task; of others it does what their fault requests, and opens no
--- file; or there is no memory.
+-- and where the words are texts, they are a line of this task; of others it does what their fault requests, and opens
+-- no file; or there is no memory.
 abbrev pub Runs : {K R : Type 0} {bound : _} → disk.Ghosts K → store.Ghosts (FileStore K bound) → source.Ghosts R
     → List (List ℕ) → FilesSeen K → Type 0 → List Happening → List Happening → Taken → Taken → ℕ → Type 0
 Runs d g r words files refused before after old new status =

@@ -23,8 +23,9 @@ use Rattle.command.specs.Trace.{Happening, ReadsOnce, not_opened, not_writable, 
 
 -- the command
 abbrev pub sign_app : App
-sign_app = with_rule (with_rule (with_rule (with_rule (with_rule (new_app (codes "sign")) (required_rule (codes "STATE")))
-    (required_rule (codes "NAME"))) (required_rule (codes "MESSAGE"))) (required_rule (codes "OUT"))) random_rule
+sign_app = with_rule (with_rule (with_rule (with_rule (with_rule (new_app (codes "sign"))
+    (required_rule (codes "STATE"))) (required_rule (codes "NAME"))) (required_rule (codes "MESSAGE")))
+    (required_rule (codes "OUT"))) random_rule
 
 -- What the values of the words say: four files and a name; or one of the five isn't given.
 abbrev pub IsSign : (state name message out random : Option Text) → Option Sign → Type 0
@@ -41,7 +42,10 @@ MessageFile = Option (List ℕ) × List Happening
 
 -- a read of it happened, and nothing else
 abbrev pub message_file : message.Ghosts MessageFile
-message_file = record { remaining = λ file. file.0; transition = λ old outcome new. ReadsOnce role.Message old.1 outcome new.1 }
+message_file = record {
+  remaining = λ file. file.0;
+  transition = λ old outcome new. ReadsOnce role.Message old.1 outcome new.1;
+}
 
 -- ---- the files
 
@@ -80,8 +84,8 @@ abbrev pub SignsFile : {K R : Type 0} {bound : _} → disk.Ghosts K → store.Gh
     → (before after : K) → (random : R) → (name : List ℕ) → (left : Option (List ℕ)) → (capacity : ℕ)
     → (signature : List ℕ) → Result Unit Refusal → (old new : List Happening) → Type 0
 SignsFile {bound = bound} d g r before after random name left capacity signature signed old new =
-    (rest : Option (List ℕ))
-    × SignsOn {bound = bound} d g r message_file before after random name (left, old) (rest, new) capacity signature signed
+    (rest : Option (List ℕ)) × SignsOn {bound = bound} d g r message_file before after random name (left, old)
+    (rest, new) capacity signature signed
 
 -- The same, and what came of it was delivered.
 abbrev pub SignsAndDelivers : {K R : Type 0} {bound : _} → disk.Ghosts K → store.Ghosts (FileStore K bound)

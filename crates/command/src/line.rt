@@ -2,7 +2,8 @@
 
 ghost use Rattle.std.specs.Prelude.{◌≡◌, ◌≢◌, ◌⊎◌, ◌+◌, ℕ, [], Ok, IfErr, IfOk, MatchResult, map};
 ghost use Rattle.clap.specs.Words.{HasKind, app_of, fault_of, kind_of, subcommand_of, subcommand_rows_of};
-ghost use Rattle.command.specs.Line.{AreTexts, IsLineOf, hbsign_app, lack_kind, task_found, task_of, task_or_lack};
+ghost use Rattle.command.specs.Line.{AreTexts, IsLineOf, IsShownLineOf, hbsign_app, lack_kind};
+ghost use Rattle.command.specs.Line.{task_found, task_of, task_or_lack};
 ghost use Rattle.command.specs.Line.{Task as LineTask};
 ghost use Rattle.command.specs.LineFault.{CountsRefusals, HasLineFault, HasText, line_faults};
 
@@ -95,6 +96,8 @@ pub trait LineReader {
     fn read<'a, S: AsStr>(&mut self, words: &'a [S]) -> Result<Request<'a>, LineFault>
         ensures requests { (task : LineTask) → IsLineOf (map S.text words.now) task
             → MatchResult result (λ request. task_of request ≡ task) (λ fault. fault ≡ LineFault.OutOfMemory) }
+        ensures shown { (task : LineTask) → IsShownLineOf (map S.text words.now) task
+            → IsLineOf (map S.text words.now) task }
         ensures ok { IfOk result (λ _. line_faults (map S.text words.now) ≡ []) }
         ensures accepts { IfOk result (λ request.
             AreTexts (map S.text words.now) → IsLineOf (map S.text words.now) (task_of request)) }

@@ -4,7 +4,8 @@ ghost use Rattle.std.specs.Prelude.{◌≡◌, IfOk, codes, vec_capacity};
 ghost use Rattle.clap.specs.declared.builder.command.Command.{Command as ClapCommand};
 ghost use Rattle.clap.specs.Words.{AddsSubcommand, app_of, first_value, found_of, with_subcommand};
 ghost use Rattle.command.specs.Files.{files_seen};
-ghost use Rattle.command.specs.Sign.{IsSign, ReadiesToSign, SignsAndDelivers, SignsFile, SignsIn, SignsOpened, sign_app};
+ghost use Rattle.command.specs.Sign.{IsSign, ReadiesToSign, SignsAndDelivers, SignsFile, SignsIn, SignsOpened};
+ghost use Rattle.command.specs.Sign.{sign_app};
 
 use crate::answer::{Answer, Done};
 use crate::argument::{random_file, required};
@@ -45,7 +46,7 @@ impl<'a> Sign<'a> {
         Command::new(alloc, Sign::NAME)
             .about("Signs a message under a name")
             .after_help(
-                "Example:\n  $ hbsign sign firmware.key fw-1.0.2 firmware.bin firmware.sig\n  signed fw-1.0.2 1292 bytes",
+                "Example:\n  $ hbsign sign firmware.key fw-1.0 firmware.bin firmware.sig\n  signed fw-1.0 1292 bytes",
             )
             .arg(required(
                 alloc,

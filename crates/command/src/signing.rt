@@ -11,8 +11,8 @@ use arrayvec::ArrayVec;
 use sign_core::{Signer, Source};
 use state_file::Store;
 
-/// Writes a signature to its file, and gives its size. Where the file can't be written, what was recorded stays, and the
-/// same request gives the same signature again.
+/// Writes a signature to its file, and gives its size. Where the file can't be written, what was recorded stays, and
+/// the same request gives the same signature again.
 pub fn deliver<W: Outlet>(outlet: &mut W, path: &str, signature: &[u8]) -> Result<usize, Refusal>
     ensures { Delivers (Ok signature.now) path.now (W.trace outlet.old) (W.trace outlet.new) result }
 {

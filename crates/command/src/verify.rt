@@ -52,6 +52,9 @@ impl<'a> Verify<'a> {
     {
         Command::new(alloc, Verify::NAME)
             .about("Verifies a signature of a message")
+            .after_help(
+                "Example:\n  $ hbsign verify firmware.pub firmware.bin firmware.sig\n  verified",
+            )
             .arg(required(alloc, "PUBLIC", "File of the public key"))?
             .arg(required(alloc, "MESSAGE", "File of the message"))?
             .arg(required(alloc, "SIGNATURE", "File of the signature"))

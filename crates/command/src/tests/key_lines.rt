@@ -98,8 +98,8 @@ fn folder_with_files(rt: &HostRuntime, name: &str) -> Result<Place, Fail> {
     write(rt, &folder, "m", b"\x01")?;
     write(rt, &folder, "m2", b"\x02")?;
     write(rt, &folder, "r", &tape)?;
-    write(rt, &folder, "r47", &tape[..47])?;
-    write(rt, &folder, "r48", &tape[..48])?;
+    write(rt, &folder, "r47", tape.get(..47).unwrap_or(&[]))?;
+    write(rt, &folder, "r48", tape.get(..48).unwrap_or(&[]))?;
     Ok(folder)
 }
 

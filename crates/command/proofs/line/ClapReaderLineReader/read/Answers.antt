@@ -4,6 +4,7 @@ use Rattle.command.specs.Line.{task_of}
 use Rattle.command.specs.LineFault.{line_faults}
 use Rattle.command.proofs.Accepting.{is_line_of, no_line_faults, same_task, task_has_no_faults}
 use Rattle.command.proofs.Finding.{only_memory}
+use Rattle.command.proofs.WithOption.{shown_line}
 use Rattle.command.proofs.line.ClapReaderLineReader.read.Goals.{in-OutOfMemory, in_default}
 use Rattle.command.proofs.line.ClapReaderLineReader.read.Goals as goal
 
@@ -27,3 +28,12 @@ returns-in-Err-2-clause-requests g c task line =
       | in-OutOfMemory w ↦ absurd (let same = w.matches-is in let other = c.if-matches.false in cc)
       | in_default w ↦ absurd (w.in_default.not-OutOfMemory (c.kind.ensures ∙ ap kind_of c.in-Err-2.error-is ∙ memory))
     ]
+
+pub returns-in-Ok-clause-shown : goal.returns-in-Ok-clause-shown
+returns-in-Ok-clause-shown g c task line = shown_line (map g.S.AsStr.text c.args.words.now) task line
+
+pub returns-in-Err-clause-shown : goal.returns-in-Err-clause-shown
+returns-in-Err-clause-shown g c task line = shown_line (map g.S.AsStr.text c.args.words.now) task line
+
+pub returns-in-Err-2-clause-shown : goal.returns-in-Err-2-clause-shown
+returns-in-Err-2-clause-shown g c task line = shown_line (map g.S.AsStr.text c.args.words.now) task line

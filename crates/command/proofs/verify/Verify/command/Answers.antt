@@ -10,7 +10,8 @@ returns c =
     let public_is : rule_of c.required.result ≡ required_rule (codes "PUBLIC") = search rules in
     let message_is : rule_of c.required-2.result ≡ required_rule (codes "MESSAGE") = search rules in
     let signature_is : rule_of c.required-3.result ≡ required_rule (codes "SIGNATURE") = search rules in
-    let bare_is : app_of c.about.result ≡ new_app (codes "verify") = ap app_of_fields c.about.ensures ∙ c.new.ensures.app in
+    let bare_is : app_of c.after_help.result ≡ new_app (codes "verify") =
+    ap app_of_fields c.after_help.ensures ∙ ap app_of_fields c.about.ensures ∙ c.new.ensures.app in
     let two_are = c.in_ok-arg-2.ensures.shape (search rules)
     ∙ ap₂ with_rule (c.in_ok-arg.ensures.shape (search rules) ∙ ap₂ with_rule bare_is public_is) message_is in
     let local : c.required-3.result.global ≡ false = search rules in

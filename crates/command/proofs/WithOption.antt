@@ -1,0 +1,197 @@
+-- Lines of commands with an option.
+use Rattle.std.proofs.Common.{◌≡◌, ◌≢◌, ◌∙◌, ◌+◌, ℕ, Bool, List, [], ◌∷◌, ◌++◌, Ok, Some, None, true, false, refl, codes, fold, ap, subst, sym, inl, inr}
+use Rattle.std.specs.Prelude.{⊤}
+use Rattle.std.proofs.lemmas.Bool.{cases_eq}
+use Rattle.clap.specs.Faults.{level_fault, step_fault, turn_fault, walk_fault, word_fault}
+use Rattle.clap.specs.Kinds.{or_else}
+use Rattle.clap.specs.Simple.{Shape}
+use Rattle.clap.specs.Walk.{Held as Collected, Walk, after_step, finished, nothing_held as nothing_collected, option, plain_word, walk, walked, word_met}
+use Rattle.clap.specs.Words.{Rule, Text, fault_of, subcommand_of}
+use Rattle.clap.proofs.OnLiterals.{clap_on_literals}
+use Rattle.command.specs.Argument.{default_random}
+use Rattle.command.specs.Line.{ArePlainWords, Finds, IsLineOf, IsLineWithOption, IsPlainWord, IsShownLineOf, Task, hbsign_app, make, retire, sign, task_found, verify}
+use Rattle.command.proofs.Accepting.{none_of}
+use Rattle.command.proofs.Walking.{Enters, Goes, TakesAll, TakesValue, at, end_fault, entered_faults, entered_rows, enters_make, enters_sign, first_held, goes, is_no_hyphen, make_shape, next_held, over_all, plain_taken, sign_shape, stays, takes_line}
+
+-- a walk after one more word, and after a word that is an option's value
+abbrev after_word : Shape → Walk → Text → Walk
+after_word s w word = walked s.rules [] w word
+
+abbrev after_value_word : Shape → Walk → Text → Walk
+after_value_word s w word =
+    after_step s.rules word w (plain_word s.rules w.waiting word w.held).0 (plain_word s.rules w.waiting word w.held).1
+
+-- a plain word is the value of the option that waits for one
+value_met : (c : List Rule) (id : Text) (position : ℕ) (word : Text) (h : Collected) → IsPlainWord word
+    → word_met c [] false (option id) position word h ≡ plain_word c (option id) word h
+value_met c id position [] h plain = refl
+value_met c id position (x ∷ []) h plain = elim (cases_eq x 45) [
+  | inl same ↦ rw same refl
+  | inr other ↦ rw ((is_no_hyphen x other).0, (is_no_hyphen x other).1) refl
+]
+value_met c id position (x ∷ y ∷ xs) h plain = rw ((is_no_hyphen x plain).0, (is_no_hyphen x plain).1) refl
+
+value_passes : (s : Shape) (id : Text) (word : Text) (h : Collected) → IsPlainWord word → word_fault s [] false (option id) word h ≡ []
+value_passes s id [] h plain = refl
+value_passes s id (x ∷ []) h plain = elim (cases_eq x 45) [
+  | inl same ↦ rw same refl
+  | inr other ↦ rw ((is_no_hyphen x other).0, (is_no_hyphen x other).1) refl
+]
+value_passes s id (x ∷ y ∷ xs) h plain = rw ((is_no_hyphen x plain).0, (is_no_hyphen x plain).1) refl
+
+value_walks : (s : Shape) (w : Walk) (id : Text) (word : Text) → w.stopped ≡ None → w.waiting ≡ option id → w.is_trailing ≡ false → IsPlainWord word
+    → walked s.rules [] w word ≡ after_value_word s w word
+unfolding walked
+value_walks s w id word going waits before plain =
+    rw (going, before, waits, value_met s.rules id w.position word w.held plain) refl
+
+value_turn_passes : (s : Shape) (w : Walk) (id : Text) (word : Text) → w.stopped ≡ None → w.waiting ≡ option id → w.is_trailing ≡ false → IsPlainWord word
+    → step_fault s w.position (plain_word s.rules (option id) word w.held).0 (plain_word s.rules (option id) word w.held).1 ≡ []
+    → turn_fault s [] w word ≡ []
+value_turn_passes s w id word going waits before plain step =
+    rw (going, before, waits, value_met s.rules id w.position word w.held plain, value_passes s id word w.held plain) step
+
+-- ---- walks one after the other
+
+goes_on : (s : Shape) (from mid to : Walk) (words more : List Text) → Goes s from words mid → Goes s mid more to → Goes s from (words ++ more) to
+unfolding walk_fault
+goes_on s from mid to [] more (ends, passes) rest = subst (λ w. Goes s w more to) (sym ends) rest
+goes_on s from mid to (word ∷ words) more (ends, passes) rest =
+    let (turn, others) = none_of (turn_fault s [] from word) (walk_fault s [] (walked s.rules [] from word) words) passes in
+    goes s from (walked s.rules [] from word) to word (words ++ more) refl turn
+    (goes_on s (walked s.rules [] from word) mid to words more (ends, others) rest)
+
+-- a line of a command that is gone over, and with which nothing is wrong in the end
+goes_line : (words : List Text) (name : Text) (names : List Text) (s : Shape) (to : Walk) → Enters name s → words ≡ name ∷ names
+    → Goes s (at false nothing_collected 1) names to → end_fault s to ≡ []
+    → (fault_of hbsign_app words ≡ []) × (subcommand_of hbsign_app words ≡ Some (name, finished s.rules to.held))
+goes_line words name names s to enters same (ends, passes) well =
+    let level : level_fault s [] nothing_collected names false [] ≡ [] =
+    ap (λ k. or_else k (end_fault s (walk s.rules [] nothing_collected names))) passes ∙ ap (end_fault s) ends ∙ well in (
+      ap (fault_of hbsign_app) same ∙ entered_faults name s names enters ∙ ap (λ k. or_else k []) level,
+      ap (subcommand_of hbsign_app) same ∙ entered_rows name s names enters ∙ ap (λ (w : Walk). Some (name, finished s.rules w.held)) ends,
+    )
+
+-- ---- make
+
+abbrev make_1 : Text → Collected
+make_1 state = first_held (codes "STATE") state
+
+abbrev make_2 : Text → Text → Collected
+make_2 state public = next_held make_shape 2 public (make_1 state)
+
+abbrev make_3 : Text → Text → Text → Collected
+make_3 state public spec = next_held make_shape 3 spec (make_2 state public)
+
+make_takes : (state public spec : Text) → TakesAll make_shape 1 nothing_collected (state ∷ public ∷ spec ∷ []) 4 (make_3 state public spec)
+make_takes state public spec = (make_1 state, record { before = refl; after = refl; well = refl }, (make_2 state public, record { before = refl; after = refl; well = refl }, (make_3 state public spec, record { before = refl; after = refl; well = refl }, (refl, refl))))
+
+make_ends : (state public spec : Text) (b : Bool) → end_fault make_shape (at b (make_3 state public spec) 4) ≡ []
+unfolding clap_on_literals
+make_ends state public spec b = refl
+
+make_found : (state public spec : Text)
+    → task_found (Some (codes "make", finished make_shape.rules (make_3 state public spec))) ≡ Ok (make state public spec default_random)
+make_found state public spec = refl
+
+-- and then the option
+abbrev make_option : (state public spec : Text) → Walk
+make_option state public spec = after_word make_shape (at false (make_3 state public spec) 4) (codes "--random")
+
+abbrev make_all : (state public spec random : Text) → Walk
+make_all state public spec random = after_value_word make_shape (make_option state public spec) random
+
+make_goes : (state public spec random : Text) → IsPlainWord random
+    → Goes make_shape (at false (make_3 state public spec) 4) (codes "--random" ∷ random ∷ []) (make_all state public spec random)
+unfolding clap_on_literals walked
+make_goes state public spec random plain =
+    goes make_shape (at false (make_3 state public spec) 4) (make_option state public spec) (make_all state public spec random) (codes "--random") (random ∷ []) refl refl
+    (goes make_shape (make_option state public spec) (make_all state public spec random) (make_all state public spec random) random [] (value_walks make_shape (make_option state public spec) (codes "random") random refl refl refl plain)
+    (value_turn_passes make_shape (make_option state public spec) (codes "random") random refl refl refl plain refl) (stays make_shape (make_all state public spec random) (make_all state public spec random) refl))
+
+make_all_ends : (state public spec random : Text) → end_fault make_shape (make_all state public spec random) ≡ []
+unfolding clap_on_literals
+make_all_ends state public spec random = refl
+
+make_all_found : (state public spec random : Text)
+    → task_found (Some (codes "make", finished make_shape.rules (make_all state public spec random).held)) ≡ Ok (make state public spec random)
+unfolding clap_on_literals
+make_all_found state public spec random = refl
+
+pub finds_make : (words : List Text) (state public spec random : Text) → IsLineWithOption words (codes "make") (state ∷ public ∷ spec ∷ []) random
+    → Finds words (make state public spec random)
+finds_make words state public spec random (inl (line, same)) =
+    let (none, rows) = takes_line words (codes "make") (state ∷ public ∷ spec ∷ []) make_shape 4 (make_3 state public spec) enters_make (make_takes state public spec) (make_ends state public spec) line in
+    (none, ap task_found rows ∙ make_found state public spec ∙ ap (λ r. Ok (make state public spec r)) (sym same))
+finds_make words state public spec random (inr (same, plain, file)) =
+    let values = over_all make_shape false 1 nothing_collected (state ∷ public ∷ spec ∷ []) 4 (make_3 state public spec) (plain_taken (state ∷ public ∷ spec ∷ []) plain) (make_takes state public spec) in
+    let line = goes_on make_shape _ _ (make_all state public spec random) (state ∷ public ∷ spec ∷ []) (codes "--random" ∷ random ∷ []) values (make_goes state public spec random file) in
+    let (none, rows) = goes_line words (codes "make") _ make_shape (make_all state public spec random) enters_make same line (make_all_ends state public spec random) in
+    (none, ap task_found rows ∙ make_all_found state public spec random)
+
+-- ---- sign
+
+abbrev sign_1 : Text → Collected
+sign_1 state = first_held (codes "STATE") state
+
+abbrev sign_2 : Text → Text → Collected
+sign_2 state name = next_held sign_shape 2 name (sign_1 state)
+
+abbrev sign_3 : Text → Text → Text → Collected
+sign_3 state name message = next_held sign_shape 3 message (sign_2 state name)
+
+abbrev sign_4 : Text → Text → Text → Text → Collected
+sign_4 state name message out = next_held sign_shape 4 out (sign_3 state name message)
+
+sign_takes : (state name message out : Text) → TakesAll sign_shape 1 nothing_collected (state ∷ name ∷ message ∷ out ∷ []) 5 (sign_4 state name message out)
+sign_takes state name message out = (sign_1 state, record { before = refl; after = refl; well = refl }, (sign_2 state name, record { before = refl; after = refl; well = refl }, (sign_3 state name message, record { before = refl; after = refl; well = refl }, (sign_4 state name message out, record { before = refl; after = refl; well = refl }, (refl, refl)))))
+
+sign_ends : (state name message out : Text) (b : Bool) → end_fault sign_shape (at b (sign_4 state name message out) 5) ≡ []
+unfolding clap_on_literals
+sign_ends state name message out b = refl
+
+sign_found : (state name message out : Text)
+    → task_found (Some (codes "sign", finished sign_shape.rules (sign_4 state name message out))) ≡ Ok (sign state name message out default_random)
+sign_found state name message out = refl
+
+-- and then the option
+abbrev sign_option : (state name message out : Text) → Walk
+sign_option state name message out = after_word sign_shape (at false (sign_4 state name message out) 5) (codes "--random")
+
+abbrev sign_all : (state name message out random : Text) → Walk
+sign_all state name message out random = after_value_word sign_shape (sign_option state name message out) random
+
+sign_goes : (state name message out random : Text) → IsPlainWord random
+    → Goes sign_shape (at false (sign_4 state name message out) 5) (codes "--random" ∷ random ∷ []) (sign_all state name message out random)
+unfolding clap_on_literals walked
+sign_goes state name message out random plain =
+    goes sign_shape (at false (sign_4 state name message out) 5) (sign_option state name message out) (sign_all state name message out random) (codes "--random") (random ∷ []) refl refl
+    (goes sign_shape (sign_option state name message out) (sign_all state name message out random) (sign_all state name message out random) random [] (value_walks sign_shape (sign_option state name message out) (codes "random") random refl refl refl plain)
+    (value_turn_passes sign_shape (sign_option state name message out) (codes "random") random refl refl refl plain refl) (stays sign_shape (sign_all state name message out random) (sign_all state name message out random) refl))
+
+sign_all_ends : (state name message out random : Text) → end_fault sign_shape (sign_all state name message out random) ≡ []
+unfolding clap_on_literals
+sign_all_ends state name message out random = refl
+
+sign_all_found : (state name message out random : Text)
+    → task_found (Some (codes "sign", finished sign_shape.rules (sign_all state name message out random).held)) ≡ Ok (sign state name message out random)
+unfolding clap_on_literals
+sign_all_found state name message out random = refl
+
+pub finds_sign : (words : List Text) (state name message out random : Text) → IsLineWithOption words (codes "sign") (state ∷ name ∷ message ∷ out ∷ []) random
+    → Finds words (sign state name message out random)
+finds_sign words state name message out random (inl (line, same)) =
+    let (none, rows) = takes_line words (codes "sign") (state ∷ name ∷ message ∷ out ∷ []) sign_shape 5 (sign_4 state name message out) enters_sign (sign_takes state name message out) (sign_ends state name message out) line in
+    (none, ap task_found rows ∙ sign_found state name message out ∙ ap (λ r. Ok (sign state name message out r)) (sym same))
+finds_sign words state name message out random (inr (same, plain, file)) =
+    let values = over_all sign_shape false 1 nothing_collected (state ∷ name ∷ message ∷ out ∷ []) 5 (sign_4 state name message out) (plain_taken (state ∷ name ∷ message ∷ out ∷ []) plain) (sign_takes state name message out) in
+    let line = goes_on sign_shape _ _ (sign_all state name message out random) (state ∷ name ∷ message ∷ out ∷ []) (codes "--random" ∷ random ∷ []) values (sign_goes state name message out random file) in
+    let (none, rows) = goes_line words (codes "sign") _ sign_shape (sign_all state name message out random) enters_sign same line (sign_all_ends state name message out random) in
+    (none, ap task_found rows ∙ sign_all_found state name message out random)
+
+-- a line as help shows it is one of its task
+pub shown_line : (words : List Text) (task : Task) → IsShownLineOf words task → IsLineOf words task
+shown_line words (make state public spec random) line = finds_make words state public spec random line
+shown_line words (sign state name message out random) line = finds_sign words state name message out random line
+shown_line words (verify public message signature) line = line
+shown_line words (retire state upto) line = line
