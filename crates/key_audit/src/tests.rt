@@ -1,10 +1,36 @@
 //! What a check answers to signatures of one key, and of copies of it.
 
 use crate::*;
-use sign_core::{AnyPublic, Signer, TapeSource};
+use sign_core::{AnyPublic, Signer, Source, SourceFault, TapeSource};
 use state_file::MemoryStore;
 use std::alloc::Global;
 use typecodes::{Name, Spec};
+
+mod audits;
+mod files;
+mod long;
+mod memory;
+mod script;
+
+// A source that gives one number in each byte of a draw, and the next one at the next draw.
+#[derive(Drop)]
+struct Numbers {
+    next: u8,
+}
+
+impl Source for Numbers {
+    ghost use Rattle.std.specs.Prelude.{None};
+
+    ghost failures = { λ _. 0 };
+
+    ghost upcoming = { λ _. None };
+
+    fn fill(&mut self, into: &mut [u8]) -> Result<(), SourceFault> {
+        into.fill(self.next);
+        self.next = self.next.wrapping_add(1);
+        Ok(())
+    }
+}
 
 // Random bytes, of which those after the first ones are the signer's own.
 fn tape(shared: usize, own: u8) -> [u8; 256] {

@@ -1,0 +1,93 @@
+//! Audits of long lists. `tests/bench` shows the times of these.
+
+use super::audits::told;
+use super::files::{file_in, store_in};
+use super::*;
+use state_file::{Bound, FileStore, Key, MemoryDisk, Record, Secret, Store, Version};
+use typecodes::{LmsPair, LmsType, OtsType};
+
+// A key of 2^20 leaves.
+fn tall_key() -> Key {
+    Key {
+        version: Version::One,
+        secret: Secret::Lms {
+            pair: LmsPair {
+                tree: LmsType::H20,
+                ots: OtsType::W8,
+            },
+            identifier: [1; 16],
+            seed: [2; 32],
+        },
+        root: [3; 32],
+    }
+}
+
+// A leaf whose name is its number, in three characters.
+fn bound_at(leaf: u32) -> Option<Record> {
+    let low = (leaf % 64) as u8;
+    let middle = (leaf / 64 % 64) as u8;
+    let high = (leaf / 4096 % 64) as u8;
+    Some(Record::Bound(Bound {
+        name: Name::new(&[0x30 + high, 0x30 + middle, 0x30 + low]).ok()?,
+        leaf,
+        randomizer: [4; 32],
+        digest: [5; 32],
+    }))
+}
+
+// A store of a key and a name for each of its first leaves, so many records in all. A disk in memory keeps the content
+// of each sync, so that a new one is taken now and then.
+fn long_file(alloc: Global, count: u32) -> Option<FileStore<MemoryDisk>> {
+    let mut store = FileStore::format(MemoryDisk::of(alloc, &[]).ok()?).ok()?;
+    store.append(&Record::Key(tall_key())).ok()?;
+    for leaf in 1..count {
+        let added = bound_at(leaf - 1)?;
+        if leaf % 128 == 0 {
+            store = store_in(alloc, &file_in(store)?)?;
+        }
+        match store.load(0) {
+            Ok(Some(_)) => store.append(&added).ok()?,
+            _ => return None,
+        }
+    }
+    Some(store)
+}
+
+// How many records an audit of such a store tells, and how many leaves, after it was done so often.
+fn told_of_long(alloc: Global, count: u32, times: u32) -> Option<(u32, u32)> {
+    let mut store = long_file(alloc, count)?;
+    let mut last = (0, 0);
+    for _ in 0..times {
+        let (records, left, _) = told(alloc, &mut store, None)?.ok()?;
+        last = (records, left);
+    }
+    Some(last)
+}
+
+// The next two audit as many records.
+#[test]
+fn audits_ten_bits(rt: HostRuntime) {
+    assert_eq!(rt;
+        told_of_long(rt.alloc(), 1 << 10, 1 << 4),
+        Some((1 << 10, (1 << 20) - (1 << 10) + 1))
+    );
+}
+
+#[test]
+fn audits_twelve_bits(rt: HostRuntime) {
+    assert_eq!(rt;
+        told_of_long(rt.alloc(), 1 << 12, 1 << 2),
+        Some((1 << 12, (1 << 20) - (1 << 12) + 1))
+    );
+}
+
+// These make the files alone.
+#[test]
+fn files_of_ten_bits(rt: HostRuntime) {
+    assert_eq!(rt; told_of_long(rt.alloc(), 1 << 10, 0), Some((0, 0)));
+}
+
+#[test]
+fn files_of_twelve_bits(rt: HostRuntime) {
+    assert_eq!(rt; told_of_long(rt.alloc(), 1 << 12, 0), Some((0, 0)));
+}
