@@ -2,6 +2,7 @@
 
 use super::*;
 use crate::ledger::LedgerFault;
+use lmots::LmOts;
 use state_file::Disk;
 
 // A record of a list: a leaf with the name of a number, leaves that are retired, a tree of a level under a leaf of
@@ -237,6 +238,54 @@ fn of_other_root(alloc: Global) -> Option<(usize, u64)> {
 #[test]
 fn a_changed_root_is_found(rt: HostRuntime) {
     assert_eq!(rt; of_other_root(rt.alloc()), Some((3, 513)));
+}
+
+// A store of a key of two levels with a lower tree whose root and digest aren't those of its secrets. Under it a name is
+// bound to the digest of no message that is known, and another one to that of the byte 1.
+fn with_another_tree(alloc: Global) -> Option<MemoryStore> {
+    let tape = counting::<48>(0);
+    let store = MemoryStore::with_limit(alloc, 100);
+    let mut store = in_memory(alloc, TWO, store, &tape)?.into_store();
+    add_all(&mut store, &[Entry::Extend(1, 0, 6), Entry::Bound(0, 0)])?;
+    let one_time = LmOts {
+        identifier: [6; 16],
+        leaf: 1,
+    };
+    let bound = Record::Bound(Bound {
+        name: Name::new(&name_of(1)).ok()?,
+        leaf: 1,
+        randomizer: [4; 32],
+        digest: one_time.message_digest(&[4; 32], &[1]),
+    });
+    match store.load(0) {
+        Ok(Some(_)) => store.append(&bound).ok()?,
+        _ => return None,
+    }
+    Some(store)
+}
+
+// What names answer under such a key: the first that is answered otherwise, and whether no record came to these.
+fn of_another_tree(alloc: Global) -> Option<(usize, bool)> {
+    let tape = counting::<112>(0);
+    let store = with_another_tree(alloc)?;
+    let mut signer = Signer::open(alloc, store, TapeSource::new(&tape)).ok()?;
+    let damaged = Some(SignFault::Damaged(1));
+    let calls = [
+        Call::Sign(0, b'm', Some(SignFault::Changed)),
+        Call::Sign(1, 2, Some(SignFault::Changed)),
+        Call::Sign(1, 1, damaged),
+        Call::Sign(2, 1, damaged),
+        Call::Left(&[31, 30]),
+    ];
+    let count = first_other_call(alloc, &mut signer, &calls)?;
+    let mut store = signer.into_store();
+    Some((count, store.load(4) == Ok(None)))
+}
+
+// A changed message is found before the tree is looked at.
+#[test]
+fn a_changed_tree_is_found(rt: HostRuntime) {
+    assert_eq!(rt; of_another_tree(rt.alloc()), Some((5, true)));
 }
 
 // What a file opens with where its n-th call fails: None where the store isn't opened.

@@ -68,12 +68,12 @@ fn failing_messages_bind_no_name(rt: HostRuntime) {
     assert_eq!(rt; answer, Some((true, true)));
 }
 
-// The first one leaves the lower tree, and no other more.
+// The first one leaves the lower tree, and no other more. A message is read in pieces of 16,384 bytes.
 #[test]
 fn a_failed_message_leaves_the_lower_tree(rt: HostRuntime) {
-    let tape = counting::<320>(0);
-    let counts = [0, 1, 63, 64, 65];
-    let said = [Said::Extend(1, 0, 48), Said::Bound(1, 0, Some(288))];
+    let tape = counting::<416>(0);
+    let counts = [0, 1, 63, 64, 65, 16_384, 16_385, 40_000];
+    let said = [Said::Extend(1, 0, 48), Said::Bound(1, 0, Some(384))];
     let answer = fails_after_each(rt.alloc(), TWO, &tape, &counts, &[31, 32], &said);
     assert_eq!(rt; answer, Some((true, true)));
 }
@@ -81,8 +81,9 @@ fn a_failed_message_leaves_the_lower_tree(rt: HostRuntime) {
 #[test]
 fn a_failed_message_uses_no_xmss_leaf(rt: HostRuntime) {
     let tape = counting::<96>(0);
+    let counts = [0, 1, 65, 16_384, 16_385, 40_000];
     let said = [Said::Bound(1, 0, None)];
-    let answer = fails_after_each(rt.alloc(), XMSS, &tape, &[0, 1, 65], &[1024], &said);
+    let answer = fails_after_each(rt.alloc(), XMSS, &tape, &counts, &[1024], &said);
     assert_eq!(rt; answer, Some((true, true)));
 }
 
@@ -91,7 +92,7 @@ fn keeps_its_signature(alloc: Global) -> Option<bool> {
     let tape = counting::<80>(0);
     let mut signer = in_memory(alloc, LMS, MemoryStore::with_limit(alloc, 100), &tape)?;
     let first = answer(alloc, &mut signer, &name_of(1), &[0; 3])?.ok()?;
-    for count in 0..5 {
+    for count in [0, 1, 2, 3, 4, 16_384, 16_385, 40_000] {
         if !fails_after(alloc, &mut signer, count, &[31])? {
             return Some(false);
         }
