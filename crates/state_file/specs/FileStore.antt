@@ -73,8 +73,8 @@ pub record FindsRecords {D : Type 0} {bound : _} (d : disk.Ghosts D) (given : D)
       → Settles (d.state given).content (d.state (disk_after result)) (outcome_of result)
   pub failures : CountsFailures d is_failed_opening given (disk_after result) (outcome_of result)
 
--- A disk was prepared for a key, or it was refused. Where the disk is honest it then holds no slot and a closed gate, and
--- what a stop leaves meanwhile is what one might have left before, or it has no key.
+-- A disk was prepared for a key, or it was refused. Where the disk is honest it then holds no slot and a closed gate,
+-- and what a stop leaves meanwhile is what one might have left before, or it has no key.
 pub record PreparesDisk {D : Type 0} {bound : _} (d : disk.Ghosts D) (given : D)
     (result : Result (FileStore D bound) (Refused D FormatFault)) : Type 0 where
   pub records : IfOk result (λ prepared. records_of prepared ≡ [])
