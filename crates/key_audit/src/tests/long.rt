@@ -68,7 +68,7 @@ fn told_of_long(alloc: Global, count: u32, times: u32) -> Option<(u32, u32)> {
 #[test]
 fn audits_ten_bits(rt: HostRuntime) {
     assert_eq!(rt;
-        told_of_long(rt.alloc(), 1 << 10, 1 << 4),
+        told_of_long(rt.alloc(), 1 << 10, 1 << 8),
         Some((1 << 10, (1 << 20) - (1 << 10) + 1))
     );
 }
@@ -76,7 +76,7 @@ fn audits_ten_bits(rt: HostRuntime) {
 #[test]
 fn audits_twelve_bits(rt: HostRuntime) {
     assert_eq!(rt;
-        told_of_long(rt.alloc(), 1 << 12, 1 << 2),
+        told_of_long(rt.alloc(), 1 << 12, 1 << 6),
         Some((1 << 12, (1 << 20) - (1 << 12) + 1))
     );
 }
