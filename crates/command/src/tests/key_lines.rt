@@ -344,6 +344,12 @@ const WRONG_FILES: &[Row] = &[
         size: Some(257),
     },
     Row {
+        line: "sign @k fw-1 @m @s --random",
+        printed: "",
+        status: 2,
+        size: Some(257),
+    },
+    Row {
         line: "sign @k fw-1 @m",
         printed: "",
         status: 2,

@@ -54,7 +54,6 @@ fn explains_a_wrong_line(rt: HostRuntime) -> Result<(), Fail> {
         "sign",
         "sign k n m",
         "sign k n m s more",
-        "sign k n m s --random",
         "retire",
         "retire a",
         "retire a 5 c",
