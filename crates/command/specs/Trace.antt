@@ -11,11 +11,11 @@ use Rattle.std.specs.declared.io.ErrorKind.TheVariants.{Interrupted}
 use Rattle.typecodes.specs.Message.{Gave, GivesText, GivesAll, ReadOutcome, Transitions, Transition, interruptions}
 
 -- A file was opened by this path, or couldn't be; a state file was opened, and was made where there was none, or
--- couldn't be; a state file is locked by another; a read of a file gave these bytes, or failed. Of a file that is read
--- and written at offsets: its length was asked for; a read at an offset, for so many bytes, gave these; a write of bytes
--- at an offset took these, which are the first of them; it was synced. Of a file that is to be written: it is none of
--- those that were opened, and nothing is known by which it can't be written, or this isn't so; it has these bytes and no
--- others, or couldn't be written.
+-- couldn't be; a state file is locked by another; a read of a file gave these bytes, or failed. Of a file that is
+-- read and written at offsets: its length was asked for; a read at an offset, for so many bytes, gave these; a write
+-- of bytes at an offset took these, which are the first of them; it was synced. Of a file that is to be written: it
+-- is none of those that were opened, and nothing is known by which it can't be written, or this isn't so; it has
+-- these bytes and no others, or couldn't be written.
 pub data Happening : Type 0 where
   opened : Role → List ℕ → Happening
   not_opened : Role → List ℕ → Happening

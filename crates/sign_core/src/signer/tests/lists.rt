@@ -240,8 +240,8 @@ fn a_changed_root_is_found(rt: HostRuntime) {
     assert_eq!(rt; of_other_root(rt.alloc()), Some((3, 513)));
 }
 
-// A store of a key of two levels with a lower tree whose root and digest aren't those of its secrets. Under it a name is
-// bound to the digest of no message that is known, and another one to that of the byte 1.
+// A store of a key of two levels with a lower tree whose root and digest aren't those of its secrets. Under it a name
+// is bound to the digest of no message that is known, and another one to that of the byte 1.
 fn with_another_tree(alloc: Global) -> Option<MemoryStore> {
     let tape = counting::<48>(0);
     let store = MemoryStore::with_limit(alloc, 100);
