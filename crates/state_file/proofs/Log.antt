@@ -1,11 +1,14 @@
 -- One entry more in the log of a disk in memory.
-use Rattle.std.proofs.Common.{◌≡◌, ◌⊎◌, inl, inr, ⊎_elim, ℕ, ◌+◌, ◌-◌, ◌<◌, ◌≤◌, List, [], ◌∷◌, ◌++◌, length, take, drop, reverse, slice_range, get_or, refl, sym, ◌∙◌, ap, subst, arith, length-append}
-use Rattle.std.proofs.lemmas.List.{take_all, take-append-le, reverse-append, take_at, take_more}
+use Rattle.std.proofs.Common.{◌≡◌, ◌⊎◌, inl, inr, ⊎_elim, ℕ, ◌+◌, ◌-◌, ◌<◌, ◌≤◌, List, [], ◌∷◌, ◌++◌, length, min, take, drop, reverse, slice_range, slice_index, get_or, refl, sym, ◌∙◌, ap, subst, arith, length-append}
+use Rattle.std.proofs.lemmas.List.{get_or_past, length-take, take_all, take-append-drop, take-append-le, reverse-append, take_at, take_more}
 use Rattle.std.proofs.lemmas.Bool.{cases_lt}
 use Rattle.std.proofs.lemmas.List.Prefix.{at_from_reads}
 use Rattle.std.proofs.lemmas.Bool.Decides.{nat_tests}
+use Rattle.typecodes.specs.Layout.{AreBytes}
+use Rattle.typecodes.proofs.Bytes.{AreBytes-front}
 use Rattle.state_file.specs.Disk.{range_of, ChangesOnly, OpensRange, Elapses}
 use Rattle.state_file.specs.Log.{base_of, ranges_of, state_of, LeftBy, LeftSince, Overlays}
+use Rattle.state_file.proofs.Ranges.{changes_more}
 use Rattle.state_file.specs.declared.disk.log.Entry.{Entry}
 use Rattle.state_file.specs.declared.disk.log.Entry.TheVariants.{Wrote}
 
@@ -64,3 +67,48 @@ opens first log log_new at bytes old new over is = record {
   more = ap ranges_of (ap reverse is ∙ newest_first log (Wrote at (at + length bytes)));
   same_base = ap (base_of first) (ap reverse is ∙ newest_first log (Wrote at (at + length bytes)));
 }
+
+-- a part of a range is in the range
+widened : (at n : ℕ) (bytes old new : List ℕ) → ChangesOnly (range_of at (take n bytes) ∷ []) old new → ChangesOnly (range_of at bytes ∷ []) old new
+widened at n bytes old new changes =
+    let part : length (take n bytes) ≡ min n (length bytes) = length-take n bytes in
+    record {
+      kept = λ offset inside outside. changes.kept offset inside (⊎_elim (λ below. inl below) (λ past. inr (omega (arith, part, past))) outside.0, tt);
+      no_shorter = changes.no_shorter;
+      no_longer = omega (arith, part, changes.no_longer);
+    }
+
+-- what was written in part, a stop may leave after the entry for it all
+pub left_more : (first : List ℕ) (log log_new : List Entry) (at n : ℕ) (bytes old new : List ℕ) → LeftBy first log old → Overlays at (take n bytes) old new
+    → log_new ≡ log ++ Wrote at (at + length bytes) ∷ [] → LeftBy first log_new new
+left_more first log log_new at n bytes old new left over is =
+    let e : reverse log_new ≡ Wrote at (at + length bytes) ∷ reverse log = ap reverse is ∙ newest_first log (Wrote at (at + length bytes)) in
+    let changes = widened at n bytes old new (overlays_range at (take n bytes) old new over) in
+    subst (λ (l : List Entry). ChangesOnly (ranges_of l) (base_of first l) new) (sym e)
+    (changes_more (range_of at bytes) (ranges_of (reverse log)) (base_of first (reverse log)) old new left changes)
+
+-- a part of bytes is bytes
+part_is_bytes : (n : ℕ) (bytes : List ℕ) → AreBytes bytes → AreBytes (take n bytes)
+part_is_bytes n bytes are = AreBytes-front (take n bytes) (drop n bytes) (subst AreBytes (sym (take-append-drop n bytes)) are)
+
+-- bytes over bytes are bytes
+over_bytes : (at : ℕ) (bytes old new : List ℕ) → AreBytes bytes → AreBytes old → Overlays at bytes old new → AreBytes new
+over_bytes at bytes old new are were over i =
+    elim (cases_lt i (length new)) [
+      | inr past ↦ rw (get_or_past new i 0 past) (omega arith)
+      | inl inside ↦ elim (cases_lt i at) [
+        | inl before ↦ elim (cases_lt i (length old)) [
+          | inl there ↦ subst (λ n. n < 256) (sym (over.before i there before)) (were i)
+          | inr gap ↦ subst (λ n. n < 256) (sym (over.gap i gap before inside)) (omega arith)
+        ]
+        | inr after ↦ elim (cases_lt i (at + length bytes)) [
+          | inl put ↦ let e : at + (i - at) ≡ i = omega (arith, after) in
+              subst (λ n. n < 256) (sym (over.put (i - at) (omega (arith, after, put))) ∙ ap (λ k. slice_index new k) e) (are (i - at))
+          | inr rest ↦ subst (λ n. n < 256) (sym (over.after i (grind (arith, nat_tests)) rest)) (were i)
+        ]
+      ]
+    ]
+
+-- what is written over bytes in part leaves bytes
+pub part_over_bytes : (at n : ℕ) (bytes old new : List ℕ) → AreBytes bytes → AreBytes old → Overlays at (take n bytes) old new → AreBytes new
+part_over_bytes at n bytes old new are = over_bytes at (take n bytes) old new (part_is_bytes n bytes are)

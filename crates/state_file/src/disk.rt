@@ -1,6 +1,7 @@
 //! What a disk is: bytes that may get lost, where they weren't synced, when the power goes.
 
 ghost use Rattle.std.specs.Prelude.{◌≡◌, ◌+◌, ◌<◌, ◌≤◌, ℕ, List, Bool, IsTrue, length, slice_range, IfOk, OnOk};
+ghost use Rattle.typecodes.specs.Layout.{AreBytes};
 ghost use Rattle.state_file.specs.Disk.{CallsDisk, Counts, DiskState, MayLeave, Syncs, WritesBytes, is_past_end};
 
 mod log;
@@ -83,7 +84,10 @@ pub trait Disk {
         ensures past_ends { past_ends self.new ≡ past_ends self.old }
         ensures call { CallsDisk honest state moment left_since failures self.old self.new result };
 
-    // What a read gives is one of the contents that a stop may leave.
+    // What a read gives is bytes.
+    ghost gives_bytes: { (disk : Self) → IsTrue (honest disk) → AreBytes (state disk).content };
+
+    // It is one of the contents that a stop may leave.
     ghost shows: { (disk : Self) → IsTrue (honest disk) → MayLeave (state disk) (state disk).content };
 
     // This moment is one of those since an earlier one.

@@ -3,6 +3,7 @@
 ghost use Rattle.std.specs.Prelude.{if◌then◌else◌, nat_le, true, ◌-◌, ◌≡◌, ◌+◌, ◌≤◌, ◌<◌, length, slice_range};
 ghost use Rattle.std.specs.Prelude.{IfOk, IfErr, OnOk, OnErr, ◌≢◌};
 ghost use Rattle.std.proofs.Props.{props};
+ghost use Rattle.typecodes.specs.Layout.{AreBytes};
 ghost use Rattle.state_file.specs.Disk.{MayLeave, settled, WritesBytes, Syncs, Counts};
 ghost use Rattle.state_file.specs.Disk.{is_failure, is_past_end};
 ghost use Rattle.state_file.specs.Log.{LeftBy, left_now, left_only_now};
@@ -87,6 +88,7 @@ pub struct MemoryDisk {
     plan: Plan,
     failures: Count,
     past_ends: Count,
+    ghost bytes: { AreBytes content.items },
     ghost shows: { LeftBy first.items log.items content.items } by { Prim.hlevel props },
 }
 
@@ -170,6 +172,8 @@ impl Disk for MemoryDisk {
     ghost past_ends = { past_ends_in };
 
     ghost honest = { λ _. true };
+
+    ghost gives_bytes = { λ disk _. disk.bytes };
 
     ghost shows = { λ disk _. disk.shows };
 

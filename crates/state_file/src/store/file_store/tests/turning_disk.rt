@@ -40,6 +40,8 @@ impl Disk for TurningDisk {
 
     ghost honest = { λ _. false };
 
+    ghost gives_bytes = { λ turning _. turning.disk.bytes };
+
     ghost shows = { λ turning _. turning.disk.shows };
 
     ghost counts_now = { λ turning t c _ early left.
