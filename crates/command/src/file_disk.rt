@@ -308,6 +308,8 @@ impl<F: OffsetFile> Disk for FileDisk<F> {
 
     ghost honest = { λ _. false };
 
+    ghost gives_bytes = { λ _ is_honest. never is_honest };
+
     ghost shows = { λ _ is_honest. never is_honest };
 
     ghost counts_now = { λ _ _ _ is_honest _ _. never is_honest };

@@ -21,6 +21,8 @@ impl<D: Disk> Disk for LentDisk<'_, D> {
 
     ghost honest = { λ lent. D.honest lent.disk.now };
 
+    ghost gives_bytes = { λ lent. D.gives_bytes lent.disk.now };
+
     ghost shows = { λ lent. D.shows lent.disk.now };
 
     ghost counts_now = { λ lent. D.counts_now lent.disk.now };

@@ -30,6 +30,8 @@ impl<D: Disk + Drop> Disk for TurningDisk<D> {
 
     ghost honest = { λ _. false };
 
+    ghost gives_bytes = { λ _ never. absurd (true≢false (sym never)) };
+
     ghost shows = { λ _ never. absurd (true≢false (sym never)) };
 
     ghost counts_now = { λ _ _ _ never. absurd (true≢false (sym never)) };
