@@ -1,46 +1,194 @@
+import java.io.BufferedReader;
+import java.io.IOException;
+import java.io.InputStreamReader;
+import java.lang.management.ManagementFactory;
+import java.nio.ByteBuffer;
 import java.nio.file.Files;
 import java.nio.file.Path;
+import java.security.SecureRandom;
+import java.util.function.Supplier;
+import org.bouncycastle.crypto.CipherParameters;
 import org.bouncycastle.crypto.digests.SHA256Digest;
 import org.bouncycastle.pqc.crypto.MessageSigner;
+import org.bouncycastle.pqc.crypto.lms.HSSPublicKeyParameters;
+import org.bouncycastle.pqc.crypto.lms.HSSSigner;
+import org.bouncycastle.pqc.crypto.lms.LMOtsParameters;
+import org.bouncycastle.pqc.crypto.lms.LMSKeyGenerationParameters;
+import org.bouncycastle.pqc.crypto.lms.LMSKeyPairGenerator;
+import org.bouncycastle.pqc.crypto.lms.LMSParameters;
+import org.bouncycastle.pqc.crypto.lms.LMSPrivateKeyParameters;
 import org.bouncycastle.pqc.crypto.lms.LMSPublicKeyParameters;
 import org.bouncycastle.pqc.crypto.lms.LMSSigner;
+import org.bouncycastle.pqc.crypto.lms.LMSigParameters;
+import org.bouncycastle.pqc.crypto.xmss.XMSSKeyGenerationParameters;
+import org.bouncycastle.pqc.crypto.xmss.XMSSKeyPairGenerator;
 import org.bouncycastle.pqc.crypto.xmss.XMSSParameters;
+import org.bouncycastle.pqc.crypto.xmss.XMSSPrivateKeyParameters;
 import org.bouncycastle.pqc.crypto.xmss.XMSSPublicKeyParameters;
 import org.bouncycastle.pqc.crypto.xmss.XMSSSigner;
 
-/** Times verifications by Bouncy Castle, and as many bare hashes of 55 bytes: two numbers of milliseconds. */
+/**
+ * What Bouncy Castle says of signatures, and how long it takes. The first word is what is wanted.
+ *
+ * <p>verify: for each line of the input, the paths of a public key, a message and a signature with tabs between them, it
+ * prints `verified` or `refused`. time-verify PUBLIC MESSAGE SIGNATURE HASHES: the milliseconds of a verification, and of
+ * as many bare hashes of 55 bytes. time-sign lms:H10/W8 or xmss:10: the milliseconds of making a key, and of signing by it
+ * as it is read from its bytes, at its first leaf and at its 500th. Times are those of the processor.
+ */
 public class BouncyCastle {
+    static final byte[] MESSAGE = {1};
+
     public static void main(String[] words) throws Exception {
-        byte[] key = Files.readAllBytes(Path.of(words[0]));
-        byte[] message = Files.readAllBytes(Path.of(words[1]));
-        byte[] signature = Files.readAllBytes(Path.of(words[2]));
-        int hashes = Integer.parseInt(words[3]);
+        switch (words[0]) {
+            case "verify" -> verifyLines();
+            case "time-verify" -> timeVerify(words);
+            case "time-sign" -> timeSign(words[1].equals("xmss:10") ? new XmssKey() : new LmsKey());
+            default -> throw new IllegalArgumentException(words[0]);
+        }
+    }
+
+    static void verifyLines() throws IOException {
+        BufferedReader lines = new BufferedReader(new InputStreamReader(System.in));
+        for (String line = lines.readLine(); line != null; line = lines.readLine()) {
+            String[] paths = line.split("\t");
+            System.out.println(verifies(read(paths[0]), read(paths[1]), read(paths[2])) ? "verified" : "refused");
+        }
+    }
+
+    /** Bytes that it can't read as a key or a signature are refused, too. */
+    static boolean verifies(byte[] key, byte[] message, byte[] signature) {
+        try {
+            return verifier(key).verifySignature(message, signature);
+        } catch (IOException | RuntimeException malformed) {
+            return false;
+        }
+    }
+
+    static void timeVerify(String[] words) throws IOException {
+        byte[] key = read(words[1]);
+        byte[] message = read(words[2]);
+        byte[] signature = read(words[3]);
+        int hashes = Integer.parseInt(words[4]);
         MessageSigner signer = verifier(key);
         double verify = Double.MAX_VALUE;
         double bare = Double.MAX_VALUE;
         for (int round = 0; round < 200; round++) {
-            long start = System.nanoTime();
+            long start = now();
             if (!signer.verifySignature(message, signature)) {
                 throw new IllegalStateException("not verified");
             }
-            verify = Math.min(verify, (System.nanoTime() - start) / 1e6);
-            start = System.nanoTime();
+            verify = Math.min(verify, since(start));
+            start = now();
             hash(hashes);
-            bare = Math.min(bare, (System.nanoTime() - start) / 1e6);
+            bare = Math.min(bare, since(start));
         }
         System.out.println(verify + " " + bare);
     }
 
-    /** For a key of LMS, or of 68 bytes, which is one of XMSS of height 10. */
-    static MessageSigner verifier(byte[] key) throws Exception {
-        if (key.length == 68) {
-            XMSSParameters parameters = new XMSSParameters(10, new SHA256Digest());
-            XMSSSigner signer = new XMSSSigner();
-            signer.init(false, new XMSSPublicKeyParameters.Builder(parameters).withPublicKey(key).build());
-            return signer;
+    /** The shortest time of three keys, and for each place of three signings. */
+    static void timeSign(Key key) throws IOException {
+        double make = Double.MAX_VALUE;
+        double first = Double.MAX_VALUE;
+        double later = Double.MAX_VALUE;
+        for (int round = 0; round < 3; round++) {
+            long start = now();
+            key.make();
+            make = Math.min(make, since(start));
+            first = Math.min(first, signing(key.at(0)));
+            later = Math.min(later, signing(key.at(499)));
         }
-        LMSSigner signer = new LMSSigner();
-        signer.init(false, LMSPublicKeyParameters.getInstance(key));
+        System.out.println(make + " " + first + " " + later);
+    }
+
+    static double signing(Supplier<byte[]> signature) {
+        double shortest = Double.MAX_VALUE;
+        for (int round = 0; round < 3; round++) {
+            long start = now();
+            signature.get();
+            shortest = Math.min(shortest, since(start));
+        }
+        return shortest;
+    }
+
+    /** A kind of key: how one is made, and how the one that was made signs after it was read from its bytes. */
+    interface Key {
+        void make() throws IOException;
+
+        /** What reads the key's bytes, with so many leaves used, and signs. */
+        Supplier<byte[]> at(int leaves) throws IOException;
+    }
+
+    /** LMS of H10/W8. What it keeps of the tree isn't in its bytes. */
+    static class LmsKey implements Key {
+        byte[] bytes;
+
+        public void make() throws IOException {
+            LMSKeyPairGenerator generator = new LMSKeyPairGenerator();
+            LMSParameters parameters = new LMSParameters(LMSigParameters.lms_sha256_n32_h10, LMOtsParameters.sha256_n32_w8);
+            generator.init(new LMSKeyGenerationParameters(parameters, new SecureRandom()));
+            bytes = ((LMSPrivateKeyParameters) generator.generateKeyPair().getPrivate()).getEncoded();
+        }
+
+        public Supplier<byte[]> at(int leaves) {
+            // the next leaf stands behind the version, two types and I
+            byte[] moved = ByteBuffer.wrap(bytes.clone()).putInt(28, leaves).array();
+            return () -> {
+                try {
+                    LMSSigner signer = new LMSSigner();
+                    signer.init(true, LMSPrivateKeyParameters.getInstance(moved));
+                    return signer.generateSignature(MESSAGE);
+                } catch (IOException fault) {
+                    throw new IllegalStateException(fault);
+                }
+            };
+        }
+    }
+
+    /** XMSS of height 10. What it keeps of the tree is in its bytes. */
+    static class XmssKey implements Key {
+        final XMSSParameters parameters = new XMSSParameters(10, new SHA256Digest());
+        byte[] bytes;
+
+        public void make() throws IOException {
+            XMSSKeyPairGenerator generator = new XMSSKeyPairGenerator();
+            generator.init(new XMSSKeyGenerationParameters(parameters, new SecureRandom()));
+            bytes = ((XMSSPrivateKeyParameters) generator.generateKeyPair().getPrivate()).getEncoded();
+        }
+
+        public Supplier<byte[]> at(int leaves) throws IOException {
+            XMSSSigner used = new XMSSSigner();
+            used.init(true, key(bytes));
+            for (int leaf = 0; leaf < leaves; leaf++) {
+                used.generateSignature(MESSAGE);
+            }
+            byte[] moved = ((XMSSPrivateKeyParameters) used.getUpdatedPrivateKey()).getEncoded();
+            return () -> {
+                XMSSSigner signer = new XMSSSigner();
+                signer.init(true, key(moved));
+                return signer.generateSignature(MESSAGE);
+            };
+        }
+
+        XMSSPrivateKeyParameters key(byte[] spelling) {
+            return new XMSSPrivateKeyParameters.Builder(parameters).withPrivateKey(spelling).build();
+        }
+    }
+
+    /** For a key of LMS (56 bytes), HSS (60) or XMSS (68). */
+    static MessageSigner verifier(byte[] key) throws IOException {
+        return switch (key.length) {
+            case 56 -> verifier(new LMSSigner(), LMSPublicKeyParameters.getInstance(key));
+            case 60 -> verifier(new HSSSigner(), HSSPublicKeyParameters.getInstance(key));
+            default -> {
+                int[] heights = {0, 10, 16, 20};
+                XMSSParameters parameters = new XMSSParameters(heights[ByteBuffer.wrap(key).getInt()], new SHA256Digest());
+                yield verifier(new XMSSSigner(), new XMSSPublicKeyParameters.Builder(parameters).withPublicKey(key).build());
+            }
+        };
+    }
+
+    static MessageSigner verifier(MessageSigner signer, CipherParameters key) {
+        signer.init(false, key);
         return signer;
     }
 
@@ -51,5 +199,17 @@ public class BouncyCastle {
             digest.update(block, 0, block.length);
             digest.doFinal(block, 0);
         }
+    }
+
+    static byte[] read(String path) throws IOException {
+        return Files.readAllBytes(Path.of(path));
+    }
+
+    static long now() {
+        return ManagementFactory.getThreadMXBean().getCurrentThreadCpuTime();
+    }
+
+    static double since(long start) {
+        return (now() - start) / 1e6;
     }
 }
