@@ -121,6 +121,10 @@ judged_tag A honest kept records anchor k (Illegal place) gives = absurd gives
 judged_tag A honest kept records anchor k OutOfMemory gives = absurd gives
 
 module _ {D : Type 0} (d : disk.Ghosts D) where
+  -- that an honest disk gives bytes
+  abbrev pub GivesBytes : Type 0
+  GivesBytes = (on : D) → IsTrue (d.honest on) → AreBytes (d.state on).content
+
   -- ---- an audit
 
   slot_tag_back : (old : FileStore D d) (k : ℕ) (tag : List ℕ) → AreBytes (d.state (disk_of old)).content
@@ -135,18 +139,19 @@ module _ {D : Type 0} (d : disk.Ghosts D) where
   slot_tag_along old k tag bytes spells inside is =
       subst (IsTag (records_of old) k) (sym is) (tag_law.stands (d.state (disk_of old)).content (records_of old) k bytes spells inside)
 
-  pub made : (old new : FileStore D d) (anchor : Option Anchor) (answer : Result Report AuditFault) (loaded : List Record) → ReadsStore d old new answer
+  pub made : GivesBytes → (old new : FileStore D d) (anchor : Option Anchor) (answer : Result Report AuditFault) (loaded : List Record) → ReadsStore d old new answer
       → AreLoaded (d.honest (disk_of old)) (records_of old) loaded → Judges (d.honest (disk_of old)) loaded anchor answer
       → (IsTrue (d.honest (disk_of old)) → AreTags (IsSlotTag d (disk_of old)) anchor answer) → Audits d old new anchor answer
-  made old new anchor answer loaded reads are judges tags = record {
+  made gives_bytes old new anchor answer loaded reads are judges tags = record {
     store = reads;
     loaded = loaded;
     long = are.long;
     same = are.same;
     judges = judges;
     tags = tags;
-    by_records = λ honest bytes. elim (some_or_nothing (d.honest (disk_of old)) loaded anchor answer judges) [
+    by_records = λ honest. elim (some_or_nothing (d.honest (disk_of old)) loaded anchor answer judges) [
       | inl (some, running) ↦
+          let bytes = gives_bytes (disk_of old) honest in
           let kept = old.kept honest (reads.was_stopped ∙ running) in
           let stands : StandsFor (records_of old) (d.state (disk_of old)).content = kept_stands old.records old.tag (d.state old.disk) kept in
           let spells = spells_some (records_of old) (d.state (disk_of old)).content (omega (arith, some, are.long)) stands in
@@ -181,47 +186,47 @@ module _ {D : Type 0} (d : disk.Ghosts D) where
   same_tags_back old mid kept running honest k tag is = is ∙ ap (λ (s : DiskState). tag_at s.content k) (kept.reads honest running).stays
 
   -- the records weren't loaded, or aren't those of a key
-  pub no_ledger : {A : Type 0} (old new : FileStore D d) (anchor : Option Anchor) (fault : AuditFault) → ReadsStore {A = A} d old new (Err fault)
+  pub no_ledger : {A : Type 0} → GivesBytes → (old new : FileStore D d) (anchor : Option Anchor) (fault : AuditFault) → ReadsStore {A = A} d old new (Err fault)
       → IsNoLedger (d.honest (disk_of old)) (records_of old) fault → Audits d old new anchor (Err fault)
-  no_ledger old new anchor fault reads (loaded, are, judges) =
+  no_ledger gives_bytes old new anchor fault reads (loaded, are, judges) =
       let alike = judged_alike (d.honest (disk_of old)) loaded anchor fault judges in
-      made old new anchor (Err fault) loaded (refused_alike old new fault reads) are alike.0 (λ honest. alike.1 (IsSlotTag d (disk_of old)))
+      made gives_bytes old new anchor (Err fault) loaded (refused_alike old new fault reads) are alike.0 (λ honest. alike.1 (IsSlotTag d (disk_of old)))
 
   -- they don't fit the anchor, or it couldn't be told
-  pub no_anchor : {A : Type 0} (old mid new : FileStore D d) (anchor : Option Anchor) (fault : AuditFault) (x : A) (records : List Record)
+  pub no_anchor : {A : Type 0} → GivesBytes → (old mid new : FileStore D d) (anchor : Option Anchor) (fault : AuditFault) (x : A) (records : List Record)
       → ReadsStore d old mid (Ok x) → AreLoaded (d.honest (disk_of old)) (records_of old) records → IsLegal records
       → ChecksAnchor d mid new anchor (Err fault) → Audits d old new anchor (Err fault)
-  no_anchor old mid new anchor fault x records reads are legal checks =
+  no_anchor gives_bytes old mid new anchor fault x records reads are legal checks =
       let kept = kept_by d old mid x reads in
       let same : length (records_of mid) ≡ length records = ap length kept.records ∙ sym are.long in
       let judged = judged_anchor (IsSlotTag d (disk_of mid)) (d.honest (disk_of old)) (d.honest (disk_of mid)) (records_of mid) records anchor fault legal same checks.fits in
-      made old new anchor (Err fault) records (reads_after d old mid new (Err fault) kept (refused_alike mid new fault checks.store)) are judged.0
+      made gives_bytes old new anchor (Err fault) records (reads_after d old mid new (Err fault) kept (refused_alike mid new fault checks.store)) are judged.0
       (λ honest. judged.1 (IsSlotTag d (disk_of old)) (subst IsTrue (sym kept.honest) honest) (λ k tag is. same_tags old mid kept reads.was_stopped honest k tag is))
 
   -- the last tag couldn't be read
-  pub no_tag : {A : Type 0} (old mid last new : FileStore D d) (anchor : Option Anchor) (fault : AuditFault) (x : A) (y : Unit {0}) (records : List Record) (k : ℕ)
+  pub no_tag : {A : Type 0} → GivesBytes → (old mid last new : FileStore D d) (anchor : Option Anchor) (fault : AuditFault) (x : A) (y : Unit {0}) (records : List Record) (k : ℕ)
       → ReadsStore d old mid (Ok x) → AreLoaded (d.honest (disk_of old)) (records_of old) records
       → ChecksAnchor d mid last anchor (Ok y) → ReadsTag d last new k (Err fault) → Audits d old new anchor (Err fault)
-  no_tag old mid last new anchor fault x y records k reads are checks tagged =
+  no_tag gives_bytes old mid last new anchor fault x y records k reads are checks tagged =
       let kept = kept_by d old mid x reads in
       let kept_on = kept_by d old last y (reads_after d old mid last (Ok y) kept checks.store) in
       let judged = judged_tag (IsSlotTag d (disk_of last)) (d.honest (disk_of old)) (d.honest (disk_of last)) records anchor k fault tagged.gives in
-      made old new anchor (Err fault) records (reads_after d old last new (Err fault) kept_on (refused_alike last new fault tagged.store)) are judged.0
+      made gives_bytes old new anchor (Err fault) records (reads_after d old last new (Err fault) kept_on (refused_alike last new fault tagged.store)) are judged.0
       (λ honest. judged.1 (IsSlotTag d (disk_of old)))
 
   -- nothing is refused
-  pub accepted : {A : Type 0} (old mid last new : FileStore D d) (anchor : Option Anchor) (x : A) (y : Unit {0}) (records : List Record) (k : ℕ)
+  pub accepted : {A : Type 0} → GivesBytes → (old mid last new : FileStore D d) (anchor : Option Anchor) (x : A) (y : Unit {0}) (records : List Record) (k : ℕ)
       (tag : List ℕ) (report : Report) → ReadsStore d old mid (Ok x) → AreLoaded (d.honest (disk_of old)) (records_of old) records → IsLegal records
       → ChecksAnchor d mid last anchor (Ok y) → ReadsTag d last new k (Ok tag) → k ≡ length (records_of last) - 1 → Reports records report
       → report.tag ≡ tag → Audits d old new anchor (Ok report)
-  accepted old mid last new anchor x y records k tag report reads are legal checks tagged here reports same_tag =
+  accepted gives_bytes old mid last new anchor x y records k tag report reads are legal checks tagged here reports same_tag =
       let kept = kept_by d old mid x reads in
       let kept_on = kept_by d old last y (reads_after d old mid last (Ok y) kept checks.store) in
       let kept_all = kept_by d old new tag (reads_after d old last new (Ok tag) kept_on tagged.store) in
       let same : length (records_of mid) ≡ length records = ap length kept.records ∙ sym are.long in
       let place : k ≡ report.records - 1 = omega (arith, here, ap length kept_on.records, are.long, reports.count) in
       let running = reads.was_stopped in
-      made old new anchor (Ok report) records
+      made gives_bytes old new anchor (Ok report) records
       (answered d old new (Ok report) kept_all running refl refl (λ n. refl) (λ l. refl)) are
       (legal, within_alike (records_of mid) records anchor same checks.fits.0, reports)
       (λ honest. (

@@ -2,7 +2,6 @@
 -- many records there once were and the tag of the last of them.
 use Rattle.std.specs.Prelude.{◌≡◌, ◌⊎◌, ℕ, ◌-◌, ◌<◌, ◌≤◌, Bool, true, false, ◌||◌, IsTrue, List, [], ◌∷◌, ◌++◌}
 use Rattle.std.specs.Prelude.{length, take, Option, Some, None, IsSome, Result, Ok, Err, if◌then◌else◌}
-use Rattle.typecodes.specs.Layout.{AreBytes}
 use Rattle.state_file.specs.declared.disk.Disk as disk
 use Rattle.state_file.specs.declared.record.Key.{Key}
 use Rattle.state_file.specs.declared.record.Record.{Record}
@@ -132,8 +131,7 @@ pub record Audits {D : Type 0} (d : disk.Ghosts D) (old new : FileStore D d) (an
   pub judges : Judges (d.honest (disk_of old)) loaded anchor answer
   pub tags : IsTrue (d.honest (disk_of old))
       → AreTags (λ k tag. tag ≡ tag_at (d.state (disk_of old)).content k) anchor answer
-  pub by_records : IsTrue (d.honest (disk_of old)) → AreBytes (d.state (disk_of old)).content
-      → AreTags (IsTag (records_of old)) anchor answer
+  pub by_records : IsTrue (d.honest (disk_of old)) → AreTags (IsTag (records_of old)) anchor answer
 
 -- ---- what holds of audits
 

@@ -7,19 +7,19 @@ pub returns-in_err-check_anchor : goal.returns-in_err-check_anchor
 returns-in_err-check_anchor g c =
     let answer : c.from_residual-in_err-check_anchor.result ≡ Err c.in_err-check_anchor.field-0.0 = search rules in
     subst (Audits g.D.Disk c.args.store.now c.check_anchor.new.store c.args.anchor) (sym answer)
-    (no_anchor g.D.Disk c.args.store.now c.load_ledger.new.store c.check_anchor.new.store c.args.anchor _ _ c.in_ok-ledger.ledger.records
+    (no_anchor g.D.Disk (λ on honest. g.met.D.Disk.gives_bytes on honest) c.args.store.now c.load_ledger.new.store c.check_anchor.new.store c.args.anchor _ _ c.in_ok-ledger.ledger.records
     c.in_ok-ledger.ensures.reads c.in_ok-ledger.ensures.records c.in_ok-ledger.ensures.legal c.in_err-check_anchor.ensures)
 
 pub returns-in_err-tag : goal.returns-in_err-tag
 returns-in_err-tag g c =
     let answer : c.from_residual-in_err-tag.result ≡ Err c.in_err-tag.field-0.0 = search rules in
     subst (Audits g.D.Disk c.args.store.now c.read_tag.new.store c.args.anchor) (sym answer)
-    (no_tag g.D.Disk c.args.store.now c.load_ledger.new.store c.check_anchor.new.store c.read_tag.new.store c.args.anchor _ _ _
+    (no_tag g.D.Disk (λ on honest. g.met.D.Disk.gives_bytes on honest) c.args.store.now c.load_ledger.new.store c.check_anchor.new.store c.read_tag.new.store c.args.anchor _ _ _
     c.in_ok-ledger.ledger.records _ c.in_ok-ledger.ensures.reads c.in_ok-ledger.ensures.records c.in_ok-check_anchor.ensures c.in_err-tag.ensures)
 
 pub returns : goal.returns
 returns g c =
-    accepted g.D.Disk c.args.store.now c.load_ledger.new.store c.check_anchor.new.store c.read_tag.new.store c.args.anchor _ _
+    accepted g.D.Disk (λ on honest. g.met.D.Disk.gives_bytes on honest) c.args.store.now c.load_ledger.new.store c.check_anchor.new.store c.read_tag.new.store c.args.anchor _ _
     c.in_ok-ledger.ledger.records _ c.in_ok-tag.tag c.report_of.result c.in_ok-ledger.ensures.reads c.in_ok-ledger.ensures.records
     c.in_ok-ledger.ensures.legal c.in_ok-check_anchor.ensures c.in_ok-tag.ensures (ap (λ n. n - 1) c.count-last.ensures)
     c.report_of.ensures.reports c.report_of.ensures.tag
