@@ -1,6 +1,6 @@
 -- Each event answers the refusal of the first cause that is there.
 use Rattle.std.proofs.Common.{◌≡◌, ◌≢◌, ◌∙◌, refl, sym, ap, subst, ℕ, zero, suc, ◌+◌, ◌-◌, ◌<◌, ◌≤◌, ◌⊎◌, Bool, true, false, inl, inr, List, [], ◌∷◌, ◌++◌}
-use Rattle.std.proofs.Common.{length, Option, Some, None, Result, Ok, Err, IsOk, arith, true≢false, lt-ltb, ltb-true, ltb-false, leb-true}
+use Rattle.std.proofs.Common.{length, Option, Some, None, Result, Err, IsOk, arith, true≢false, lt-ltb, ltb-true, ltb-false, leb-true}
 use Rattle.std.proofs.lemmas.Bool.{leb-false, le-leb}
 use Rattle.std.specs.Cmp.Lexicographic.{bytes_decides}
 use Rattle.std.specs.Prelude.{if◌then◌else◌, is_ok, nat_le, nat_lt, not, slice_index_or, ◌||◌}
@@ -9,7 +9,7 @@ use Rattle.std.proofs.lemmas.Option.{same_Some}
 use Rattle.typecodes.specs.declared.spec.Spec.{Spec}
 use Rattle.typecodes.specs.declared.spec.Spec.TheVariants.{Lms as LmsSpec, Hss as HssSpec, Xmss as XmssSpec}
 use Rattle.typecodes.specs.Spec.{IsSpec}
-use Rattle.state_file.specs.Laws.{bottom_of, identifier_of, levels_of}
+use Rattle.state_file.specs.Laws.{bottom_of, identifier_of}
 use Rattle.state_file.specs.declared.record.Bound.{Bound}
 use Rattle.state_file.specs.declared.record.Key.{Key}
 use Rattle.state_file.specs.declared.record.Record.{Record}
@@ -20,16 +20,16 @@ use Rattle.sign_core.specs.declared.key.AnyPublic.{AnyPublic}
 use Rattle.sign_core.specs.declared.fault.SignFault.{SignFault}
 use Rattle.sign_core.specs.declared.fault.SignFault.TheVariants.{Changed, Damaged, Exhausted, Illegal, KeyThere, LedgerFull, MessageRead, Moved, NoKey}
 use Rattle.sign_core.specs.declared.fault.SignFault.TheVariants.{OutOfMemory, RandomFailed, RandomRepeated, RetireRange, Stopped, StoreFailed}
-use Rattle.sign_core.specs.Records.{are_same, binding_in, deepest, first_illegal, free_at, has_identifier, has_moved, is_of, key_in, leaves_of_current, next_at}
+use Rattle.sign_core.specs.Records.{are_same, binding_in, deepest, first_illegal, has_identifier, has_moved, is_of, key_in, leaves_of_current, next_at}
 use Rattle.sign_core.specs.Records.{wanted_count}
 use Rattle.sign_core.specs.Textbook.{AllHaveSizes, Trees, damaged_in, digest_at, lms_secret, public_in, signature_at, tree_before, trees_of}
 use Rattle.sign_core.specs.Once.{AreDrawsOf, AreFields, IsTreeDraw, key_sizes, randomizer_sizes, tree_sizes}
 use Rattle.sign_core.specs.World.{Chance, Creation, Draw, Fate, Opening, Outcome, State, acked, answered, appended, begun, bound_anew, bound_sound, bound_with, drawing}
 use Rattle.sign_core.specs.World.{new_bound}
-use Rattle.sign_core.specs.World.{created, created_after, cut_new, cut_old, extend_record, extended, extended_by, extended_with, first_draw, fulfilled}
-use Rattle.sign_core.specs.World.{later_draws, no_memory, open_on, opened, opened_by, opened_on, published, randomizer_from, refused, repeated, repeated_sound}
+use Rattle.sign_core.specs.World.{created_after, cut_new, cut_old, extend_record, extended, extended_by, extended_with, first_draw, fulfilled}
+use Rattle.sign_core.specs.World.{later_draws, no_memory, open_on, opened_by, opened_on, published, randomizer_from, refused, repeated, repeated_sound}
 use Rattle.sign_core.specs.World.{requested, requested_of, requested_under, retired, retired_under, secret_from, new_key}
-use Rattle.sign_core.specs.RefusalOrder.{AfterAppend, BeginsWith, HasChanged, HasNoLeaf, IsIllegalFirst, IsUnsound, Of, RefusalLaw, RefuseAlike, RefusesAt}
+use Rattle.sign_core.specs.RefusalOrder.{AfterAppend, BeginsWith, IsIllegalFirst, IsUnsound, Of, RefusalLaw, RefuseAlike, RefusesAt}
 use Rattle.sign_core.specs.RefusalOrder.{RefusesCreate, RefusesName, RefusesNew, RefusesOpening, RefusesRecord, RefusesRepeat, RefusesRequest}
 use Rattle.sign_core.specs.RefusalOrder.{RefusesRetire, RefusesTree, RefusesWanted, Unless, WhereOpen}
 use Rattle.sign_core.proofs.Bindings.{identifier_appended, identifier_stands, stands_identifier}

@@ -1,7 +1,13 @@
--- What the faults of a signer say.
-use Rattle.std.specs.Prelude.{Bool, true, false, Option, Some, None, Result, Ok, Err}
+-- What the faults of a signer and of a serving say.
+use Rattle.std.specs.Prelude.{ℕ, Bool, true, false, Option, Some, None, Result, Ok, Err}
+use Rattle.sign_core.specs.declared.fault.ServeFault.{ServeFault}
+use Rattle.sign_core.specs.declared.fault.ServeFault.TheVariants as serving
 use Rattle.sign_core.specs.declared.fault.SignFault.{SignFault}
-use Rattle.sign_core.specs.declared.fault.SignFault.TheVariants.{StoreFailed}
+use Rattle.sign_core.specs.declared.fault.SignFault.TheVariants.{Changed, Damaged, DeviceFailed, Exhausted, Illegal}
+use Rattle.sign_core.specs.declared.fault.SignFault.TheVariants.{KeyThere, LedgerFull, MessageRead, Moved}
+use Rattle.sign_core.specs.declared.fault.SignFault.TheVariants.{NoKey, NoMemoryToOpen, OutOfMemory, RandomFailed}
+use Rattle.sign_core.specs.declared.fault.SignFault.TheVariants.{RandomRepeated, RetireRange, Stopped, StoreFailed}
+use Rattle.sign_core.specs.declared.fault.SignFault.TheVariants.{Unreadable}
 
 -- the fault of an answer
 abbrev pub fault_of : {A E : Type 0} → Result A E → Option E
@@ -12,3 +18,30 @@ fault_of (Err fault) = Some fault
 abbrev pub closes : SignFault → Bool
 closes StoreFailed = true
 closes _ = false
+
+-- the number that reports a signer's fault
+abbrev pub number_of : SignFault → ℕ
+number_of Changed = 21
+number_of Exhausted = 22
+number_of RandomFailed = 23
+number_of RandomRepeated = 24
+number_of StoreFailed = 25
+number_of Stopped = 26
+number_of MessageRead = 27
+number_of (Damaged slot) = 28
+number_of OutOfMemory = 29
+number_of LedgerFull = 30
+number_of Moved = 31
+number_of RetireRange = 32
+number_of NoKey = 40
+number_of (Unreadable slot) = 43
+number_of (Illegal slot) = 44
+number_of DeviceFailed = 45
+number_of NoMemoryToOpen = 46
+number_of KeyThere = 50
+
+-- the number that reports a serving's fault
+abbrev pub serve_number_of : ServeFault → ℕ
+serve_number_of serving.MessageRead = 27
+serve_number_of serving.FrameCut = 35
+serve_number_of serving.WriteFailed = 36

@@ -10,6 +10,8 @@ pub mod Calls
 pub mod SignerCalls
 pub mod Source
 pub mod Fault
+pub mod Frames
+pub mod Serving
 pub mod Signing
 pub mod Signer
 pub mod Key

@@ -1,4 +1,4 @@
-//! Why a signer refuses.
+//! Why a signer refuses, and why the serving of requests ends.
 
 ghost use Rattle.std.specs.Prelude.{◌≡◌};
 
@@ -63,8 +63,63 @@ pub enum SignFault {
     KeyThere,
 }
 
+/// Why `serve` ends before its input does, or in the middle of a frame.
+#[derive(Clone, Copy, Debug, PartialEq, Eq, Error)]
+pub enum ServeFault {
+    /// 27: the input can't be read, or ends inside a message.
+    #[error("a message or the input can't be read")]
+    MessageRead,
+    /// 35: the input ends inside a frame, before its message.
+    #[error("the input ends inside a frame")]
+    FrameCut,
+    /// 36: a reply can't be written; what was bound stays bound.
+    #[error("a reply can't be written")]
+    WriteFailed,
+}
+
+impl ServeFault {
+    ghost use Rattle.sign_core.specs.Fault.{serve_number_of};
+
+    /// The number by which the fault is reported.
+    pub fn number(self) -> u8
+        ensures { result ≡ serve_number_of self }
+    {
+        match self {
+            ServeFault::MessageRead => 27,
+            ServeFault::FrameCut => 35,
+            ServeFault::WriteFailed => 36,
+        }
+    }
+}
+
 impl SignFault {
-    ghost use Rattle.sign_core.specs.Fault.{closes};
+    ghost use Rattle.sign_core.specs.Fault.{closes, number_of};
+
+    /// The number by which the fault is reported.
+    pub fn number(self) -> u8
+        ensures { result ≡ number_of self }
+    {
+        match self {
+            SignFault::Changed => 21,
+            SignFault::Exhausted => 22,
+            SignFault::RandomFailed => 23,
+            SignFault::RandomRepeated => 24,
+            SignFault::StoreFailed => 25,
+            SignFault::Stopped => 26,
+            SignFault::MessageRead => 27,
+            SignFault::Damaged(_) => 28,
+            SignFault::OutOfMemory => 29,
+            SignFault::LedgerFull => 30,
+            SignFault::Moved => 31,
+            SignFault::RetireRange => 32,
+            SignFault::NoKey => 40,
+            SignFault::Unreadable(_) => 43,
+            SignFault::Illegal(_) => 44,
+            SignFault::DeviceFailed => 45,
+            SignFault::NoMemoryToOpen => 46,
+            SignFault::KeyThere => 50,
+        }
+    }
 
     // Whether a signer that answers it is closed from then on.
     pub(crate) fn closes(self) -> bool

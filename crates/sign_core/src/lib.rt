@@ -31,12 +31,14 @@
 #![tactic(auto)]
 
 mod fault;
+mod frames;
 mod key;
 mod laws;
 mod ledger;
 mod links;
 mod rng_source;
 mod roots;
+mod serving;
 mod signer;
 mod source;
 mod standing;
@@ -45,7 +47,7 @@ mod tests;
 mod trees;
 mod writing;
 
-pub use crate::fault::SignFault;
+pub use crate::fault::{ServeFault, SignFault};
 pub use crate::key::{AnyPublic, KeyFault, verify_any};
 pub use crate::laws::{
     calls_law, cut_law, lasting_law, ledger_laws, once_law, opened_law, refusal_law, signer_law,
@@ -53,5 +55,6 @@ pub use crate::laws::{
 };
 pub use crate::ledger::{Ledger, LedgerFault};
 pub use crate::rng_source::RngSource;
+pub use crate::serving::serve;
 pub use crate::signer::Signer;
 pub use crate::source::{Source, SourceFault, TapeSource};

@@ -1,0 +1,18 @@
+use Rattle.std.proofs.Common.{rules, ◌≡◌, Err}
+use Rattle.sign_core.proofs.Exchanges.{after_name_cut, after_number_cut, after_read}
+use Rattle.sign_core.proofs.frames.read_after.Goals as goal
+
+pub returns-in_err-name : goal.returns-in_err-name
+returns-in_err-name g c =
+    let answer : c.from_residual.result ≡ Err c.in_err-name.field-0.0 = search rules in
+    after_name_cut g.I.Message c.args.size _ _ c.in_err-name.field-0.0 _ answer c.in_err-name.ensures
+
+pub returns-in_err-fill : goal.returns-in_err-fill
+returns-in_err-fill g c =
+    let answer : c.from_residual-in_err-fill.result ≡ Err c.in_err-fill.field-0.0 = search rules in
+    after_number_cut g.I.Message c.args.size c.in_ok-name.name _ _ _ c.fill.new.buffer c.in_err-fill.field-0.0 _ answer (search rules) c.in_ok-name.ensures c.in_err-fill.ensures
+
+pub returns : goal.returns
+returns g c =
+    after_read g.I.Message c.args.size c.from_be_bytes-announced.result c.in_ok-name.name _ _ _ c.fill.new.buffer (search rules) (search rules) c.in_ok-name.ensures
+    c.in_ok-fill.ensures

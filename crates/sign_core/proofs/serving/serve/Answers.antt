@@ -1,0 +1,15 @@
+use Rattle.std.proofs.Common.{rules}
+use Rattle.sign_core.proofs.Exchanges.{served_more, serves_to_end, serves_to_fault}
+use Rattle.sign_core.proofs.serving.serve.Goals as goal
+
+pub returns-in-Ok-false : goal.returns-in-Ok-false
+returns-in-Ok-false g c =
+    serves_to_end g.S.Store g.R.Source g.I.Message _ _ _ _ _ _ _ _ _ 0 _ _ c.loop-count.count c.in-Ok-false.field-0 (search rules) c.loop-count.invariant c.in-Ok-false.ensures (search rules)
+
+pub returns-in-Err : goal.returns-in-Err
+returns-in-Err g c =
+    serves_to_fault g.S.Store g.R.Source g.I.Message _ _ _ _ _ _ _ _ _ 0 _ _ c.loop-count.count c.in-Err.fault c.loop-count.invariant c.in-Err.ensures (search rules)
+
+pub loop-count-preserved : goal.loop-count-preserved
+loop-count-preserved g c =
+    served_more g.S.Store g.R.Source g.I.Message _ _ _ _ _ _ _ _ _ 0 _ _ c.loop-count.count c.in-Ok-true.field-0 (search rules) c.loop-count.invariant c.in-Ok-true.ensures

@@ -1,0 +1,240 @@
+-- What serving requests over an input comes to: their answers, the replies that are written, and what it ends with.
+use Rattle.std.specs.Prelude.{◌≡◌, ◌⊎◌, ℕ, ◌<◌, ◌≤◌, ◌^◌, Bool, true, false, List, [], ◌∷◌, ◌++◌, length, map}
+use Rattle.std.specs.Prelude.{Option, Some, None, Result, Ok, Err, IsSome}
+use Rattle.std.specs.List.{concat}
+use Rattle.std.specs.Io.KnownBytes.{Appends}
+use Rattle.byteorder.specs.Endian.{big_bytes}
+use Rattle.typecodes.specs.declared.message.Message as message
+use Rattle.typecodes.specs.Message.{CantBeRead, ReadWhole}
+use Rattle.typecodes.specs.Name.{IsName}
+use Rattle.state_file.specs.declared.record.Key.{Key}
+use Rattle.state_file.specs.declared.store.Store as store
+use Rattle.state_file.specs.Disk.{Counts}
+use Rattle.sign_core.specs.declared.fault.ServeFault.{ServeFault}
+use Rattle.sign_core.specs.declared.fault.ServeFault.TheVariants.{FrameCut, MessageRead, WriteFailed}
+use Rattle.sign_core.specs.declared.fault.SignFault.{SignFault}
+use Rattle.sign_core.specs.declared.fault.SignFault.TheVariants as refused
+use Rattle.sign_core.specs.declared.fault.SignFault.TheVariants.{Damaged}
+use Rattle.sign_core.specs.declared.serving.Reply.{Reply}
+use Rattle.sign_core.specs.declared.serving.Reply.TheVariants.{BadName, Refused, Signed}
+use Rattle.sign_core.specs.declared.source.Source as source
+use Rattle.sign_core.specs.Fault.{number_of}
+use Rattle.sign_core.specs.Frames.{CutsField, Ending, IsCut, IsFrame, IsWhole, Reads, Request, broken, ended, given_by}
+use Rattle.sign_core.specs.Frames.{going, head}
+use Rattle.sign_core.specs.Once.{AreDrawsOf}
+use Rattle.sign_core.specs.Records.{binding_in, deepest, key_in}
+use Rattle.sign_core.specs.Signer.{Ends, KeepsAtRefusal, LacksMemory, RefusesMemory, Signs, UsesMemory, View}
+use Rattle.sign_core.specs.Signer.{is_random_failed, state_of, wanted_by}
+use Rattle.sign_core.specs.Source.{Provides}
+use Rattle.sign_core.specs.World.{Chance, Outcome, requested}
+
+-- ---- replies
+
+-- the bytes of a reply: its number, the size of its body, and the body
+abbrev pub reply_frame : (number : ℕ) → (body : List ℕ) → List ℕ
+reply_frame number body = (number ∷ []) ++ big_bytes 4 (length body) ++ body
+
+-- the body of a refusal: the slot that 28 names
+abbrev pub body_of : SignFault → List ℕ
+body_of (Damaged slot) = big_bytes 4 slot
+body_of _ = []
+
+-- the bytes of what is replied, where it is Ok with this signature
+abbrev pub reply_bytes : Reply → (signature : List ℕ) → List ℕ
+reply_bytes Signed signature = reply_frame 0 signature
+reply_bytes (Refused fault) signature = reply_frame (number_of fault) (body_of fault)
+reply_bytes BadName signature = reply_frame 34 []
+
+-- a request and what is replied to it
+pub record Exchange : Type 0 where
+  pub request : Request
+  pub reply : Reply
+  pub signature : List ℕ
+
+abbrev pub reply_of : Exchange → List ℕ
+reply_of exchange = reply_bytes exchange.reply exchange.signature
+
+-- ---- answers
+
+-- A request is answered by a step of the world, as a call of sign is, whose message gave this, if it was read: the text
+-- of all of it, or nothing, where it can't be read.
+pub record SignsGiven {S R : Type 0} (g : store.Ghosts S) (r : source.Ghosts R) (old new : View S R) (name : List ℕ)
+    (given : Option (List ℕ)) (capacity : ℕ) (answer : Result (List ℕ) SignFault) : Type 0 where
+  pub key : Key
+  pub keyed : key_in old.records ≡ Some key
+  pub chance : Chance
+  pub outcome : Outcome (List ℕ)
+  pub step : requested (g.most old.store) (state_of old) name chance ≡ outcome
+  pub ends : Ends g old new outcome answer
+  pub possible : AreDrawsOf key.secret chance
+  pub source : Provides (r.upcoming old.random) outcome.drawn (r.upcoming new.random)
+  pub failures : Counts is_random_failed (r.failures old.random) (r.failures new.random) answer
+  pub message : outcome.is_read ≡ true → chance.given ≡ given
+  pub room : chance.has_room ≡ false → LacksMemory key.secret (wanted_by key.secret (deepest key.secret old.records))
+      (binding_in old.records name) capacity old.spare
+  pub refusals : RefusesMemory chance.has_room answer (g.refusals old.store) (g.refusals new.store)
+  pub memory : UsesMemory old new
+  pub keeps : KeepsAtRefusal g old new answer
+  pub repeat : IsSome (binding_in old.records name) → new ≡ old
+
+-- What is replied to a request is the signer's answer, whose output had this capacity; or the name's bytes are no name,
+-- and the signer isn't asked.
+abbrev pub AnswersBy : {S R : Type 0} → store.Ghosts S → source.Ghosts R → Reply → (signature : List ℕ) → Request
+    → (old new : View S R) → (capacity : ℕ) → Type 0
+AnswersBy g r Signed signature request old new capacity =
+    IsName request.name × SignsGiven g r old new request.name (given_by request) capacity (Ok signature)
+AnswersBy g r (Refused fault) signature request old new capacity =
+    IsName request.name × SignsGiven g r old new request.name (given_by request) capacity (Err fault)
+AnswersBy g r BadName signature request old new capacity = (IsName request.name → ⊥) × (new ≡ old)
+
+-- The output keeps its capacity.
+abbrev pub Answers : {S R : Type 0} → store.Ghosts S → source.Ghosts R → Exchange → (old new : View S R)
+    → (capacity after : ℕ) → Type 0
+Answers g r exchange old new capacity after =
+    (capacity ≤ after) × AnswersBy g r exchange.reply exchange.signature exchange.request old new capacity
+
+-- Requests are answered one after the other.
+abbrev pub AnswersInTurn : {S R : Type 0} → store.Ghosts S → source.Ghosts R → List Exchange → (old new : View S R)
+    → (capacity after : ℕ) → Type 0
+AnswersInTurn g r [] old new capacity after = (new ≡ old) × (after ≡ capacity)
+AnswersInTurn {S} {R} g r (first ∷ later) old new capacity after = (next : View S R) × (room : ℕ)
+    × Answers g r first old next capacity room × AnswersInTurn g r later next new room after
+
+-- ---- an exchange of frames
+
+-- These bytes are the frames of whole requests, one after the other.
+abbrev pub AreFrames : List Exchange → List ℕ → Type 0
+AreFrames [] bytes = bytes ≡ []
+AreFrames (first ∷ later) bytes = (own : List ℕ) × (rest : List ℕ) × (bytes ≡ own ++ rest)
+    × IsFrame first.request own × IsWhole first.request × AreFrames later rest
+
+-- What is replied to the next bytes of an input, and what is then ended with, if anything: a whole frame; a head that
+-- is cut at the input's end (35), or where a read fails (27); or a message that is cut (27).
+abbrev pub Turn : (bytes : List ℕ) → Ending → List Exchange → (reply : List ℕ) → Option ServeFault → Type 0
+Turn bytes ending exchanges reply None = (exchange : Exchange) × (exchanges ≡ exchange ∷ []) × (ending ≡ going)
+    × IsFrame exchange.request bytes × IsWhole exchange.request × (reply ≡ reply_of exchange)
+Turn bytes ending exchanges reply (Some FrameCut) = (exchanges ≡ []) × (ending ≡ ended) × (1 ≤ length bytes)
+    × CutsField head bytes × (reply ≡ reply_frame 35 [])
+Turn bytes ending exchanges reply (Some MessageRead) =
+    ((exchanges ≡ []) × (ending ≡ broken) × CutsField head bytes × (reply ≡ reply_frame 27 []))
+    ⊎ ((exchange : Exchange) × (exchanges ≡ exchange ∷ []) × IsFrame exchange.request bytes
+    × IsCut ending exchange.request × (reply ≡ reply_of exchange))
+Turn bytes ending exchanges reply (Some WriteFailed) = ⊥
+
+-- What a turn comes to, where so much was written: the reply, or a part of it where writing fails (36); or the input is
+-- at its end, and nothing is replied.
+abbrev pub TurnEnds : (bytes : List ℕ) → Ending → List Exchange → (written : List ℕ) → Result Bool ServeFault → Type 0
+TurnEnds bytes ending exchanges written (Ok true) = Turn bytes ending exchanges written None
+TurnEnds bytes ending exchanges written (Ok false) =
+    (exchanges ≡ []) × (ending ≡ ended) × (bytes ≡ []) × (written ≡ [])
+TurnEnds bytes ending exchanges written (Err FrameCut) = Turn bytes ending exchanges written (Some FrameCut)
+TurnEnds bytes ending exchanges written (Err MessageRead) = Turn bytes ending exchanges written (Some MessageRead)
+TurnEnds bytes ending exchanges written (Err WriteFailed) =
+    (lost : List ℕ) × (fault : Option ServeFault) × Turn bytes ending exchanges (written ++ lost) fault
+
+-- How an exchange closes behind so many whole frames: at the input's end, or after 2^32 replies; or by a turn that
+-- fails.
+abbrev pub Closes : (count : ℕ) → (bytes : List ℕ) → Ending → List Exchange → (written : List ℕ)
+    → Result ℕ ServeFault → Type 0
+Closes count bytes ending exchanges written (Ok n) =
+    (n ≡ count) × (exchanges ≡ []) × (bytes ≡ []) × (written ≡ [])
+    × (((ending ≡ ended) × (count < 2 ^ 32)) ⊎ ((ending ≡ going) × (count ≡ 2 ^ 32)))
+Closes count bytes ending exchanges written (Err fault) =
+    (count < 2 ^ 32) × TurnEnds bytes ending exchanges written (Err fault)
+
+-- An input, which ended so, is whole frames and what closes the exchange; these requests are in it; and the output is
+-- their replies, one after the other.
+pub record Session (input : List ℕ) (ending : Ending) (exchanges : List Exchange) (output : List ℕ)
+    (result : Result ℕ ServeFault) : Type 0 where
+  pub whole : List Exchange
+  pub frames : List ℕ
+  pub are_frames : AreFrames whole frames
+  pub last : List Exchange
+  pub rest : List ℕ
+  pub written : List ℕ
+  pub closes : Closes (length whole) rest ending last written result
+  pub exchanges_are : exchanges ≡ whole ++ last
+  pub input_is : input ≡ frames ++ rest
+  pub output_is : output ≡ concat (map reply_of whole) ++ written
+
+-- The input gave the bytes of an exchange, the output took its replies, and its requests were answered in turn.
+pub record Serves {S R I : Type 0} (g : store.Ghosts S) (r : source.Ghosts R) (m : message.Ghosts I)
+    (old new : View S R) (before after : I) (contents left : Option (List ℕ)) (result : Result ℕ ServeFault)
+    : Type 0 where
+  pub input : List ℕ
+  pub ending : Ending
+  pub exchanges : List Exchange
+  pub output : List ℕ
+  pub session : Session input ending exchanges output result
+  pub reads : Reads m input ending before after
+  pub capacity : ℕ
+  pub answers : AnswersInTurn g r exchanges old new 0 capacity
+  pub writes : Appends contents left output
+
+-- ---- its parts
+
+-- A turn: the next bytes of the input, their answer and what was written.
+pub record Turns {S R I : Type 0} (g : store.Ghosts S) (r : source.Ghosts R) (m : message.Ghosts I)
+    (old new : View S R) (before after : I) (contents left : Option (List ℕ)) (capacity room : ℕ)
+    (result : Result Bool ServeFault) : Type 0 where
+  pub bytes : List ℕ
+  pub ending : Ending
+  pub exchanges : List Exchange
+  pub written : List ℕ
+  pub ends : TurnEnds bytes ending exchanges written result
+  pub reads : Reads m bytes ending before after
+  pub answers : AnswersInTurn g r exchanges old new capacity room
+  pub writes : Appends contents left written
+
+-- Some bytes were written, or a part of them.
+abbrev pub Writes : (bytes : List ℕ) → (old new : Option (List ℕ)) → Result (Unit {0}) ServeFault → Type 0
+Writes bytes old new (Ok _) = Appends old new bytes
+Writes bytes old new (Err WriteFailed) =
+    (part : List ℕ) × (lost : List ℕ) × (bytes ≡ part ++ lost) × Appends old new part
+Writes bytes old new (Err _) = ⊥
+
+-- How a frame's message ends: it came whole, or was cut.
+abbrev pub ComesTo : Ending → Request → (is_whole : Bool) → Type 0
+ComesTo ending request true = (ending ≡ going) × IsWhole request
+ComesTo ending request false = IsCut ending request
+
+-- A request whose head was read is answered: its message is read as far as it comes.
+pub record AnswersFrame {S R I : Type 0} (g : store.Ghosts S) (r : source.Ghosts R) (m : message.Ghosts I)
+    (said : List ℕ × ℕ) (old new : View S R) (before after : I) (capacity room : ℕ) (signature : List ℕ)
+    (result : Reply × Bool) : Type 0 where
+  pub request : Request
+  pub name : request.name ≡ said.0
+  pub announced : request.announced ≡ said.1
+  pub ending : Ending
+  pub comes : ComesTo ending request result.1
+  pub reads : Reads m request.message ending before after
+  pub room_kept : capacity ≤ room
+  pub answers : AnswersBy g r result.0 signature request old new capacity
+
+-- a refusal that says so
+abbrev pub is_message_read : SignFault → Bool
+is_message_read refused.MessageRead = true
+is_message_read _ = false
+
+-- A name that is one signs the message, and what is replied is the signer's answer.
+abbrev pub Asks : {S R M : Type 0} → store.Ghosts S → source.Ghosts R → message.Ghosts M → (name : List ℕ)
+    → (old new : View S R) → (before after : M) → (capacity : ℕ) → (signature : List ℕ) → Reply → Type 0
+Asks g r m name old new before after capacity signature Signed = IsName name
+    × Signs g r m old new name before after capacity (Ok signature)
+    × (IsSome (binding_in old.records name) → new ≡ old)
+Asks g r m name old new before after capacity signature (Refused fault) = IsName name
+    × Signs g r m old new name before after capacity (Err fault)
+    × (IsSome (binding_in old.records name) → new ≡ old)
+Asks g r m name old new before after capacity signature BadName =
+    (IsName name → ⊥) × (new ≡ old) × (after ≡ before)
+
+-- whether a reply says that the message can't be read
+abbrev pub is_unread : Reply → Bool
+is_unread (Refused fault) = is_message_read fault
+is_unread _ = false
+
+-- What is left of a message is read, unless it couldn't be read before: whether all of it came.
+abbrev pub Finishes : {M : Type 0} → message.Ghosts M → (unread : Bool) → (old new : M) → (is_whole : Bool) → Type 0
+Finishes m true old new is_whole = (is_whole ≡ false) × (new ≡ old)
+Finishes m false old new true = (text : List ℕ) × ReadWhole m.transition m.remaining text old new
+Finishes m false old new false = CantBeRead m.transition old new

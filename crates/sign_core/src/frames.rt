@@ -1,0 +1,135 @@
+//! Frames of requests, as reads of an input give them: what stands before a message, and the message.
+
+ghost use Rattle.std.specs.Prelude.{◌≡◌, ◌≤◌, ◌<◌, length, OnErr, OnOk};
+ghost use Rattle.sign_core.specs.Frames.{Fills, ReadsField, ReadsHead, Skips, after_size, bytes_of, said_by};
+ghost use Rattle.typecodes.specs.Fields.{block};
+
+use crate::fault::ServeFault;
+use arrayvec::ArrayVec;
+use std::io;
+use std::io::ErrorKind;
+use typecodes::{Message, MessageFailed, PIECE, PIECES, read_piece};
+
+// How many reads are tried for one field: each gives a byte at least or is interrupted.
+const TRIES: u32 = 1 << 20;
+
+/// What stands before a message: the bytes of the name, and how many bytes the message is to have.
+#[derive(Drop)]
+pub(crate) struct Head {
+    pub(crate) name: ArrayVec<u8, 255>,
+    pub(crate) announced: u32,
+}
+
+// Fills a buffer with the next bytes of an input. An interrupted read is tried again, at least 2^19 times before the
+// input counts as failed.
+fn fill<I: Message>(input: &mut I, buffer: &mut [u8]) -> Result<(), ServeFault>
+    requires { length buffer.old ≤ 255 }
+    ensures { Fills I.Message buffer.new input.old input.new result }
+{
+    let mut at = 0;
+    for turn in 0..TRIES {
+        if at >= buffer.len() {
+            return Ok(());
+        }
+        match input.read_into(&mut buffer[at..]) {
+            Ok(0) => return Err(ServeFault::FrameCut),
+            Ok(n) => at += n,
+            Err(error) => {
+                if error.kind() != ErrorKind::Interrupted {
+                    return Err(ServeFault::MessageRead);
+                }
+            }
+        }
+    }
+    if at >= buffer.len() {
+        return Ok(());
+    }
+    Err(ServeFault::MessageRead)
+}
+
+// Reads a name of so many bytes, of which nothing else is known.
+fn read_name<I: Message>(input: &mut I, size: u8) -> Result<ArrayVec<u8, 255>, ServeFault>
+    ensures { ReadsField I.Message (block size) bytes_of input.old input.new result }
+{
+    let mut bytes = [0; 255];
+    let name = &mut bytes[..usize::from(size)];
+    fill(input, name)?;
+    match ArrayVec::try_from(&*name) {
+        Ok(name) => Ok(name),
+        Err(_) => unreachable!(),
+    }
+}
+
+// Reads what stands before a message, of which the size of the name was read.
+fn read_after<I: Message>(input: &mut I, size: u8) -> Result<Head, ServeFault>
+    ensures { ReadsField I.Message (after_size size) said_by input.old input.new result }
+{
+    let name = read_name(input, size)?;
+    let mut bytes = [0; 4];
+    fill(input, &mut bytes)?;
+    let announced = u32::from_be_bytes(bytes);
+    Ok(Head { name, announced })
+}
+
+/// Reads what stands before the next message; None where the input ends before.
+pub(crate) fn read_head<I: Message>(input: &mut I) -> Result<Option<Head>, ServeFault>
+    ensures { ReadsHead I.Message input.old input.new result }
+{
+    let mut first = [0; 1];
+    match fill(input, &mut first) {
+        Ok(()) => {}
+        Err(ServeFault::FrameCut) => return Ok(None),
+        Err(fault) => return Err(fault),
+    }
+    match read_after(input, first[0]) {
+        Ok(head) => Ok(Some(head)),
+        Err(fault) => Err(fault),
+    }
+}
+
+/// The message of a frame: the next bytes of an input, of which so many are left.
+#[derive(Drop)]
+pub(crate) struct FrameMessage<'a, I> {
+    pub(crate) input: &'a mut I,
+    pub(crate) left: u32,
+}
+
+impl<I: Message> Message for FrameMessage<'_, I> {
+    ghost use Rattle.std.specs.Prelude.{◌≡◌, None};
+    ghost use Rattle.sign_core.specs.Frames.{ReadsPart};
+
+    ghost remaining = { λ _. None };
+
+    // A read is one of the input's.
+    ghost transition = { λ old outcome new. (new.input.ghost_name ≡ old.input.ghost_name)
+        × ReadsPart I.Message old.left old.input.now outcome new.left new.input.now };
+
+    fn read_into(&mut self, buffer: &mut [u8]) -> io::Result<usize> {
+        if self.left == 0 {
+            return Ok(0);
+        }
+        let most = buffer.len().min(self.left as usize);
+        match self.input.read_into(&mut buffer[..most]) {
+            Ok(0) => Err(io::Error::from(ErrorKind::UnexpectedEof)),
+            Ok(n) => {
+                self.left -= n as u32;
+                Ok(n)
+            }
+            Err(error) => Err(error),
+        }
+    }
+}
+
+/// Reads what is left of a message, and keeps nothing of it.
+pub(crate) fn skip<M: Message>(message: &mut M) -> Result<(), MessageFailed>
+    ensures { Skips M.Message message.old message.new result }
+{
+    let mut piece = [0; PIECE];
+    for turn in 0..PIECES {
+        let n = read_piece(message, &mut piece)?;
+        if n < PIECE {
+            return Ok(());
+        }
+    }
+    Err(MessageFailed)
+}

@@ -1,0 +1,212 @@
+//! `serve`: requests over an input, each of which has its reply on an output.
+
+ghost use Rattle.std.specs.Prelude.{◌≡◌, ◌<◌, ◌^◌, vec_capacity};
+ghost use Rattle.sign_core.specs.Frames.{said_by};
+ghost use Rattle.sign_core.specs.Serving.{AnswersFrame, Asks, Finishes, Serves, Turns, Writes, is_unread, reply_bytes};
+ghost use Rattle.sign_core.specs.Serving.{reply_frame};
+ghost use Rattle.sign_core.specs.Signing.{KeepsCapacity};
+
+use crate::fault::{ServeFault, SignFault};
+use crate::frames::{FrameMessage, Head, read_head, skip};
+use crate::signer::Signer;
+use crate::source::Source;
+use state_file::Store;
+use std::alloc::Global;
+use std::io::{ErrorKind, Write};
+use typecodes::{Message, Name};
+
+// How many replies are written at most.
+const REPLIES: u64 = 1 << 32;
+
+/// What is replied to a request.
+#[derive(Clone, Copy)]
+pub(crate) enum Reply {
+    /// The signature.
+    Signed,
+    /// That the signer refuses.
+    Refused(SignFault),
+    /// That its name is none.
+    BadName,
+}
+
+impl Reply {
+    ghost use Rattle.sign_core.specs.Serving.{is_unread};
+
+    // Whether it says that the message can't be read.
+    fn is_unread(&self) -> bool
+        ensures { result ≡ is_unread self.now }
+    {
+        matches!(self, Reply::Refused(SignFault::MessageRead))
+    }
+}
+
+/// Answers the requests of an input one after the other, and writes the reply to each before it reads the next one. A
+/// request is the size of its name in one byte, the name, the size of its message in four bytes, and the message, which
+/// is signed as it is read. A reply is its number in one byte, the size of its body in four, and the body: 0 has the
+/// signature, 28 the slot in four bytes, and any other number nothing. It takes no memory but what the signer takes.
+///
+/// A name that isn't 1 to 64 visible characters of ASCII is answered 34. After a refusal the rest of the message is
+/// read first, and kept nowhere.
+///
+/// It ends with the number of replies where the input ends between two frames, and after 2^32 replies. It ends with 35
+/// where the input ends before the message of a frame, and with 27 where it ends inside the message or a read of it
+/// fails: then that is replied, too, unless the signer had refused for another reason before. It ends with 36 where a
+/// reply can't be written; what was bound stays bound.
+pub fn serve<S: Store, R: Source, I: Message, W: Write>(
+    alloc: Global,
+    signer: &mut Signer<S, R>,
+    reader: &mut I,
+    writer: &mut W,
+) -> Result<u64, ServeFault>
+    ensures { Serves S.Store R.Source I.Message signer.old signer.new reader.old reader.new
+        (W.contents writer.old) (W.contents writer.new) result }
+{
+    let mut signature = Vec::new(alloc);
+    for count in 0..REPLIES {
+        match take_turn(signer, reader, writer, &mut signature) {
+            Ok(true) => {}
+            Ok(false) => return Ok(count),
+            Err(fault) => return Err(fault),
+        }
+    }
+    Ok(REPLIES)
+}
+
+// Reads the next frame and replies to it; false where the input is at its end.
+fn take_turn<S: Store, R: Source, I: Message, W: Write>(
+    signer: &mut Signer<S, R>,
+    reader: &mut I,
+    writer: &mut W,
+    signature: &mut Vec<u8>,
+) -> Result<bool, ServeFault>
+    ensures { Turns S.Store R.Source I.Message signer.old signer.new reader.old reader.new
+        (W.contents writer.old) (W.contents writer.new) (vec_capacity signature.old) (vec_capacity signature.new)
+        result }
+{
+    let head = match read_head(reader) {
+        Ok(Some(head)) => head,
+        Ok(None) => return Ok(false),
+        Err(fault) => {
+            write_reply(writer, fault.number(), &[])?;
+            return Err(fault);
+        }
+    };
+    let (reply, is_whole) = answer(signer, reader, &head, signature);
+    write_answer(writer, &reply, signature)?;
+    if !is_whole {
+        return Err(ServeFault::MessageRead);
+    }
+    Ok(true)
+}
+
+// Answers a request whose head was read, and reads its message to the end, or as far as it comes: false where that
+// isn't all of it.
+fn answer<S: Store, R: Source, I: Message>(
+    signer: &mut Signer<S, R>,
+    reader: &mut I,
+    head: &Head,
+    signature: &mut Vec<u8>,
+) -> (Reply, bool)
+    ensures { AnswersFrame S.Store R.Source I.Message (said_by head.now) signer.old signer.new reader.old reader.new
+        (vec_capacity signature.old) (vec_capacity signature.new) signature.new.items result }
+{
+    let mut message = FrameMessage {
+        input: reader,
+        left: size_of(head.announced),
+    };
+    let reply = ask(signer, head.name.as_slice(), &mut message, signature);
+    let is_whole = finish(&mut message, &reply);
+    let FrameMessage { input, .. } = message;
+    // Only the proof needs this use: it tells what was read.
+    let _ = &*input;
+    (reply, is_whole)
+}
+
+// The same size, which is one of four bytes.
+fn size_of(announced: u32) -> u32
+    ensures same { result ≡ announced }
+    ensures range { result < 2 ^ 32 }
+{
+    announced
+}
+
+// Reads what is left of a message after this was answered: false where it can't be read.
+fn finish<M: Message>(message: &mut M, reply: &Reply) -> bool
+    ensures { Finishes M.Message (is_unread reply.now) message.old message.new result }
+{
+    if reply.is_unread() {
+        return false;
+    }
+    skip(message).is_ok()
+}
+
+// Asks the signer to sign a message under a name, where the bytes are one.
+fn ask<S: Store, R: Source, M: Message>(
+    signer: &mut Signer<S, R>,
+    name: &[u8],
+    message: &mut M,
+    signature: &mut Vec<u8>,
+) -> Reply
+    ensures asks { Asks S.Store R.Source M.Message name.now signer.old signer.new message.old message.new
+        (vec_capacity signature.old) signature.new.items result }
+    ensures capacity { KeepsCapacity signature.old signature.new }
+{
+    let Ok(name) = Name::new(name) else {
+        return Reply::BadName;
+    };
+    match signer.sign(&name, message, signature) {
+        Ok(()) => Reply::Signed,
+        Err(fault) => Reply::Refused(fault),
+    }
+}
+
+// Writes what is replied to a request, where it is Ok with this signature.
+fn write_answer<W: Write>(writer: &mut W, reply: &Reply, signature: &[u8]) -> Result<(), ServeFault>
+    ensures { Writes (reply_bytes reply.now signature.now) (W.contents writer.old) (W.contents writer.new) result }
+{
+    match reply {
+        Reply::Signed => write_reply(writer, 0, signature),
+        Reply::Refused(SignFault::Damaged(slot)) => { write_reply(writer, 28, &slot.to_be_bytes()) }
+        Reply::Refused(fault) => write_reply(writer, fault.number(), &[]),
+        Reply::BadName => write_reply(writer, 34, &[]),
+    }
+}
+
+// Writes a reply, and passes it on. A body has fewer than 2^32 bytes, as each signature has.
+fn write_reply<W: Write>(writer: &mut W, number: u8, body: &[u8]) -> Result<(), ServeFault>
+    ensures { Writes (reply_frame number body.now) (W.contents writer.old) (W.contents writer.new) result }
+{
+    let size = match u32::try_from(body.len()) {
+        Ok(size) => size,
+        Err(_) => return Err(ServeFault::WriteFailed),
+    };
+    write_all(writer, &[number])?;
+    write_all(writer, &size.to_be_bytes())?;
+    write_all(writer, body)?;
+    match writer.flush() {
+        Ok(()) => Ok(()),
+        Err(_) => Err(ServeFault::WriteFailed),
+    }
+}
+
+// Writes bytes, all of them or those before a write that fails. An interrupted write is tried again.
+fn write_all<W: Write>(writer: &mut W, bytes: &[u8]) -> Result<(), ServeFault>
+    ensures { Writes bytes.now (W.contents writer.old) (W.contents writer.new) result }
+{
+    let mut rest = bytes;
+    for turn in 0..u64::MAX {
+        if rest.is_empty() {
+            return Ok(());
+        }
+        match writer.write(rest) {
+            Ok(0) => return Err(ServeFault::WriteFailed),
+            Ok(n) => rest = &rest[n..],
+            Err(error) => {
+                if error.kind() != ErrorKind::Interrupted {
+                    return Err(ServeFault::WriteFailed);
+                }
+            }
+        }
+    }
+    Err(ServeFault::WriteFailed)
+}
