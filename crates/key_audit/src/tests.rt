@@ -10,7 +10,10 @@ mod audits;
 mod files;
 mod long;
 mod memory;
+mod programs;
 mod script;
+mod turning;
+mod vectors;
 
 // A source that gives one number in each byte of a draw, and the next one at the next draw.
 #[derive(Drop)]
@@ -59,7 +62,23 @@ fn sign(alloc: Global, spec: &str, tape: &[u8], texts: &[u8]) -> Option<(AnyPubl
     Some((signer.public_key(), given))
 }
 
-// What a check answers to the signatures of two copies of a key, those of the first copy first.
+// The signatures of two copies of a key, those of the first copy first.
+fn copies(
+    alloc: Global,
+    spec: &str,
+    shared: usize,
+    first: &[u8],
+    second: &[u8],
+) -> Option<(AnyPublic, Vec<Given>)> {
+    let (public, mut given) = sign(alloc, spec, &tape(shared, 1), first)?;
+    let (_, others) = sign(alloc, spec, &tape(shared, 2), second)?;
+    for other in others {
+        given.push(other).ok()?;
+    }
+    Some((public, given))
+}
+
+// What a check answers to the signatures of two copies of a key.
 fn check_copies(
     alloc: Global,
     spec: &str,
@@ -67,11 +86,7 @@ fn check_copies(
     first: &[u8],
     second: &[u8],
 ) -> Option<Result<(), GivenFault>> {
-    let (public, mut given) = sign(alloc, spec, &tape(shared, 1), first)?;
-    let (_, others) = sign(alloc, spec, &tape(shared, 2), second)?;
-    for other in others {
-        given.push(other).ok()?;
-    }
+    let (public, given) = copies(alloc, spec, shared, first, second)?;
     Some(check_given(alloc, &public, &given))
 }
 

@@ -37,17 +37,19 @@ fn told_of_file(alloc: Global, entries: &[Entry]) -> Option<(Told, bool)> {
     Some((first, second == Err(AuditFault::AnchorCount)))
 }
 
+// The records of a key with five more.
+const ENTRIES: [Entry; 5] = [
+    Entry::Bound(0, b'a'),
+    Entry::Bound(1, b'b'),
+    Entry::Retire(9),
+    Entry::Bound(9, b'c'),
+    Entry::Bound(10, b'd'),
+];
+
 #[test]
 fn legal_records_are_audited_at_last(rt: HostRuntime) {
-    let entries = [
-        Entry::Bound(0, b'a'),
-        Entry::Bound(1, b'b'),
-        Entry::Retire(9),
-        Entry::Bound(9, b'c'),
-        Entry::Bound(10, b'd'),
-    ];
     assert_eq!(rt;
-        told_of_file(rt.alloc(), &entries),
+        told_of_file(rt.alloc(), &ENTRIES),
         Some((Ok((6, 21, None)), true))
     );
 }
@@ -59,35 +61,90 @@ fn an_illegal_record_is_found_at_last(rt: HostRuntime) {
     assert_eq!(rt; told_of_file(rt.alloc(), &entries), Some((illegal, false)));
 }
 
-// The signatures of two copies of a key, made at the second try where memory was refused at the first.
-fn copies(alloc: Global) -> Option<(AnyPublic, Vec<Given>)> {
-    let (public, mut given) = sign(alloc, "lms:H5/W8", &tape(48, 1), b"ab")?;
-    let (_, others) = sign(alloc, "lms:H5/W8", &tape(48, 2), b"a")?;
-    for other in others {
-        given.push(other).ok()?;
-    }
-    Some((public, given))
+// This fails where memory is refused in the audit, and there alone.
+#[test]
+fn legal_records_are_audited_at_first(rt: HostRuntime) {
+    let told_at_first = match stored_at_last(rt.alloc(), &ENTRIES) {
+        Some(mut store) => told(rt.alloc(), &mut store, None),
+        None => None,
+    };
+    assert_eq!(rt; told_at_first, Some(Ok((6, 21, None))));
 }
 
-fn copies_at_last(alloc: Global) -> Option<(AnyPublic, Vec<Given>)> {
-    match copies(alloc) {
+// The signatures of two copies of a key, each of which signs these letters; made at the second try where memory was
+// refused at the first.
+fn copies_at_last(
+    alloc: Global,
+    spec: &str,
+    shared: usize,
+    first: &[u8],
+    second: &[u8],
+) -> Option<(AnyPublic, Vec<Given>)> {
+    match copies(alloc, spec, shared, first, second) {
         Some(both) => Some(both),
-        None => copies(alloc),
+        None => copies(alloc, spec, shared, first, second),
     }
 }
 
-fn checked_at_last(alloc: Global) -> Option<Result<(), GivenFault>> {
-    let (public, given) = copies_at_last(alloc)?;
-    match check_given(alloc, &public, &given) {
-        Err(GivenFault::OutOfMemory) => Some(check_given(alloc, &public, &given)),
-        answer => Some(answer),
-    }
+// What a check answers to them at first, and at the second try where memory was refused at the first.
+fn checked(
+    alloc: Global,
+    spec: &str,
+    shared: usize,
+    first: &[u8],
+    second: &[u8],
+) -> Option<[Result<(), GivenFault>; 2]> {
+    let (public, given) = copies_at_last(alloc, spec, shared, first, second)?;
+    let at_first = check_given(alloc, &public, &given);
+    let at_last = match at_first {
+        Err(GivenFault::OutOfMemory) => check_given(alloc, &public, &given),
+        answer => answer,
+    };
+    Some([at_first, at_last])
+}
+
+// The second of these answers.
+fn checked_at_last(
+    alloc: Global,
+    spec: &str,
+    shared: usize,
+    first: &[u8],
+    second: &[u8],
+) -> Option<Result<(), GivenFault>> {
+    let [_, at_last] = checked(alloc, spec, shared, first, second)?;
+    Some(at_last)
 }
 
 #[test]
 fn copies_are_found_at_last(rt: HostRuntime) {
     assert_eq!(rt;
-        checked_at_last(rt.alloc()),
+        checked_at_last(rt.alloc(), "lms:H5/W8", 48, b"ab", b"a"),
         Some(Err(GivenFault::LeafTwice(0, 2)))
+    );
+}
+
+#[test]
+fn two_levels_are_accepted_at_last(rt: HostRuntime) {
+    assert_eq!(rt;
+        checked_at_last(rt.alloc(), TWO_LEVELS, 48, b"ab", b""),
+        Some(Ok(()))
+    );
+}
+
+#[test]
+fn copies_of_two_levels_are_found_at_last(rt: HostRuntime) {
+    assert_eq!(rt;
+        checked_at_last(rt.alloc(), TWO_LEVELS, 48, b"a", b"a"),
+        Some(Err(GivenFault::LeafTwice(0, 1)))
+    );
+}
+
+// This fails where memory is refused in the first check, and there alone.
+#[test]
+fn copies_are_found_at_first(rt: HostRuntime) {
+    let wanted = Err(GivenFault::LeafTwice(0, 2));
+    assert_eq!(rt;
+        checked(rt.alloc(), "lms:H5/W8", 48, b"ab", b"a"),
+        Some([wanted, wanted])
     );
 }
