@@ -1,2 +1,4 @@
 pub mod Tree
 pub mod Ascent
+pub mod Nodes
+pub mod Cache

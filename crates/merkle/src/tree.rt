@@ -30,7 +30,7 @@ pub trait TreeHash: NodeHash {
 }
 
 /// Node `index` of a height, from the leaves below it.
-fn node_at<T: TreeHash>(tree: &mut T, height: u8, index: u32) -> [u8; 32]
+pub(crate) fn node_at<T: TreeHash>(tree: &mut T, height: u8, index: u32) -> [u8; 32]
     requires height { height ≤ 25 }
     requires inside { index < 2 ^ (25 - height) }
     ensures value { result ≡ node (T.leaf_of tree.old) (T.join_of tree.old) height index }

@@ -1,0 +1,58 @@
+use Rattle.std.proofs.Common.{rules, arith, sym, ap, ◌∙◌, ◌≡◌, length, ◌-◌, ◌+◌, ◌*◌, ◌^◌, ◌/◌, ◌∷◌, []}
+use Rattle.std.specs.Prelude.{slice_index_or}
+use Rattle.std.proofs.lemmas.Grind.{pow_more}
+use Rattle.merkle.specs.Nodes.{nodes_under}
+use Rattle.merkle.proofs.Listing.{halves_inside, halves_joined, half_long, half_room, half_some, leaves_below, nodes_one, one_written}
+use Rattle.merkle.proofs.nodes.+fill.Goals as goal
+
+pub returns-then-depth-eq0-clause-value : goal.returns-then-depth-eq0-clause-value
+returns-then-depth-eq0-clause-value g t c =
+    let one : length c.args.into.now ≡ 1 = omega (arith, ap (λ d. 2 ^ (d + 1)) c.if-depth-eq0.true) in
+    one_written c.args.into.now c.node_at.result one
+    ∙ ap (λ v. v ∷ []) c.node_at.ensures.value
+    ∙ sym (nodes_one _ _ c.args.base c.args.depth c.args.index c.if-depth-eq0.true)
+
+pub fill-requires : goal.fill-requires
+fill-requires g t c κs within =
+    let room = half_room (length c.args.into.now) c.args.depth c.requires.room (omega arith) in
+    let inside = halves_inside c.args.base c.args.depth c.args.index (omega arith) c.requires.height c.requires.inside in
+    search rules
+
+pub fill-requires-2 : goal.fill-requires-2
+fill-requires-2 g t c κs within =
+    let room = half_room (length c.args.into.now) c.args.depth c.requires.room (omega arith) in
+    let inside = halves_inside c.args.base c.args.depth c.args.index (omega arith) c.requires.height c.requires.inside in
+    search rules
+
+pub overflow_sub-half : goal.overflow_sub-half
+overflow_sub-half g t c = half_some _ _ c.requires.room (omega arith)
+
+pub overflow_sub-half-2 : goal.overflow_sub-half-2
+overflow_sub-half-2 g t c = half_some _ _ c.requires.room (omega arith)
+
+pub bounds-left-half : goal.bounds-left-half
+bounds-left-half g t c = omega (arith, half_some (length c.args.into.now) c.args.depth c.requires.room (omega arith))
+
+pub bounds-right-half : goal.bounds-right-half
+bounds-right-half g t c = omega (arith, half_some (length c.args.into.now) c.args.depth c.requires.room (omega arith))
+
+pub returns-clause-value : goal.returns-clause-value
+returns-clause-value g t c =
+    let leaf = g.T.TreeHash.leaf_of c.args.tree.now in
+    let join = g.T.NodeHash.join_of c.args.tree.now in
+    let below = c.args.depth - 1 in
+    let n = length c.args.into.now / 2 - 1 in
+    let long = half_long (length c.args.into.now) c.args.depth c.requires.room (omega arith) in
+    let some = half_some (length c.args.into.now) c.args.depth c.requires.room (omega arith) in
+    halves_joined leaf join c.args.base c.args.depth c.args.index n
+    c.fill.new.into c.fill-2.new.into _ c.join.result (omega arith) (omega arith)
+    c.fill.ensures.value
+    (c.fill-2.ensures.value
+    ∙ ap (λ l. nodes_under l (g.T.NodeHash.join_of c.fill.new.tree) c.args.base below (2 * c.args.index + 1)) c.fill.ensures.leaves
+    ∙ ap (λ j. nodes_under leaf j c.args.base below (2 * c.args.index + 1)) c.fill.ensures.joins)
+    (omega (arith, long, pow_more 2 c.args.depth))
+    (c.join.ensures ∙ ap (λ j. j (c.args.base + below) c.args.index (slice_index_or c.fill.new.into n []) (slice_index_or c.fill-2.new.into n []))
+    (c.fill-2.ensures.joins ∙ c.fill.ensures.joins))
+
+pub returns-clause-counted : goal.returns-clause-counted
+returns-clause-counted g t c = omega (arith, leaves_below c.args.base c.args.depth (omega arith))

@@ -1,0 +1,52 @@
+-- Which nodes of a tree a cache keeps: its upper half, and one block of the lower half.
+use Rattle.std.specs.Prelude.{◌≡◌, ℕ, ◌+◌, ◌-◌, ◌/◌, ◌<◌, ◌≤◌, ◌^◌, List, length, min}
+use Rattle.merkle.specs.Tree.{Leaves, Joins}
+use Rattle.merkle.specs.Nodes.{nodes_under}
+
+-- What a cache is to its callers: its tree with the tree's height, all nodes that it keeps, in two lists, and the index
+-- of the block that is kept.
+pub record View (T : Type 0) : Type 0 where
+  pub tree : T
+  pub height : ℕ
+  pub upper : List (List ℕ)
+  pub block : List (List ℕ)
+  pub kept : ℕ
+
+-- one with these parts
+abbrev pub view_of : {T : Type 0} → T → ℕ → List (List ℕ) → List (List ℕ) → ℕ → View T
+view_of tree height upper block kept = record {
+  tree = tree;
+  height = height;
+  upper = upper;
+  block = block;
+  kept = kept;
+}
+
+-- the height of a block's root in a tree
+abbrev pub block_height : ℕ → ℕ
+block_height height = height / 2
+
+-- the upper tree: the roots of all blocks, and the nodes over them
+abbrev pub upper_nodes : Leaves → Joins → ℕ → List (List ℕ)
+upper_nodes leaf join height = nodes_under leaf join (block_height height) (height - block_height height) 0
+
+-- a block: a node of the blocks' height, and all nodes and leaves under it
+abbrev pub block_nodes : Leaves → Joins → ℕ → ℕ → List (List ℕ)
+block_nodes leaf join height index = nodes_under leaf join 0 (block_height height) index
+
+-- A cache keeps the upper tree and the block of this index, and no more.
+pub record Keeps {T : Type 0} (leaf : Leaves) (join : Joins) (height index : ℕ) (cache : View T) : Type 0 where
+  pub same_height : cache.height ≡ height
+  pub same_index : cache.kept ≡ index
+  pub upper_kept : cache.upper ≡ upper_nodes leaf join height
+  pub block_kept : cache.block ≡ block_nodes leaf join height index
+  pub most : length cache.upper + length cache.block
+      ≤ 2 ^ (height - block_height height + 1) + 2 ^ (block_height height + 1) - 2
+
+-- what holds of every cache, whose tree has made so many leaves, of which it counts so many
+pub record IsCache {T : Type 0} (leaf : Leaves) (join : Joins) (made counted : ℕ) (cache : View T) : Type 0 where
+  pub within : cache.height ≤ 25
+  pub inside : cache.kept < 2 ^ (cache.height - block_height cache.height)
+  pub upper_tree : cache.upper ≡ upper_nodes leaf join cache.height
+  pub one_block : cache.block ≡ block_nodes leaf join cache.height cache.kept
+  pub count : counted ≡ min made (2 ^ 64 - 1)

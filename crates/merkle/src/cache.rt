@@ -1,0 +1,141 @@
+//! A tree that is made once, of which enough nodes are kept that a path costs few leaves.
+
+ghost use Rattle.std.specs.Prelude.{◌≡◌, ◌==◌, ◌≤◌, ◌<◌, ◌+◌, ◌-◌, ◌/◌, ◌^◌, IfOk, length, min, vec_len};
+ghost use Rattle.std.specs.Prelude.{if◌then◌else◌};
+ghost use Rattle.merkle.specs.Cache.{Keeps, block_height};
+ghost use Rattle.merkle.specs.Tree.{path_of, root_of};
+
+use crate::nodes::{fill, fill_from, read_path};
+use crate::out_of_memory::OutOfMemory;
+use crate::tree::TreeHash;
+use std::alloc::Global;
+use std::marker::Model;
+
+/// A tree with its root and some of its nodes, so that paths cost few leaves. A block is the `2^b` leaves, and all
+/// nodes, under a node of height b, which is half of the tree's height, rounded down. Kept are the nodes from the
+/// blocks' roots upwards and one block, `2^(height - b + 1) + 2^(b + 1) - 2` nodes of 32 bytes in all. Its memory is
+/// taken by `new`, and no other call takes any.
+#[derive(Drop)]
+pub struct PathCache<T: TreeHash> {
+    tree: T,
+    height: u8,
+    upper: Vec<[u8; 32]>,
+    block: Vec<[u8; 32]>,
+    // Which block is kept, from the left.
+    kept: u32,
+    // How many leaves the tree has made, as far as a u64 goes.
+    leaves: u64,
+}
+
+impl<T: TreeHash> Model for PathCache<T> {
+    ghost use Rattle.merkle.specs.Cache.{IsCache, View, view_of};
+
+    ghost Value = { View T };
+
+    ghost view = { λ s. view_of s.tree s.height s.upper.items s.block.items s.kept };
+
+    ghost invariant = { λ s. IsCache {T = T} (T.leaf_of s.tree) (T.join_of s.tree) (T.made s.tree) s.leaves
+        (view_of s.tree s.height s.upper.items s.block.items s.kept) };
+}
+
+impl<T: TreeHash> PathCache<T> {
+    /// The cache of a tree that has made no leaf. Each of its leaves is made, once, and the first block is kept. The
+    /// caller keeps the height at most 25. Refuses only where memory is refused, and then lets the tree go.
+    pub fn new(alloc: Global, mut tree: T, height: u8) -> Result<PathCache<T>, OutOfMemory>
+    where
+        T: Drop,
+        requires height { height ≤ 25 }
+        requires fresh { T.made tree ≡ 0 }
+        ensures counted { IfOk result (λ cache. T.made cache.tree ≡ 2 ^ height) }
+        ensures leaves { IfOk result (λ cache. T.leaf_of cache.tree ≡ T.leaf_of tree) }
+        ensures joins { IfOk result (λ cache. T.join_of cache.tree ≡ T.join_of tree) }
+        ensures nodes { IfOk result (Keeps (T.leaf_of tree) (T.join_of tree) height 0) }
+    {
+        let block_height = height / 2;
+        let mut upper = nodes_of(alloc, height - block_height)?;
+        let mut block = nodes_of(alloc, block_height)?;
+        fill(&mut tree, 0, block_height, 0, &mut block);
+        let first = block[block.len() - 1];
+        fill_from(
+            &mut tree,
+            block_height,
+            height - block_height,
+            &first,
+            &mut upper,
+        );
+        Ok(PathCache {
+            tree,
+            height,
+            upper,
+            block,
+            kept: 0,
+            leaves: 2u64.pow(u32::from(height)),
+        })
+    }
+
+    /// The authentication path of leaf q (RFC 8554 5.4, RFC 8391 4.1.9), the leaf's sibling first. The caller keeps q
+    /// below `2^height`, and `into` as long as the tree is high. Where q's block isn't kept, its leaves are made and it
+    /// is kept from then on.
+    pub fn path_at(&mut self, q: u32, into: &mut [[u8; 32]])
+        requires inside { q < 2 ^ self.old.height }
+        requires room { length into.old ≡ self.old.height }
+        ensures value { into.new ≡ path_of (T.leaf_of self.old.tree) (T.join_of self.old.tree) self.old.height q }
+        // The leaves of a block that isn't kept, and no others.
+        ensures counted { let index = q / 2 ^ block_height self.old.height in
+            T.made self.new.tree
+            ≡ T.made self.old.tree + (if index == self.old.kept then 0 else 2 ^ block_height self.old.height) }
+        ensures leaves { T.leaf_of self.new.tree ≡ T.leaf_of self.old.tree }
+        ensures joins { T.join_of self.new.tree ≡ T.join_of self.old.tree }
+        ensures nodes { Keeps (T.leaf_of self.old.tree) (T.join_of self.old.tree) self.old.height
+            (q / 2 ^ block_height self.old.height) self.new }
+    {
+        let block_height = self.height / 2;
+        let index = q / 2u32.pow(u32::from(block_height));
+        self.keep(index);
+        let (lower, upper) = into.split_at_mut(usize::from(block_height));
+        read_path(&self.block, q, lower);
+        read_path(&self.upper, index, upper);
+    }
+
+    // Makes a block, unless it is kept.
+    fn keep(&mut self, index: u32)
+        requires { index < 2 ^ (self.old.height - block_height self.old.height) }
+        ensures counted { T.made self.new.tree
+            ≡ T.made self.old.tree + (if index == self.old.kept then 0 else 2 ^ block_height self.old.height) }
+        ensures leaves { T.leaf_of self.new.tree ≡ T.leaf_of self.old.tree }
+        ensures joins { T.join_of self.new.tree ≡ T.join_of self.old.tree }
+        ensures nodes { Keeps (T.leaf_of self.old.tree) (T.join_of self.old.tree) self.old.height index self.new }
+    {
+        if index == self.kept {
+            return;
+        }
+        let block_height = self.height / 2;
+        fill(&mut self.tree, 0, block_height, index, &mut self.block);
+        self.kept = index;
+        let made = 2u64.pow(u32::from(block_height));
+        self.leaves = self.leaves.saturating_add(made);
+    }
+
+    /// The root of the tree (RFC 8554 5.3, RFC 8391 4.1.6). It makes no leaf.
+    pub fn root(&self) -> [u8; 32]
+        ensures { result ≡ root_of (T.leaf_of self.now.tree) (T.join_of self.now.tree) self.now.height }
+    {
+        self.upper[self.upper.len() - 1]
+    }
+
+    /// How many leaves the tree has made since it was new, or the greatest u64 where that is passed.
+    pub fn leaves_made(&self) -> u64
+        ensures { result ≡ min (T.made self.now.tree) (2 ^ 64 - 1) }
+    {
+        self.leaves
+    }
+}
+
+// Room for the nodes of a tree of this height.
+fn nodes_of(alloc: Global, height: u8) -> Result<Vec<[u8; 32]>, OutOfMemory>
+    requires { height ≤ 25 }
+    ensures { IfOk result (λ nodes. vec_len nodes + 1 ≡ 2 ^ (height + 1)) }
+{
+    let count = 2usize.pow(u32::from(height) + 1) - 1;
+    Ok(vec![in alloc; [0; 32]; count]?)
+}

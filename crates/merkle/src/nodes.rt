@@ -1,0 +1,91 @@
+//! The nodes of a part of a tree, listed as they are made, and what is read of such a list.
+
+ghost use Rattle.std.specs.Prelude.{◌≡◌, ◌≤◌, ◌<◌, ◌+◌, ◌-◌, ◌*◌, ◌/◌, ◌^◌, ℕ, List, length};
+ghost use Rattle.merkle.specs.Tree.{Leaves, Joins, node};
+ghost use Rattle.merkle.specs.Nodes.{nodes_under, path_from};
+
+use crate::tree::{TreeHash, node_at};
+
+/// Writes the nodes from node `index` of height `base + depth` down to those of height `base`. No node of height
+/// `base` is kept below; each is made from its leaves.
+pub(crate) fn fill<T: TreeHash>(
+    tree: &mut T,
+    base: u8,
+    depth: u8,
+    index: u32,
+    into: &mut [[u8; 32]],
+)
+    requires height { base + depth ≤ 25 }
+    requires inside { index < 2 ^ (25 - (base + depth)) }
+    requires room { length into.old + 1 ≡ 2 ^ (depth + 1) }
+    ensures value { into.new ≡ nodes_under (T.leaf_of tree.old) (T.join_of tree.old) base depth index }
+    ensures counted { T.made tree.new ≡ T.made tree.old + 2 ^ (base + depth) }
+    ensures leaves { T.leaf_of tree.new ≡ T.leaf_of tree.old }
+    ensures joins { T.join_of tree.new ≡ T.join_of tree.old }
+{
+    if depth == 0 {
+        into[0] = node_at(tree, base, index);
+        return;
+    }
+    let below = depth - 1;
+    let half = into.len() / 2;
+    let (left, rest) = into.split_at_mut(half);
+    let (right, top) = rest.split_at_mut(half);
+    fill(tree, base, below, 2 * index, left);
+    fill(tree, base, below, 2 * index + 1, right);
+    top[0] = tree.join(base + below, index, &left[half - 1], &right[half - 1]);
+}
+
+/// As `fill` of node 0, where the first node of height `base` is known, so that its leaves aren't made again.
+pub(crate) fn fill_from<T: TreeHash>(
+    tree: &mut T,
+    base: u8,
+    depth: u8,
+    first: &[u8; 32],
+    into: &mut [[u8; 32]],
+)
+    requires height { base + depth ≤ 25 }
+    requires first { first.now ≡ node (T.leaf_of tree.old) (T.join_of tree.old) base 0 }
+    requires room { length into.old + 1 ≡ 2 ^ (depth + 1) }
+    ensures value { into.new ≡ nodes_under (T.leaf_of tree.old) (T.join_of tree.old) base depth 0 }
+    ensures counted { T.made tree.new + 2 ^ base ≡ T.made tree.old + 2 ^ (base + depth) }
+    ensures leaves { T.leaf_of tree.new ≡ T.leaf_of tree.old }
+    ensures joins { T.join_of tree.new ≡ T.join_of tree.old }
+{
+    if depth == 0 {
+        into[0] = *first;
+        return;
+    }
+    let below = depth - 1;
+    let half = into.len() / 2;
+    let (left, rest) = into.split_at_mut(half);
+    let (right, top) = rest.split_at_mut(half);
+    fill_from(tree, base, below, first, left);
+    fill(tree, base, below, 1, right);
+    top[0] = tree.join(base + below, 0, &left[half - 1], &right[half - 1]);
+}
+
+/// Reads the siblings of the lowest node `i` and of the nodes over it from a list that `fill` wrote, the lowest first.
+pub(crate) fn read_path(nodes: &[[u8; 32]], i: u32, into: &mut [[u8; 32]])
+    requires height { length into.old ≤ 25 }
+    requires whole { length nodes.now + 1 ≡ 2 ^ (length into.old + 1) }
+    ensures { (leaf : Leaves) (join : Joins) (base : ℕ) →
+        nodes.now ≡ nodes_under leaf join base (length into.old) (i / 2 ^ length into.old) →
+        into.new ≡ path_from leaf join base (length into.old) i }
+{
+    let depth = into.len();
+    if depth == 0 {
+        return;
+    }
+    let below = depth - 1;
+    let half = nodes.len() / 2;
+    let (left, right) = (&nodes[..half], &nodes[half..2 * half]);
+    let over = i / 2u32.pow(below as u32);
+    if over % 2 == 0 {
+        into[below] = right[half - 1];
+        read_path(left, i, &mut into[..below]);
+    } else {
+        into[below] = left[half - 1];
+        read_path(right, i, &mut into[..below]);
+    }
+}

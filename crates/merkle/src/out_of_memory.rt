@@ -1,0 +1,23 @@
+//! Want of memory.
+
+use std::alloc::AllocError;
+use std::error::Error;
+use std::fmt;
+
+/// Memory was refused.
+#[derive(Clone, Copy, Debug, PartialEq, Eq)]
+pub struct OutOfMemory;
+
+impl fmt::Display for OutOfMemory {
+    fn fmt<W: fmt::Write>(&self, f: &mut fmt::Formatter<W>) -> fmt::Result {
+        write!(f, "out of memory")
+    }
+}
+
+impl Error for OutOfMemory {}
+
+impl From<AllocError> for OutOfMemory {
+    fn from(_error: AllocError) -> OutOfMemory {
+        OutOfMemory
+    }
+}
