@@ -210,3 +210,6 @@ fn write_all<W: Write>(writer: &mut W, bytes: &[u8]) -> Result<(), ServeFault>
     }
     Err(ServeFault::WriteFailed)
 }
+
+#[cfg(test)]
+mod tests;

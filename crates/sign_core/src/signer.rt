@@ -16,7 +16,7 @@ ghost use Rattle.lms.specs.Secret.{root_in};
 mod request;
 mod signing;
 #[cfg(test)]
-mod tests;
+pub(crate) mod tests;
 
 use crate::fault::SignFault;
 use crate::key::AnyPublic;

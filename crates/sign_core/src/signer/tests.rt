@@ -17,7 +17,7 @@ mod opening;
 mod sources;
 mod turning;
 
-const LMS: &str = "lms:H5/W8";
+pub(crate) const LMS: &str = "lms:H5/W8";
 
 const TWO: &str = "hss:H5/W8,H5/W8";
 
@@ -27,10 +27,10 @@ const XMSS: &str = "xmss:10";
 
 type InMemory<'a> = Signer<MemoryStore, TapeSource<'a>>;
 
-type InFile<'a> = Signer<FileStore<MemoryDisk>, TapeSource<'a>>;
+pub(crate) type InFile<'a> = Signer<FileStore<MemoryDisk>, TapeSource<'a>>;
 
 // The bytes from this one on, each one above the one before, and 0 after 255.
-fn counting<const N: usize>(first: u8) -> [u8; N] {
+pub(crate) fn counting<const N: usize>(first: u8) -> [u8; N] {
     let mut bytes = [0; N];
     let mut next = first;
     for byte in bytes.iter_mut() {
@@ -50,7 +50,7 @@ fn in_blocks<const N: usize>() -> [u8; N] {
 }
 
 // A new key in a new file.
-fn in_file<'a>(alloc: Global, text: &str, tape: &'a [u8]) -> Option<InFile<'a>> {
+pub(crate) fn in_file<'a>(alloc: Global, text: &str, tape: &'a [u8]) -> Option<InFile<'a>> {
     let disk = MemoryDisk::of(alloc, &[]).ok()?;
     let store = FileStore::format(disk).ok()?;
     Signer::create(alloc, Spec::parse(text).ok()?, store, TapeSource::new(tape)).ok()
@@ -87,7 +87,7 @@ fn refused_in_memory(
 }
 
 // The file of a store.
-fn file_in(store: FileStore<MemoryDisk>) -> Option<Vec<u8>> {
+pub(crate) fn file_in(store: FileStore<MemoryDisk>) -> Option<Vec<u8>> {
     store.into_disk().stop(Pick::New).ok()
 }
 

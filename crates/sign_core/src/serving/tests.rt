@@ -1,0 +1,198 @@
+//! Exchanges of frames, each against what its frames lead to by calls of a signer of the same key.
+
+use super::*;
+use crate::key::verify_any;
+use crate::signer::tests::{InFile, LMS, counting, file_in, in_file};
+use crate::source::TapeSource;
+use state_file::{FileStore, MemoryDisk, Record};
+use std::io::Read;
+use std::test::*;
+use std::{io, mem};
+
+mod inputs;
+mod memory;
+mod model;
+mod order;
+mod outputs;
+mod random;
+
+use model::{led_to, replies_to};
+
+// A key whose trees are quickly made.
+const CHEAP: &str = "lms:H5/W2";
+
+// A key in a file, and what the source gives after it was opened.
+#[derive(Clone, Copy)]
+struct Start<'a> {
+    file: &'a [u8],
+    tape: &'a [u8],
+}
+
+// Opens the file again.
+fn open<'a>(alloc: Global, start: Start<'a>) -> Option<InFile<'a>> {
+    let store = FileStore::open(MemoryDisk::of(alloc, start.file).ok()?).ok()?;
+    Signer::open(alloc, store, TapeSource::new(start.tape)).ok()
+}
+
+// The file of a new key, after so many of its leaves were retired.
+fn new_file(alloc: Global, text: &str, tape: &[u8], retired: u32) -> Option<Vec<u8>> {
+    let mut signer = in_file(alloc, text, tape)?;
+    signer.retire(retired).ok()?;
+    file_in(signer.into_store())
+}
+
+// What an exchange came to: what was written, what it ended with, and the key's file then.
+#[derive(PartialEq, Drop)]
+struct Exchange {
+    output: Vec<u8>,
+    end: Result<u64, ServeFault>,
+    file: Vec<u8>,
+}
+
+// An input, of which a read gives at most so many bytes. It ends behind them or fails there. Where it interrupts, it
+// does so once before each read.
+#[derive(Drop)]
+struct Input<'a> {
+    rest: &'a [u8],
+    most: usize,
+    fails: bool,
+    interrupts: bool,
+    is_interrupted: bool,
+}
+
+impl Read for Input<'_> {
+    fn read(&mut self, buffer: &mut [u8]) -> io::Result<usize> {
+        self.is_interrupted = self.interrupts && !self.is_interrupted;
+        if self.is_interrupted {
+            return Err(io::Error::from(ErrorKind::Interrupted));
+        }
+        let n = self.most.min(buffer.len()).min(self.rest.len());
+        if n == 0 && self.fails {
+            return Err(io::Error::from(ErrorKind::BrokenPipe));
+        }
+        let (given, rest) = self.rest.split_at(n);
+        buffer[..n].copy_from_slice(given);
+        self.rest = rest;
+        Ok(n)
+    }
+}
+
+// An input that gives as much as is asked for.
+fn input_of(bytes: &[u8], fails: bool) -> Input<'_> {
+    Input {
+        rest: bytes,
+        most: usize::MAX,
+        fails,
+        interrupts: false,
+        is_interrupted: false,
+    }
+}
+
+// What a call of an output does otherwise: it fails, takes nothing, or is interrupted.
+#[derive(Clone, Copy, PartialEq)]
+enum Odd {
+    Fails,
+    TakesNothing,
+    IsInterrupted,
+}
+
+// An output of which a write takes at most so many bytes. The call after so many, a write or a flush, is odd. It counts
+// its writes and flushes.
+#[derive(Drop)]
+struct Output {
+    taken: Vec<u8>,
+    most: usize,
+    before: Option<u32>,
+    odd: Odd,
+    writes: u32,
+    flushes: u32,
+}
+
+// An output that takes all.
+fn taking_all(alloc: Global) -> Output {
+    Output {
+        taken: Vec::new(alloc),
+        most: usize::MAX,
+        before: None,
+        odd: Odd::Fails,
+        writes: 0,
+        flushes: 0,
+    }
+}
+
+impl Output {
+    // Whether this call is the odd one.
+    fn is_odd(&mut self) -> bool {
+        let is_odd = self.before == Some(0);
+        self.before = match self.before {
+            Some(before) => before.checked_sub(1),
+            None => None,
+        };
+        is_odd
+    }
+}
+
+impl Write for Output {
+    fn write(&mut self, bytes: &[u8]) -> io::Result<usize> {
+        self.writes = self.writes.wrapping_add(1);
+        if self.is_odd() {
+            return match self.odd {
+                Odd::Fails => Err(io::Error::from(ErrorKind::StorageFull)),
+                Odd::TakesNothing => Ok(0),
+                Odd::IsInterrupted => Err(io::Error::from(ErrorKind::Interrupted)),
+            };
+        }
+        let n = self.most.min(bytes.len());
+        self.taken.extend_from_slice(&bytes[..n])?;
+        Ok(n)
+    }
+
+    // Only a failure is odd here.
+    fn flush(&mut self) -> io::Result<()> {
+        self.flushes = self.flushes.wrapping_add(1);
+        if self.is_odd() && self.odd == Odd::Fails {
+            return Err(io::Error::from(ErrorKind::StorageFull));
+        }
+        Ok(())
+    }
+}
+
+// What an exchange over such an input and output comes to.
+fn served(
+    alloc: Global,
+    start: Start<'_>,
+    input: &mut Input<'_>,
+    output: &mut Output,
+) -> Option<Exchange> {
+    let mut signer = open(alloc, start)?;
+    let end = serve(alloc, &mut signer, input, output);
+    Some(Exchange {
+        output: mem::replace(&mut output.taken, Vec::new(alloc)),
+        end,
+        file: file_in(signer.into_store())?,
+    })
+}
+
+// A request: its name, how many bytes its message has, and which byte that is each time.
+type Request<'a> = (&'a [u8], usize, u8);
+
+// Adds the frame of a request to an input.
+fn add_frame(input: &mut Vec<u8>, request: Request<'_>) -> Option<()> {
+    let (name, size, byte) = request;
+    input.push(u8::try_from(name.len()).ok()?).ok()?;
+    input.extend_from_slice(name).ok()?;
+    input
+        .extend_from_slice(&u32::try_from(size).ok()?.to_be_bytes())
+        .ok()?;
+    let len = input.len().checked_add(size)?;
+    input.resize(len, byte).ok()
+}
+
+// The frames of requests.
+fn frames_of(alloc: Global, requests: &[Request<'_>]) -> Option<Vec<u8>> {
+    let mut frames = Vec::new(alloc);
+    for request in requests {
+        add_frame(&mut frames, *request)?;
+    }
+    Some(frames)
+}

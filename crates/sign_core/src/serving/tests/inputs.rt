@@ -1,0 +1,331 @@
+//! Inputs of every kind: the rows of the frames' rules, those that are cut, changed or fail, and those in pieces.
+
+use super::*;
+
+// An input for a new key of which so many leaves were retired, what is written, and what the exchange ends with.
+const INPUTS: [(u32, &[u8], &[u8], Result<u64, ServeFault>); 12] = [
+    (0, b"", b"", Ok(0)),
+    (0, b"\0\0\0\0\0", b"\x22\0\0\0\0", Ok(1)),
+    (0, b"\x04f", b"\x23\0\0\0\0", Err(ServeFault::FrameCut)),
+    (
+        0,
+        b"\x04fw-1\0\0\0\x02\x01",
+        b"\x1b\0\0\0\0",
+        Err(ServeFault::MessageRead),
+    ),
+    (
+        32,
+        b"\x04fw-1\0\0\0\x02\x01",
+        b"\x16\0\0\0\0",
+        Err(ServeFault::MessageRead),
+    ),
+    // the rest of a message is skipped after a refusal, and so is the message of a name that is none
+    (
+        32,
+        b"\x04fw-1\0\0\0\x02\x01\x02\x01 \0\0\0\x03abc\x01n\0\0\0\0",
+        b"\x16\0\0\0\0\x22\0\0\0\0\x16\0\0\0\0",
+        Ok(3),
+    ),
+    // a message that is skipped is cut: what was decided is replied before the end
+    (
+        0,
+        b"\x01\x7f\0\0\0\x01",
+        b"\x22\0\0\0\0",
+        Err(ServeFault::MessageRead),
+    ),
+    (
+        0,
+        b"\0\xff\xff\xff\xffabc",
+        b"\x22\0\0\0\0",
+        Err(ServeFault::MessageRead),
+    ),
+    (
+        32,
+        b"\x01n\xff\xff\xff\xff",
+        b"\x16\0\0\0\0",
+        Err(ServeFault::MessageRead),
+    ),
+    // an input that ends in the size of a message, behind a name that is none
+    (
+        0,
+        b"\x01 \0\0\0",
+        b"\x23\0\0\0\0",
+        Err(ServeFault::FrameCut),
+    ),
+    (0, b"\x01", b"\x23\0\0\0\0", Err(ServeFault::FrameCut)),
+    (0, b"\xff", b"\x23\0\0\0\0", Err(ServeFault::FrameCut)),
+];
+
+// Whether an input leads to these bytes and this end, and leaves the file as it was.
+fn is_so(
+    alloc: Global,
+    retired: u32,
+    bytes: &[u8],
+    output: &[u8],
+    end: Result<u64, ServeFault>,
+) -> Option<bool> {
+    let tape = counting::<80>(0);
+    let file = new_file(alloc, LMS, &tape, retired)?;
+    let start = Start {
+        file: &file,
+        tape: &tape[48..],
+    };
+    let mut input = input_of(bytes, false);
+    let came = served(alloc, start, &mut input, &mut taking_all(alloc))?;
+    Some(came.output.as_slice() == output && came.end == end && came.file == file)
+}
+
+#[test]
+fn frames_are_replied_to_by_their_rules(rt: HostRuntime) {
+    for (retired, bytes, output, end) in INPUTS {
+        assert_eq!(rt; is_so(rt.alloc(), retired, bytes, output, end), Some(true));
+    }
+}
+
+// Two requests of one name, with another message each.
+const CHANGED: &[u8] = b"\x04fw-1\0\0\0\x01\x01\x04fw-1\0\0\0\x01\x02";
+
+// The signature that a signer gives a name first.
+fn first_signature(alloc: Global, start: Start<'_>, name: &[u8], text: &[u8]) -> Option<Vec<u8>> {
+    let mut signer = open(alloc, start)?;
+    let mut out = Vec::new(alloc);
+    let mut message = text;
+    signer
+        .sign(&Name::new(name).ok()?, &mut message, &mut out)
+        .ok()?;
+    let mut again = text;
+    verify_any(&signer.public_key(), &mut again, &out).ok()?;
+    Some(out)
+}
+
+// Whether these requests, and the first one again, are replied to by the signature of the first message, by 21 and by
+// the same signature; and how long the file is then.
+fn is_changed_and_repeated(alloc: Global) -> Option<(bool, usize)> {
+    let tape = counting::<80>(0);
+    let file = new_file(alloc, LMS, &tape, 0)?;
+    let start = Start {
+        file: &file,
+        tape: &tape[48..],
+    };
+    let signature = first_signature(alloc, start, b"fw-1", &[1])?;
+    let mut wanted = Vec::new(alloc);
+    let signed: &[u8] = b"\0\0\0\x05\x0c";
+    let changed: &[u8] = b"\x15\0\0\0\0";
+    for part in [signed, &signature, changed, signed, &signature] {
+        wanted.extend_from_slice(part).ok()?;
+    }
+    let frames = frames_of(alloc, &[(b"fw-1", 1, 1), (b"fw-1", 1, 2), (b"fw-1", 1, 1)])?;
+    if !frames.starts_with(CHANGED) {
+        return None;
+    }
+    let mut input = input_of(&frames, false);
+    let came = served(alloc, start, &mut input, &mut taking_all(alloc))?;
+    Some((came.output == wanted && came.end == Ok(3), came.file.len()))
+}
+
+#[test]
+fn a_changed_message_is_refused_and_the_first_repeated(rt: HostRuntime) {
+    assert_eq!(rt; is_changed_and_repeated(rt.alloc()), Some((true, 513)));
+}
+
+// How an input is given: at most so many bytes at a time, with a failure at its end, and with interruptions.
+#[derive(Clone, Copy)]
+struct Way {
+    most: usize,
+    fails: bool,
+    interrupts: bool,
+}
+
+// What an exchange over an input ends with, as the number of replies or of the fault; None where it doesn't come to
+// what its frames lead to.
+fn end_of(alloc: Global, start: Start<'_>, bytes: &[u8], way: Way) -> Option<u64> {
+    let wanted = led_to(alloc, start, bytes, way.fails)?;
+    let mut input = input_of(bytes, way.fails);
+    input.most = way.most;
+    input.interrupts = way.interrupts;
+    let came = served(alloc, start, &mut input, &mut taking_all(alloc))?;
+    if came != wanted {
+        return None;
+    }
+    match came.end {
+        Ok(count) => Some(count),
+        Err(fault) => Some(u64::from(fault.number())),
+    }
+}
+
+// What each beginning of the two requests ends with, from none of their bytes to all.
+const ENDS: [u64; 21] = [
+    0, 35, 35, 35, 35, 35, 35, 35, 35, 27, 1, 35, 35, 35, 35, 35, 35, 35, 35, 27, 2,
+];
+
+// How many beginnings end so, whole and by single bytes; and with 27 where reads fail behind them.
+fn right_beginnings(alloc: Global) -> Option<usize> {
+    let tape = counting::<80>(0);
+    let file = new_file(alloc, CHEAP, &tape, 0)?;
+    let start = Start {
+        file: &file,
+        tape: &tape[48..],
+    };
+    for (len, end) in ENDS.iter().enumerate() {
+        let bytes = CHANGED.get(..len)?;
+        for (most, fails) in [
+            (usize::MAX, false),
+            (1, false),
+            (usize::MAX, true),
+            (1, true),
+        ] {
+            let way = Way {
+                most,
+                fails,
+                interrupts: most == 1,
+            };
+            let wanted = if fails { 27 } else { *end };
+            if end_of(alloc, start, bytes, way)? != wanted {
+                return Some(len);
+            }
+        }
+    }
+    Some(ENDS.len())
+}
+
+#[test]
+fn each_beginning_ends_by_its_frames(rt: HostRuntime) {
+    assert_eq!(rt; right_beginnings(rt.alloc()), Some(21));
+}
+
+// What a byte is changed by: each bit alone, and to the edges of what names have.
+fn changed(byte: u8, number: u32) -> u8 {
+    match [0x00, 0x05, 0x20, 0x21, 0x7e, 0x7f, 0x80, 0xff].get(number as usize) {
+        Some(value) => *value,
+        None => byte ^ (1 << (number % 8)),
+    }
+}
+
+// How many changes of single bytes of the two requests come to what the frames lead to then.
+fn right_changes(alloc: Global) -> Option<usize> {
+    let tape = counting::<80>(0);
+    let file = new_file(alloc, CHEAP, &tape, 0)?;
+    let start = Start {
+        file: &file,
+        tape: &tape[48..],
+    };
+    let way = Way {
+        most: usize::MAX,
+        fails: false,
+        interrupts: false,
+    };
+    let mut count = 0usize;
+    for place in 0..CHANGED.len() {
+        for number in 0..16u32 {
+            let mut bytes = Vec::from_slice(alloc, CHANGED).ok()?;
+            let byte = bytes.get_mut(place)?;
+            *byte = changed(*byte, number);
+            end_of(alloc, start, &bytes, way)?;
+            count = count.checked_add(1)?;
+        }
+    }
+    Some(count)
+}
+
+#[test]
+fn each_changed_byte_leads_to_other_frames(rt: HostRuntime) {
+    assert_eq!(rt; right_changes(rt.alloc()), Some(320));
+}
+
+// A name that takes the last leaf; names that find none, and one that is none, whose messages are skipped; the first
+// name with another message of more than two pieces; and again.
+const REQUESTS: [Request; 6] = [
+    (b"fw-1", 200, 1),
+    (b"fw-2", 40_000, 1),
+    (b"\x7f", 16_385, 1),
+    (b"fw-1", 40_000, 1),
+    (b"fw-2", 0, 1),
+    (b"fw-1", 200, 1),
+];
+
+// How many ways of giving these requests lead to what their frames lead to: so many at a time, with interruptions or
+// without, and with a failure at their end or without.
+fn right_ways(alloc: Global) -> Option<usize> {
+    let tape = counting::<80>(0);
+    let file = new_file(alloc, CHEAP, &tape, 31)?;
+    let start = Start {
+        file: &file,
+        tape: &tape[48..],
+    };
+    let frames = frames_of(alloc, &REQUESTS)?;
+    let mut count = 0usize;
+    for most in [1, 63, 64, 65, usize::MAX] {
+        for (fails, interrupts) in [(false, false), (false, true), (true, true)] {
+            let way = Way {
+                most,
+                fails,
+                interrupts,
+            };
+            let wanted = if fails { 27 } else { 6 };
+            if end_of(alloc, start, &frames, way)? != wanted {
+                return None;
+            }
+            count = count.checked_add(1)?;
+        }
+    }
+    Some(count)
+}
+
+#[test]
+fn frames_in_pieces_lead_to_the_same(rt: HostRuntime) {
+    assert_eq!(rt; right_ways(rt.alloc()), Some(15));
+}
+
+// The file of a key with a record of this slot changed: its root is another, though its tag is right.
+fn with_other_root(alloc: Global, start: Start<'_>, slot: u32) -> Option<Vec<u8>> {
+    let mut old = open(alloc, start)?.into_store();
+    let mut store = FileStore::format(MemoryDisk::of(alloc, &[]).ok()?).ok()?;
+    for place in 0..old.count() {
+        let mut entry = old.load(place).ok()??;
+        match &mut entry {
+            Record::Key(key) if place == slot => key.root = [0; 32],
+            Record::Extend(extend) if place == slot => extend.root = [0; 32],
+            _ => {}
+        }
+        match (place, &entry, store.load(0)) {
+            (0, Record::Key(_), Ok(None)) | (_, _, Ok(Some(_))) => store.append(&entry).ok()?,
+            _ => return None,
+        }
+    }
+    file_in(store)
+}
+
+// What requests of new names come to under a key of which such a root is another, and whether the file stays.
+fn of_other_root(alloc: Global, text: &str, slot: u32) -> Option<(Vec<u8>, bool)> {
+    let tape = counting::<240>(0);
+    let mut signer = in_file(alloc, text, &tape)?;
+    let name = Name::new(b"fw-1").ok()?;
+    let mut out = Vec::new(alloc);
+    signer.sign(&name, &mut [1].as_slice(), &mut out).ok()?;
+    let file = file_in(signer.into_store())?;
+    let start = Start {
+        file: &file,
+        tape: &[],
+    };
+    let changed = with_other_root(alloc, start, slot)?;
+    let start = Start {
+        file: &changed,
+        tape: &[],
+    };
+    let frames = frames_of(alloc, &[(b"fw-2", 70, 1), (b"fw-3", 0, 1)])?;
+    let mut input = input_of(&frames, false);
+    let came = served(alloc, start, &mut input, &mut taking_all(alloc))?;
+    Some((came.output, came.end == Ok(2) && came.file == changed))
+}
+
+// The slot of the record is told in four bytes.
+#[test]
+fn a_changed_root_is_told_with_its_slot(rt: HostRuntime) {
+    for (text, slot, last) in [(CHEAP, 0, 0), ("hss:H5/W2,H5/W2", 1, 1)] {
+        let wanted = [28, 0, 0, 0, 4, 0, 0, 0, last, 28, 0, 0, 0, 4, 0, 0, 0, last];
+        let came = of_other_root(rt.alloc(), text, slot);
+        let is_told =
+            matches!(&came, Some((output, true)) if output.as_slice() == wanted.as_slice());
+        assert!(rt; is_told);
+    }
+}

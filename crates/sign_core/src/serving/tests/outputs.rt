@@ -1,0 +1,121 @@
+//! Outputs that fail, take little at a time, or nothing.
+
+use super::*;
+
+// How an exchange came out, of which a call of its output was odd: as it must without that, or as it must where its
+// output fails; None where it is neither.
+#[derive(Clone, Copy, PartialEq)]
+enum Came {
+    Whole,
+    Cut,
+}
+
+// How an exchange comes out that has this output. Where it is cut, all requests that were read were answered: the file
+// is as they leave it, and what was written begins what is replied to them.
+fn came_out(
+    alloc: Global,
+    start: Start<'_>,
+    bytes: &[u8],
+    output: &mut Output,
+    whole: &Exchange,
+) -> Option<Came> {
+    let mut input = input_of(bytes, false);
+    let came = served(alloc, start, &mut input, output)?;
+    if came == *whole {
+        return Some(Came::Whole);
+    }
+    let given = bytes.len().checked_sub(input.rest.len())?;
+    let read = led_to(alloc, start, bytes.get(..given)?, false)?;
+    let is_begun = read.output.starts_with(&came.output);
+    if came.end != Err(ServeFault::WriteFailed) || !is_begun || came.file != read.file {
+        return None;
+    }
+    Some(Came::Cut)
+}
+
+// The exchange of an input whose output takes at most so many bytes at a time, and how many writes and flushes it has;
+// and how many of them cut the exchange where each in turn is odd in this way.
+fn cut_by(
+    alloc: Global,
+    start: Start<'_>,
+    bytes: &[u8],
+    most: usize,
+    odd: Odd,
+) -> Option<(u32, u32, u32)> {
+    let whole = led_to(alloc, start, bytes, false)?;
+    let mut output = taking_all(alloc);
+    output.most = most;
+    if came_out(alloc, start, bytes, &mut output, &whole)? != Came::Whole {
+        return None;
+    }
+    let (writes, flushes) = (output.writes, output.flushes);
+    let mut cut = 0u32;
+    for before in 0..writes.checked_add(flushes)? {
+        let mut output = taking_all(alloc);
+        output.most = most;
+        output.odd = odd;
+        output.before = Some(before);
+        if came_out(alloc, start, bytes, &mut output, &whole)? == Came::Cut {
+            cut = cut.checked_add(1)?;
+        }
+    }
+    Some((writes, flushes, cut))
+}
+
+// A name that is signed, the same with another message, and a name that is none; behind them the input is cut.
+const REPLIED: &[u8] = b"\x04fw-1\0\0\0\x01\x01\x04fw-1\0\0\0\x01\x02\0\0\0\0\x01\x03\x04fw";
+
+// A new name whose message is cut, behind a request that is refused.
+const REFUSED: &[u8] = b"\x01 \0\0\0\x01\x01\x04fw-1\0\0\0\x02\x01";
+
+// Whether each odd call of the output of an exchange cuts it where it should: each that fails, each write that takes
+// nothing, and none that is interrupted.
+fn cuts_as_it_should(alloc: Global, bytes: &[u8], most: usize, replies: u32) -> Option<bool> {
+    let tape = counting::<112>(0);
+    let file = new_file(alloc, CHEAP, &tape, 0)?;
+    let start = Start {
+        file: &file,
+        tape: &tape[48..],
+    };
+    let (writes, flushes, failed) = cut_by(alloc, start, bytes, most, Odd::Fails)?;
+    let (_, _, without) = cut_by(alloc, start, bytes, most, Odd::TakesNothing)?;
+    let (_, _, interrupted) = cut_by(alloc, start, bytes, most, Odd::IsInterrupted)?;
+    let all = writes.checked_add(flushes)?;
+    Some(failed == all && without == writes && interrupted == 0 && flushes == replies)
+}
+
+#[test]
+fn a_reply_that_can_not_be_written_ends_the_exchange(rt: HostRuntime) {
+    for (bytes, most, replies) in [
+        (REPLIED, usize::MAX, 4),
+        (REPLIED, 1000, 4),
+        (REFUSED, 1, 2),
+        (REFUSED, 3, 2),
+        (b"", 1, 0),
+    ] {
+        assert_eq!(rt;
+            cuts_as_it_should(rt.alloc(), bytes, most, replies),
+            Some(true)
+        );
+    }
+}
+
+// Whether an output that takes one byte at a time takes the same bytes.
+fn is_the_same_by_bytes(alloc: Global) -> Option<bool> {
+    let tape = counting::<112>(0);
+    let file = new_file(alloc, LMS, &tape, 0)?;
+    let start = Start {
+        file: &file,
+        tape: &tape[48..],
+    };
+    let whole = led_to(alloc, start, REPLIED, false)?;
+    let mut output = taking_all(alloc);
+    output.most = 1;
+    let came = came_out(alloc, start, REPLIED, &mut output, &whole)?;
+    Some(came == Came::Whole && output.writes == 1312 && output.flushes == 4)
+}
+
+#[test]
+fn a_reply_is_written_by_single_bytes(rt: HostRuntime) {
+    assert_eq!(rt; is_the_same_by_bytes(rt.alloc()), Some(true));
+}
