@@ -1,5 +1,5 @@
 -- What `clap` accepts: each line without a fault is one of a command.
-use Rattle.std.proofs.Common.{◌≡◌, ◌≢◌, ◌||◌, ◌∙◌, ◌⊎◌, ◌+◌, ℕ, zero, suc, Bool, List, [], ◌∷◌, ◌++◌, Option, Result, Ok, if◌then◌else◌, Some, None, true, false, refl, codes, length, ap, subst, sym, inl, inr, find, fold, lit<, option_map, arith}
+use Rattle.std.proofs.Common.{◌≡◌, ◌≢◌, ◌||◌, ◌∙◌, ◌⊎◌, ◌+◌, ℕ, zero, suc, Bool, List, [], ◌∷◌, ◌++◌, Option, Result, Ok, Err, if◌then◌else◌, Some, None, true, false, refl, codes, length, ap, subst, sym, inl, inr, find, fold, lit<, option_map, arith}
 use Rattle.std.specs.Prelude.{⊤, slice_get, get_or, drop, encode_utf8}
 use Rattle.std.specs.Option.{option_map_or}
 use Rattle.std.specs.Str.{IsUtf8, bytes_eq, chars, encode_utf8_all}
@@ -11,14 +11,18 @@ use Rattle.clap.specs.Kinds.{Kinds, or_else}
 use Rattle.clap.specs.Lexer.{long_of, name_and_value, short_of}
 use Rattle.clap.specs.Simple.{filled, help_rule, names_of, version_rule, with_index}
 use Rattle.clap.specs.Walk.{Held as Collected, nothing_held as nothing_collected, Row, Step, Walk, answers_to, arg_by_long, arg_by_short, has_long, has_short, idle, rows_after, subcommand_met, subcommand_or_other, takes_values, walked}
-use Rattle.clap.specs.Words.{Rule, Text, fault_of, subcommand_of}
+use Rattle.clap.specs.Words.{Rule, Text, all_of, fault_of, first_of, subcommand_of}
 use Rattle.clap.proofs.OnLiterals.{clap_on_literals}
 use Rattle.clap.specs.Simple.{Shape}
-use Rattle.command.specs.Line.{AreTexts, Finds, GivesValues, IsCommandLine, IsLineOf, IsPlainWord, Task, hbsign_app, make, make_task, retire, retire_number, sign, sign_task, task_found, task_named, verify}
+use Rattle.command.specs.Line.{AreTexts, Finds, GivesValues, IsCommandLine, IsLineOf, IsPlainWord, Task, audit, audit_anchored, audit_given, audit_given_pairs, audit_given_task, audit_task, hbsign_app, make, make_task, retire, retire_number, sign, sign_task, task_found, task_named, verify}
+use Rattle.key_audit.specs.declared.report.Anchor.{Anchor}
+use Rattle.command.specs.Audit.{anchor_in}
+use Rattle.command.specs.AuditGiven.{Pair, pairs_in}
+use Rattle.command.specs.declared.line.Lack.{Lack}
 use Rattle.command.specs.LineFault.{lacks, line_faults}
 use Rattle.command.specs.Number.{number_in}
 use Rattle.command.specs.Retire.{most_leaves}
-use Rattle.command.proofs.Walking.{Enters, IsTaken, TakesValue, at, end_fault, enters_make, enters_retire, enters_sign, enters_verify, entered_faults, entered_rows, finds_retire, finds_task, finds_verify, is_no_hyphen, make_shape, retire_1, retire_2, retire_shape, sign_shape, takes_either, takes_message, takes_public, takes_signature, takes_state, takes_upto, turn_passes, verify_1, verify_2, verify_3, verify_shape, whole, word_is_value, word_walks}
+use Rattle.command.proofs.Walking.{Enters, IsTaken, TakesValue, at, audit_given_shape, audit_shape, end_fault, enters_audit, enters_audit_given, enters_make, enters_retire, enters_sign, enters_verify, entered_faults, entered_rows, finds_retire, finds_task, finds_verify, is_no_hyphen, make_shape, retire_1, retire_2, retire_shape, sign_shape, takes_either, takes_message, takes_public, takes_signature, takes_state, takes_upto, turn_passes, verify_1, verify_2, verify_3, verify_shape, whole, word_is_value, word_walks}
 
 -- where nothing is wrong with two parts, nothing is wrong with either
 pub none_of : (a b : Kinds) → or_else a b ≡ [] → (a ≡ []) × (b ≡ [])
@@ -362,19 +366,21 @@ first_fault named word = or_else (other_fault whole.top named word nothing_colle
     (subcommand_or_other whole.top.rules named idle 1 word nothing_collected).1)
 
 -- a word that is no subcommand's name names none
-find_none : {A : Type 0} (test : A → Bool) (v w x y z : A) → test v ≡ false → test w ≡ false → test x ≡ false → test y ≡ false
-    → test z ≡ false → find test (v ∷ w ∷ x ∷ y ∷ z ∷ []) ≡ None
-find_none test v w x y z first second third fourth fifth = rw (first, second, third, fourth, fifth) refl
+find_none : {A : Type 0} (test : A → Bool) (t u v w x y z : A) → test t ≡ false → test u ≡ false → test v ≡ false → test w ≡ false
+    → test x ≡ false → test y ≡ false → test z ≡ false → find test (t ∷ u ∷ v ∷ w ∷ x ∷ y ∷ z ∷ []) ≡ None
+find_none test t u v w x y z first second third fourth fifth sixth seventh = rw (first, second, third, fourth, fifth, sixth, seventh) refl
 
 or_none : (b : Bool) → b ≡ false → (b || false) ≡ false
 or_none b isnt = rw isnt refl
 
 names_none : (word : Text) → bytes_eq (codes "make") word ≡ false → bytes_eq (codes "sign") word ≡ false
-    → bytes_eq (codes "verify") word ≡ false → bytes_eq (codes "retire") word ≡ false → bytes_eq (codes "help") word ≡ false
+    → bytes_eq (codes "verify") word ≡ false → bytes_eq (codes "retire") word ≡ false → bytes_eq (codes "audit") word ≡ false
+    → bytes_eq (codes "audit-given") word ≡ false → bytes_eq (codes "help") word ≡ false
     → subcommand_met (names_of whole) idle word ≡ None
-names_none word no_make no_sign no_verify no_retire no_help = ap (option_map (λ s. s.0))
-    (find_none (answers_to word) (codes "make", []) (codes "sign", []) (codes "verify", []) (codes "retire", []) (codes "help", [])
-    (or_none _ no_make) (or_none _ no_sign) (or_none _ no_verify) (or_none _ no_retire) (or_none _ no_help))
+names_none word no_make no_sign no_verify no_retire no_audit no_audit_given no_help = ap (option_map (λ s. s.0))
+    (find_none (answers_to word) (codes "make", []) (codes "sign", []) (codes "verify", []) (codes "retire", []) (codes "audit", [])
+    (codes "audit-given", []) (codes "help", []) (or_none _ no_make) (or_none _ no_sign) (or_none _ no_verify) (or_none _ no_retire)
+    (or_none _ no_audit) (or_none _ no_audit_given) (or_none _ no_help))
 
 -- such a word isn't accepted first,
 plain_fails : (word : Text) → IsPlainWord word → first_fault None word ≢ []
@@ -418,16 +424,18 @@ data IsCommandName (word : Text) : Type 0 where
   is_sign : word ≡ codes "sign" → IsCommandName word
   is_verify : word ≡ codes "verify" → IsCommandName word
   is_retire : word ≡ codes "retire" → IsCommandName word
+  is_audit : word ≡ codes "audit" → IsCommandName word
+  is_audit_given : word ≡ codes "audit-given" → IsCommandName word
 
 -- for any other name
 other_fails : (word : Text) (words : List Text) → IsUtf8 word → fault_of hbsign_app (word ∷ words) ≡ []
     → bytes_eq (codes "make") word ≡ false → bytes_eq (codes "sign") word ≡ false → bytes_eq (codes "verify") word ≡ false
-    → bytes_eq (codes "retire") word ≡ false → ⊥
-other_fails word words text none no_make no_sign no_verify no_retire = elim (cases_Bool (bytes_eq (codes "help") word)) [
+    → bytes_eq (codes "retire") word ≡ false → bytes_eq (codes "audit") word ≡ false → bytes_eq (codes "audit-given") word ≡ false → ⊥
+other_fails word words text none no_make no_sign no_verify no_retire no_audit no_audit_given = elim (cases_Bool (bytes_eq (codes "help") word)) [
   | inl same ↦ help_fails (subst (λ w. first_fault (subcommand_met (names_of whole) idle w) w ≡ [])
       (sym ((bytes_eq-Decides (codes "help") word).0 same)) (first_passes word words none))
   | inr no_help ↦
-      let passes = subst (λ named. first_fault named word ≡ []) (names_none word no_make no_sign no_verify no_retire no_help) (first_passes word words none) in
+      let passes = subst (λ named. first_fault named word ≡ []) (names_none word no_make no_sign no_verify no_retire no_audit no_audit_given no_help) (first_passes word words none) in
       elim (word_is word) [
         | inl plain ↦ plain_fails word plain passes
         | inr (inl hyphens) ↦ hyphens_fail words (subst (λ w. fault_of hbsign_app (w ∷ words) ≡ []) hyphens none)
@@ -444,7 +452,13 @@ is_named word words text none = elim (cases_Bool (bytes_eq (codes "make") word))
       | inl same ↦ is_verify (sym ((bytes_eq-Decides (codes "verify") word).0 same))
       | inr no_verify ↦ elim (cases_Bool (bytes_eq (codes "retire") word)) [
         | inl same ↦ is_retire (sym ((bytes_eq-Decides (codes "retire") word).0 same))
-        | inr no_retire ↦ absurd (other_fails word words text none no_make no_sign no_verify no_retire)
+        | inr no_retire ↦ elim (cases_Bool (bytes_eq (codes "audit") word)) [
+          | inl same ↦ is_audit (sym ((bytes_eq-Decides (codes "audit") word).0 same))
+          | inr no_audit ↦ elim (cases_Bool (bytes_eq (codes "audit-given") word)) [
+            | inl same ↦ is_audit_given (sym ((bytes_eq-Decides (codes "audit-given") word).0 same))
+            | inr no_audit_given ↦ absurd (other_fails word words text none no_make no_sign no_verify no_retire no_audit no_audit_given)
+          ]
+        ]
       ]
     ]
   ]
@@ -481,6 +495,31 @@ of_sign words (Some s) (Some n) None out random task same found = absurd cc
 of_sign words (Some s) (Some n) (Some m) None random task same found = absurd cc
 of_sign words (Some s) (Some n) (Some m) (Some o) None task same found = absurd cc
 
+-- .. of a line `audit`,
+of_anchor : (words : List Text) (state : Text) (anchor : Result (Option Anchor) Lack) (task : Task) → audit_anchored state anchor ≡ Ok task
+    → Finds words task → IsLineOf words task
+of_anchor words state (Ok anchor) task same found =
+    let is = ok_same (audit state anchor) task same in subst (IsLineOf words) is (subst (Finds words) (sym is) found)
+of_anchor words state (Err lack) task same found = absurd cc
+
+of_audit : (words : List Text) (state count tag : Option Text) (task : Task) → audit_task state count tag ≡ Ok task
+    → Finds words task → IsLineOf words task
+of_audit words (Some state) count tag task same found = of_anchor words state (anchor_in count tag) task same found
+of_audit words None count tag task same found = absurd cc
+
+-- .. and of a line `audit-given`
+of_pairs : (words : List Text) (public : Text) (pairs : Option (List Pair)) (task : Task) → audit_given_pairs public pairs ≡ Ok task
+    → Finds words task → IsLineOf words task
+of_pairs words public (Some pairs) task same found =
+    let is = ok_same (audit_given public pairs) task same in subst (IsLineOf words) is (subst (Finds words) (sym is) found)
+of_pairs words public None task same found = absurd cc
+
+of_audit_given : (words : List Text) (public : Option Text) (files : Option (List Text)) (task : Task) → audit_given_task public files ≡ Ok task
+    → Finds words task → IsLineOf words task
+of_audit_given words (Some public) (Some paths) task same found = of_pairs words public (pairs_in paths) task same found
+of_audit_given words None files task same found = absurd cc
+of_audit_given words (Some public) None task same found = absurd cc
+
 -- the task that is found in a line of a command is the command's
 found_in : (name : Text) (s : Shape) (word : Text) (names : List Text) (task : Task) → Enters name s → word ≡ name
     → task_found (subcommand_of hbsign_app (word ∷ names)) ≡ Ok task → task_named name (rows_after s.rules [] names) ≡ Ok task
@@ -494,6 +533,11 @@ is_line_of [] task none found texts = absurd (nothing_fails none)
 is_line_of (word ∷ names) task none found texts = elim (is_named word names texts.0 none) [
   | is_make is ↦ of_make (word ∷ names) _ _ _ _ task (found_in (codes "make") make_shape word names task enters_make is found) (none, found)
   | is_sign is ↦ of_sign (word ∷ names) _ _ _ _ _ task (found_in (codes "sign") sign_shape word names task enters_sign is found) (none, found)
+  | is_audit is ↦ of_audit (word ∷ names) _ _ _ task (found_in (codes "audit") audit_shape word names task enters_audit is found) (none, found)
+  | is_audit_given is ↦
+      let rows = rows_after audit_given_shape.rules [] names in
+      of_audit_given (word ∷ names) (first_of (codes "PUBLIC") rows) (all_of (codes "FILES") rows) task
+      (found_in (codes "audit-given") audit_given_shape word names task enters_audit_given is found) (none, found)
   | is_verify is ↦
       let (values, long, given) = all_given verify_shape 3 1 nothing_collected names verify_asks verify_waits texts.1
       (command_passes (codes "verify") verify_shape names enters_verify (subst (λ w. fault_of hbsign_app (w ∷ names) ≡ []) is none)) in

@@ -43,7 +43,7 @@ failed_read public message signature k (Ok a) is = absurd is
 failed_read {A = A} public message signature k (Err refusal) is =
     failed_answer A public message signature refusal (subst IsFailure (sym is) (failure_of k))
 
-same_content : (content left : Option (List ℕ)) (bytes : List ℕ) → Shows content left → IsContent left bytes → IsContent content bytes
+pub same_content : (content left : Option (List ℕ)) (bytes : List ℕ) → Shows content left → IsContent left bytes → IsContent content bytes
 same_content None left bytes shows fits = tt
 same_content (Some content) left bytes shows fits = subst (λ l. IsContent l bytes) shows fits
 

@@ -7,7 +7,6 @@ use Rattle.state_file.specs.declared.store.file_store.FileStore.{FileStore}
 use Rattle.command.specs.declared.line_fault.LineFault.{LineFault}
 use Rattle.command.specs.declared.line_fault.LineFault.TheVariants.{OutOfMemory}
 use Rattle.clap.specs.Words.{IsAmong}
-use Rattle.clap.specs.declared.error.kind.ErrorKind.{ErrorKind}
 use Rattle.command.specs.LineFault.{CountsFault, HasLineFault, HasText, line_faults}
 use Rattle.command.specs.Files.{FilesSeen}
 use Rattle.command.specs.Program.{Explains, Runs, ReportsNoMemory}

@@ -10,12 +10,16 @@ use Rattle.clap.specs.declared.error.kind.ErrorKind.TheVariants.{OutOfMemory}
 use Rattle.clap.specs.declared.parser.matches.ArgMatches.{ArgMatches}
 use Rattle.clap.specs.declared.parser.matches.ArgMatches.TheViews.{out-ArgMatches, out-SubCommand}
 use Rattle.clap.specs.declared.parser.matches.SubCommand.{SubCommand}
-use Rattle.command.specs.Line.{make, make_task, retire, retire_task, sign, sign_task, verify, verify_task}
+use Rattle.command.specs.Line.{audit, audit_given, audit_given_task, audit_task, make, make_task, retire, retire_task, sign, sign_task, verify, verify_task}
+use Rattle.command.specs.Audit.{IsAudit}
+use Rattle.command.specs.AuditGiven.{IsAuditGiven, pairs_of}
+use Rattle.command.specs.declared.audit.Audit.{Audit}
+use Rattle.command.specs.declared.audit_given.AuditGiven.{AuditGiven}
 use Rattle.command.specs.Make.{IsMake}
 use Rattle.command.specs.Retire.{IsRetire}
 use Rattle.command.specs.Sign.{IsSign}
 use Rattle.command.specs.declared.line.Lack.{Lack}
-use Rattle.command.specs.declared.line.Lack.TheVariants.{Command, Number}
+use Rattle.command.specs.declared.line.Lack.TheVariants.{Anchor as NoAnchor, Command, Count, Number, Pairs, Tag}
 use Rattle.command.specs.declared.make.Make.{Make}
 use Rattle.command.specs.declared.retire.Retire.{Retire}
 use Rattle.command.specs.declared.sign.Sign.{Sign}
@@ -110,6 +114,43 @@ no_retire_task None upto Command lacks = refl
 no_retire_task (Some path) None Command lacks = refl
 no_retire_task (Some path) (Some text) Command (inl none) = absurd cc
 no_retire_task (Some path) (Some text) Command (inr none) = absurd cc
+
+no_retire_task state upto Count never = absurd never
+no_retire_task state upto Tag never = absurd never
+no_retire_task state upto NoAnchor never = absurd never
+no_retire_task state upto Pairs never = absurd never
+
+-- the task of `audit`, where its words say what they have to
+pub is_audit_task : (state count tag : Option Text) (words : Audit) → IsAudit state count tag (Ok words)
+    → Ok (audit words.state.now words.anchor) ≡ audit_task state count tag
+is_audit_task state count tag words (state_is, anchor_is) = rw (state_is, anchor_is) refl
+
+-- .. and where not
+pub no_audit_task : (state count tag : Option Text) (lack : Lack) → IsAudit state count tag (Err lack) → Err lack ≡ audit_task state count tag
+no_audit_task state count tag lack (inl (state_is, lack_is)) = rw (state_is, lack_is) refl
+no_audit_task state count tag lack (inr (path, state_is, anchor_is)) = rw (state_is, anchor_is) refl
+
+pub same_audit : {s t n m g h : Option Text} (words : Result Audit Lack) → s ≡ t → n ≡ m → g ≡ h → IsAudit s n g words → IsAudit t m h words
+same_audit {s = s} {t = t} {n = n} {m = m} {g = g} {h = h} words state count tag is =
+    subst (λ a. IsAudit a m h words) state (subst (λ a. IsAudit s a h words) count (subst (λ a. IsAudit s n a words) tag is))
+
+-- the task of `audit-given`, where its words say what they have to
+pub is_audit_given_task : (public : Option Text) (files : Option (List Text)) (words : AuditGiven) → IsAuditGiven public files (Ok words)
+    → Ok (audit_given words.public.now (pairs_of words)) ≡ audit_given_task public files
+is_audit_given_task public files words (public_is, (paths, files_are, pairs_are)) = rw (public_is, files_are, pairs_are) refl
+
+-- .. and where not
+pub no_audit_given_task : (public : Option Text) (files : Option (List Text)) (lack : Lack) → IsAuditGiven public files (Err lack)
+    → Err lack ≡ audit_given_task public files
+no_audit_given_task public files lack (inl (inl none, lack_is)) = rw (none, lack_is) refl
+no_audit_given_task None files lack (inl (inr none, lack_is)) = rw lack_is refl
+no_audit_given_task (Some path) files lack (inl (inr none, lack_is)) = rw (none, lack_is) refl
+no_audit_given_task public files lack (inr (path, paths, public_is, files_are, odd, lack_is)) = rw (public_is, files_are, odd, lack_is) refl
+
+pub same_audit_given : {p q : Option Text} {f g : Option (List Text)} (words : Result AuditGiven Lack) → p ≡ q → f ≡ g → IsAuditGiven p f words
+    → IsAuditGiven q g words
+same_audit_given {p = p} {q = q} {f = f} {g = g} words public files is =
+    subst (λ a. IsAuditGiven a g words) public (subst (λ a. IsAuditGiven p a words) files is)
 
 -- an error that is handed on keeps what holds of it
 pub handed_err : {T : Type 0} (r : Result T Error) (e : Error) (Q : Error → Type 0) → IsErrAnd r (λ x. x ≡ e) → Q e → IfErr r Q

@@ -3,11 +3,15 @@ pub mod Contents
 pub mod Deciding
 pub mod Explaining
 pub mod HexText
+pub mod FileReading
 pub mod Finding
 pub mod Judging
 pub mod KeyLines
+pub mod LevelText
 pub mod Reading
 pub mod Offsets
+pub mod Pairs
+pub mod PairsReading
 pub mod LowercaseLines
 pub mod Taking
 pub mod Visiting

@@ -12,7 +12,7 @@ use Rattle.command.specs.Trace.{Happening, ReadsOnce, nothing_known}
 use Rattle.command.specs.Verify.{AnswerLeaves}
 use Rattle.command.specs.declared.refusal.Refusal.{Refusal}
 use Rattle.command.specs.declared.refusal.Refusal.TheVariants.{Key, Signature, OutOfMemory, FileFailed}
-use Rattle.command.specs.declared.refusal.Refusal.TheVariants.{Signer, Opening, Preparing, Locked, BadName, BadSpec}
+use Rattle.command.specs.declared.refusal.Refusal.TheVariants.{Signer, Opening, Preparing, Audit, Given, Locked, BadName, BadSpec}
 use Rattle.command.specs.declared.trace.Role.{Role}
 
 -- a key that can't be read leaves the message
@@ -74,6 +74,8 @@ answer-carried step remaining other left public text old new before after (Err F
 answer-carried step remaining other left public text old new before after (Err (Signer fault)) to never = absurd never
 answer-carried step remaining other left public text old new before after (Err (Opening fault)) to never = absurd never
 answer-carried step remaining other left public text old new before after (Err (Preparing fault)) to never = absurd never
+answer-carried step remaining other left public text old new before after (Err (Audit fault)) to never = absurd never
+answer-carried step remaining other left public text old new before after (Err (Given fault)) to never = absurd never
 answer-carried step remaining other left public text old new before after (Err Locked) to never = absurd never
 answer-carried step remaining other left public text old new before after (Err BadName) to never = absurd never
 answer-carried step remaining other left public text old new before after (Err BadSpec) to never = absurd never
@@ -170,6 +172,8 @@ answer-ends step remaining public text old new (Err FileFailed) never = absurd n
 answer-ends step remaining public text old new (Err (Signer fault)) never = absurd never
 answer-ends step remaining public text old new (Err (Opening fault)) never = absurd never
 answer-ends step remaining public text old new (Err (Preparing fault)) never = absurd never
+answer-ends step remaining public text old new (Err (Audit fault)) never = absurd never
+answer-ends step remaining public text old new (Err (Given fault)) never = absurd never
 answer-ends step remaining public text old new (Err Locked) never = absurd never
 answer-ends step remaining public text old new (Err BadName) never = absurd never
 answer-ends step remaining public text old new (Err BadSpec) never = absurd never

@@ -1,5 +1,6 @@
 -- Transitions of a file, one after the other.
-use Rattle.std.proofs.Common.{◌≡◌, ◌∙◌, ◌<◌, ℕ, ◌≤◌, ◌^◌, List, [], ◌∷◌, ◌++◌, length, Result, Ok, Err, IsErrAnd, inl, inr, refl, sym, ap, subst, arith, append_assoc, length-append, Option, Some, None}
+use Rattle.std.proofs.Common.{◌≡◌, ◌∙◌, ◌<◌, ℕ, ◌≤◌, ◌^◌, List, [], ◌∷◌, ◌++◌, length, Result, Ok, Err, IsErrAnd, inl, inr, refl, sym, ap, subst, arith, append_assoc, length-append, Option, Some, None, ◌⊎◌}
+use Rattle.std.specs.Prelude.{MatchResult}
 use Rattle.std.specs.declared.io.ErrorKind.{ErrorKind}
 use Rattle.std.specs.Io.KnownBytes.{Consumes}
 use Rattle.std.specs.IoError.{error_kind}
@@ -7,7 +8,10 @@ use Rattle.std.specs.declared.io.Error.{Error}
 use Rattle.std.specs.declared.io.ErrorKind.TheVariants.{FileTooLarge, Interrupted, OutOfMemory, TimedOut}
 use Rattle.typecodes.specs.Message.{IsContent, ReadOutcome, Transitions, Transition}
 use Rattle.typecodes.proofs.Messages.{Progress, gave-append, interruptions-append, reads-append}
-use Rattle.command.specs.Files.{FailsToRead, Fills, ReadsAllOrFails}
+use Rattle.command.specs.Files.{CantHold, FailsToRead, Fills, ReadsAllOrFails}
+use Rattle.command.specs.Refusal.{refusal_of}
+use Rattle.command.specs.declared.refusal.Refusal.{Refusal}
+use Rattle.command.specs.declared.refusal.Refusal.TheVariants as refused
 use Rattle.command.specs.Trace.{Happening, ReadsOn, ReadsOnce, ReadsToEnd}
 use Rattle.command.specs.declared.trace.Role.{Role}
 
@@ -115,3 +119,28 @@ pub content_after : (old new : Option (List ℕ)) (bytes rest : List ℕ) → Co
 content_after None new bytes rest read fits = tt
 content_after (Some xs) None bytes rest read fits = absurd read
 content_after (Some xs) (Some ys) bytes rest read fits = sym (read ∙ ap (λ l. bytes ++ l) (sym fits))
+
+-- a piece more, which filled its room or ended the file
+pub reads_part : (role of : Role) (room : ℕ) (a b : List ℕ) (old before new : List Happening) → ReadsOn role a old before → of ≡ role
+    → Fills of room b before new → ReadsOn role (a ++ b) old new ⊎ ReadsToEnd role (a ++ b) old new
+reads_part role of room a b old before new first same (inl (full, more)) = inl (reads_more role of a b old before new first same more)
+reads_part role of room a b old before new first same (inr (short, more)) = inr (reads_rest role of a b old before new first same more)
+
+-- memory for it was refused
+pub keeps_no_more : (role of : Role) (room : ℕ) (a b : List ℕ) (refusal : Refusal) (old before new : List Happening) → refusal ≡ refused.OutOfMemory
+    → ReadsOn role a old before → of ≡ role → Fills of room b before new → CantHold role refusal old new
+keeps_no_more role of room a b refusal old before new memory first same fills =
+    inr (memory, (a ++ b, reads_part role of room a b old before new first same fills))
+
+-- a failed read, which is reported
+pub cant_read : {A : Type 0} (role : Role) (kind : ErrorKind) (Good : A → Type 0) (result : Result A Refusal) (old new : List Happening)
+    → IsErrAnd result (λ refusal. refusal ≡ refusal_of kind) → FailsToRead role kind old new
+    → MatchResult result Good (λ refusal. CantHold role refusal old new)
+cant_read role kind Good (Ok x) old new is fails = absurd is
+cant_read role kind Good (Err refusal) old new is fails = inl (kind, is, fails)
+
+-- .. and a first piece
+pub keeps_none : (role : Role) (room : ℕ) (b : List ℕ) (refusal : Refusal) (old new : List Happening) → refusal ≡ refused.OutOfMemory
+    → Fills role room b old new → CantHold role refusal old new
+keeps_none role room b refusal old new memory (inl (full, reads)) = inr (memory, (b, inl reads))
+keeps_none role room b refusal old new memory (inr (short, reads)) = inr (memory, (b, inr reads))

@@ -1,7 +1,7 @@
 -- A message that signing reads, and the file that it is.
-use Rattle.std.proofs.Common.{◌≡◌, ◌∙◌, ℕ, Bool, List, [], ◌∷◌, ◌++◌, Option, Some, None, Result, Ok, Err, true, false, inl, inr, refl, ap, ap₂, subst, sym}
+use Rattle.std.proofs.Common.{◌≡◌, ◌∙◌, ℕ, Bool, List, [], ◌∷◌, ◌++◌, Option, Some, None, Result, Ok, Err, true, false, inl, inr, ap, ap₂, subst, sym}
 use Rattle.typecodes.specs.declared.message.Message as message
-use Rattle.typecodes.specs.Message.{CantBeRead, ReadOutcome, ReadWhole, Transition, Transitions}
+use Rattle.typecodes.specs.Message.{ReadOutcome, Transitions}
 use Rattle.sign_core.specs.declared.fault.SignFault.{SignFault}
 use Rattle.sign_core.specs.declared.source.Source as source
 use Rattle.sign_core.specs.Signer.{IsRead, Signs, View}

@@ -1,6 +1,5 @@
 -- Lines of commands with an option.
-use Rattle.std.proofs.Common.{◌≡◌, ◌≢◌, ◌∙◌, ◌+◌, ℕ, Bool, List, [], ◌∷◌, ◌++◌, Ok, Some, None, true, false, refl, codes, fold, ap, subst, sym, inl, inr}
-use Rattle.std.specs.Prelude.{⊤}
+use Rattle.std.proofs.Common.{◌≡◌, ◌∙◌, ℕ, Bool, List, [], ◌∷◌, ◌++◌, Ok, Some, None, false, refl, codes, ap, subst, sym, inl, inr}
 use Rattle.std.proofs.lemmas.Bool.{cases_eq}
 use Rattle.clap.specs.Faults.{level_fault, step_fault, turn_fault, walk_fault, word_fault}
 use Rattle.clap.specs.Kinds.{or_else}
@@ -9,9 +8,9 @@ use Rattle.clap.specs.Walk.{Held as Collected, Walk, after_step, finished, nothi
 use Rattle.clap.specs.Words.{Rule, Text, fault_of, subcommand_of}
 use Rattle.clap.proofs.OnLiterals.{clap_on_literals}
 use Rattle.command.specs.Argument.{default_random}
-use Rattle.command.specs.Line.{ArePlainWords, Finds, IsLineOf, IsLineWithOption, IsPlainWord, IsShownLineOf, Task, hbsign_app, make, retire, sign, task_found, verify}
+use Rattle.command.specs.Line.{Finds, IsLineOf, IsLineWithOption, IsPlainWord, IsShownLineOf, Task, audit, audit_given, hbsign_app, make, retire, sign, task_found, verify}
 use Rattle.command.proofs.Accepting.{none_of}
-use Rattle.command.proofs.Walking.{Enters, Goes, TakesAll, TakesValue, at, end_fault, entered_faults, entered_rows, enters_make, enters_sign, first_held, goes, is_no_hyphen, make_shape, next_held, over_all, plain_taken, sign_shape, stays, takes_line}
+use Rattle.command.proofs.Walking.{Enters, Goes, TakesAll, at, end_fault, entered_faults, entered_rows, enters_make, enters_sign, first_held, goes, is_no_hyphen, make_shape, next_held, over_all, plain_taken, sign_shape, stays, takes_line}
 
 -- a walk after one more word, and after a word that is an option's value
 abbrev after_word : Shape → Walk → Text → Walk
@@ -195,3 +194,5 @@ shown_line words (make state public spec random) line = finds_make words state p
 shown_line words (sign state name message out random) line = finds_sign words state name message out random line
 shown_line words (verify public message signature) line = line
 shown_line words (retire state upto) line = line
+shown_line words (audit state anchor) line = line
+shown_line words (audit_given public files) line = line

@@ -1,30 +1,49 @@
 -- The line that reports each answer, and the exit status.
 use Rattle.std.proofs.Common.{arith, ap, sym, refl, inl, inr, ◌∙◌}
 use Rattle.std.proofs.lemmas.Bool.{false≢true, or_right}
-use Rattle.std.specs.Prelude.{ℕ, List, [], ◌∷◌, codes, decimal, ◌++◌, Result, Ok, Err, ◌≡◌, ◌⊎◌, true}
+use Rattle.std.specs.Prelude.{ℕ, List, [], ◌∷◌, codes, decimal, ◌++◌, Option, Some, None, Result, Ok, Err, ◌≡◌, ◌⊎◌}
+use Rattle.std.specs.Prelude.{true}
 use Rattle.command.specs.declared.answer.Done.{Done}
-use Rattle.command.specs.declared.answer.Done.TheVariants.{Made, Retired, Signed, Verified}
+use Rattle.command.specs.declared.answer.Done.TheVariants.{Audited, Checked, Made, Retired, Signed, Verified}
 use Rattle.hex.specs.Hex.{encode_lower}
 use Rattle.command.specs.declared.refusal.Refusal.{Refusal}
 use Rattle.command.specs.declared.refusal.Refusal.TheVariants.{Signature, OutOfMemory, FileFailed, BadName, BadSpec}
-use Rattle.command.specs.declared.refusal.Refusal.TheVariants.{Signer, Opening, Preparing}
+use Rattle.command.specs.declared.refusal.Refusal.TheVariants.{Signer, Opening, Preparing, Audit, Given}
+use Rattle.key_audit.specs.declared.given.GivenFault.TheVariants as given
+use Rattle.key_audit.specs.declared.report.AuditFault.TheVariants as audit
+use Rattle.key_audit.specs.declared.report.Report.{Report}
 use Rattle.sign_core.specs.declared.fault.SignFault.TheVariants as sign
 use Rattle.state_file.specs.declared.file.opening.OpenFault.TheVariants as opening
 use Rattle.state_file.specs.declared.file.format.FormatFault.TheVariants as preparing
 use Rattle.typecodes.specs.declared.refusal.Refusal.TheVariants.{MessageRead}
 use Rattle.command.specs.LineFault.{BeginsWithCapital, IsHelp, has_lowercase_line}
 use Rattle.command.specs.Refusal.{refusal_line}
-use Rattle.command.specs.Output.{Taken, Writes, Fails}
+use Rattle.command.specs.Output.{Taken, Writes, Fails, level_lines}
 
-abbrev pub done_line : Done → List ℕ
-done_line Verified = codes "verified"
-done_line (Retired upto) = codes "retired upto " ++ decimal upto
-done_line (Made public) = codes "public " ++ encode_lower public.items
-done_line (Signed name size) = codes "signed " ++ name ++ codes " " ++ decimal size ++ codes " bytes"
+-- the line of a file whose records go on in another, by the version of that file
+abbrev pub moved_line : Option ℕ → List ℕ
+moved_line None = []
+moved_line (Some version) = codes "moved " ++ decimal version ++ codes "\n"
 
--- the line with its end
+-- the lines of a report, of the public key that these bytes spell
+abbrev pub report_lines : (public : List ℕ) → Report → List ℕ
+report_lines public report =
+    ((((((codes "public " ++ encode_lower public) ++ codes "\nrecords ") ++ decimal report.records)
+    ++ codes "\ntag ") ++ encode_lower report.tag) ++ codes "\n") ++ level_lines 0 report.left.items
+    ++ moved_line report.moved
+
+-- the lines of what was done, with their ends
+abbrev pub done_lines : Done → List ℕ
+done_lines Verified = codes "verified\n"
+done_lines (Retired upto) = codes "retired upto " ++ decimal upto ++ codes "\n"
+done_lines (Made public) = codes "public " ++ encode_lower public.items ++ codes "\n"
+done_lines (Signed name size) = codes "signed " ++ name ++ codes " " ++ decimal size ++ codes " bytes\n"
+done_lines (Audited public report) = report_lines public.items report
+done_lines (Checked count) = codes "given " ++ decimal count ++ codes " signatures, no leaf twice\n"
+
+-- the line with its end; an audit has several
 abbrev pub answer_line : Result Done Refusal → List ℕ
-answer_line (Ok done) = done_line done ++ codes "\n"
+answer_line (Ok done) = done_lines done
 answer_line (Err refusal) = refusal_line refusal ++ codes "\n"
 
 -- 0 for what is done, 2 for a name or a spec that is refused, 3 where the machine fails, and 1 for every other refusal
@@ -43,6 +62,9 @@ status_of (Err (Signer sign.MessageRead)) = 3
 status_of (Err (Signer sign.OutOfMemory)) = 3
 status_of (Err (Signer sign.DeviceFailed)) = 3
 status_of (Err (Signer sign.NoMemoryToOpen)) = 3
+status_of (Err (Audit audit.DeviceFailed)) = 3
+status_of (Err (Audit audit.OutOfMemory)) = 3
+status_of (Err (Given given.OutOfMemory)) = 3
 status_of (Err _) = 1
 
 -- It was refused as a word of the line: a name, or a spec.
@@ -61,6 +83,8 @@ line_is_lower (Ok Verified) capital = omega (arith, capital)
 line_is_lower (Ok (Retired upto)) capital = omega (arith, capital)
 line_is_lower (Ok (Made public)) capital = omega (arith, capital)
 line_is_lower (Ok (Signed name size)) capital = omega (arith, capital)
+line_is_lower (Ok (Audited public report)) capital = omega (arith, capital)
+line_is_lower (Ok (Checked count)) capital = omega (arith, capital)
 line_is_lower (Err refusal) capital = omega (arith, capital)
 
 -- A text that begins with an answer's line has a line that begins with a lowercase letter,
@@ -71,6 +95,8 @@ line_is_lowercase (Ok Verified) after = refl
 line_is_lowercase (Ok (Retired upto)) after = refl
 line_is_lowercase (Ok (Made public)) after = refl
 line_is_lowercase (Ok (Signed name size)) after = refl
+line_is_lowercase (Ok (Audited public report)) after = refl
+line_is_lowercase (Ok (Checked count)) after = refl
 line_is_lowercase (Err refusal) after = refl
 
 -- and so has one in which this stands after a line's end.

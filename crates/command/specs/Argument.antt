@@ -1,10 +1,22 @@
 -- The arguments of the commands, as `clap` knows them.
 use Rattle.std.specs.Prelude.{[], ◌∷◌, List, ℕ, Some, true, codes}
+use Rattle.clap.specs.Lexer.{usize_max}
 use Rattle.clap.specs.Words.{Rule, new_rule}
 
 -- a word that has to be given
 abbrev pub required_rule : List ℕ → Rule
 required_rule name = record (new_rule name) { required = true }
+
+-- words of which one at least has to be given
+abbrev pub several_rule : List ℕ → Rule
+several_rule name = record (new_rule name) {
+  required = true;
+  range = Some (record { start_inclusive = 1; end_inclusive = usize_max });
+}
+
+-- an option with a value, which may be left out
+abbrev pub option_rule : List ℕ → Rule
+option_rule name = record (new_rule name) { long = Some name; value_names = 1 }
 
 -- the file of random bytes where the line names none
 abbrev pub default_random : List ℕ

@@ -1,5 +1,5 @@
 -- What is read of files, and how reading them fails.
-use Rattle.std.specs.Prelude.{length, ℕ, List, Result, Ok, Err, ◌≡◌, Option, Some, IfSome, ◌≢◌, ◌⊎◌, ◌<◌, take}
+use Rattle.std.specs.Prelude.{length, ℕ, List, [], ◌∷◌, ◌++◌, Result, Ok, Err, ◌≡◌, Option, Some, IfSome, ◌≢◌, ◌⊎◌, ◌<◌, take}
 use Rattle.sign_core.specs.declared.key.AnyPublic.{AnyPublic}
 use Rattle.sign_core.specs.declared.key.KeyFault.{KeyFault}
 use Rattle.sign_core.specs.Key.{KeyHasFault, SpellsKey}
@@ -9,7 +9,10 @@ use Rattle.std.specs.declared.io.Error.{Error}
 use Rattle.std.specs.declared.io.ErrorKind.{ErrorKind}
 use Rattle.std.specs.declared.io.ErrorKind.TheVariants.{OutOfMemory}
 use Rattle.typecodes.specs.Message.{IsContent}
-use Rattle.command.specs.Trace.{Happening, ReadsOn, ReadsToEnd, ReadsToFailure, ReadsForever}
+use Rattle.command.specs.declared.refusal.Refusal.{Refusal}
+use Rattle.command.specs.declared.refusal.Refusal.TheVariants as refused
+use Rattle.command.specs.Refusal.{refusal_of}
+use Rattle.command.specs.Trace.{Happening, ReadsOn, ReadsToEnd, ReadsToFailure, ReadsForever, not_opened, opened}
 
 -- Bytes were read as a public key: they spell this one, or this is wrong with them.
 abbrev pub ReadsKey : List ℕ → Result AnyPublic KeyFault → Type 0
@@ -43,6 +46,56 @@ ReadsAllOrFails role left Fits (Ok value) old new =
     (bytes : List ℕ) × IsContent left bytes × Fits bytes value × ReadsToEnd role bytes old new
 ReadsAllOrFails role left Fits (Err error) old new = FailsToRead role (error_kind error) old new
 
+-- how many bytes decide of a signature: one more than the greatest has, of eight levels of H25/W1
+unfoldable pub decisive : ℕ
+decisive = 74989
+
+-- These are all bytes of a signature, or as many of the first as decide.
+abbrev pub Decides : List ℕ → List ℕ → Type 0
+Decides all first = (first ≡ all) ⊎ (first ≡ take decisive all)
+
+-- The first bytes of what is known of a content, as many as decide of a signature, or all where there are fewer.
+abbrev pub BeginsContent : Option (List ℕ) → (first : List ℕ) → Type 0
+BeginsContent content first = (whole : List ℕ) × IsContent content whole × (first ≡ take decisive whole)
+
+-- The file of this path was opened and read to its end, which gave these bytes: they are its content, where that is
+-- known.
+abbrev pub ReadsFile : (content : List ℕ → Option (List ℕ)) → Role → (path bytes : List ℕ) → (old new : List Happening)
+    → Type 0
+ReadsFile content role path bytes old new =
+    IsContent (content path) bytes × ReadsToEnd role bytes (old ++ opened role path ∷ []) new
+
+-- It was opened and read to its end or as far as its first bytes decide, which are these.
+abbrev pub ReadsStart : (content : List ℕ → Option (List ℕ)) → Role → (path first : List ℕ) → (old new : List Happening)
+    → Type 0
+ReadsStart content role path first old new =
+    BeginsContent (content path) first × Fills role decisive first (old ++ opened role path ∷ []) new
+
+-- A read of a file failed, which is reported by its kind.
+abbrev pub ReportsRead : Role → Refusal → (old new : List Happening) → Type 0
+ReportsRead role refusal old new = (kind : ErrorKind) × (refusal ≡ refusal_of kind) × FailsToRead role kind old new
+
+-- A file was read, and memory for its bytes was refused, which is reported.
+abbrev pub ReportsMemory : Role → Refusal → (old new : List Happening) → Type 0
+ReportsMemory role refusal old new =
+    (refusal ≡ refused.OutOfMemory) × ((bytes : List ℕ) × (ReadsOn role bytes old new ⊎ ReadsToEnd role bytes old new))
+
+-- One of the two.
+abbrev pub CantHold : Role → Refusal → (old new : List Happening) → Type 0
+CantHold role refusal old new = ReportsRead role refusal old new ⊎ ReportsMemory role refusal old new
+
+-- The file of this path couldn't be opened, or not be read, which is reported.
+abbrev pub FailsFile : Role → (path : List ℕ) → Refusal → (old new : List Happening) → Type 0
+FailsFile role path refusal old new =
+    ((refusal ≡ refused.FileFailed) × (new ≡ old ++ not_opened role path ∷ []))
+    ⊎ ReportsRead role refusal (old ++ opened role path ∷ []) new
+
+-- It couldn't be opened, or its bytes not be read and kept, which is reported.
+abbrev pub FailsToHold : Role → (path : List ℕ) → Refusal → (old new : List Happening) → Type 0
+FailsToHold role path refusal old new =
+    ((refusal ≡ refused.FileFailed) × (new ≡ old ++ not_opened role path ∷ []))
+    ⊎ CantHold role refusal (old ++ opened role path ∷ []) new
+
 -- What is seen of the files of a signer: what each path's file holds where that is known, whether a disk is as opening
 -- a state file gives it, and whether it is that of the state file that was closed last.
 pub record FilesSeen (K : Type 0) : Type 1 where
@@ -50,5 +103,6 @@ pub record FilesSeen (K : Type 0) : Type 1 where
   pub IsOpened : K → Type 0
   pub IsClosed : K → Type 0
 
-abbrev pub files_seen : {K : Type 0} → (List ℕ → Option (List ℕ)) → (opened closed : K → Type 0) → FilesSeen K
-files_seen content opened closed = record { content = content; IsOpened = opened; IsClosed = closed }
+abbrev pub files_seen : {K : Type 0} → (List ℕ → Option (List ℕ)) → (is_opened is_closed : K → Type 0) → FilesSeen K
+files_seen content is_opened is_closed =
+    record { content = content; IsOpened = is_opened; IsClosed = is_closed }

@@ -1,5 +1,9 @@
 -- A signer on the disk of a state file: how it is opened, and what a command does with it.
-use Rattle.std.specs.Prelude.{◌≡◌, ◌⊎◌, ℕ, List, [], Result, Ok, Err, IfErr, IfOk, IsTrue, OnOk, false, length, max}
+use Rattle.std.specs.Prelude.{◌≡◌, ◌⊎◌, ℕ, List, Option, Result, Ok, Err}
+use Rattle.key_audit.specs.declared.report.Anchor.{Anchor}
+use Rattle.key_audit.specs.declared.report.AuditFault.{AuditFault}
+use Rattle.key_audit.specs.declared.report.Report.{Report}
+use Rattle.key_audit.specs.Audit.{Audits}
 use Rattle.typecodes.specs.declared.message.Message as message
 use Rattle.typecodes.specs.declared.spec.Spec.{Spec}
 use Rattle.state_file.specs.declared.disk.Disk as disk
@@ -8,33 +12,14 @@ use Rattle.state_file.specs.declared.file.opening.OpenFault.{OpenFault}
 use Rattle.state_file.specs.declared.refused.Refused.{Refused}
 use Rattle.state_file.specs.declared.store.Store as store
 use Rattle.state_file.specs.declared.store.file_store.FileStore.{FileStore}
-use Rattle.state_file.specs.Disk.{LeavesOnly, MayLeave}
-use Rattle.state_file.specs.DiskCalls.{CountsFailures}
-use Rattle.state_file.specs.File.{SpellsRecords}
-use Rattle.state_file.specs.FileStore.{disk_after, disk_of, has_stopped, outcome_of, records_of}
-use Rattle.state_file.specs.Format.{Formats, LeftByFormat, is_failed_format}
-use Rattle.state_file.specs.Opening.{ReportsContent, Settles, is_failed_opening}
+use Rattle.state_file.specs.FileStore.{FindsRecords, PreparesDisk, disk_of}
 use Rattle.sign_core.specs.declared.fault.SignFault.{SignFault}
 use Rattle.sign_core.specs.declared.source.Source as source
 use Rattle.sign_core.specs.declared.source.TapeSource.{TapeSource}
 use Rattle.sign_core.specs.Signer.{Creates, Opens, Signs, View}
 use Rattle.command.specs.declared.refusal.Refusal.{Refusal}
-use Rattle.command.specs.declared.refusal.Refusal.TheVariants.{Opening, Preparing, Signer}
+use Rattle.command.specs.declared.refusal.Refusal.TheVariants.{Audit, Opening, Preparing, Signer}
 use Rattle.command.specs.Signing.{RetiresBelow}
-
--- The records of a disk were found, or it was reported why there are none. The disk is synced, and holds what it held;
--- all that a stop may leave meanwhile is what one might have left before.
-pub record FindsRecords {K : Type 0} {bound : _} (d : disk.Ghosts K) (given : K)
-    (result : Result (FileStore K bound) (Refused K OpenFault)) : Type 0 where
-  pub records : IsTrue (d.honest given)
-      → IfOk result (λ found. SpellsRecords (d.state given).content (records_of found))
-  pub running : IfOk result (λ found. has_stopped found ≡ false)
-  pub fault : IsTrue (d.honest given) → IfErr result (λ refused. ReportsContent (d.state given).content refused.fault)
-  pub moments : IsTrue (d.honest given)
-      → LeavesOnly d.moment d.left_since given (disk_after result) (MayLeave (d.state given))
-  pub settled : IsTrue (d.honest given)
-      → Settles (d.state given).content (d.state (disk_after result)) (outcome_of result)
-  pub failures : CountsFailures d is_failed_opening given (disk_after result) (outcome_of result)
 
 -- what a refusal hands back, with its fault
 abbrev pub refused_with : {T F : Type 0} → F → T → Refused T F
@@ -62,19 +47,6 @@ RetiresOn {K} {bound} d g old new upto answer =
     × OpensOn {bound = bound} d g old random (Err (refused_with refusal new)))
     ⊎ ((random : TapeSource) × (before after : View (FileStore K bound) TapeSource)
     × OpensOn d g old random (Ok before) × RetiresBelow g before after upto answer × (new ≡ disk_of after.store))
-
--- A disk was prepared for a key, or refused. Where it is honest it then holds no slot and a closed gate, and what a
--- stop leaves meanwhile is no key.
-pub record PreparesDisk {K : Type 0} {bound : _} (d : disk.Ghosts K) (given : K)
-    (result : Result (FileStore K bound) (Refused K FormatFault)) : Type 0 where
-  pub records : IfOk result (λ prepared. (records_of prepared ≡ []) × (has_stopped prepared ≡ false))
-  pub answer : IsTrue (d.honest given)
-      → Formats (d.state given).content (d.state (disk_after result)) (outcome_of result)
-  pub len : IsTrue (d.honest given)
-      → OnOk result (length (d.state (disk_after result)).content ≡ max (length (d.state given).content) 1)
-  pub moments : IsTrue (d.honest given)
-      → LeavesOnly d.moment d.left_since given (disk_after result) (LeftByFormat (d.state given))
-  pub failures : CountsFailures d is_failed_format given (disk_after result) (outcome_of result)
 
 -- A key was made on a disk: the disk was prepared, and a signer made on it. Or one of the two was refused, which is
 -- reported, and the disk is handed back.
@@ -111,3 +83,17 @@ SignsOn {K} {R} {M} {bound} d g r m old new random name before after capacity ou
     × OpensOn {bound = bound} d g old random (Err (refused_with refusal new)))
     ⊎ ((opened left : View (FileStore K bound) R) × OpensOn d g old random (Ok opened)
     × SignsFor g r m opened left name before after capacity output answer × (new ≡ disk_of left.store))
+
+-- what an audit refused, as the command reports it
+abbrev pub audit_reported : Result Report AuditFault → Result Report Refusal
+audit_reported (Ok report) = Ok report
+audit_reported (Err fault) = Err (Audit fault)
+
+-- A disk was audited: its records were found, and the store of them was audited, once, and gave its disk back. Or they
+-- couldn't be found, which is reported.
+abbrev pub AuditsOn : {K : Type 0} → (d : disk.Ghosts K) → (old new : K) → Option Anchor → Result Report Refusal
+    → Type 0
+AuditsOn {K} d old new anchor answer =
+    ((fault : OpenFault) × FindsRecords {bound = d} d old (Err (refused_with fault new)) × (answer ≡ Err (Opening fault)))
+    ⊎ ((found after : FileStore K d) × (audited : Result Report AuditFault) × FindsRecords d old (Ok found)
+    × Audits d found after anchor audited × (answer ≡ audit_reported audited) × (new ≡ disk_of after))

@@ -1,5 +1,7 @@
 pub mod Answer
 pub mod Argument
+pub mod Audit
+pub mod AuditGiven
 pub mod FileDisk
 pub mod FileId
 pub mod Files

@@ -2,20 +2,24 @@
 use Rattle.std.specs.Prelude.{true, codes, ◌≢◌, ⊤, ℕ, List, [], ◌∷◌, ◌≡◌}
 use Rattle.std.specs.Prelude.{◌⊎◌, ◌++◌, Option, Some, None, Result, Ok, Err, if◌then◌else◌}
 use Rattle.std.specs.Str.{IsUtf8, bytes_eq}
-use Rattle.clap.specs.Words.{App, new_app, with_subcommand, Text, Row, fault_of, first_of, subcommand_of}
+use Rattle.clap.specs.Words.{App, new_app, with_subcommand, Text, Row, all_of, fault_of, first_of, subcommand_of}
 use Rattle.clap.specs.declared.error.kind.ErrorKind.{ErrorKind}
 use Rattle.clap.specs.declared.error.kind.ErrorKind.TheVariants as kind
+use Rattle.key_audit.specs.declared.report.Anchor.{Anchor}
 use Rattle.sign_core.specs.declared.source.Source as source
 use Rattle.state_file.specs.declared.disk.Disk as disk
 use Rattle.state_file.specs.declared.store.Store as store
 use Rattle.state_file.specs.declared.store.file_store.FileStore.{FileStore}
 use Rattle.command.specs.declared.line.Lack.{Lack}
+use Rattle.command.specs.declared.line.Lack.TheVariants as lack
 use Rattle.command.specs.declared.line.Lack.TheVariants.{Command, Number}
 use Rattle.command.specs.declared.line.Request.{Request}
-use Rattle.command.specs.declared.line.Request.TheVariants.{Make, Sign, Verify, Retire}
+use Rattle.command.specs.declared.line.Request.TheVariants.{Make, Sign, Verify, Retire, Audit, AuditGiven}
 use Rattle.command.specs.declared.answer.Done.{Done}
 use Rattle.command.specs.declared.refusal.Refusal.{Refusal}
 use Rattle.command.specs.Argument.{default_random}
+use Rattle.command.specs.Audit.{AuditsIn, anchor_in, audit_app}
+use Rattle.command.specs.AuditGiven.{ChecksIn, Pair, audit_given_app, pairs_in, pairs_of}
 use Rattle.command.specs.Files.{FilesSeen}
 use Rattle.command.specs.Make.{MakesIn, make_app}
 use Rattle.command.specs.Number.{number_in}
@@ -37,8 +41,8 @@ bare_app = record (new_app (codes "hbsign")) {
 
 -- the program
 abbrev pub hbsign_app : App
-hbsign_app = with_subcommand (with_subcommand (with_subcommand (with_subcommand bare_app make_app.top) sign_app.top)
-    verify_app.top) retire_app.top
+hbsign_app = with_subcommand (with_subcommand (with_subcommand (with_subcommand (with_subcommand (with_subcommand
+    bare_app make_app.top) sign_app.top) verify_app.top) retire_app.top) audit_app.top) audit_given_app.top
 
 -- ---- the words of a line
 
@@ -77,6 +81,8 @@ pub data Task : Type 0 where
   sign : (state name message out random : List ℕ) → Task
   verify : (public message signature : List ℕ) → Task
   retire : (state : List ℕ) (upto : ℕ) → Task
+  audit : (state : List ℕ) (anchor : Option Anchor) → Task
+  audit_given : (public : List ℕ) (files : List Pair) → Task
 
 -- what a request is
 abbrev pub task_of : Request → Task
@@ -85,6 +91,8 @@ task_of (Sign words) =
     sign words.state.now words.name.now words.message.now words.out.now words.random.now
 task_of (Verify files) = verify files.public.now files.message.now files.signature.now
 task_of (Retire words) = retire words.state.now words.upto
+task_of (Audit words) = audit words.state.now words.anchor
+task_of (AuditGiven words) = audit_given words.public.now (pairs_of words)
 
 -- the same, where there is one
 abbrev pub task_or_lack : Result Request Lack → Result Task Lack
@@ -117,9 +125,27 @@ abbrev pub retire_task : Option Text → Option Text → Result Task Lack
 retire_task (Some state) (Some upto) = retire_number state (number_in most_leaves upto)
 retire_task _ _ = Err Command
 
--- the task of a command's name and the rows of its values
-abbrev pub task_named : Text → List Row → Result Task Lack
-task_named name rows =
+-- that of `audit`
+abbrev pub audit_anchored : Text → Result (Option Anchor) Lack → Result Task Lack
+audit_anchored state (Ok anchor) = Ok (audit state anchor)
+audit_anchored state (Err fault) = Err fault
+
+abbrev pub audit_task : (state count tag : Option Text) → Result Task Lack
+audit_task (Some state) count tag = audit_anchored state (anchor_in count tag)
+audit_task None _ _ = Err Command
+
+-- that of `audit-given`
+abbrev pub audit_given_pairs : Text → Option (List Pair) → Result Task Lack
+audit_given_pairs public (Some pairs) = Ok (audit_given public pairs)
+audit_given_pairs public None = Err lack.Pairs
+
+abbrev pub audit_given_task : Option Text → Option (List Text) → Result Task Lack
+audit_given_task (Some public) (Some paths) = audit_given_pairs public (pairs_in paths)
+audit_given_task _ _ = Err Command
+
+-- the task of a command's name and the rows of its values, of those that have as many values on each line
+abbrev pub fixed_task_named : Text → List Row → Result Task Lack
+fixed_task_named name rows =
     if bytes_eq name (codes "make")
     then make_task (first_of (codes "STATE") rows) (first_of (codes "PUBLIC") rows) (first_of (codes "SPEC") rows)
     (first_of (codes "random") rows)
@@ -131,7 +157,16 @@ task_named name rows =
     (first_of (codes "SIGNATURE") rows)
     else (if bytes_eq name (codes "retire")
     then retire_task (first_of (codes "STATE") rows) (first_of (codes "UPTO") rows)
-    else Err Command)))
+    else (if bytes_eq name (codes "audit")
+    then audit_task (first_of (codes "STATE") rows) (first_of (codes "count") rows) (first_of (codes "tag") rows)
+    else Err Command))))
+
+-- .. and of every command
+abbrev pub task_named : Text → List Row → Result Task Lack
+task_named name rows =
+    if bytes_eq name (codes "audit-given")
+    then audit_given_task (first_of (codes "PUBLIC") rows) (all_of (codes "FILES") rows)
+    else fixed_task_named name rows
 
 -- the task of the command that was found, if one was
 abbrev pub task_found : Option (Text × List Row) → Result Task Lack
@@ -142,8 +177,8 @@ task_found (Some (name, rows)) = task_named name rows
 abbrev pub Finds : List (List ℕ) → Task → Type 0
 Finds words task = (fault_of hbsign_app words ≡ []) × (task_found (subcommand_of hbsign_app words) ≡ Ok task)
 
--- The line of a task: `verify PUBLIC MESSAGE SIGNATURE`, or `retire STATE UPTO`; and of `make` and `sign`, which have
--- an option, each in which `clap` finds it.
+-- The line of a task: `verify PUBLIC MESSAGE SIGNATURE`, or `retire STATE UPTO`; and of the commands that have an option
+-- or any number of files, each in which `clap` finds it.
 abbrev pub IsLineOf : List (List ℕ) → Task → Type 0
 IsLineOf words (make state public spec random) = Finds words (make state public spec random)
 IsLineOf words (sign state name message out random) = Finds words (sign state name message out random)
@@ -151,6 +186,8 @@ IsLineOf words (verify public message signature) =
     IsCommandLine words (codes "verify") (public ∷ message ∷ signature ∷ [])
 IsLineOf words (retire state upto) = (text : List ℕ) × (number_in most_leaves text ≡ Some upto)
     × IsCommandLine words (codes "retire") (state ∷ text ∷ [])
+IsLineOf words (audit state anchor) = Finds words (audit state anchor)
+IsLineOf words (audit_given public files) = Finds words (audit_given public files)
 
 -- A line of values, with the option at its end or without it. None of the values looks like an option.
 abbrev pub IsLineWithOption : List (List ℕ) → (name : List ℕ) → (values : List (List ℕ)) → (random : List ℕ) → Type 0
@@ -167,11 +204,17 @@ IsShownLineOf words (sign state name message out random) =
     IsLineWithOption words (codes "sign") (state ∷ name ∷ message ∷ out ∷ []) random
 IsShownLineOf words (verify public message signature) = IsLineOf words (verify public message signature)
 IsShownLineOf words (retire state upto) = IsLineOf words (retire state upto)
+IsShownLineOf words (audit state anchor) = IsLineOf words (audit state anchor)
+IsShownLineOf words (audit_given public files) = IsLineOf words (audit_given public files)
 
 -- the kind of error that a lack is
 abbrev pub lack_kind : Lack → ErrorKind
 lack_kind Command = kind.MissingSubcommand
 lack_kind Number = kind.ValueValidation
+lack_kind lack.Count = kind.ValueValidation
+lack_kind lack.Tag = kind.ValueValidation
+lack_kind lack.Anchor = kind.MissingRequiredArgument
+lack_kind lack.Pairs = kind.WrongNumberOfValues
 
 -- ---- how a task is served
 
@@ -185,3 +228,6 @@ Serves d g r files (sign state name message out random) answer old new =
 Serves d g r files (verify public message signature) answer old new =
     Verifies files.content public message signature answer old new
 Serves d g r files (retire state upto) answer old new = RetiresIn d g files state upto answer old new
+Serves d g r files (audit state anchor) answer old new = AuditsIn d files state anchor answer old new
+Serves d g r files (audit_given public pairs) answer old new =
+    ChecksIn files.content public pairs answer old new

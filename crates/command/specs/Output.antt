@@ -1,10 +1,19 @@
 -- What an output has taken, and what printing a text does to it.
-use Rattle.std.specs.Prelude.{ℕ, List, [], Option, ◌≡◌, ◌+◌, ◌++◌, Result, Ok, Err, decimal}
+use Rattle.std.specs.Prelude.{ℕ, List, [], ◌∷◌, Option, ◌≡◌, ◌+◌, ◌++◌, Result, Ok, Err, codes, decimal}
 use Rattle.std.specs.List.{fold}
 use Rattle.std.specs.Io.KnownBytes.{Appends}
 use Rattle.command.specs.declared.output.Part.{Part}
-use Rattle.command.specs.declared.output.Part.TheVariants.{Text, Number, Bytes, Hex}
+use Rattle.command.specs.declared.output.Part.TheVariants.{Text, Number, Bytes, Hex, Levels}
 use Rattle.hex.specs.Hex.{encode_lower}
+
+-- the line of a level, which says how many of its leaves are left
+abbrev pub level_line : (level left : ℕ) → List ℕ
+level_line level left = codes "level " ++ decimal level ++ codes " left " ++ decimal left ++ codes "\n"
+
+-- the lines of levels, of which this is the first
+unfoldable pub level_lines : (first : ℕ) → (left : List ℕ) → List ℕ
+level_lines first [] = []
+level_lines first (left ∷ below) = level_line first left ++ level_lines (first + 1) below
 
 -- the text of a part
 abbrev pub part_text : Part → List ℕ
@@ -12,6 +21,7 @@ part_text (Text text) = text.now
 part_text (Number number) = decimal number
 part_text (Bytes bytes) = bytes.now
 part_text (Hex bytes) = encode_lower bytes.now
+part_text (Levels left) = level_lines 0 left.now
 
 -- the text of parts, one after another
 abbrev pub text_of : List Part → List ℕ

@@ -1,5 +1,5 @@
 -- What a run of the program does: what it prints, and what it does to files.
-use Rattle.std.specs.Prelude.{ℕ, List, Option, Result, ◌≡◌, ◌⊎◌, codes, ◌<◌, length, Err, [], string_bytes}
+use Rattle.std.specs.Prelude.{ℕ, List, Result, ◌≡◌, ◌⊎◌, codes, ◌<◌, length, Err, [], string_bytes}
 use Rattle.sign_core.specs.declared.source.Source as source
 use Rattle.state_file.specs.declared.disk.Disk as disk
 use Rattle.state_file.specs.declared.store.Store as store

@@ -3,9 +3,17 @@ use Rattle.std.specs.declared.io.ErrorKind.{ErrorKind}
 use Rattle.std.specs.declared.io.ErrorKind.TheVariants as kind
 use Rattle.command.specs.declared.refusal.Refusal.{Refusal}
 use Rattle.command.specs.declared.refusal.Refusal.TheVariants.{OutOfMemory, FileFailed, Key, Signature}
-use Rattle.command.specs.declared.refusal.Refusal.TheVariants.{Signer, Opening, Preparing, Locked, BadName, BadSpec}
+use Rattle.command.specs.declared.refusal.Refusal.TheVariants.{Signer, Opening, Preparing, Audit, Given, Locked}
+use Rattle.command.specs.declared.refusal.Refusal.TheVariants.{BadName, BadSpec}
 use Rattle.sign_core.specs.declared.fault.SignFault.{SignFault}
 use Rattle.sign_core.specs.declared.fault.SignFault.TheVariants as sign
+use Rattle.sign_core.specs.Fault.{number_of as signer_number_of}
+use Rattle.key_audit.specs.declared.given.GivenFault.{GivenFault}
+use Rattle.key_audit.specs.declared.given.GivenFault.TheVariants as given
+use Rattle.key_audit.specs.declared.report.AuditFault.{AuditFault}
+use Rattle.key_audit.specs.declared.report.AuditFault.TheVariants as audit
+use Rattle.key_audit.specs.Audit.{audit_number}
+use Rattle.key_audit.specs.Given.{fault_number as given_number}
 use Rattle.state_file.specs.declared.file.opening.OpenFault.{OpenFault}
 use Rattle.state_file.specs.declared.file.opening.OpenFault.TheVariants as opening
 use Rattle.state_file.specs.declared.file.format.FormatFault.{FormatFault}
@@ -25,27 +33,7 @@ abbrev pub refusal_of : ErrorKind → Refusal
 refusal_of kind.OutOfMemory = OutOfMemory
 refusal_of _ = FileFailed
 
--- the number and the name of a signer's fault
-abbrev pub signer_number_of : SignFault → ℕ
-signer_number_of sign.Changed = 21
-signer_number_of sign.Exhausted = 22
-signer_number_of sign.RandomFailed = 23
-signer_number_of sign.RandomRepeated = 24
-signer_number_of sign.StoreFailed = 25
-signer_number_of sign.Stopped = 26
-signer_number_of sign.MessageRead = 27
-signer_number_of (sign.Damaged slot) = 28
-signer_number_of sign.OutOfMemory = 29
-signer_number_of sign.LedgerFull = 30
-signer_number_of sign.Moved = 31
-signer_number_of sign.RetireRange = 32
-signer_number_of sign.NoKey = 40
-signer_number_of (sign.Unreadable slot) = 43
-signer_number_of (sign.Illegal slot) = 44
-signer_number_of sign.DeviceFailed = 45
-signer_number_of sign.NoMemoryToOpen = 46
-signer_number_of sign.KeyThere = 50
-
+-- the name of a signer's fault
 abbrev pub signer_name_of : SignFault → List ℕ
 signer_name_of sign.Changed = codes "Changed"
 signer_name_of sign.Exhausted = codes "Exhausted"
@@ -66,7 +54,7 @@ signer_name_of sign.DeviceFailed = codes "DeviceFailed"
 signer_name_of sign.NoMemoryToOpen = codes "OutOfMemory"
 signer_name_of sign.KeyThere = codes "KeyThere"
 
--- .. of a fault of finding a state file's records
+-- the number and the name of a fault of finding a state file's records
 abbrev pub open_number_of : OpenFault → ℕ
 open_number_of opening.NoKey = 40
 open_number_of opening.NotKeyFile = 41
@@ -92,6 +80,23 @@ format_name_of preparing.NotKeyFile = codes "NotKeyFile"
 format_name_of preparing.DeviceFailed = codes "DeviceFailed"
 format_name_of preparing.KeyThere = codes "KeyThere"
 
+-- the name of an audit's fault
+abbrev pub audit_name_of : AuditFault → List ℕ
+audit_name_of audit.Stopped = codes "Stopped"
+audit_name_of audit.NoKey = codes "NoKey"
+audit_name_of (audit.Damaged slot) = codes "Damaged"
+audit_name_of (audit.Illegal slot) = codes "Illegal"
+audit_name_of audit.DeviceFailed = codes "DeviceFailed"
+audit_name_of audit.OutOfMemory = codes "OutOfMemory"
+audit_name_of audit.AnchorCount = codes "AnchorCount"
+audit_name_of audit.AnchorTag = codes "AnchorTag"
+
+-- .. of a fault of signatures that were given out
+abbrev pub given_name_of : GivenFault → List ℕ
+given_name_of (given.NotValid place) = codes "NotValid"
+given_name_of (given.LeafTwice first second) = codes "LeafTwice"
+given_name_of given.OutOfMemory = codes "OutOfMemory"
+
 -- the number of a refusal
 abbrev pub number_of : Refusal → ℕ
 number_of (Key (KeyLength length)) = 6
@@ -100,6 +105,8 @@ number_of (Signature refusal) = refusal_number refusal
 number_of (Signer fault) = signer_number_of fault
 number_of (Opening fault) = open_number_of fault
 number_of (Preparing fault) = format_number_of fault
+number_of (Audit fault) = audit_number fault
+number_of (Given fault) = given_number fault
 number_of OutOfMemory = 46
 number_of FileFailed = 53
 number_of Locked = 54
@@ -126,13 +133,15 @@ name_of (Signature MessageRead) = codes "MessageRead"
 name_of (Signer fault) = signer_name_of fault
 name_of (Opening fault) = open_name_of fault
 name_of (Preparing fault) = format_name_of fault
+name_of (Audit fault) = audit_name_of fault
+name_of (Given fault) = given_name_of fault
 name_of OutOfMemory = codes "OutOfMemory"
 name_of FileFailed = codes "FileFailed"
 name_of Locked = codes "Locked"
 name_of BadName = codes "BadName"
 name_of BadSpec = codes "BadSpec"
 
--- what follows the name: where, of what length, at which level or in which slot
+-- what follows the name: where, of what length, at which level, in which slot, or of which files
 abbrev pub detail_of : Refusal → List ℕ
 detail_of (Key (UnreadableKey fault)) = codes " at " ++ decimal fault.place
 detail_of (Signature (Unreadable fault)) = codes " at " ++ decimal fault.place
@@ -145,6 +154,11 @@ detail_of (Signer (sign.Damaged slot)) = codes " slot " ++ decimal slot
 detail_of (Signer (sign.Unreadable slot)) = codes " slot " ++ decimal slot
 detail_of (Signer (sign.Illegal slot)) = codes " slot " ++ decimal slot
 detail_of (Opening (opening.Damaged slot)) = codes " slot " ++ decimal slot
+detail_of (Audit (audit.Damaged slot)) = codes " slot " ++ decimal slot
+detail_of (Audit (audit.Illegal slot)) = codes " slot " ++ decimal slot
+detail_of (Given (given.NotValid place)) = codes " file " ++ decimal place
+detail_of (Given (given.LeafTwice first second)) =
+    codes " files " ++ decimal first ++ codes " " ++ decimal second
 detail_of _ = []
 
 abbrev pub refusal_line : Refusal → List ℕ

@@ -34,6 +34,7 @@ IsRetire state upto (Ok words) = (state ≡ Some words.state.now)
 IsRetire state upto (Err Number) = (text : Text) × (path : Text) × (state ≡ Some path) × (upto ≡ Some text)
     × (number_in most_leaves text ≡ None)
 IsRetire state upto (Err Command) = (state ≡ None) ⊎ (upto ≡ None)
+IsRetire state upto (Err _) = ⊥
 
 -- the answer, for what came of retiring the leaves below a number
 abbrev pub retire_answer : ℕ → Result Unit Refusal → Result Done Refusal

@@ -1,5 +1,5 @@
 -- `sign STATE NAME MESSAGE OUT [--random FILE]`: its words, and what it does.
-use Rattle.std.specs.Prelude.{◌≡◌, ◌⊎◌, ◌++◌, ◌∷◌, [], ℕ, List, codes, length, Option, Some, None, Result, Ok, Err}
+use Rattle.std.specs.Prelude.{◌≡◌, ◌⊎◌, ◌++◌, ◌∷◌, [], ℕ, List, codes, Option, Some, None, Result, Ok, Err}
 use Rattle.clap.specs.Words.{App, Text, new_app, with_rule}
 use Rattle.typecodes.specs.declared.message.Message as message
 use Rattle.typecodes.specs.Name.{IsName}

@@ -1,5 +1,5 @@
 -- What `verify` answers to three files: the judgement of their bytes, and what it does to the files for it.
-use Rattle.std.specs.Prelude.{[], ◌∷◌, ◌≡◌, ◌⊎◌, ◌++◌, ℕ, true, List, codes, take, Result, Ok, Err, ⊤, Option, IsErrAnd}
+use Rattle.std.specs.Prelude.{[], ◌∷◌, ◌≡◌, ◌⊎◌, ◌++◌, ℕ, List, codes, Result, Ok, Err, ⊤, Option, IsErrAnd}
 use Rattle.clap.specs.Words.{App, new_app, with_rule}
 use Rattle.command.specs.Argument.{required_rule}
 use Rattle.command.specs.declared.trace.Role.TheVariants as role
@@ -7,11 +7,12 @@ use Rattle.sign_core.specs.declared.key.AnyPublic.{AnyPublic}
 use Rattle.sign_core.specs.Key.{KeyHasFault, KeyLeavesMessage, KeyVerdict, SpellsKey}
 use Rattle.command.specs.declared.refusal.Refusal.{Refusal}
 use Rattle.command.specs.declared.refusal.Refusal.TheVariants.{Key, Signature, OutOfMemory, FileFailed}
-use Rattle.command.specs.declared.refusal.Refusal.TheVariants.{Signer, Opening, Preparing, Locked, BadName, BadSpec}
+use Rattle.command.specs.declared.refusal.Refusal.TheVariants.{Signer, Opening, Preparing, Audit, Given, Locked}
+use Rattle.command.specs.declared.refusal.Refusal.TheVariants.{BadName, BadSpec}
 use Rattle.std.specs.declared.io.ErrorKind.{ErrorKind}
 use Rattle.command.specs.declared.trace.Role.{Role}
 use Rattle.command.specs.Refusal.{refusal_of}
-use Rattle.command.specs.Files.{FailsToRead, Fills}
+use Rattle.command.specs.Files.{FailsToRead, Fills, decisive}
 use Rattle.typecodes.specs.Message.{IsContent, Transition}
 use Rattle.command.specs.Trace.{Happening, opened, not_opened, nothing_known, ReadsOnce, ReadsToEnd}
 
@@ -53,6 +54,8 @@ Judgement public message signature (Err FileFailed) = ⊥
 Judgement public message signature (Err (Signer fault)) = ⊥
 Judgement public message signature (Err (Opening fault)) = ⊥
 Judgement public message signature (Err (Preparing fault)) = ⊥
+Judgement public message signature (Err (Audit fault)) = ⊥
+Judgement public message signature (Err (Given fault)) = ⊥
 Judgement public message signature (Err Locked) = ⊥
 Judgement public message signature (Err BadName) = ⊥
 Judgement public message signature (Err BadSpec) = ⊥
@@ -68,6 +71,8 @@ Answers public message signature (Err FileFailed) = ⊤
 Answers public message signature (Err (Signer fault)) = ⊥
 Answers public message signature (Err (Opening fault)) = ⊥
 Answers public message signature (Err (Preparing fault)) = ⊥
+Answers public message signature (Err (Audit fault)) = ⊥
+Answers public message signature (Err (Given fault)) = ⊥
 Answers public message signature (Err Locked) = ⊥
 Answers public message signature (Err BadName) = ⊥
 Answers public message signature (Err BadSpec) = ⊥
@@ -78,14 +83,6 @@ abbrev pub AnswersOf : {A : Type 0} → Option (List ℕ) → Option (List ℕ) 
 AnswersOf public message signature answer =
     (p : List ℕ) × (m : List ℕ) × (s : List ℕ) × IsContent public p × IsContent message m × IsContent signature s
     × Answers p m s answer
-
--- how many bytes decide of a signature: one more than the greatest has, of eight levels of H25/W1
-unfoldable pub decisive : ℕ
-decisive = 74989
-
--- These are all bytes of a signature, or as many of the first as decide.
-abbrev pub Decides : List ℕ → List ℕ → Type 0
-Decides all first = (first ≡ all) ⊎ (first ≡ take decisive all)
 
 -- What becomes of a message for an answer: what verification by the key that the public bytes spell does with it, and
 -- nothing where they spell none.
@@ -102,6 +99,8 @@ AnswerLeaves step remaining public text old new (Err FileFailed) = ⊥
 AnswerLeaves step remaining public text old new (Err (Signer fault)) = ⊥
 AnswerLeaves step remaining public text old new (Err (Opening fault)) = ⊥
 AnswerLeaves step remaining public text old new (Err (Preparing fault)) = ⊥
+AnswerLeaves step remaining public text old new (Err (Audit fault)) = ⊥
+AnswerLeaves step remaining public text old new (Err (Given fault)) = ⊥
 AnswerLeaves step remaining public text old new (Err Locked) = ⊥
 AnswerLeaves step remaining public text old new (Err BadName) = ⊥
 AnswerLeaves step remaining public text old new (Err BadSpec) = ⊥

@@ -1,14 +1,16 @@
 //! What a command answers, and how this is reported.
 
-ghost use Rattle.std.specs.Prelude.{◌≡◌, ◌++◌, codes};
-ghost use Rattle.command.specs.Answer.{IsOfWord, Reports, answer_line, done_line, status_of};
-ghost use Rattle.command.specs.Output.{Writes, text_of};
+ghost use Rattle.std.specs.Prelude.{◌≡◌};
+ghost use Rattle.command.specs.Answer.{IsOfWord, Reports, answer_line, done_lines, moved_line, report_lines, status_of};
+ghost use Rattle.command.specs.Output.{Prints, Writes, text_of};
 
 use crate::output::{Output, Part};
 use crate::refusal::Refusal;
 use arrayvec::ArrayVec;
+use key_audit::{AuditFault, GivenFault, Report};
 use sign_core::SignFault;
 use state_file::{FormatFault, OpenFault};
+use std::io;
 use typecodes::{Name, Refusal as SignatureRefusal};
 
 /// What a command has done.
@@ -22,33 +24,78 @@ pub enum Done {
     Made(ArrayVec<u8, 68>),
     /// A message was signed under this name, and the signature, of so many bytes, written.
     Signed(Name, usize),
+    /// A state file was accepted: its public key, of 56 to 68 bytes, and what its records say.
+    Audited(ArrayVec<u8, 68>, Report),
+    /// So many signatures of a key are valid, and no leaf signed two digests.
+    Checked(usize),
 }
 
 impl Done {
-    // Its line with the end, in parts.
-    fn line(&self) -> [Part<'_>; 5]
-        ensures { text_of result ≡ done_line self.now ++ codes "\n" }
+    // Prints its lines.
+    fn print<O: Output>(&self, output: &mut O) -> io::Result<()>
+        ensures { Prints (done_lines self.now) (O.taken output.old) (O.taken output.new) result }
     {
-        const END: Part<'static> = Part::Text("\n");
-        const NONE: Part<'static> = Part::Text("");
         match self {
-            Done::Verified => [Part::Text("verified"), NONE, NONE, NONE, END],
+            Done::Verified => output.print(&[Part::Text("verified\n")]),
             Done::Retired(upto) => {
                 let upto = Part::Number(u64::from(*upto));
-                [Part::Text("retired upto "), upto, NONE, NONE, END]
+                output.print(&[Part::Text("retired upto "), upto, Part::Text("\n")])
             }
             Done::Made(public) => {
                 let public = Part::Hex(public.as_slice());
-                [Part::Text("public "), public, NONE, NONE, END]
+                output.print(&[Part::Text("public "), public, Part::Text("\n")])
             }
-            Done::Signed(name, size) => [
+            Done::Signed(name, size) => output.print(&[
                 Part::Text("signed "),
                 Part::Bytes(name.as_bytes()),
                 Part::Text(" "),
                 Part::Number(*size as u64),
                 Part::Text(" bytes\n"),
-            ],
+            ]),
+            Done::Audited(public, report) => print_report(public.as_slice(), report, output),
+            Done::Checked(count) => {
+                let count = Part::Number(*count as u64);
+                output.print(&[Part::Text("given "), count, Part::Text(" signatures, no leaf twice\n")])
+            }
         }
+    }
+}
+
+// Prints the lines of a report, of the public key that these bytes spell.
+fn print_report<'a, O: Output>(
+    public: &'a [u8],
+    report: &'a Report,
+    output: &mut O,
+) -> io::Result<()>
+    ensures { Prints (report_lines public.now report.now) (O.taken output.old) (O.taken output.new) result }
+{
+    let [word, version, end] = moved(report.moved);
+    output.print(&[
+        Part::Text("public "),
+        Part::Hex(public),
+        Part::Text("\nrecords "),
+        Part::Number(u64::from(report.records)),
+        Part::Text("\ntag "),
+        Part::Hex(&report.tag),
+        Part::Text("\n"),
+        Part::Levels(report.left.as_slice()),
+        word,
+        version,
+        end,
+    ])
+}
+
+// The line of a file whose records go on in another, if they do.
+fn moved(version: Option<u16>) -> [Part<'static>; 3]
+    ensures { text_of result ≡ moved_line version }
+{
+    match version {
+        Some(version) => [
+            Part::Text("moved "),
+            Part::Number(u64::from(version)),
+            Part::Text("\n"),
+        ],
+        None => [Part::Text(""), Part::Text(""), Part::Text("")],
     }
 }
 
@@ -61,14 +108,14 @@ pub const OUTPUT_FAILED: u8 = 3;
 // The exit status of a name or a spec that is refused.
 const WORD_REFUSED: u8 = 2;
 
-/// Prints the answer's line, and gives the exit status of the program.
+/// Prints the answer's lines, and gives the exit status of the program.
 pub fn report<O: Output>(answer: &Answer, output: &mut O) -> u8
     ensures reports { Reports answer.now (O.taken output.old) (O.taken output.new) result }
     ensures refuses { result ≡ 2 → IsOfWord answer.now × Writes (answer_line answer.now) (O.taken output.old)
         (O.taken output.new) }
 {
     let printed = match answer {
-        Ok(done) => output.print(&done.line()),
+        Ok(done) => done.print(output),
         Err(refusal) => output.print(&refusal.line()),
     };
     match printed {
@@ -91,6 +138,8 @@ fn status(answer: &Answer) -> u8
             | Refusal::Signature(SignatureRefusal::MessageRead)
             | Refusal::Opening(OpenFault::DeviceFailed)
             | Refusal::Preparing(FormatFault::DeviceFailed)
+            | Refusal::Audit(AuditFault::DeviceFailed | AuditFault::OutOfMemory)
+            | Refusal::Given(GivenFault::OutOfMemory)
             | Refusal::Signer(
                 SignFault::RandomFailed
                 | SignFault::StoreFailed

@@ -2,7 +2,7 @@
 
 ghost use Rattle.std.specs.Prelude.{◌≡◌, false};
 ghost use Rattle.clap.specs.Words.{rule_of};
-ghost use Rattle.command.specs.Argument.{random_rule, required_rule};
+ghost use Rattle.command.specs.Argument.{option_rule, random_rule, required_rule, several_rule};
 
 use crate::random_file::DEFAULT_RANDOM;
 use clap::Arg;
@@ -14,6 +14,28 @@ pub fn required<'a>(alloc: Global, name: &'a str, help: &'a str) -> Arg<'a>
     ensures own { result.global ≡ false }
 {
     Arg::new(alloc, name).help(help).required(true)
+}
+
+/// Words of which one at least has to be given.
+pub fn several<'a>(alloc: Global, name: &'a str, help: &'a str) -> Arg<'a>
+    ensures rule { rule_of result ≡ several_rule name.now }
+    ensures own { result.global ≡ false }
+{
+    Arg::new(alloc, name)
+        .required(true)
+        .num_args(1..)
+        .help(help)
+}
+
+/// An option with a value, which may be left out. The value has this name in help.
+pub fn option<'a>(alloc: Global, name: &'a str, value: &'a str, help: &'a str) -> Arg<'a>
+    ensures rule { rule_of result ≡ option_rule name.now }
+    ensures own { result.global ≡ false }
+{
+    Arg::new(alloc, name)
+        .long(name)
+        .value_name(value)
+        .help(help)
 }
 
 /// `--random FILE`, which is the system's random device where it isn't given.

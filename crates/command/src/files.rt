@@ -1,19 +1,22 @@
 //! The files that a line names: how they are opened and written, and what is read of them.
 
 ghost use Rattle.std.specs.Prelude.{◌≡◌, ◌≢◌, ◌++◌, ◌∷◌, ◌<◌, ◌≤◌, ◌^◌, [], ℕ, List, None, length, take, IfErr, IfOk};
+ghost use Rattle.std.specs.Prelude.{MatchResult};
 ghost use Rattle.std.specs.Io.{ReadsAtMost};
 ghost use Rattle.std.specs.Io.KnownBytes.{Consumes, IsAtEnd, ReadConsumes};
 ghost use Rattle.std.specs.declared.option.Option.{Option};
-ghost use Rattle.typecodes.specs.Message.{read_outcome};
-ghost use Rattle.command.specs.Files.{FillsOrFails, ReadsAllOrFails, ReadsKey, Shows};
+ghost use Rattle.typecodes.specs.Message.{IsContent, read_outcome};
+ghost use Rattle.command.specs.Files.{BeginsContent, CantHold, FailsFile, FailsToHold, Fills, FillsOrFails};
+ghost use Rattle.command.specs.Files.{ReadsAllOrFails, ReadsFile, ReadsKey, ReadsStart, Shows, decisive};
 ghost use Rattle.command.specs.FileDisk.{IsStateRefusal};
-ghost use Rattle.command.specs.Trace.{ReadsOnce, checking, making, opening, opening_state, writing};
+ghost use Rattle.command.specs.Trace.{ReadsOnce, ReadsToEnd, checking, making, opening, opening_state, writing};
 ghost use Rattle.command.specs.declared.trace.Role.{Role as FileRole};
 
 use crate::refusal::Refusal;
 use crate::trace::{Role, Traced};
 use sign_core::{AnyPublic, KeyFault, Source};
 use state_file::Disk;
+use std::alloc::Global;
 use std::io;
 use std::io::ErrorKind;
 use typecodes::Message;
@@ -50,7 +53,8 @@ pub trait Folder: Traced {
             (Self.trace self.new) }
         ensures role { Self.File.role file.new ≡ Self.File.role file.old }
         ensures bound { ReadsAtMost result buffer.new }
-        ensures bytes { ReadConsumes (Self.File.remaining file.old) (Self.File.remaining file.new) result buffer.new };
+        ensures bytes { ReadConsumes (Self.File.remaining file.old) (Self.File.remaining file.new) result buffer.new }
+        ensures content { (path : List ℕ) → content self.new path ≡ content self.old path };
 }
 
 /// Where files are written.
@@ -147,8 +151,9 @@ pub fn read_key<D: Folder>(
     folder: &mut D,
     file: &mut D::File,
 ) -> io::Result<Result<AnyPublic, KeyFault>>
-    ensures { ReadsAllOrFails (D.File.role file.old) (D.File.remaining file.old) ReadsKey result
+    ensures reads { ReadsAllOrFails (D.File.role file.old) (D.File.remaining file.old) ReadsKey result
         (D.trace folder.old) (D.trace folder.new) }
+    ensures content { (path : List ℕ) → D.content folder.new path ≡ D.content folder.old path }
 {
     let mut bytes = [0; 69];
     let n = fill(folder, file, &mut bytes)?;
@@ -159,11 +164,101 @@ pub fn read_key<D: Folder>(
     Ok(Err(KeyFault::Length(length)))
 }
 
+/// Opens a public key's file and reads it to its end, as `read_key` does.
+pub fn read_key_file<D: Folder>(
+    folder: &mut D,
+    role: Role,
+    path: &str,
+) -> Result<Result<AnyPublic, KeyFault>, Refusal>
+    ensures reads { MatchResult result
+        (λ key. (bytes : List ℕ) × ReadsFile (D.content folder.old) role path.now bytes (D.trace folder.old)
+            (D.trace folder.new) × ReadsKey bytes key)
+        (λ refusal. FailsFile role path.now refusal (D.trace folder.old) (D.trace folder.new)) }
+    ensures content { (path : List ℕ) → D.content folder.new path ≡ D.content folder.old path }
+{
+    let mut file = folder.open(role, path)?;
+    Ok(read_key(folder, &mut file)?)
+}
+
+/// Opens a file and reads it to its end. Its bytes are kept.
+pub fn read_file<D: Folder>(
+    alloc: Global,
+    folder: &mut D,
+    role: Role,
+    path: &str,
+) -> Result<Vec<u8>, Refusal>
+    ensures reads { MatchResult result
+        (λ bytes. ReadsFile (D.content folder.old) role path.now bytes.items (D.trace folder.old)
+            (D.trace folder.new))
+        (λ refusal. FailsToHold role path.now refusal (D.trace folder.old) (D.trace folder.new)) }
+    ensures content { (path : List ℕ) → D.content folder.new path ≡ D.content folder.old path }
+{
+    let mut file = folder.open(role, path)?;
+    read_all(alloc, folder, &mut file)
+}
+
+/// Opens a signature's file and reads it to its end, or as far as its first bytes decide: see `DECISIVE`. They are kept.
+pub fn read_signature_file<D: Folder>(
+    alloc: Global,
+    folder: &mut D,
+    role: Role,
+    path: &str,
+) -> Result<Vec<u8>, Refusal>
+    ensures reads { MatchResult result
+        (λ first. ReadsStart (D.content folder.old) role path.now first.items (D.trace folder.old)
+            (D.trace folder.new))
+        (λ refusal. FailsToHold role path.now refusal (D.trace folder.old) (D.trace folder.new)) }
+    ensures content { (path : List ℕ) → D.content folder.new path ≡ D.content folder.old path }
+{
+    let mut file = folder.open(role, path)?;
+    read_start(alloc, folder, &mut file)
+}
+
+// Reads a file to its end, and keeps its bytes.
+fn read_all<D: Folder>(alloc: Global, folder: &mut D, file: &mut D::File) -> Result<Vec<u8>, Refusal>
+    ensures reads { MatchResult result
+        (λ bytes. IsContent (D.File.remaining file.old) bytes.items
+            × ReadsToEnd (D.File.role file.old) bytes.items (D.trace folder.old) (D.trace folder.new))
+        (λ refusal. CantHold (D.File.role file.old) refusal (D.trace folder.old) (D.trace folder.new)) }
+    ensures content { (path : List ℕ) → D.content folder.new path ≡ D.content folder.old path }
+{
+    let mut piece = [0; 4096];
+    let mut bytes = Vec::new(alloc);
+    for turn in 0..u64::MAX {
+        let n = fill(folder, file, &mut piece)?;
+        if bytes.extend_from_slice(&piece[..n]).is_err() {
+            return Err(Refusal::OutOfMemory);
+        }
+        if n < piece.len() {
+            return Ok(bytes);
+        }
+    }
+    Err(Refusal::FileFailed)
+}
+
+// Reads the first bytes of a signature's file, as many as decide, and keeps them.
+fn read_start<D: Folder>(alloc: Global, folder: &mut D, file: &mut D::File) -> Result<Vec<u8>, Refusal>
+    ensures reads { MatchResult result
+        (λ first. BeginsContent (D.File.remaining file.old) first.items
+            × Fills (D.File.role file.old) decisive first.items (D.trace folder.old) (D.trace folder.new))
+        (λ refusal. CantHold (D.File.role file.old) refusal (D.trace folder.old) (D.trace folder.new)) }
+    ensures content { (path : List ℕ) → D.content folder.new path ≡ D.content folder.old path }
+{
+    let mut first = [0; DECISIVE];
+    let n = fill(folder, file, &mut first)?;
+    let mut bytes = Vec::new(alloc);
+    if bytes.extend_from_slice(&first[..n]).is_err() {
+        return Err(Refusal::OutOfMemory);
+    }
+    Ok(bytes)
+}
+
 // Counts the bytes that are left, in pieces that it doesn't keep.
 fn count_rest<D: Folder>(folder: &mut D, file: &mut D::File) -> io::Result<usize>
     ensures counts { ReadsAllOrFails (D.File.role file.old) (D.File.remaining file.old) (λ rest n. n ≡ length rest)
         result (D.trace folder.old) (D.trace folder.new) }
     ensures bound { IfOk result (λ n. n < 2 ^ 61) }
+    ensures content { (path : List ℕ) → D.content folder.new path ≡ D.content folder.old path }
 {
     let mut piece = [0; 4096];
     let mut count = 0;
@@ -188,6 +283,7 @@ pub fn fill<D: Folder>(folder: &mut D, file: &mut D::File, buffer: &mut [u8]) ->
     ensures end { IfOk result (λ n. n < length buffer.new → IsAtEnd (D.File.remaining file.new)) }
     ensures role { D.File.role file.new ≡ D.File.role file.old }
     ensures trace { FillsOrFails (D.File.role file.old) result buffer.new (D.trace folder.old) (D.trace folder.new) }
+    ensures content { (path : List ℕ) → D.content folder.new path ≡ D.content folder.old path }
 {
     let mut at = 0;
     for turn in 0..u64::MAX {

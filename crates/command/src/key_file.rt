@@ -2,21 +2,15 @@
 
 ghost use Rattle.std.specs.Prelude.{◌≡◌, vec_capacity};
 ghost use Rattle.state_file.specs.FileStore.{disk_of};
-ghost use Rattle.command.specs.KeyFile.{FindsRecords, MakesOn, OpensOn, PreparesDisk, RetiresOn, SignsFor, SignsOn};
+ghost use Rattle.command.specs.KeyFile.{AuditsOn, MakesOn, OpensOn, RetiresOn, SignsFor, SignsOn, audit_reported};
 
 use crate::refusal::Refusal;
 use crate::signing;
+use key_audit::{Anchor, AuditFault, Report};
 use sign_core::{SignFault, Signer, Source, TapeSource};
-use state_file::{Disk, FileStore, FormatFault, OpenFault, Refused, Store};
+use state_file::{Disk, FileStore, Refused, Store};
 use std::alloc::Global;
 use typecodes::{Message, Name, Spec};
-
-// Finds the records of a disk. A refusal hands the disk back.
-fn find_records<D: Disk + Drop>(disk: D) -> Result<FileStore<D>, Refused<D, OpenFault>>
-    ensures { FindsRecords D.Disk disk result }
-{
-    FileStore::open(disk)
-}
 
 // A signer's refusal, with the disk of its store.
 fn handed_back<D: Disk + Drop, R: Source + Drop>(
@@ -41,7 +35,7 @@ pub fn open_signer<D: Disk + Drop, R: Source + Drop>(
 ) -> Result<Signer<FileStore<D>, R>, Refused<D, Refusal>>
     ensures { OpensOn D.Disk ⟦<FileStore<D> as Store>⟧ disk random result }
 {
-    match find_records(disk) {
+    match FileStore::open(disk) {
         Ok(store) => match Signer::open(alloc, store, random) {
             Ok(signer) => Ok(signer),
             Err(refused) => Err(handed_back(refused)),
@@ -67,13 +61,6 @@ pub fn retire<D: Disk + Drop>(alloc: Global, disk: D, upto: u32) -> (D, Result<(
     }
 }
 
-// Prepares a disk for a key. A refusal hands the disk back.
-fn prepare<D: Disk + Drop>(disk: D) -> Result<FileStore<D>, Refused<D, FormatFault>>
-    ensures { PreparesDisk D.Disk disk result }
-{
-    FileStore::format(disk)
-}
-
 /// Makes a key on a disk that has none, and gives the signer of it. A refusal hands the disk back.
 pub fn make<D: Disk + Drop, R: Source + Drop>(
     alloc: Global,
@@ -83,7 +70,7 @@ pub fn make<D: Disk + Drop, R: Source + Drop>(
 ) -> Result<Signer<FileStore<D>, R>, Refused<D, Refusal>>
     ensures { MakesOn D.Disk ⟦<FileStore<D> as Store>⟧ R.Source disk spec random result }
 {
-    match prepare(disk) {
+    match FileStore::format(disk) {
         Ok(store) => match Signer::create(alloc, spec, store, random) {
             Ok(signer) => Ok(signer),
             Err(refused) => Err(handed_back(refused)),
@@ -130,5 +117,33 @@ pub fn sign<D: Disk + Drop, R: Source + Drop, M: Message>(
             (signer.into_store().into_disk(), signed)
         }
         Err(refused) => (refused.given, Err(refused.fault)),
+    }
+}
+
+/// Audits the records of a disk, and gives the disk back.
+pub fn audit<D: Disk + Drop>(
+    alloc: Global,
+    disk: D,
+    anchor: Option<Anchor>,
+) -> (D, Result<Report, Refusal>)
+    ensures { AuditsOn D.Disk disk result.0 anchor result.1 }
+{
+    match FileStore::open(disk) {
+        Ok(store) => {
+            let mut store = store;
+            let audited = reported(key_audit::audit(alloc, &mut store, anchor));
+            (store.into_disk(), audited)
+        }
+        Err(refused) => (refused.given, Err(Refusal::Opening(refused.fault))),
+    }
+}
+
+// What an audit answers, as it is reported.
+fn reported(audited: Result<Report, AuditFault>) -> Result<Report, Refusal>
+    ensures { result ≡ audit_reported audited }
+{
+    match audited {
+        Ok(report) => Ok(report),
+        Err(fault) => Err(Refusal::Audit(fault)),
     }
 }

@@ -2,12 +2,15 @@
 
 ghost use Rattle.std.specs.Prelude.{◌≡◌, ◌≢◌, ◌⊎◌, ◌+◌, ℕ, [], Ok, IfErr, IfOk, MatchResult, map};
 ghost use Rattle.clap.specs.Words.{HasKind, app_of, fault_of, kind_of, subcommand_of, subcommand_rows_of};
-ghost use Rattle.command.specs.Line.{AreTexts, IsLineOf, IsShownLineOf, hbsign_app, lack_kind};
+ghost use Rattle.clap.specs.Words.{found_of, rows_of};
+ghost use Rattle.command.specs.Line.{AreTexts, IsLineOf, IsShownLineOf, bare_app, fixed_task_named, hbsign_app, lack_kind};
 ghost use Rattle.command.specs.Line.{task_found, task_of, task_or_lack};
 ghost use Rattle.command.specs.Line.{Task as LineTask};
 ghost use Rattle.command.specs.LineFault.{CountsRefusals, HasLineFault, HasText, line_faults};
 
 use crate::answer::Answer;
+use crate::audit::Audit;
+use crate::audit_given::AuditGiven;
 use crate::files::SignerFolder;
 use crate::line_fault::LineFault;
 use crate::make::Make;
@@ -23,7 +26,7 @@ use std::convert::AsStr;
 use typecodes::Count;
 
 /// What a line requests.
-#[derive(Clone, Copy, Debug)]
+#[derive(Debug, Drop)]
 pub enum Request<'a> {
     /// To make a key.
     Make(Make<'a>),
@@ -33,6 +36,10 @@ pub enum Request<'a> {
     Verify(Verify<'a>),
     /// To retire leaves.
     Retire(Retire<'a>),
+    /// To audit a state file.
+    Audit(Audit<'a>),
+    /// To check signatures that were given out.
+    AuditGiven(AuditGiven<'a>),
 }
 
 impl<'a> Request<'a> {
@@ -50,6 +57,8 @@ impl<'a> Request<'a> {
             Request::Sign(words) => words.answer(alloc, folder),
             Request::Verify(files) => files.answer(folder),
             Request::Retire(words) => words.answer(alloc, folder),
+            Request::Audit(words) => words.answer(alloc, folder),
+            Request::AuditGiven(words) => words.answer(alloc, folder),
         }
     }
 }
@@ -61,6 +70,14 @@ pub enum Lack {
     Command,
     /// UPTO is no decimal number, or too great a one.
     Number,
+    /// K of `--count` is no decimal number, or too great a one.
+    Count,
+    /// T of `--tag` isn't 64 hex digits.
+    Tag,
+    /// One of `--count` and `--tag` was given without the other.
+    Anchor,
+    /// A message was given without a signature.
+    Pairs,
 }
 
 impl Lack {
@@ -70,7 +87,9 @@ impl Lack {
     {
         match self {
             Lack::Command => ErrorKind::MissingSubcommand,
-            Lack::Number => ErrorKind::ValueValidation,
+            Lack::Number | Lack::Count | Lack::Tag => ErrorKind::ValueValidation,
+            Lack::Anchor => ErrorKind::MissingRequiredArgument,
+            Lack::Pairs => ErrorKind::WrongNumberOfValues,
         }
     }
 
@@ -79,6 +98,10 @@ impl Lack {
         match self {
             Lack::Command => "no command was given",
             Lack::Number => "UPTO is a decimal number up to 33554432",
+            Lack::Count => "K of --count is a decimal number up to 2147483648",
+            Lack::Tag => "T of --tag is 64 hex digits",
+            Lack::Anchor => "--count and --tag are given together, or neither is",
+            Lack::Pairs => "FILES are messages, each with its signature after it",
         }
     }
 }
@@ -151,7 +174,7 @@ fn read<'a, S: AsStr>(alloc: Global, words: &'a [S]) -> Result<Request<'a>, Erro
 {
     let mut command = hbsign(alloc)?;
     let matches = command.try_get_matches_from_mut(words)?;
-    match find_request(&matches) {
+    match find_request(alloc, &matches)? {
         Ok(request) => Ok(request),
         Err(lack) => Err(command.error(lack.kind(), lack.message())?),
     }
@@ -161,26 +184,51 @@ fn read<'a, S: AsStr>(alloc: Global, words: &'a [S]) -> Result<Request<'a>, Erro
 fn hbsign<'a>(alloc: Global) -> Result<Command<'a>, AllocError>
     ensures { IfOk result (λ command. app_of command ≡ hbsign_app) }
 {
-    Command::new(alloc, "hbsign")
+    bare_hbsign(alloc)?
+        .subcommand(Make::command(alloc)?)?
+        .subcommand(Sign::command(alloc)?)?
+        .subcommand(Verify::command(alloc)?)?
+        .subcommand(Retire::command(alloc)?)?
+        .subcommand(Audit::command(alloc)?)?
+        .subcommand(AuditGiven::command(alloc)?)
+}
+
+// The program, before its commands.
+fn bare_hbsign<'a>(alloc: Global) -> Result<Command<'a>, AllocError>
+    ensures { IfOk result (λ command. app_of command ≡ bare_app) }
+{
+    Ok(Command::new(alloc, "hbsign")
         .bin_name("hbsign")?
         .about("Hash-based signatures on files")
         .version(VERSION)
         .no_binary_name(true)
         .subcommand_required(true)
-        .arg_required_else_help(true)
-        .subcommand(Make::command(alloc)?)?
-        .subcommand(Sign::command(alloc)?)?
-        .subcommand(Verify::command(alloc)?)?
-        .subcommand(Retire::command(alloc)?)
+        .arg_required_else_help(true))
 }
 
-// The request: the subcommand that was used, with its words.
-fn find_request<'a>(matches: &ArgMatches<'a>) -> Result<Request<'a>, Lack>
-    ensures { task_or_lack result ≡ task_found (subcommand_rows_of matches.now) }
+// The request: the subcommand that was used, with its words. Memory is wanted for the files of `audit-given`.
+fn find_request<'a>(
+    alloc: Global,
+    matches: &ArgMatches<'a>,
+) -> Result<Result<Request<'a>, Lack>, AllocError>
+    ensures { IfOk result (λ found. task_or_lack found ≡ task_found (subcommand_rows_of matches.now)) }
 {
     let Some((name, words)) = matches.subcommand() else {
-        return Err(Lack::Command);
+        return Ok(Err(Lack::Command));
     };
+    match name {
+        AuditGiven::NAME => match AuditGiven::of(alloc, words)? {
+            Ok(words) => Ok(Ok(Request::AuditGiven(words))),
+            Err(lack) => Ok(Err(lack)),
+        },
+        _ => Ok(find_fixed_request(name, words)),
+    }
+}
+
+// The request of a subcommand that has as many values on each line, with its words.
+fn find_fixed_request<'a>(name: &str, words: &ArgMatches<'a>) -> Result<Request<'a>, Lack>
+    ensures { task_or_lack result ≡ fixed_task_named name.now (rows_of (found_of words.now)) }
+{
     match name {
         Make::NAME => match Make::of(words) {
             Some(words) => Ok(Request::Make(words)),
@@ -196,6 +244,10 @@ fn find_request<'a>(matches: &ArgMatches<'a>) -> Result<Request<'a>, Lack>
         },
         Retire::NAME => match Retire::of(words) {
             Ok(words) => Ok(Request::Retire(words)),
+            Err(lack) => Err(lack),
+        },
+        Audit::NAME => match Audit::of(words) {
+            Ok(words) => Ok(Request::Audit(words)),
             Err(lack) => Err(lack),
         },
         _ => Err(Lack::Command),

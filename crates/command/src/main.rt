@@ -23,6 +23,8 @@
 
 mod answer;
 mod argument;
+mod audit;
+mod audit_given;
 mod file_disk;
 mod file_id;
 mod files;

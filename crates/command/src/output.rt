@@ -3,7 +3,8 @@
 ghost use Rattle.std.specs.Prelude.{◌≡◌, OnOk};
 ghost use Rattle.std.specs.Io.KnownBytes.{Appends};
 ghost use Rattle.hex.specs.Hex.{encode_lower};
-ghost use Rattle.command.specs.Output.{CountsFailure, Prints, Taken, part_text, taken_of, text_of};
+ghost use Rattle.command.specs.Output.{CountsFailure, Prints, Taken, level_line, level_lines, part_text, taken_of};
+ghost use Rattle.command.specs.Output.{text_of};
 
 use std::io;
 use std::io::Write;
@@ -20,6 +21,8 @@ pub enum Part<'a> {
     Bytes(&'a [u8]),
     /// These bytes, each by its two lower-case hex digits.
     Hex(&'a [u8]),
+    /// A line for each level, which says how many of its leaves are left, by these numbers; level 0 is the first.
+    Levels(&'a [u32]),
 }
 
 /// What takes the texts of the program.
@@ -80,7 +83,29 @@ fn write_part<W: Write>(writer: &mut W, part: &Part<'_>) -> io::Result<()>
         Part::Number(number) => writer.write_fmt(*number),
         Part::Bytes(bytes) => writer.write_all(bytes),
         Part::Hex(bytes) => write_hex(writer, bytes),
+        Part::Levels(left) => write_levels(writer, left),
     }
+}
+
+// Writes the lines of levels.
+fn write_levels<W: Write>(writer: &mut W, left: &[u32]) -> io::Result<()>
+    ensures { OnOk result (Appends (W.contents writer.old) (W.contents writer.new) (level_lines 0 left.now)) }
+{
+    for level in 0..left.len() {
+        write_level(writer, level, left[level])?;
+    }
+    Ok(())
+}
+
+// Writes the line of a level.
+fn write_level<W: Write>(writer: &mut W, level: usize, left: u32) -> io::Result<()>
+    ensures { OnOk result (Appends (W.contents writer.old) (W.contents writer.new) (level_line level left)) }
+{
+    writer.write_all("level ".as_bytes())?;
+    writer.write_fmt(level as u64)?;
+    writer.write_all(" left ".as_bytes())?;
+    writer.write_fmt(u64::from(left))?;
+    writer.write_all("\n".as_bytes())
 }
 
 // Writes bytes by their hex digits.

@@ -1,13 +1,14 @@
 //! Why a command refuses: each refusal with its number, its name and its line.
 
-ghost use Rattle.std.specs.Prelude.{◌≡◌, ◌++◌, codes};
+ghost use Rattle.std.specs.Prelude.{◌≡◌, ◌++◌, codes, decimal};
 ghost use Rattle.std.specs.IoError.{error_kind};
 ghost use Rattle.command.specs.Output.{text_of};
 ghost use Rattle.command.specs.Refusal.{detail_of, fault_name_of, name_of, number_of, refusal_line, refusal_of};
 ghost use Rattle.command.specs.Refusal.{format_name_of, format_number_of, open_name_of, open_number_of};
-ghost use Rattle.command.specs.Refusal.{signer_name_of, signer_number_of};
+ghost use Rattle.command.specs.Refusal.{audit_name_of, given_name_of, signer_name_of};
 
 use crate::output::Part;
+use key_audit::{AuditFault, GivenFault};
 use sign_core::{KeyFault, SignFault};
 use state_file::{FormatFault, OpenFault};
 use std::io;
@@ -27,6 +28,10 @@ pub enum Refusal {
     Opening(OpenFault),
     /// 41, 45 and 50: the state file isn't prepared for a key.
     Preparing(FormatFault),
+    /// 26, 40 and 43 to 48: an audit doesn't accept the state file.
+    Audit(AuditFault),
+    /// 46, 60 and 61: signatures that were given out aren't those of a key whose leaves sign once.
+    Given(GivenFault),
     /// 46: there is no memory.
     OutOfMemory,
     /// 53: a file can't be opened, or the key's or the signature's can't be read.
@@ -48,9 +53,11 @@ impl Refusal {
             Refusal::Key(KeyFault::Length(_)) => 6,
             Refusal::Key(KeyFault::Unreadable(fault)) => fault.cause.number(),
             Refusal::Signature(refusal) => refusal.number(),
-            Refusal::Signer(fault) => signer_number(*fault),
+            Refusal::Signer(fault) => fault.number(),
             Refusal::Opening(fault) => open_number(*fault),
             Refusal::Preparing(fault) => format_number(*fault),
+            Refusal::Audit(fault) => fault.number(),
+            Refusal::Given(fault) => fault.number(),
             Refusal::OutOfMemory => 46,
             Refusal::FileFailed => 53,
             Refusal::Locked => 54,
@@ -74,6 +81,8 @@ impl Refusal {
             Refusal::Signer(fault) => signer_name(*fault),
             Refusal::Opening(fault) => open_name(*fault),
             Refusal::Preparing(fault) => format_name(*fault),
+            Refusal::Audit(fault) => audit_name(*fault),
+            Refusal::Given(fault) => given_name(*fault),
             Refusal::OutOfMemory => "OutOfMemory",
             Refusal::FileFailed => "FileFailed",
             Refusal::Locked => "Locked",
@@ -82,37 +91,42 @@ impl Refusal {
         }
     }
 
-    // What follows the name: a word and a number, or nothing.
-    fn detail(&self) -> [Part<'static>; 2]
+    // What follows the name: a word and a number, and maybe one more of each; or nothing.
+    fn detail(&self) -> [Part<'static>; 4]
         ensures { text_of result ≡ detail_of self.now }
     {
         match self {
             Refusal::Key(KeyFault::Unreadable(fault))
             | Refusal::Signature(SignatureRefusal::Unreadable(fault)) => {
-                [Part::Text(" at "), Part::Number(u64::from(fault.place))]
+                number_detail(" at ", u64::from(fault.place))
             }
-            Refusal::Key(KeyFault::Length(length)) => [
-                Part::Text(" of "),
-                Part::Number(*length as u64),
-            ],
+            Refusal::Key(KeyFault::Length(length)) => number_detail(" of ", *length as u64),
             Refusal::Signature(
                 SignatureRefusal::TypeMismatch(level) | SignatureRefusal::RootMismatch(level),
-            ) => [Part::Text(" level "), Part::Number(u64::from(*level))],
+            ) => number_detail(" level ", u64::from(*level)),
             Refusal::Signer(
                 SignFault::Damaged(slot) | SignFault::Unreadable(slot) | SignFault::Illegal(slot),
             )
-            | Refusal::Opening(OpenFault::Damaged(slot)) => {
-                [Part::Text(" slot "), Part::Number(u64::from(*slot))]
+            | Refusal::Opening(OpenFault::Damaged(slot))
+            | Refusal::Audit(AuditFault::Damaged(slot) | AuditFault::Illegal(slot)) => {
+                number_detail(" slot ", u64::from(*slot))
             }
-            _ => [Part::Text(""), Part::Text("")],
+            Refusal::Given(GivenFault::NotValid(place)) => number_detail(" file ", *place as u64),
+            Refusal::Given(GivenFault::LeafTwice(first, second)) => [
+                Part::Text(" files "),
+                Part::Number(*first as u64),
+                Part::Text(" "),
+                Part::Number(*second as u64),
+            ],
+            _ => [NONE; 4],
         }
     }
 
     /// Its line with the end, in parts, which take no memory.
-    pub fn line(&self) -> [Part<'static>; 7]
+    pub fn line(&self) -> [Part<'static>; 9]
         ensures { text_of result ≡ refusal_line self.now ++ codes "\n" }
     {
-        let [word, number] = self.detail();
+        let [word, number, second_word, second_number] = self.detail();
         [
             Part::Text("refused "),
             Part::Number(u64::from(self.number())),
@@ -120,35 +134,21 @@ impl Refusal {
             Part::Text(self.name()),
             word,
             number,
+            second_word,
+            second_number,
             Part::Text("\n"),
         ]
     }
 }
 
-// The number of a signer's fault.
-fn signer_number(fault: SignFault) -> u8
-    ensures { result ≡ signer_number_of fault }
+// No text.
+const NONE: Part<'static> = Part::Text("");
+
+// A word and a number.
+fn number_detail(word: &'static str, number: u64) -> [Part<'static>; 4]
+    ensures { text_of result ≡ word.now ++ decimal number }
 {
-    match fault {
-        SignFault::Changed => 21,
-        SignFault::Exhausted => 22,
-        SignFault::RandomFailed => 23,
-        SignFault::RandomRepeated => 24,
-        SignFault::StoreFailed => 25,
-        SignFault::Stopped => 26,
-        SignFault::MessageRead => 27,
-        SignFault::Damaged(_) => 28,
-        SignFault::OutOfMemory => 29,
-        SignFault::LedgerFull => 30,
-        SignFault::Moved => 31,
-        SignFault::RetireRange => 32,
-        SignFault::NoKey => 40,
-        SignFault::Unreadable(_) => 43,
-        SignFault::Illegal(_) => 44,
-        SignFault::DeviceFailed => 45,
-        SignFault::NoMemoryToOpen => 46,
-        SignFault::KeyThere => 50,
-    }
+    [Part::Text(word), Part::Number(number), NONE, NONE]
 }
 
 // The name of a signer's fault.
@@ -220,6 +220,33 @@ fn format_name(fault: FormatFault) -> &'static str
         FormatFault::NotKeyFile => "NotKeyFile",
         FormatFault::DeviceFailed => "DeviceFailed",
         FormatFault::KeyThere => "KeyThere",
+    }
+}
+
+// The name of an audit's fault.
+fn audit_name(fault: AuditFault) -> &'static str
+    ensures { result.now ≡ audit_name_of fault }
+{
+    match fault {
+        AuditFault::Stopped => "Stopped",
+        AuditFault::NoKey => "NoKey",
+        AuditFault::Damaged(_) => "Damaged",
+        AuditFault::Illegal(_) => "Illegal",
+        AuditFault::DeviceFailed => "DeviceFailed",
+        AuditFault::OutOfMemory => "OutOfMemory",
+        AuditFault::AnchorCount => "AnchorCount",
+        AuditFault::AnchorTag => "AnchorTag",
+    }
+}
+
+// The name of a fault of signatures that were given out.
+fn given_name(fault: GivenFault) -> &'static str
+    ensures { result.now ≡ given_name_of fault }
+{
+    match fault {
+        GivenFault::NotValid(_) => "NotValid",
+        GivenFault::LeafTwice(_, _) => "LeafTwice",
+        GivenFault::OutOfMemory => "OutOfMemory",
     }
 }
 

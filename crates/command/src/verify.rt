@@ -3,9 +3,9 @@
 ghost use Rattle.std.specs.Prelude.{◌≡◌, ◌↔◌, ℕ, List, Some, take, codes, IfErr, IfOk, IfSome, IsSome, IsErrAnd};
 ghost use Rattle.clap.specs.declared.builder.command.Command.{Command as ClapCommand};
 ghost use Rattle.clap.specs.Words.{AddsSubcommand, app_of, first_value, found_of, with_subcommand};
-ghost use Rattle.command.specs.Verify.{AnswerLeaves, AnswersOf, Decides, Judgement, OpensInTurn};
+ghost use Rattle.command.specs.Verify.{AnswerLeaves, AnswersOf, Judgement, OpensInTurn};
 ghost use Rattle.command.specs.Verify.{ReadsInTurn, Verifies, verify_app};
-ghost use Rattle.command.specs.Files.{ReadsKey, Shows};
+ghost use Rattle.command.specs.Files.{Decides, ReadsKey, Shows};
 ghost use Rattle.typecodes.specs.Message.{IsContent};
 
 use crate::answer::{Answer, Done};

@@ -47,6 +47,7 @@ loop-turn-preserved g c = (
   c.fill.ensures.role ∙ c.loop-turn.invariant.2,
   counted _ _ c.loop-turn.count c.in_ok-n.n _ _ _ _ c.fill.new.buffer _ _ _ c.in_ok-n.ensures.within (omega arith) c.loop-turn.invariant.2
       c.in_ok-n.ensures.bytes c.in_ok-n.ensures.trace c.loop-turn.invariant.3,
+  λ path. c.fill.ensures.content path ∙ c.loop-turn.invariant.4 path,
 )
 
 pub returns-in_err-n-clause-counts : goal.returns-in_err-n-clause-counts
@@ -69,4 +70,16 @@ returns-clause-counts g c = elim c.loop-turn-test.branch [
       let (bytes, count_is, consumed, reads) = counted _ _ c.loop-turn.count w.in_ok-n.n _ _ _ _ w.fill.new.buffer _ _ _ w.in_ok-n.ensures.within
       (omega arith) c.loop-turn.invariant.2 w.in_ok-n.ensures.bytes w.in_ok-n.ensures.trace c.loop-turn.invariant.3 in
       rw w.folder-is (gives_forever _ bytes _ _ _ reads (omega arith) (too_large _ (search rules)))
+]
+
+pub returns-in_err-n-clause-content : goal.returns-in_err-n-clause-content
+returns-in_err-n-clause-content g c = λ path. c.fill.ensures.content path ∙ c.loop-turn.invariant.4 path
+
+pub returns-then-n-lt4096-clause-content : goal.returns-then-n-lt4096-clause-content
+returns-then-n-lt4096-clause-content g c = λ path. c.fill.ensures.content path ∙ c.loop-turn.invariant.4 path
+
+pub returns-clause-content : goal.returns-clause-content
+returns-clause-content g c = elim c.loop-turn-test.branch [
+  | else-loop-turn-test w ↦ rw w.folder-is c.loop-turn.invariant.4
+  | then-loop-turn-test+in_ok-n+else-n-lt4096+then-count-ge-MOST w ↦ rw w.folder-is (λ path. w.fill.ensures.content path ∙ c.loop-turn.invariant.4 path)
 ]

@@ -9,3 +9,4 @@ invariant-loop-turn g l =
     × ((bytes : List ℕ) × (l.count ≡ length bytes)
     × Consumes (g.D.File.OpenFile.remaining l.initial.file) (g.D.File.OpenFile.remaining l.file) bytes
     × ReadsOn (g.D.File.OpenFile.role l.initial.file) bytes (g.D.Traced.trace l.initial.folder) (g.D.Traced.trace l.folder))
+    × ((path : List ℕ) → g.D.Folder.content l.folder path ≡ g.D.Folder.content l.initial.folder path)

@@ -28,13 +28,13 @@ loop-turn-preserved g c =
           let role = w.in-Ok.ensures.role ∙ c.loop-turn.invariant.3 in
           let once = same_role _ _ _ _ (Ok (take w.in-Ok.n c.read.new.buffer)) c.loop-turn.invariant.3 w.in-Ok.ensures.trace in
           let progress = read-more _ _ _ _ _ _ _ _ c.loop-turn.invariant.4 once whole (search rules) in
-          rw w.at-is (search rules, search rules, more, role, progress)
+          rw w.at-is (search rules, search rules, more, role, progress, λ path. w.in-Ok.ensures.content path ∙ c.loop-turn.invariant.5 path)
       | in-Err+else-ne w ↦
           let same = subst (Consumes _ _) (sym front) (Consumes-kept _ _ _ _ c.loop-turn.invariant.2 w.in-Err.ensures.bytes) in
           let role = w.in-Err.ensures.role ∙ c.loop-turn.invariant.3 in
           let once = same_role _ _ _ _ (Err _) c.loop-turn.invariant.3 w.in-Err.ensures.trace in
           let progress = interrupted-once _ _ _ _ _ _ _ _ c.loop-turn.invariant.4 once (search rules) (sym front) in
-          rw w.at-is (search rules, search rules, same, role, progress)
+          rw w.at-is (search rules, search rules, same, role, progress, λ path. w.in-Err.ensures.content path ∙ c.loop-turn.invariant.5 path)
     ]
 
 pub returns-then-at-buffer-clause-role : goal.returns-then-at-buffer-clause-role
@@ -86,3 +86,15 @@ returns-clause-role g c = c.loop-turn.invariant.3
 
 pub returns-clause-trace : goal.returns-clause-trace
 returns-clause-trace g c = takes_forever _ _ _ _ _ _ c.loop-turn.invariant.4 (omega arith) (timed_out _ (search rules))
+
+pub returns-then-at-buffer-clause-content : goal.returns-then-at-buffer-clause-content
+returns-then-at-buffer-clause-content g c = c.loop-turn.invariant.5
+
+pub returns-in-Ok-eq0-clause-content : goal.returns-in-Ok-eq0-clause-content
+returns-in-Ok-eq0-clause-content g c = λ path. c.read.ensures.content path ∙ c.loop-turn.invariant.5 path
+
+pub returns-then-ne-clause-content : goal.returns-then-ne-clause-content
+returns-then-ne-clause-content g c = λ path. c.read.ensures.content path ∙ c.loop-turn.invariant.5 path
+
+pub returns-clause-content : goal.returns-clause-content
+returns-clause-content g c = c.loop-turn.invariant.5

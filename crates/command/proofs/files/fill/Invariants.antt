@@ -1,4 +1,4 @@
-use Rattle.std.proofs.Common.{◌≡◌, ◌≤◌, length, take}
+use Rattle.std.proofs.Common.{◌≡◌, ◌≤◌, ℕ, List, length, take}
 use Rattle.std.specs.Io.KnownBytes.{Consumes}
 use Rattle.typecodes.proofs.Messages.{Progress}
 use Rattle.command.specs.Trace.{ReadsOnce}
@@ -10,3 +10,4 @@ invariant-loop-turn g l =
     × Consumes (g.D.File.OpenFile.remaining l.initial.file) (g.D.File.OpenFile.remaining l.file) (take l.at l.buffer)
     × (g.D.File.OpenFile.role l.file ≡ g.D.File.OpenFile.role l.initial.file)
     × Progress (ReadsOnce (g.D.File.OpenFile.role l.initial.file)) l.turn (take l.at l.buffer) (g.D.Traced.trace l.initial.folder) (g.D.Traced.trace l.folder)
+    × ((path : List ℕ) → g.D.Folder.content l.folder path ≡ g.D.Folder.content l.initial.folder path)

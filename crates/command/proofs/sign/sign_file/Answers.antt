@@ -1,4 +1,3 @@
-use Rattle.std.proofs.Common.{inr}
 use Rattle.command.proofs.KeyLines.{delivered_err, delivered_ok, signs_and_delivers}
 use Rattle.command.proofs.sign.sign_file.Goals as goal
 

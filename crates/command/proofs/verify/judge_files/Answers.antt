@@ -17,7 +17,7 @@ pub returns-clause-answers : goal.returns-clause-answers
 returns-clause-answers g c =
     let buffer = c.fill.new.buffer in
     let size : length buffer ≡ 74989 = search rules in
-    let (p, p_fits, reads, p_reads) = c.in_ok-key.ensures in
+    let (p, p_fits, reads, p_reads) = c.in_ok-key.ensures.reads in
     let (s, s_fits, s_is) = first_of 74989 c.in_ok-n.n _ _ buffer size c.in_ok-n.ensures.within c.in_ok-n.ensures.bytes c.in_ok-n.ensures.end in
     let (m, m_fits, judged, leaves) = c.judge-answer.ensures.judges p s reads (inr (s_is ∙ ap (λ n. take n s) decisive_is)) in
     (p, m, s, p_fits, m_fits, s_fits, judgement_answers p m s c.judge-answer.result judged)
@@ -27,7 +27,7 @@ returns-clause-order g c =
     let buffer = c.fill.new.buffer in
     let size : length buffer ≡ 74989 = search rules in
     let s = take c.in_ok-n.n buffer in
-    let (p, p_fits, reads, p_reads) = c.in_ok-key.ensures in
+    let (p, p_fits, reads, p_reads) = c.in_ok-key.ensures.reads in
     let fills = fills_same _ _ _ s _ _ (size ∙ decisive_is) c.in_ok-n.ensures.trace in
     let (m, m_fits, judged, leaves) = c.judge-answer.ensures.judges p s reads (inl refl) in
     let folder = message-stays _ _ (λ reader. reader.folder.ghost_name) (λ old outcome new step. step.0) _ _ _ _ _ leaves in

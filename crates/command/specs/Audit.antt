@@ -1,0 +1,81 @@
+-- `audit STATE [--count K] [--tag T]`: its words, and what it does.
+use Rattle.std.specs.Prelude.{◌≡◌, ◌⊎◌, ◌++◌, ◌∷◌, [], ℕ, List, codes, Option, Some, None, Result, Ok, Err}
+use Rattle.clap.specs.Words.{App, Text, new_app, with_rule}
+use Rattle.hex.specs.Hex.{decode_sized}
+use Rattle.hex.specs.declared.error.FromHexError.{FromHexError}
+use Rattle.key_audit.specs.declared.report.Anchor.{Anchor}
+use Rattle.key_audit.specs.declared.report.Report.{Report}
+use Rattle.sign_core.specs.Key.{SpellsKey}
+use Rattle.state_file.specs.declared.disk.Disk as disk
+use Rattle.command.specs.declared.answer.Done.{Done}
+use Rattle.command.specs.declared.answer.Done.TheVariants.{Audited}
+use Rattle.command.specs.declared.audit.Audit.{Audit}
+use Rattle.command.specs.declared.line.Lack.{Lack}
+use Rattle.command.specs.declared.line.Lack.TheVariants as lack
+use Rattle.command.specs.declared.refusal.Refusal.{Refusal}
+use Rattle.command.specs.declared.trace.Role.TheVariants as role
+use Rattle.command.specs.Argument.{option_rule, required_rule}
+use Rattle.command.specs.FileDisk.{IsStateRefusal}
+use Rattle.command.specs.Files.{FilesSeen}
+use Rattle.command.specs.KeyFile.{AuditsOn}
+use Rattle.command.specs.Number.{number_in}
+use Rattle.command.specs.Signing.{PublicBytes}
+use Rattle.command.specs.Trace.{Happening, opened, opening_state}
+
+-- the command
+abbrev pub audit_app : App
+audit_app = with_rule (with_rule (with_rule (new_app (codes "audit")) (required_rule (codes "STATE")))
+    (option_rule (codes "count"))) (option_rule (codes "tag"))
+
+-- ---- the words of an anchor
+
+-- the records that a file has at most, 2^31
+abbrev pub most_records : ℕ
+most_records = 2147483648
+
+-- what was decoded
+abbrev pub decoded : Result (List ℕ) FromHexError → Option (List ℕ)
+decoded (Ok bytes) = Some bytes
+decoded (Err _) = None
+
+-- the tag that a text spells, by 64 hex digits
+abbrev pub tag_in : Text → Option (List ℕ)
+tag_in text = decoded (decode_sized text 32)
+
+-- the anchor of a count and a tag, where both are spelled
+abbrev pub anchor_with : Option ℕ → Option (List ℕ) → Result (Option Anchor) Lack
+anchor_with (Some count) (Some tag) = Ok (Some (record { count = count; tag = tag }))
+anchor_with None _ = Err lack.Count
+anchor_with (Some _) None = Err lack.Tag
+
+-- the anchor of the texts of a count and a tag: both are given, or neither is
+abbrev pub anchor_in : (count tag : Option Text) → Result (Option Anchor) Lack
+anchor_in None None = Ok None
+anchor_in (Some count) (Some tag) = anchor_with (number_in most_records count) (tag_in tag)
+anchor_in None (Some _) = Err lack.Anchor
+anchor_in (Some _) None = Err lack.Anchor
+
+-- what the values of the words say: a state file and maybe an anchor; or the file isn't given, or there is no anchor
+abbrev pub IsAudit : (state count tag : Option Text) → Result Audit Lack → Type 0
+IsAudit state count tag (Ok words) = (state ≡ Some words.state.now) × (anchor_in count tag ≡ Ok words.anchor)
+IsAudit state count tag (Err fault) = ((state ≡ None) × (fault ≡ lack.Command))
+    ⊎ ((path : Text) × (state ≡ Some path) × (anchor_in count tag ≡ Err fault))
+
+-- ---- what it does
+
+-- The answer says what came of an audit: of a report it has the bytes of the public key, too.
+abbrev pub IsAudited : Result Report Refusal → Result Done Refusal → Type 0
+IsAudited (Ok report) answer = (bytes : PublicBytes) × SpellsKey report.public bytes.items
+    × (answer ≡ Ok (Audited bytes report))
+IsAudited (Err refusal) answer = answer ≡ Err refusal
+
+-- The state file at this path couldn't be opened, or is locked, which is reported. Or it was opened; the disk that this
+-- gave was audited, once, and it was closed; what came of it is the answer. No other file was opened.
+abbrev pub AuditsIn : {K : Type 0} → disk.Ghosts K → FilesSeen K → (state : List ℕ) → Option Anchor
+    → Result Done Refusal → (old new : List Happening) → Type 0
+AuditsIn {K} d files state anchor answer old new =
+    ((refusal : Refusal) × IsStateRefusal refusal × (answer ≡ Err refusal)
+    × (new ≡ old ++ opening_state {A = K} state (Err refusal) ∷ []))
+    ⊎ ((before after : K) × (audited : Result Report Refusal) × files.IsOpened before
+    × AuditsOn d before after anchor audited × files.IsClosed after × IsAudited audited answer
+    × (new ≡ old ++ opened role.State state ∷ []))

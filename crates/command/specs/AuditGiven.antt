@@ -1,0 +1,119 @@
+-- `audit-given PUBLIC FILES..`: its words, and what it does.
+use Rattle.std.specs.Prelude.{◌≡◌, ◌⊎◌, ◌∷◌, [], ℕ, List, codes, length, map, take, slice_get, Option, Some, None}
+use Rattle.std.specs.Prelude.{Result, Ok, Err}
+use Rattle.std.specs.Option.{option_map}
+use Rattle.clap.specs.Words.{App, Text, new_app, with_rule}
+use Rattle.key_audit.specs.declared.given.Given.{Given}
+use Rattle.key_audit.specs.declared.given.GivenFault.{GivenFault}
+use Rattle.key_audit.specs.Given.{Checks}
+use Rattle.sign_core.specs.declared.key.AnyPublic.{AnyPublic}
+use Rattle.sign_core.specs.declared.key.KeyFault.{KeyFault}
+use Rattle.command.specs.declared.answer.Done.{Done}
+use Rattle.command.specs.declared.answer.Done.TheVariants.{Checked}
+use Rattle.command.specs.declared.audit_given.AuditGiven.{AuditGiven}
+use Rattle.command.specs.declared.audit_given.GivenFiles.{GivenFiles}
+use Rattle.command.specs.declared.line.Lack.{Lack}
+use Rattle.command.specs.declared.line.Lack.TheVariants as lack
+use Rattle.command.specs.declared.refusal.Refusal.{Refusal}
+use Rattle.command.specs.declared.refusal.Refusal.TheVariants as refused
+use Rattle.command.specs.declared.trace.Role.TheVariants as role
+use Rattle.command.specs.Argument.{required_rule, several_rule}
+use Rattle.command.specs.Files.{FailsFile, FailsToHold, ReadsFile, ReadsKey, ReadsStart}
+use Rattle.command.specs.Trace.{Happening}
+
+-- the command
+abbrev pub audit_given_app : App
+audit_given_app = with_rule (with_rule (new_app (codes "audit-given")) (required_rule (codes "PUBLIC")))
+    (several_rule (codes "FILES"))
+
+-- ---- pairs of files
+
+-- the paths of a message and of its signature
+abbrev pub Pair : Type 0
+Pair = List ℕ × List ℕ
+
+-- the paths of pairs, one after the other
+unfoldable pub paths_of : List Pair → List Text
+paths_of [] = []
+paths_of (pair ∷ pairs) = pair.0 ∷ pair.1 ∷ paths_of pairs
+
+-- the pairs of paths, where these are an even number
+unfoldable pub pairs_in : List Text → Option (List Pair)
+pairs_in [] = Some []
+pairs_in (message ∷ []) = None
+pairs_in (message ∷ signature ∷ paths) = option_map (λ pairs. (message, signature) ∷ pairs) (pairs_in paths)
+
+abbrev pub pair_of : GivenFiles → Pair
+pair_of files = (files.message.now, files.signature.now)
+
+abbrev pub pairs_of : AuditGiven → List Pair
+pairs_of words = map pair_of words.files.items
+
+-- what the values of the words say: a public key and pairs of files; or one of both isn't given, or a file has no other
+abbrev pub IsAuditGiven : (public : Option Text) → (files : Option (List Text)) → Result AuditGiven Lack → Type 0
+IsAuditGiven public files (Ok words) = (public ≡ Some words.public.now)
+    × ((paths : List Text) × (files ≡ Some paths) × (pairs_in paths ≡ Some (pairs_of words)))
+IsAuditGiven public files (Err fault) = (((public ≡ None) ⊎ (files ≡ None)) × (fault ≡ lack.Command))
+    ⊎ ((path : Text) × (paths : List Text) × (public ≡ Some path) × (files ≡ Some paths)
+    × (pairs_in paths ≡ None) × (fault ≡ lack.Pairs))
+
+-- ---- how they are read
+
+-- A message was read from its file, whole, and then a signature from its own, as far as its first bytes decide.
+abbrev pub ReadsPair : (content : List ℕ → Option (List ℕ)) → Pair → Given → (old new : List Happening) → Type 0
+ReadsPair content pair given old new = (mid : List Happening)
+    × ReadsFile content role.Message pair.0 given.message.items old mid
+    × ReadsStart content role.Signature pair.1 given.signature.items mid new
+
+-- Pairs were read one after the other.
+unfoldable pub ReadsPairs : (content : List ℕ → Option (List ℕ)) → List Pair → List Given → (old new : List Happening)
+    → Type 0
+ReadsPairs content [] given old new = (given ≡ []) × (new ≡ old)
+ReadsPairs content (pair ∷ pairs) given old new = (first : Given) × (later : List Given) × (mid : List Happening)
+    × (given ≡ first ∷ later) × ReadsPair content pair first old mid × ReadsPairs content pairs later mid new
+
+-- One of the two files couldn't be read or kept, which is reported, and none after it was opened.
+abbrev pub FailsPair : (content : List ℕ → Option (List ℕ)) → Pair → Refusal → (old new : List Happening) → Type 0
+FailsPair content pair refusal old new =
+    FailsToHold role.Message pair.0 refusal old new
+    ⊎ ((bytes : List ℕ) × (mid : List Happening) × ReadsFile content role.Message pair.0 bytes old mid
+    × FailsToHold role.Signature pair.1 refusal mid new)
+
+-- Some pairs were read, and no more: the next one couldn't be, or there was no memory for those that were.
+abbrev pub FailsPairs : (content : List ℕ → Option (List ℕ)) → List Pair → Refusal → (old new : List Happening)
+    → Type 0
+FailsPairs content pairs refusal old new = (k : ℕ) × (given : List Given) × (mid : List Happening)
+    × ReadsPairs content (take k pairs) given old mid
+    × (((refusal ≡ refused.OutOfMemory) × (new ≡ mid))
+    ⊎ ((pair : Pair) × (slice_get pairs k ≡ Some pair) × FailsPair content pair refusal mid new))
+
+-- ---- what it answers
+
+-- the answer, for what came of the check of so many signatures
+abbrev pub given_answer : ℕ → Result Unit GivenFault → Result Done Refusal
+given_answer count (Ok _) = Ok (Checked count)
+given_answer count (Err fault) = Err (refused.Given fault)
+
+-- The bytes of the public key's file spell none, which is reported; or the answer is that of the check of the
+-- signatures under the key.
+abbrev pub AnswersGiven : Result AnyPublic KeyFault → List Given → Result Done Refusal → Type 0
+AnswersGiven (Err fault) given answer = answer ≡ Err (refused.Key fault)
+AnswersGiven (Ok key) given answer = (checked : Result Unit GivenFault) × Checks key given checked
+    × (answer ≡ given_answer (length given) checked)
+
+-- All pairs were read, and then they were judged; or one couldn't be read, which is reported.
+abbrev pub JudgesPairs : (content : List ℕ → Option (List ℕ)) → Result AnyPublic KeyFault → List Pair
+    → Result Done Refusal → (old new : List Happening) → Type 0
+JudgesPairs content key pairs answer old new =
+    ((refusal : Refusal) × (answer ≡ Err refusal) × FailsPairs content pairs refusal old new)
+    ⊎ ((given : List Given) × ReadsPairs content pairs given old new × AnswersGiven key given answer)
+
+-- The public key's file was read, and then the pairs; all that was read was then judged. Or it couldn't be read, which
+-- is reported, and no other file was opened.
+abbrev pub ChecksIn : (content : List ℕ → Option (List ℕ)) → (public : List ℕ) → List Pair → Result Done Refusal
+    → (old new : List Happening) → Type 0
+ChecksIn content public pairs answer old new =
+    ((refusal : Refusal) × (answer ≡ Err refusal) × FailsFile role.Public public refusal old new)
+    ⊎ ((bytes : List ℕ) × (key : Result AnyPublic KeyFault) × (mid : List Happening)
+    × ReadsFile content role.Public public bytes old mid × ReadsKey bytes key
+    × JudgesPairs content key pairs answer mid new)

@@ -1,0 +1,141 @@
+//! `audit STATE [--count K] [--tag T]`.
+
+ghost use Rattle.std.specs.Prelude.{◌≡◌, IfOk, MatchOption, codes};
+ghost use Rattle.std.specs.Option.{option_map};
+ghost use Rattle.clap.specs.declared.builder.command.Command.{Command as ClapCommand};
+ghost use Rattle.clap.specs.Words.{AddsSubcommand, app_of, first_value, found_of, with_subcommand};
+ghost use Rattle.command.specs.Audit.{AuditsIn, IsAudit, IsAudited, anchor_in, anchor_with, audit_app, tag_in};
+ghost use Rattle.command.specs.Files.{files_seen};
+ghost use Rattle.command.specs.Number.{number_in};
+
+use crate::answer::{Answer, Done};
+use crate::argument::{option, required};
+use crate::files::SignerFolder;
+use crate::key_file;
+use crate::line::Lack;
+use crate::number::read_number;
+use crate::refusal::Refusal;
+use clap::{ArgMatches, Command};
+use key_audit::{Anchor, Report};
+use std::alloc::{AllocError, Global};
+
+/// The words of the line.
+#[derive(Clone, Copy, Debug)]
+pub struct Audit<'a> {
+    /// The path of the state file.
+    pub state: &'a str,
+    /// How many records the file once had, and the tag of the last of them.
+    pub anchor: Option<Anchor>,
+}
+
+// The records that a file has at most, 2^31.
+const MOST_RECORDS: u32 = 2_147_483_648;
+
+impl<'a> Audit<'a> {
+    /// The command's name on the line.
+    pub const NAME: &'static str = "audit";
+
+    /// The command, for `clap`.
+    pub fn command(alloc: Global) -> Result<Command<'a>, AllocError>
+        ensures { IfOk result (λ command. (old new : ClapCommand) → AddsSubcommand old command new
+            → app_of new ≡ with_subcommand (app_of old) audit_app.top) }
+    {
+        Command::new(alloc, Audit::NAME)
+            .about("Says what the records of a state file are, and whether it was put back behind an anchor")
+            .after_help(
+                "Example:\n  $ hbsign audit firmware.key --count 3 --tag 5e3b..\n  public 0000000500000004..\n  \
+                 records 4\n  tag 91c0..\n  level 0 left 29",
+            )
+            .arg(required(
+                alloc,
+                "STATE",
+                "State file, which has the secret of the key and what it signed",
+            ))?
+            .arg(option(
+                alloc,
+                "count",
+                "K",
+                "Decimal number of records that the file once had, up to 2147483648; --tag goes with it",
+            ))?
+            .arg(option(
+                alloc,
+                "tag",
+                "T",
+                "Tag of the last of these records, in 64 hex digits; --count goes with it",
+            ))
+    }
+
+    /// What the words say.
+    pub fn of(matches: &ArgMatches<'a>) -> Result<Self, Lack>
+        ensures { IsAudit (first_value (found_of matches.now) (codes "STATE"))
+            (first_value (found_of matches.now) (codes "count")) (first_value (found_of matches.now) (codes "tag"))
+            result }
+    {
+        let Some(state) = matches.get_str("STATE") else {
+            return Err(Lack::Command);
+        };
+        match anchor_of(matches.get_str("count"), matches.get_str("tag")) {
+            Ok(anchor) => Ok(Audit { state, anchor }),
+            Err(lack) => Err(lack),
+        }
+    }
+
+    /// Opens the state file, and audits it.
+    pub fn answer<D: SignerFolder>(&self, alloc: Global, folder: &mut D) -> Answer
+        ensures { AuditsIn D.Disk.Disk (files_seen (D.content folder.old) D.is_opened (D.is_closed folder.new))
+            self.now.state.now self.now.anchor result (D.trace folder.old) (D.trace folder.new) }
+    {
+        let disk = folder.open_state(self.state)?;
+        let (disk, audited) = key_file::audit(alloc, disk, self.anchor);
+        folder.close_state(disk);
+        answer_to(audited)
+    }
+}
+
+// What came of an audit, as an answer.
+fn answer_to(audited: Result<Report, Refusal>) -> Answer
+    ensures { IsAudited audited result }
+{
+    match audited {
+        Ok(report) => {
+            let public = report.public.write();
+            Ok(Done::Audited(public, report))
+        }
+        Err(refusal) => Err(refusal),
+    }
+}
+
+// The anchor of the texts of a count and a tag: both are given, or neither is.
+fn anchor_of(count: Option<&str>, tag: Option<&str>) -> Result<Option<Anchor>, Lack>
+    ensures { result ≡ anchor_in (option_map (λ text. text.now) count.entry) (option_map (λ text. text.now) tag.entry) }
+{
+    match (count, tag) {
+        (None, None) => Ok(None),
+        (Some(count), Some(tag)) => read_anchor(count, tag),
+        _ => Err(Lack::Anchor),
+    }
+}
+
+// The anchor that the texts of a count and a tag spell.
+fn read_anchor(count: &str, tag: &str) -> Result<Option<Anchor>, Lack>
+    ensures { result ≡ anchor_in (Some count.now) (Some tag.now) }
+{
+    let Some(count) = read_number(count.as_bytes(), MOST_RECORDS) else {
+        return Err(Lack::Count);
+    };
+    match read_tag(tag) {
+        Some(tag) => Ok(Some(Anchor { count, tag })),
+        None => Err(Lack::Tag),
+    }
+}
+
+// The tag that a text spells, by 64 hex digits.
+fn read_tag(text: &str) -> Option<[u8; 32]>
+    ensures { result ≡ tag_in text.now }
+{
+    let mut tag = [0; 32];
+    match hex::decode_to_slice(text.as_bytes(), &mut tag) {
+        Ok(()) => Some(tag),
+        Err(_) => None,
+    }
+}

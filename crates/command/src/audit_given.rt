@@ -1,0 +1,174 @@
+//! `audit-given PUBLIC FILES..`.
+
+ghost use Rattle.std.specs.Prelude.{◌≡◌, ◌⊎◌, List, ℕ, IfErr, IfOk, MatchResult, codes, map, vec_capacity};
+ghost use Rattle.std.specs.Option.{option_map};
+ghost use Rattle.clap.specs.declared.builder.command.Command.{Command as ClapCommand};
+ghost use Rattle.clap.specs.Matches.{matched_of, raw_values};
+ghost use Rattle.clap.specs.Words.{AddsSubcommand, app_of, first_value, found_of, with_subcommand};
+ghost use Rattle.command.specs.AuditGiven.{AnswersGiven, ChecksIn, FailsPair, FailsPairs, IsAuditGiven, JudgesPairs};
+ghost use Rattle.command.specs.AuditGiven.{ReadsPair, ReadsPairs, audit_given_app, pair_of, pairs_in, pairs_of};
+
+use crate::answer::{Answer, Done};
+use crate::argument::{required, several};
+use crate::files;
+use crate::files::Folder;
+use crate::line::Lack;
+use crate::refusal::Refusal;
+use crate::trace::Role;
+use clap::{ArgMatches, Command};
+use key_audit::{Given, check_given};
+use sign_core::{AnyPublic, KeyFault};
+use std::alloc::{AllocError, Global};
+
+/// A message and its signature, by their paths.
+#[derive(Clone, Copy, Debug)]
+pub struct GivenFiles<'a> {
+    /// The message.
+    pub message: &'a str,
+    /// The signature.
+    pub signature: &'a str,
+}
+
+/// The files of the line, by their paths.
+#[derive(Debug, Drop)]
+pub struct AuditGiven<'a> {
+    /// The public key.
+    pub public: &'a str,
+    /// The messages and their signatures.
+    pub files: Vec<GivenFiles<'a>>,
+}
+
+impl<'a> AuditGiven<'a> {
+    /// The command's name on the line.
+    pub const NAME: &'static str = "audit-given";
+
+    /// The command, for `clap`.
+    pub fn command(alloc: Global) -> Result<Command<'a>, AllocError>
+        ensures { IfOk result (λ command. (old new : ClapCommand) → AddsSubcommand old command new
+            → app_of new ≡ with_subcommand (app_of old) audit_given_app.top) }
+    {
+        Command::new(alloc, AuditGiven::NAME)
+            .about("Says whether signatures of a key are valid, and no leaf signed two digests")
+            .after_help(
+                "Example:\n  $ hbsign audit-given firmware.pub old.bin old.sig new.bin new.sig\n  \
+                 given 2 signatures, no leaf twice",
+            )
+            .arg(required(alloc, "PUBLIC", "File of the public key"))?
+            .arg(several(
+                alloc,
+                "FILES",
+                "Files of messages, each with that of its signature after it",
+            ))
+    }
+
+    /// What the words say. Memory is wanted for the paths.
+    pub fn of(alloc: Global, matches: &ArgMatches<'a>) -> Result<Result<Self, Lack>, AllocError>
+        ensures { IfOk result (IsAuditGiven (first_value (found_of matches.now) (codes "PUBLIC"))
+            (option_map raw_values (matched_of (found_of matches.now) (codes "FILES")))) }
+    {
+        let Some(public) = matches.get_str("PUBLIC") else {
+            return Ok(Err(Lack::Command));
+        };
+        let Some(paths) = matches.get_strs("FILES") else {
+            return Ok(Err(Lack::Command));
+        };
+        match pair_paths(alloc, paths)? {
+            Some(files) => Ok(Ok(AuditGiven { public, files })),
+            None => Ok(Err(Lack::Pairs)),
+        }
+    }
+
+    /// Reads the files, and checks the signatures.
+    pub fn answer<D: Folder>(&self, alloc: Global, folder: &mut D) -> Answer
+        ensures { ChecksIn (D.content folder.old) self.now.public.now (pairs_of self.now) result (D.trace folder.old)
+            (D.trace folder.new) }
+    {
+        let key = files::read_key_file(folder, Role::Public, self.public)?;
+        judge_pairs(alloc, folder, key, self.files.as_slice())
+    }
+}
+
+// The pairs of paths, where these are an even number.
+fn pair_paths<'a>(
+    alloc: Global,
+    paths: &[&'a str],
+) -> Result<Option<Vec<GivenFiles<'a>>>, AllocError>
+    ensures { IfOk result (λ files.
+        option_map (λ pairs. map pair_of pairs.items) files ≡ pairs_in (map (λ path. path.now) paths.now)) }
+{
+    if paths.len() % 2 != 0 {
+        return Ok(None);
+    }
+    let mut files = Vec::new(alloc);
+    for i in 0..paths.len() / 2 {
+        files.push(GivenFiles {
+            message: paths[2 * i],
+            signature: paths[2 * i + 1],
+        })?;
+    }
+    Ok(Some(files))
+}
+
+// Reads the pairs, and checks them under the key.
+fn judge_pairs<D: Folder>(
+    alloc: Global,
+    folder: &mut D,
+    key: Result<AnyPublic, KeyFault>,
+    files: &[GivenFiles<'_>],
+) -> Answer
+    ensures { JudgesPairs (D.content folder.old) key (map pair_of files.now) result (D.trace folder.old)
+        (D.trace folder.new) }
+{
+    let given = read_pairs(alloc, folder, files)?;
+    judge_given(alloc, key, given.as_slice())
+}
+
+// Checks signatures that were read under the key.
+fn judge_given(alloc: Global, key: Result<AnyPublic, KeyFault>, given: &[Given]) -> Answer
+    ensures { AnswersGiven key given.now result }
+{
+    let key = key.map_err(Refusal::Key)?;
+    match check_given(alloc, &key, given) {
+        Ok(()) => Ok(Done::Checked(given.len())),
+        Err(fault) => Err(Refusal::Given(fault)),
+    }
+}
+
+// Reads pairs one after the other.
+fn read_pairs<D: Folder>(
+    alloc: Global,
+    folder: &mut D,
+    files: &[GivenFiles<'_>],
+) -> Result<Vec<Given>, Refusal>
+    ensures { MatchResult result
+        (λ given. ReadsPairs (D.content folder.old) (map pair_of files.now) given.items (D.trace folder.old)
+            (D.trace folder.new))
+        (λ refusal. FailsPairs (D.content folder.old) (map pair_of files.now) refusal (D.trace folder.old)
+            (D.trace folder.new)) }
+{
+    let mut given = Vec::new(alloc);
+    for pair in files {
+        let read = read_pair(alloc, folder, pair)?;
+        if given.push(read).is_err() {
+            return Err(Refusal::OutOfMemory);
+        }
+    }
+    Ok(given)
+}
+
+// Reads a message and its signature.
+fn read_pair<D: Folder>(
+    alloc: Global,
+    folder: &mut D,
+    files: &GivenFiles<'_>,
+) -> Result<Given, Refusal>
+    ensures content { (path : List ℕ) → D.content folder.new path ≡ D.content folder.old path }
+    ensures reads { MatchResult result
+        (λ given. ReadsPair (D.content folder.old) (pair_of files.now) given (D.trace folder.old) (D.trace folder.new))
+        (λ refusal. FailsPair (D.content folder.old) (pair_of files.now) refusal (D.trace folder.old)
+            (D.trace folder.new)) }
+{
+    let message = files::read_file(alloc, folder, Role::Message, files.message)?;
+    let signature = files::read_signature_file(alloc, folder, Role::Signature, files.signature)?;
+    Ok(Given { message, signature })
+}
