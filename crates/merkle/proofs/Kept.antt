@@ -1,5 +1,6 @@
 -- What a cache keeps: how many nodes, and which paths and root they give.
-use Rattle.std.proofs.Common.{◌≡◌, ℕ, zero, suc, ◌+◌, ◌-◌, ◌*◌, ◌<◌, ◌≤◌, ◌/◌, ◌^◌, List, [], ◌∷◌, ◌++◌, length, sym, refl, ap, subst, ◌∙◌, arith, add-one, append-nil, append_assoc}
+use Rattle.std.proofs.Common.{◌≡◌, ℕ, zero, suc, ◌+◌, ◌-◌, ◌*◌, ◌<◌, ◌≤◌, ◌/◌, ◌^◌, List, [], ◌∷◌, ◌++◌, length, sym}
+use Rattle.std.proofs.Common.{refl, ap, subst, ◌∙◌, arith, add-one, append-nil, append_assoc}
 use Rattle.std.specs.Prelude.{slice_index_or}
 use Rattle.std.proofs.lemmas.Grind.{pow_more}
 use Rattle.std.proofs.lemmas.List.FromFn.{map-range_with_len_more}
@@ -32,7 +33,8 @@ keeps_both leaf join height index cache same_height same_index upper block = rec
 pub block_inside : (height index : ℕ) → height ≤ 25 → index < 2 ^ (height - block_height height)
     → index < 2 ^ (25 - (0 + block_height height))
 block_inside height index within inside =
-    let wider : 2 ^ (height - block_height height) ≤ 2 ^ (25 - (0 + block_height height)) = pow-le-pow_right (omega arith) (omega arith) in
+    let wider : 2 ^ (height - block_height height) ≤ 2 ^ (25 - (0 + block_height height))
+    = pow-le-pow_right (omega arith) (omega arith) in
     omega arith
 
 -- the index of a leaf's block is that of one of the tree's blocks
@@ -44,7 +46,8 @@ index_inside height q inside =
     (div-lt_iff_lt-mul (pow_pos b)).1 (omega (arith, all))
 
 -- a cache that keeps a block already
-pub kept_already : {T : Type 0} (leaf_of : T → Leaves) (join_of : T → Joins) (inner cache : View T) (index : ℕ) → inner ≡ cache
+pub kept_already : {T : Type 0} (leaf_of : T → Leaves) (join_of : T → Joins) (inner cache : View T) (index : ℕ)
+    → inner ≡ cache
     → index ≡ inner.kept
     → inner.upper ≡ upper_nodes (leaf_of inner.tree) (join_of inner.tree) inner.height
     → inner.block ≡ block_nodes (leaf_of inner.tree) (join_of inner.tree) inner.height inner.kept
@@ -56,7 +59,8 @@ kept_already {T} leaf_of join_of inner cache index same is upper block =
     (block ∙ ap (block_nodes (leaf_of inner.tree) (join_of inner.tree) inner.height) (sym is)))
 
 -- a cache with another block in the place of the one that it kept
-pub kept_now : {T : Type 0} (leaf_of : T → Leaves) (join_of : T → Joins) (inner cache after : View T) (index : ℕ) → inner ≡ cache
+pub kept_now : {T : Type 0} (leaf_of : T → Leaves) (join_of : T → Joins) (inner cache after : View T) (index : ℕ)
+    → inner ≡ cache
     → after.height ≡ inner.height → after.upper ≡ inner.upper → after.kept ≡ index
     → inner.upper ≡ upper_nodes (leaf_of inner.tree) (join_of inner.tree) inner.height
     → after.block ≡ block_nodes (leaf_of inner.tree) (join_of inner.tree) inner.height index
@@ -64,7 +68,8 @@ pub kept_now : {T : Type 0} (leaf_of : T → Leaves) (join_of : T → Joins) (in
 kept_now {T} leaf_of join_of inner cache after index same height_stays upper_stays is upper block =
     let P : View T → Type 0 = λ v. Keeps (leaf_of v.tree) (join_of v.tree) v.height index after in
     subst P same
-    (keeps_both (leaf_of inner.tree) (join_of inner.tree) inner.height index after height_stays is (upper_stays ∙ upper) block)
+    (keeps_both (leaf_of inner.tree) (join_of inner.tree) inner.height index after height_stays is
+    (upper_stays ∙ upper) block)
 
 -- how many nodes a block has
 pub block_count : (leaf : Leaves) (join : Joins) (height index : ℕ) (nodes : List (List ℕ))
@@ -103,16 +108,18 @@ path_parts leaf join base zero q =
 path_parts leaf join base (suc depth) q =
     let f : ℕ → List ℕ = λ k. node leaf join k (sibling (q / 2 ^ k)) in
     let g : ℕ → List ℕ = λ k. node leaf join (base + k) (sibling (q / 2 ^ base / 2 ^ k)) in
+    let lower = path_from leaf join 0 base q in
+    let upper = path_from leaf join base depth (q / 2 ^ base) in
     let e : base + suc depth ≡ base + depth + 1 = omega arith in
     let over : q / 2 ^ (base + depth) ≡ q / 2 ^ base / 2 ^ depth
     = ap (λ n. q / n) (pow-add 2 base depth) ∙ sym (div-div-eq-div-mul q (2 ^ base) (2 ^ depth)) in
     ap (λ h. path_of leaf join h q) e
     ∙ map-range_with_len_more f 0 (base + depth) (base + depth) (omega arith)
     ∙ ap (λ xs. xs ++ f (base + depth) ∷ []) (path_parts leaf join base depth q)
-    ∙ append_assoc (path_from leaf join 0 base q) (path_from leaf join base depth (q / 2 ^ base)) (f (base + depth) ∷ [])
-    ∙ ap (λ i. path_from leaf join 0 base q ++ (path_from leaf join base depth (q / 2 ^ base) ++ node leaf join (base + depth) (sibling i) ∷ [])) over
-    ∙ ap (λ xs. path_from leaf join 0 base q ++ xs) (sym (map-range_with_len_more g 0 depth depth (omega arith)))
-    ∙ ap (λ d. path_from leaf join 0 base q ++ path_from leaf join base d (q / 2 ^ base)) (add-one depth)
+    ∙ append_assoc lower upper (f (base + depth) ∷ [])
+    ∙ ap (λ i. lower ++ (upper ++ node leaf join (base + depth) (sibling i) ∷ [])) over
+    ∙ ap (λ xs. lower ++ xs) (sym (map-range_with_len_more g 0 depth depth (omega arith)))
+    ∙ ap (λ d. lower ++ path_from leaf join base d (q / 2 ^ base)) (add-one depth)
 
 -- a path out of a block, and on out of the upper tree
 pub path_joined : (leaf : Leaves) (join : Joins) (height q index : ℕ) (lower upper : List (List ℕ))
@@ -132,11 +139,13 @@ path_joined leaf join height q index lower upper lower_is upper_is is =
 pub upper_some : (leaf : Leaves) (join : Joins) (height : ℕ) (nodes : List (List ℕ))
     → nodes ≡ upper_nodes leaf join height → 1 ≤ length nodes
 upper_some leaf join height nodes are =
-    omega (arith, upper_count leaf join height nodes are, pow_more 2 (height - block_height height), pow_pos (height - block_height height))
+    let depth = height - block_height height in
+    omega (arith, upper_count leaf join height nodes are, pow_more 2 depth, pow_pos depth)
 
 -- its last node is the root
 pub upper_last : (leaf : Leaves) (join : Joins) (height n : ℕ) (nodes : List (List ℕ)) (other : List ℕ)
-    → nodes ≡ upper_nodes leaf join height → n + 1 ≡ length nodes → slice_index_or nodes n other ≡ root_of leaf join height
+    → nodes ≡ upper_nodes leaf join height → n + 1 ≡ length nodes
+    → slice_index_or nodes n other ≡ root_of leaf join height
 upper_last leaf join height n nodes other are last =
     let b = block_height height in
     let all : b + (height - b) ≡ height = omega arith in

@@ -1,5 +1,6 @@
 -- Lists of the nodes of a part of a tree: how long they are, their last node, and their halves.
-use Rattle.std.proofs.Common.{◌≡◌, ℕ, zero, suc, ◌+◌, ◌-◌, ◌*◌, ◌<◌, ◌≤◌, ◌/◌, ◌^◌, List, [], ◌∷◌, ◌++◌, length, sym, refl, ap, ◌∙◌, arith, add-one, length-append}
+use Rattle.std.proofs.Common.{◌≡◌, ℕ, zero, suc, ◌+◌, ◌-◌, ◌*◌, ◌<◌, ◌≤◌, ◌/◌, ◌^◌, List, [], ◌∷◌, ◌++◌, length, sym}
+use Rattle.std.proofs.Common.{refl, ap, ◌∙◌, arith, add-one, length-append}
 use Rattle.std.specs.Prelude.{slice_index_or, slice_set}
 use Rattle.std.proofs.lemmas.Grind.{pow_more}
 use Rattle.std.proofs.lemmas.List.{get_or-append_right}
@@ -22,8 +23,9 @@ pub nodes_more : (leaf : Leaves) (join : Joins) (base depth j : ℕ)
 unfolding nodes_under
 nodes_more leaf join base depth j =
     ap (λ d. nodes_under leaf join base d j) (add-one depth)
-    ∙ ap (λ d. nodes_under leaf join base depth (2 * j) ++ (nodes_under leaf join base depth (2 * j + 1) ++ node leaf join (base + d) j ∷ []))
-    (sym (add-one depth))
+    ∙ (let left = nodes_under leaf join base depth (2 * j) in
+    let right = nodes_under leaf join base depth (2 * j + 1) in
+    ap (λ d. left ++ (right ++ node leaf join (base + d) j ∷ [])) (sym (add-one depth)))
 
 -- the same of a depth that isn't 0
 pub nodes_halves : (leaf : Leaves) (join : Joins) (base depth j : ℕ) → 0 < depth
@@ -32,19 +34,23 @@ pub nodes_halves : (leaf : Leaves) (join : Joins) (base depth j : ℕ) → 0 < d
     ++ (nodes_under leaf join base (depth - 1) (2 * j + 1) ++ node leaf join (base + depth) j ∷ [])
 nodes_halves leaf join base depth j above =
     let e : depth - 1 + 1 ≡ depth = omega arith in
+    let left = nodes_under leaf join base (depth - 1) (2 * j) in
+    let right = nodes_under leaf join base (depth - 1) (2 * j + 1) in
     ap (λ d. nodes_under leaf join base d j) (sym e)
     ∙ nodes_more leaf join base (depth - 1) j
-    ∙ ap (λ d. nodes_under leaf join base (depth - 1) (2 * j) ++ (nodes_under leaf join base (depth - 1) (2 * j + 1) ++ node leaf join (base + d) j ∷ [])) e
+    ∙ ap (λ d. left ++ (right ++ node leaf join (base + d) j ∷ [])) e
 
 -- how many nodes there are
-pub nodes_count : (leaf : Leaves) (join : Joins) (base depth j : ℕ) → length (nodes_under leaf join base depth j) + 1 ≡ 2 ^ (depth + 1)
+pub nodes_count : (leaf : Leaves) (join : Joins) (base depth j : ℕ)
+    → length (nodes_under leaf join base depth j) + 1 ≡ 2 ^ (depth + 1)
 nodes_count leaf join base zero j = ap (λ xs. length xs + 1) (nodes_one leaf join base zero j refl)
 nodes_count leaf join base (suc depth) j =
     let left = nodes_under leaf join base depth (2 * j) in
     let right = nodes_under leaf join base depth (2 * j + 1) in
     let top = node leaf join (base + (depth + 1)) j ∷ [] in
     let all : length (nodes_under leaf join base (depth + 1) j) ≡ length left + (length right + 1)
-    = ap length (nodes_more leaf join base depth j) ∙ length-append left (right ++ top) ∙ ap (λ n. length left + n) (length-append right top) in
+    = ap length (nodes_more leaf join base depth j) ∙ length-append left (right ++ top)
+    ∙ ap (λ n. length left + n) (length-append right top) in
     ap (λ d. length (nodes_under leaf join base d j) + 1) (sym (add-one depth))
     ∙ (let p = pow_more 2 (depth + 1) in
     let l = nodes_count leaf join base depth (2 * j) in
@@ -72,7 +78,8 @@ nodes_last leaf join base (suc depth) j n xs other is last =
     let e : suc depth ≡ depth + 1 = sym (add-one depth) in
     let last' : n + 2 ≡ 2 ^ (depth + 1 + 1) = last ∙ ap (λ d. 2 ^ (d + 1)) e in
     let at_end : n - length left - length right ≡ 0 = omega arith in
-    ap (λ ys. slice_index_or ys n other) (is ∙ ap (λ d. nodes_under leaf join base d j) e ∙ nodes_more leaf join base depth j)
+    ap (λ ys. slice_index_or ys n other)
+    (is ∙ ap (λ d. nodes_under leaf join base d j) e ∙ nodes_more leaf join base depth j)
     ∙ get_or-append_right left (right ++ top) (length left) n other refl (omega arith)
     ∙ get_or-append_right right top (length right) (n - length left) other refl (omega arith)
     ∙ ap (λ k. slice_index_or top k other) at_end
@@ -100,7 +107,8 @@ half_some n depth all above =
     omega arith
 
 -- as many leaves stand below a node as below both of its children
-pub leaves_below : (base depth : ℕ) → 0 < depth → 2 ^ (base + depth) ≡ 2 ^ (base + (depth - 1)) + 2 ^ (base + (depth - 1))
+pub leaves_below : (base depth : ℕ) → 0 < depth
+    → 2 ^ (base + depth) ≡ 2 ^ (base + (depth - 1)) + 2 ^ (base + (depth - 1))
 leaves_below base depth above =
     let lower : base + depth - 1 ≡ base + (depth - 1) = omega arith in
     leaves_twice (base + depth) (omega arith) ∙ ap (λ h. 2 ^ h + 2 ^ h) lower
@@ -128,8 +136,10 @@ halves_joined leaf join base depth j n left right top over above last left_is ri
     let at_last : n + 2 ≡ 2 ^ (d + 1) = last ∙ ap (λ k. 2 ^ k) (sym e) in
     let made : over ≡ node leaf join (base + depth) j
     = over_is
-    ∙ ap (λ v. join (base + d) j v (slice_index_or right n [])) (nodes_last leaf join base d (2 * j) n left [] left_is at_last)
-    ∙ ap (λ v. join (base + d) j (node leaf join (base + d) (2 * j)) v) (nodes_last leaf join base d (2 * j + 1) n right [] right_is at_last)
+    ∙ ap (λ v. join (base + d) j v (slice_index_or right n []))
+    (nodes_last leaf join base d (2 * j) n left [] left_is at_last)
+    ∙ ap (λ v. join (base + d) j (node leaf join (base + d) (2 * j)) v)
+    (nodes_last leaf join base d (2 * j + 1) n right [] right_is at_last)
     ∙ sym (node_children leaf join (base + depth) j (omega arith)
     ∙ ap (λ h. join h j (node leaf join h (2 * j)) (node leaf join h (2 * j + 1))) lower) in
     ap (λ ys. left ++ (right ++ ys)) (one_written top over one)

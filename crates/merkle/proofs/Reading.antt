@@ -1,5 +1,6 @@
 -- Reading a path out of a list of nodes: the list's halves, and one node more of the path.
-use Rattle.std.proofs.Common.{◌≡◌, ℕ, ◌+◌, ◌-◌, ◌*◌, ◌<◌, ◌≤◌, ◌≢◌, ◌/◌, ◌%◌, ◌^◌, List, [], ◌∷◌, ◌++◌, length, sym, refl, ap, ◌∙◌, arith}
+use Rattle.std.proofs.Common.{◌≡◌, ℕ, ◌+◌, ◌-◌, ◌*◌, ◌<◌, ◌≤◌, ◌≢◌, ◌/◌, ◌%◌, ◌^◌, List, [], ◌∷◌, ◌++◌, length, sym}
+use Rattle.std.proofs.Common.{refl, ap, ◌∙◌, arith}
 use Rattle.std.specs.Prelude.{slice_index_or, slice_set, take, drop}
 use Rattle.std.proofs.lemmas.List.FromFn.{map-range_with_len_more}
 use Rattle.std.proofs.lemmas.Grind.{drop-set_at}
@@ -17,7 +18,8 @@ half_count : (leaf : Leaves) (join : Joins) (base depth j k : ℕ) (nodes : List
     → nodes ≡ nodes_under leaf join base depth j
     → length nodes / 2 ≡ length (nodes_under leaf join base (depth - 1) k)
 half_count leaf join base depth j k nodes above nodes_are =
-    let all : length nodes + 1 ≡ 2 ^ (depth + 1) = ap (λ xs. length xs + 1) nodes_are ∙ nodes_count leaf join base depth j in
+    let all : length nodes + 1 ≡ 2 ^ (depth + 1)
+    = ap (λ xs. length xs + 1) nodes_are ∙ nodes_count leaf join base depth j in
     omega (arith, half_room (length nodes) depth all above, nodes_count leaf join base (depth - 1) k)
 
 -- the first half
@@ -35,7 +37,8 @@ first_half leaf join base depth j k nodes above nodes_are is =
 -- the second half
 pub second_half : (leaf : Leaves) (join : Joins) (base depth j k : ℕ) (nodes : List (List ℕ)) → 0 < depth
     → nodes ≡ nodes_under leaf join base depth j → 2 * j + 1 ≡ k
-    → take (2 * (length nodes / 2) - length nodes / 2) (drop (length nodes / 2) nodes) ≡ nodes_under leaf join base (depth - 1) k
+    → take (2 * (length nodes / 2) - length nodes / 2) (drop (length nodes / 2) nodes)
+    ≡ nodes_under leaf join base (depth - 1) k
 second_half leaf join base depth j k nodes above nodes_are is =
     let left = nodes_under leaf join base (depth - 1) (2 * j) in
     let right = nodes_under leaf join base (depth - 1) (2 * j + 1) in
@@ -61,18 +64,21 @@ pub even_first : (i depth over : ℕ) → 0 < depth → over ≡ i / 2 ^ (depth 
 even_first i depth over above is even =
     let halved : i / 2 ^ depth ≡ over / 2 = over_both i depth above ∙ ap (λ n. n / 2) (sym is) in omega arith
 
-pub even_second : (i depth over : ℕ) → 0 < depth → over ≡ i / 2 ^ (depth - 1) → over % 2 ≡ 0 → 2 * (i / 2 ^ depth) + 1 ≡ sibling over
+pub even_second : (i depth over : ℕ) → 0 < depth → over ≡ i / 2 ^ (depth - 1) → over % 2 ≡ 0
+    → 2 * (i / 2 ^ depth) + 1 ≡ sibling over
 even_second i depth over above is even =
     let halved : i / 2 ^ depth ≡ over / 2 = over_both i depth above ∙ ap (λ n. n / 2) (sym is) in
     let not_odd : over % 2 ≢ 1 = omega arith in
     ap (λ n. 2 * n + 1) halved ∙ sym (sibling-even over not_odd)
 
 -- where it is odd, the other way round
-pub odd_second : (i depth over : ℕ) → 0 < depth → over ≡ i / 2 ^ (depth - 1) → over % 2 ≢ 0 → 2 * (i / 2 ^ depth) + 1 ≡ over
+pub odd_second : (i depth over : ℕ) → 0 < depth → over ≡ i / 2 ^ (depth - 1) → over % 2 ≢ 0
+    → 2 * (i / 2 ^ depth) + 1 ≡ over
 odd_second i depth over above is odd =
     let halved : i / 2 ^ depth ≡ over / 2 = over_both i depth above ∙ ap (λ n. n / 2) (sym is) in omega arith
 
-pub odd_first : (i depth over : ℕ) → 0 < depth → over ≡ i / 2 ^ (depth - 1) → over % 2 ≢ 0 → 2 * (i / 2 ^ depth) ≡ sibling over
+pub odd_first : (i depth over : ℕ) → 0 < depth → over ≡ i / 2 ^ (depth - 1) → over % 2 ≢ 0
+    → 2 * (i / 2 ^ depth) ≡ sibling over
 odd_first i depth over above is odd =
     let halved : i / 2 ^ depth ≡ over / 2 = over_both i depth above ∙ ap (λ n. n / 2) (sym is) in
     let is_odd : over % 2 ≡ 1 = omega arith in
@@ -83,13 +89,15 @@ pub path_more : (leaf : Leaves) (join : Joins) (base depth i n : ℕ) (other low
     → 0 < depth → length into ≡ depth → n + 2 ≡ 2 ^ depth
     → other ≡ nodes_under leaf join base (depth - 1) (sibling (i / 2 ^ (depth - 1)))
     → lower ≡ path_from leaf join base (depth - 1) i
-    → lower ++ drop (depth - 1) (slice_set into (depth - 1) (slice_index_or other n [])) ≡ path_from leaf join base depth i
+    → lower ++ drop (depth - 1) (slice_set into (depth - 1) (slice_index_or other n []))
+    ≡ path_from leaf join base depth i
 path_more leaf join base depth i n other lower into above long last other_is lower_is =
     let d = depth - 1 in
     let e : depth - 1 + 1 ≡ depth = omega arith in
     let f : ℕ → List ℕ = λ k. node leaf join (base + k) (sibling (i / 2 ^ k)) in
     let v = slice_index_or other n [] in
-    let root : v ≡ f d = nodes_last leaf join base d (sibling (i / 2 ^ d)) n other [] other_is (last ∙ ap (λ k. 2 ^ k) (sym e)) in
+    let root : v ≡ f d
+    = nodes_last leaf join base d (sibling (i / 2 ^ d)) n other [] other_is (last ∙ ap (λ k. 2 ^ k) (sym e)) in
     let none : drop (d + 1) into ≡ [] = drop_of_length-le into (omega arith) in
     let written : drop d (slice_set into d v) ≡ f d ∷ []
     = drop-set_at into d d v refl (omega arith) ∙ ap (λ xs. v ∷ xs) none ∙ ap (λ x. x ∷ []) root in
@@ -104,7 +112,8 @@ pub read_below : (leaf : Leaves) (join : Joins) (base n depth i : ℕ) (half low
     → half ≡ nodes_under leaf join base depth (i / 2 ^ depth)
     → lower ≡ path_from leaf join base depth i
 read_below leaf join base n depth i half lower e reads half_is =
-    reads (half_is ∙ ap (λ d. nodes_under leaf join base d (i / 2 ^ d)) (sym e)) ∙ ap (λ d. path_from leaf join base d i) e
+    reads (half_is ∙ ap (λ d. nodes_under leaf join base d (i / 2 ^ d)) (sym e))
+    ∙ ap (λ d. path_from leaf join base d i) e
 
 -- the part below a place that was written
 pub length_below : (xs : List (List ℕ)) (d : ℕ) (v : List ℕ) → d ≤ length xs → length (take d (slice_set xs d v)) ≡ d

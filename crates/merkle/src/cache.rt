@@ -110,10 +110,10 @@ impl<T: TreeHash> PathCache<T> {
             return;
         }
         let block_height = self.height / 2;
-        fill(&mut self.tree, 0, block_height, index, &mut self.block);
-        self.kept = index;
         let made = 2u64.pow(u32::from(block_height));
-        self.leaves = self.leaves.saturating_add(made);
+        let leaves = self.leaves.saturating_add(made);
+        fill(&mut self.tree, 0, block_height, index, &mut self.block);
+        (self.kept, self.leaves) = (index, leaves);
     }
 
     /// The root of the tree (RFC 8554 5.3, RFC 8391 4.1.6). It makes no leaf.

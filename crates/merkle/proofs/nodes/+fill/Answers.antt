@@ -2,7 +2,8 @@ use Rattle.std.proofs.Common.{rules, arith, sym, ap, ◌∙◌, ◌≡◌, lengt
 use Rattle.std.specs.Prelude.{slice_index_or}
 use Rattle.std.proofs.lemmas.Grind.{pow_more}
 use Rattle.merkle.specs.Nodes.{nodes_under}
-use Rattle.merkle.proofs.Listing.{halves_inside, halves_joined, half_long, half_room, half_some, leaves_below, nodes_one, one_written}
+use Rattle.merkle.proofs.Listing.{halves_inside, halves_joined, half_long, half_room, half_some, leaves_below}
+use Rattle.merkle.proofs.Listing.{nodes_one, one_written}
 use Rattle.merkle.proofs.nodes.+fill.Goals as goal
 
 pub returns-then-depth-eq0-clause-value : goal.returns-then-depth-eq0-clause-value
@@ -15,13 +16,15 @@ returns-then-depth-eq0-clause-value g t c =
 pub fill-requires : goal.fill-requires
 fill-requires g t c κs within =
     let room = half_room (length c.args.into.now) c.args.depth c.requires.room (omega arith) in
-    let inside = halves_inside c.args.base c.args.depth c.args.index (omega arith) c.requires.height c.requires.inside in
+    let inside
+    = halves_inside c.args.base c.args.depth c.args.index (omega arith) c.requires.height c.requires.inside in
     search rules
 
 pub fill-requires-2 : goal.fill-requires-2
 fill-requires-2 g t c κs within =
     let room = half_room (length c.args.into.now) c.args.depth c.requires.room (omega arith) in
-    let inside = halves_inside c.args.base c.args.depth c.args.index (omega arith) c.requires.height c.requires.inside in
+    let inside
+    = halves_inside c.args.base c.args.depth c.args.index (omega arith) c.requires.height c.requires.inside in
     search rules
 
 pub overflow_sub-half : goal.overflow_sub-half
@@ -48,10 +51,13 @@ returns-clause-value g t c =
     c.fill.new.into c.fill-2.new.into _ c.join.result (omega arith) (omega arith)
     c.fill.ensures.value
     (c.fill-2.ensures.value
-    ∙ ap (λ l. nodes_under l (g.T.NodeHash.join_of c.fill.new.tree) c.args.base below (2 * c.args.index + 1)) c.fill.ensures.leaves
+    ∙ ap (λ l. nodes_under l (g.T.NodeHash.join_of c.fill.new.tree) c.args.base below
+    (2 * c.args.index + 1)) c.fill.ensures.leaves
     ∙ ap (λ j. nodes_under leaf j c.args.base below (2 * c.args.index + 1)) c.fill.ensures.joins)
     (omega (arith, long, pow_more 2 c.args.depth))
-    (c.join.ensures ∙ ap (λ j. j (c.args.base + below) c.args.index (slice_index_or c.fill.new.into n []) (slice_index_or c.fill-2.new.into n []))
+    (c.join.ensures
+    ∙ ap (λ j. j (c.args.base + below) c.args.index (slice_index_or c.fill.new.into n [])
+    (slice_index_or c.fill-2.new.into n []))
     (c.fill-2.ensures.joins ∙ c.fill.ensures.joins))
 
 pub returns-clause-counted : goal.returns-clause-counted

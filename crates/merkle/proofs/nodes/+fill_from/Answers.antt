@@ -3,7 +3,8 @@ use Rattle.std.specs.Prelude.{slice_index_or}
 use Rattle.std.proofs.lemmas.Grind.{pow_more}
 use Rattle.std.proofs.lemmas.Nat.{pow_pos}
 use Rattle.merkle.specs.Nodes.{nodes_under}
-use Rattle.merkle.proofs.Listing.{halves_inside, halves_joined, half_long, half_some, leaves_below, nodes_one, one_written}
+use Rattle.merkle.proofs.Listing.{halves_inside, halves_joined, half_long, half_some, leaves_below, nodes_one}
+use Rattle.merkle.proofs.Listing.{one_written}
 use Rattle.merkle.proofs.nodes.+fill_from.Goals as goal
 
 pub returns-then-depth-eq0-clause-value : goal.returns-then-depth-eq0-clause-value
@@ -15,7 +16,8 @@ returns-then-depth-eq0-clause-value g t c =
 
 pub fill-requires-clause-inside : goal.fill-requires-clause-inside
 fill-requires-clause-inside g t c =
-    halves_inside c.args.base c.args.depth 0 (omega arith) c.requires.height (pow_pos (25 - (c.args.base + c.args.depth)))
+    halves_inside c.args.base c.args.depth 0 (omega arith) c.requires.height
+    (pow_pos (25 - (c.args.base + c.args.depth)))
 
 pub overflow_sub-half : goal.overflow_sub-half
 overflow_sub-half g t c = half_some _ _ c.requires.room (omega arith)
@@ -44,7 +46,9 @@ returns-clause-value g t c =
     ∙ ap (λ l. nodes_under l (g.T.NodeHash.join_of c.fill_from.new.tree) c.args.base below 1) c.fill_from.ensures.leaves
     ∙ ap (λ j. nodes_under leaf j c.args.base below 1) c.fill_from.ensures.joins)
     (omega (arith, long, pow_more 2 c.args.depth))
-    (c.join.ensures ∙ ap (λ j. j (c.args.base + below) 0 (slice_index_or c.fill_from.new.into n []) (slice_index_or c.fill.new.into n []))
+    (c.join.ensures
+    ∙ ap (λ j. j (c.args.base + below) 0 (slice_index_or c.fill_from.new.into n [])
+    (slice_index_or c.fill.new.into n []))
     (c.fill.ensures.joins ∙ c.fill_from.ensures.joins))
 
 pub returns-clause-counted : goal.returns-clause-counted

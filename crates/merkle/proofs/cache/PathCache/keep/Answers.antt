@@ -6,8 +6,8 @@ use Rattle.merkle.proofs.cache.PathCache.keep.Goals as goal
 
 pub returns-then-index-self-clause-nodes : goal.returns-then-index-self-clause-nodes
 returns-then-index-self-clause-nodes g c =
-    kept_already {T = g.row.T.Denot} g.T.TreeHash.leaf_of g.T.NodeHash.join_of _ c.args.self.now c.args.index c.self.view_is
-    c.if-index-self.true c.self.invariant.upper_tree c.self.invariant.one_block
+    kept_already {T = g.row.T.Denot} g.T.TreeHash.leaf_of g.T.NodeHash.join_of _ c.args.self.now c.args.index
+    c.self.view_is c.if-index-self.true c.self.invariant.upper_tree c.self.invariant.one_block
 
 pub fill-requires-clause-inside : goal.fill-requires-clause-inside
 fill-requires-clause-inside g c =
@@ -17,10 +17,11 @@ fill-requires-clause-inside g c =
 
 pub fill-requires-clause-room : goal.fill-requires-clause-room
 fill-requires-clause-room g c =
-    block_count _ _ c.self.inside.height c.self.inside.kept c.deref_mut.result.now (c.deref_mut.ensures.value ∙ c.self.invariant.one_block)
+    block_count _ _ c.self.inside.height c.self.inside.kept c.deref_mut.result.now
+    (c.deref_mut.ensures.value ∙ c.self.invariant.one_block)
 
 pub returns-clause-nodes : goal.returns-clause-nodes
 returns-clause-nodes g c =
-    kept_now {T = g.row.T.Denot} g.T.TreeHash.leaf_of g.T.NodeHash.join_of _ c.args.self.now _ c.args.index c.self.view_is
-    refl refl refl c.self.invariant.upper_tree
+    kept_now {T = g.row.T.Denot} g.T.TreeHash.leaf_of g.T.NodeHash.join_of _ c.args.self.now _ c.args.index
+    c.self.view_is refl refl refl c.self.invariant.upper_tree
     (with_items_is c.self.inside.block c.fill.new.into (omega arith) ∙ c.fill.ensures.value)

@@ -10,7 +10,8 @@ pub keep-requires : goal.keep-requires
 keep-requires g c =
     let height = c.args.self.now.height in
     let same : c.self.inside.height ≡ height = ap (λ v. v.height) c.self.view_is in
-    let power : c.pow.result ≡ 2 ^ block_height height = c.pow.ensures ∙ ap (λ n. 2 ^ n) (c.from.ensures ∙ ap block_height same) in
+    let power : c.pow.result ≡ 2 ^ block_height height
+    = c.pow.ensures ∙ ap (λ n. 2 ^ n) (c.from.ensures ∙ ap block_height same) in
     let P : ℕ → Type 0 = λ p. c.args.q / p < 2 ^ (height - block_height height) in
     subst P (sym power) (index_inside height c.args.q c.requires.inside)
 
@@ -46,13 +47,17 @@ returns-clause-value g c =
     let at : index ≡ c.args.q / 2 ^ b
     = ap (λ p. c.args.q / p) (c.pow.ensures ∙ ap (λ n. 2 ^ n) (c.from.ensures ∙ ap block_height same)) in
     let P : ℕ → Type 0 = λ i. i < 2 ^ (height - b) in
-    let first : index / 2 ^ (height - b) ≡ 0 = div-eq_of_lt (subst P (sym at) (index_inside height c.args.q c.requires.inside)) in
+    let first : index / 2 ^ (height - b) ≡ 0
+    = div-eq_of_lt (subst P (sym at) (index_inside height c.args.q c.requires.inside)) in
     let lower_long : length c.split_at_mut-lower.result.0.now ≡ b = omega arith in
     let upper_long : length c.split_at_mut-lower.result.1.now ≡ height - b = omega arith in
     path_joined leaf join height c.args.q index c.read_path.new.into c.read_path-2.new.into
-    (read_below leaf join 0 _ b c.args.q c.deref.result.now c.read_path.new.into lower_long (c.read_path.ensures leaf join 0)
-    (c.deref.ensures.value ∙ ap (λ v. v.block) c.self-2.view_is ∙ c.keep.ensures.nodes.block_kept ∙ ap (block_nodes leaf join height) at))
-    (read_below leaf join b _ (height - b) index c.deref-2.result.now c.read_path-2.new.into upper_long (c.read_path-2.ensures leaf join b)
+    (read_below leaf join 0 _ b c.args.q c.deref.result.now c.read_path.new.into lower_long
+    (c.read_path.ensures leaf join 0)
+    (c.deref.ensures.value ∙ ap (λ v. v.block) c.self-2.view_is ∙ c.keep.ensures.nodes.block_kept
+    ∙ ap (block_nodes leaf join height) at))
+    (read_below leaf join b _ (height - b) index c.deref-2.result.now c.read_path-2.new.into upper_long
+    (c.read_path-2.ensures leaf join b)
     (c.deref-2.ensures.value ∙ ap (λ v. v.upper) c.self-2.view_is ∙ c.keep.ensures.nodes.upper_kept
     ∙ ap (nodes_under leaf join b (height - b)) (sym first)))
     at
