@@ -174,7 +174,7 @@ fn served(
 }
 
 // A request: its name, how many bytes its message has, and which byte that is each time.
-type Request<'a> = (&'a [u8], usize, u8);
+type Request<'a> = (&'a [u8], u16, u8);
 
 // Adds the frame of a request to an input.
 fn add_frame(input: &mut Vec<u8>, request: Request<'_>) -> Option<()> {
@@ -182,9 +182,9 @@ fn add_frame(input: &mut Vec<u8>, request: Request<'_>) -> Option<()> {
     input.push(u8::try_from(name.len()).ok()?).ok()?;
     input.extend_from_slice(name).ok()?;
     input
-        .extend_from_slice(&u32::try_from(size).ok()?.to_be_bytes())
+        .extend_from_slice(&u32::from(size).to_be_bytes())
         .ok()?;
-    let len = input.len().checked_add(size)?;
+    let len = input.len().checked_add(usize::from(size))?;
     input.resize(len, byte).ok()
 }
 

@@ -136,26 +136,50 @@ struct Way {
     interrupts: bool,
 }
 
-// What an exchange over an input ends with, as the number of replies or of the fault; None where it doesn't come to
-// what its frames lead to.
-fn end_of(alloc: Global, start: Start<'_>, bytes: &[u8], way: Way) -> Option<u64> {
+// What an exchange over an input ends with; None where it doesn't come to what its frames lead to.
+fn end_of(
+    alloc: Global,
+    start: Start<'_>,
+    bytes: &[u8],
+    way: Way,
+) -> Option<Result<u64, ServeFault>> {
     let wanted = led_to(alloc, start, bytes, way.fails)?;
     let mut input = input_of(bytes, way.fails);
     input.most = way.most;
     input.interrupts = way.interrupts;
-    let came = served(alloc, start, &mut input, &mut taking_all(alloc))?;
-    if came != wanted {
+    if served(alloc, start, &mut input, &mut taking_all(alloc))? != wanted {
         return None;
     }
-    match came.end {
-        Ok(count) => Some(count),
-        Err(fault) => Some(u64::from(fault.number())),
-    }
+    Some(wanted.end)
 }
 
+const CUT: Result<u64, ServeFault> = Err(ServeFault::FrameCut);
+
+const UNREAD: Result<u64, ServeFault> = Err(ServeFault::MessageRead);
+
 // What each beginning of the two requests ends with, from none of their bytes to all.
-const ENDS: [u64; 21] = [
-    0, 35, 35, 35, 35, 35, 35, 35, 35, 27, 1, 35, 35, 35, 35, 35, 35, 35, 35, 27, 2,
+const ENDS: [Result<u64, ServeFault>; 21] = [
+    Ok(0),
+    CUT,
+    CUT,
+    CUT,
+    CUT,
+    CUT,
+    CUT,
+    CUT,
+    CUT,
+    UNREAD,
+    Ok(1),
+    CUT,
+    CUT,
+    CUT,
+    CUT,
+    CUT,
+    CUT,
+    CUT,
+    CUT,
+    UNREAD,
+    Ok(2),
 ];
 
 // How many beginnings end so, whole and by single bytes; and with 27 where reads fail behind them.
@@ -179,7 +203,7 @@ fn right_beginnings(alloc: Global) -> Option<usize> {
                 fails,
                 interrupts: most == 1,
             };
-            let wanted = if fails { 27 } else { *end };
+            let wanted = if fails { UNREAD } else { *end };
             if end_of(alloc, start, bytes, way)? != wanted {
                 return Some(len);
             }
@@ -220,7 +244,9 @@ fn right_changes(alloc: Global) -> Option<usize> {
             let mut bytes = Vec::from_slice(alloc, CHANGED).ok()?;
             let byte = bytes.get_mut(place)?;
             *byte = changed(*byte, number);
-            end_of(alloc, start, &bytes, way)?;
+            if end_of(alloc, start, &bytes, way).is_none() {
+                return Some(count);
+            }
             count = count.checked_add(1)?;
         }
     }
@@ -243,9 +269,25 @@ const REQUESTS: [Request; 6] = [
     (b"fw-1", 200, 1),
 ];
 
-// How many ways of giving these requests lead to what their frames lead to: so many at a time, with interruptions or
-// without, and with a failure at their end or without.
-fn right_ways(alloc: Global) -> Option<usize> {
+// Ways of giving them: how many bytes at a time, with a failure at the end or without, and with interruptions or
+// without.
+const WAYS: [(usize, bool, bool); 12] = [
+    (1, false, false),
+    (63, false, false),
+    (64, false, false),
+    (65, false, false),
+    (usize::MAX, false, false),
+    (1, false, true),
+    (64, false, true),
+    (usize::MAX, false, true),
+    (1, true, false),
+    (63, true, true),
+    (65, true, false),
+    (usize::MAX, true, true),
+];
+
+// The first of these ways that doesn't lead to what the frames lead to, six replies; their count if none.
+fn first_other_way(alloc: Global) -> Option<usize> {
     let tape = counting::<80>(0);
     let file = new_file(alloc, CHEAP, &tape, 31)?;
     let start = Start {
@@ -253,27 +295,23 @@ fn right_ways(alloc: Global) -> Option<usize> {
         tape: &tape[48..],
     };
     let frames = frames_of(alloc, &REQUESTS)?;
-    let mut count = 0usize;
-    for most in [1, 63, 64, 65, usize::MAX] {
-        for (fails, interrupts) in [(false, false), (false, true), (true, true)] {
-            let way = Way {
-                most,
-                fails,
-                interrupts,
-            };
-            let wanted = if fails { 27 } else { 6 };
-            if end_of(alloc, start, &frames, way)? != wanted {
-                return None;
-            }
-            count = count.checked_add(1)?;
+    for (i, (most, fails, interrupts)) in WAYS.iter().enumerate() {
+        let way = Way {
+            most: *most,
+            fails: *fails,
+            interrupts: *interrupts,
+        };
+        let wanted = if *fails { UNREAD } else { Ok(6) };
+        if end_of(alloc, start, &frames, way)? != wanted {
+            return Some(i);
         }
     }
-    Some(count)
+    Some(WAYS.len())
 }
 
 #[test]
 fn frames_in_pieces_lead_to_the_same(rt: HostRuntime) {
-    assert_eq!(rt; right_ways(rt.alloc()), Some(15));
+    assert_eq!(rt; first_other_way(rt.alloc()), Some(12));
 }
 
 // The file of a key with a record of this slot changed: its root is another, though its tag is right.

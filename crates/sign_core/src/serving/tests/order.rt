@@ -90,23 +90,16 @@ const REQUESTS: [Request; 6] = [
     (b"fw-2", 40_000, 1),
 ];
 
-// Where each of these frames and its reply end.
-fn ends_of(
-    alloc: Global,
-    start: Start<'_>,
-    requests: &[Request<'_>],
-) -> Option<Vec<(usize, usize)>> {
-    let mut signer = open(alloc, start)?;
+// The frames of these requests, and where each of them and its reply end.
+fn ends_of(alloc: Global, start: Start<'_>) -> Option<(Vec<u8>, Vec<(usize, usize)>)> {
+    let mut frames = Vec::new(alloc);
     let mut ends = Vec::new(alloc);
-    let mut output = Vec::new(alloc);
-    let mut sent = 0usize;
-    for request in requests {
-        let frame = frames_of(alloc, &[*request])?;
-        sent = sent.checked_add(frame.len())?;
-        replies_to(alloc, &mut signer, &frame, false, &mut output)?.ok()?;
-        ends.push((sent, output.len())).ok()?;
+    for request in REQUESTS {
+        add_frame(&mut frames, request)?;
+        let came = led_to(alloc, start, &frames, false)?;
+        ends.push((frames.len(), came.output.len())).ok()?;
     }
-    Some(ends)
+    Some((frames, ends))
 }
 
 // What an exchange with a client that waits ends with, and whether all was sent and every reply passed on.
@@ -117,8 +110,7 @@ fn with_client(alloc: Global) -> Option<(Result<u64, ServeFault>, bool)> {
         file: &file,
         tape: &tape[48..],
     };
-    let frames = frames_of(alloc, &REQUESTS)?;
-    let ends = ends_of(alloc, start, &REQUESTS)?;
+    let (frames, ends) = ends_of(alloc, start)?;
     let line = Line {
         ends: &ends,
         given: Cell::new(0),
