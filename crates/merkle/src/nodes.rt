@@ -6,8 +6,8 @@ ghost use Rattle.merkle.specs.Nodes.{nodes_under, path_from};
 
 use crate::tree::{TreeHash, node_at};
 
-/// Writes the nodes from node `index` of height `base + depth` down to those of height `base`. No node of height
-/// `base` is kept below; each is made from its leaves.
+/// Writes the nodes from node `index` of height `base + depth` down to those of height `base`, `2^(depth + 1) - 1` in
+/// all. Of what stands under a node of height `base` nothing is kept.
 pub(crate) fn fill<T: TreeHash>(
     tree: &mut T,
     base: u8,
@@ -36,7 +36,7 @@ pub(crate) fn fill<T: TreeHash>(
     top[0] = tree.join(base + below, index, &left[half - 1], &right[half - 1]);
 }
 
-/// As `fill` of node 0, where the first node of height `base` is known, so that its leaves aren't made again.
+/// As `fill` of node 0, where the first node of height `base` is known: its leaves aren't made again.
 pub(crate) fn fill_from<T: TreeHash>(
     tree: &mut T,
     base: u8,
