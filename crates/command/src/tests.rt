@@ -1,3 +1,4 @@
+mod auditing;
 mod disks;
 mod failing_disks;
 mod failures;

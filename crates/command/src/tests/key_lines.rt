@@ -18,7 +18,7 @@ fn word_in(rt: &HostRuntime, folder: &Place, word: &str) -> Result<String, Fail>
 }
 
 // Runs a line in a folder.
-fn run_line(rt: &HostRuntime, folder: &Place, line: &str) -> Result<Outcome, Fail> {
+pub fn run_line(rt: &HostRuntime, folder: &Place, line: &str) -> Result<Outcome, Fail> {
     let mut words = Vec::new(rt.alloc());
     for word in line.split_whitespace() {
         words.push(word_in(rt, folder, word)?)?;
@@ -31,13 +31,13 @@ fn run_line(rt: &HostRuntime, folder: &Place, line: &str) -> Result<Outcome, Fai
 }
 
 // What a file of the folder has.
-fn content(rt: &HostRuntime, folder: &Place, name: &str) -> Option<Vec<u8>> {
+pub fn content(rt: &HostRuntime, folder: &Place, name: &str) -> Option<Vec<u8>> {
     let path = folder.path.join(rt.alloc(), name).ok()?;
     fs::read(rt, path.as_path()).ok()
 }
 
 // Writes a file of the folder.
-fn write(rt: &HostRuntime, folder: &Place, name: &str, bytes: &[u8]) -> Result<(), Fail> {
+pub fn write(rt: &HostRuntime, folder: &Place, name: &str, bytes: &[u8]) -> Result<(), Fail> {
     let path = folder.path.join(rt.alloc(), name)?;
     fs::write(rt, path.as_path(), bytes)?;
     Ok(())
@@ -45,11 +45,11 @@ fn write(rt: &HostRuntime, folder: &Place, name: &str, bytes: &[u8]) -> Result<(
 
 // A line, what it prints, its exit status, and how many bytes the file k has afterwards, if it is there. Where nothing
 // is said, a wrong line is explained on the output for errors; what ends in two dots is a beginning.
-struct Row {
-    line: &'static str,
-    printed: &'static str,
-    status: u8,
-    size: Option<usize>,
+pub struct Row {
+    pub line: &'static str,
+    pub printed: &'static str,
+    pub status: u8,
+    pub size: Option<usize>,
 }
 
 // Whether an outcome is what a row says of it.
@@ -70,7 +70,7 @@ fn is_printed(outcome: &Outcome, row: &Row) -> bool {
 }
 
 // The first line that doesn't come to what its row says.
-fn first_wrong(
+pub fn first_wrong(
     rt: &HostRuntime,
     folder: &Place,
     rows: &[Row],
@@ -89,7 +89,7 @@ fn first_wrong(
 }
 
 // A folder with two messages, the bytes 00 to ff, and the first 47 and 48 of them.
-fn folder_with_files(rt: &HostRuntime, name: &str) -> Result<Place, Fail> {
+pub fn folder_with_files(rt: &HostRuntime, name: &str) -> Result<Place, Fail> {
     let folder = Place::new(rt, name)?;
     let mut tape = [0; 256];
     for (byte, value) in tape.iter_mut().zip(0u8..) {
