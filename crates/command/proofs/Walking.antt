@@ -119,7 +119,7 @@ TakesAll s position h [] last to = (h ≡ to) × (position ≡ last)
 TakesAll s position h (word ∷ words) last to =
     (next : Collected) × TakesValue s position h word next × TakesAll s (position + 1) next words last to
 
-abbrev AllTaken : Bool → List Text → Type 0
+abbrev pub AllTaken : Bool → List Text → Type 0
 AllTaken b [] = ⊤
 AllTaken b (word ∷ words) = IsTaken b word × AllTaken b words
 
@@ -127,7 +127,7 @@ pub plain_taken : (words : List Text) → ArePlainWords words → AllTaken false
 plain_taken [] plain = tt
 plain_taken (word ∷ words) (first, others) = (first, plain_taken words others)
 
-any_taken : (words : List Text) → AllTaken true words
+pub any_taken : (words : List Text) → AllTaken true words
 any_taken [] = tt
 any_taken (word ∷ words) = (tt, any_taken words)
 

@@ -8,15 +8,15 @@ use Rattle.clap.specs.Walk.{Held as Collected, Walk, after_step, finished, nothi
 use Rattle.clap.specs.Words.{Rule, Text, fault_of, subcommand_of}
 use Rattle.clap.proofs.OnLiterals.{clap_on_literals}
 use Rattle.command.specs.Argument.{default_random}
-use Rattle.command.specs.Line.{Finds, IsLineOf, IsLineWithOption, IsPlainWord, IsShownLineOf, Task, audit, audit_given, hbsign_app, make, retire, sign, task_found, verify}
+use Rattle.command.specs.Line.{Finds, IsLineWithOption, IsPlainWord, hbsign_app, make, sign, task_found}
 use Rattle.command.proofs.Accepting.{none_of}
 use Rattle.command.proofs.Walking.{Enters, Goes, TakesAll, at, end_fault, entered_faults, entered_rows, enters_make, enters_sign, first_held, goes, is_no_hyphen, make_shape, next_held, over_all, plain_taken, sign_shape, stays, takes_line}
 
 -- a walk after one more word, and after a word that is an option's value
-abbrev after_word : Shape → Walk → Text → Walk
+abbrev pub after_word : Shape → Walk → Text → Walk
 after_word s w word = walked s.rules [] w word
 
-abbrev after_value_word : Shape → Walk → Text → Walk
+abbrev pub after_value_word : Shape → Walk → Text → Walk
 after_value_word s w word =
     after_step s.rules word w (plain_word s.rules w.waiting word w.held).0 (plain_word s.rules w.waiting word w.held).1
 
@@ -38,13 +38,13 @@ value_passes s id (x ∷ []) h plain = elim (cases_eq x 45) [
 ]
 value_passes s id (x ∷ y ∷ xs) h plain = rw ((is_no_hyphen x plain).0, (is_no_hyphen x plain).1) refl
 
-value_walks : (s : Shape) (w : Walk) (id : Text) (word : Text) → w.stopped ≡ None → w.waiting ≡ option id → w.is_trailing ≡ false → IsPlainWord word
+pub value_walks : (s : Shape) (w : Walk) (id : Text) (word : Text) → w.stopped ≡ None → w.waiting ≡ option id → w.is_trailing ≡ false → IsPlainWord word
     → walked s.rules [] w word ≡ after_value_word s w word
 unfolding walked
 value_walks s w id word going waits before plain =
     rw (going, before, waits, value_met s.rules id w.position word w.held plain) refl
 
-value_turn_passes : (s : Shape) (w : Walk) (id : Text) (word : Text) → w.stopped ≡ None → w.waiting ≡ option id → w.is_trailing ≡ false → IsPlainWord word
+pub value_turn_passes : (s : Shape) (w : Walk) (id : Text) (word : Text) → w.stopped ≡ None → w.waiting ≡ option id → w.is_trailing ≡ false → IsPlainWord word
     → step_fault s w.position (plain_word s.rules (option id) word w.held).0 (plain_word s.rules (option id) word w.held).1 ≡ []
     → turn_fault s [] w word ≡ []
 value_turn_passes s w id word going waits before plain step =
@@ -52,7 +52,7 @@ value_turn_passes s w id word going waits before plain step =
 
 -- ---- walks one after the other
 
-goes_on : (s : Shape) (from mid to : Walk) (words more : List Text) → Goes s from words mid → Goes s mid more to → Goes s from (words ++ more) to
+pub goes_on : (s : Shape) (from mid to : Walk) (words more : List Text) → Goes s from words mid → Goes s mid more to → Goes s from (words ++ more) to
 unfolding walk_fault
 goes_on s from mid to [] more (ends, passes) rest = subst (λ w. Goes s w more to) (sym ends) rest
 goes_on s from mid to (word ∷ words) more (ends, passes) rest =
@@ -61,7 +61,7 @@ goes_on s from mid to (word ∷ words) more (ends, passes) rest =
     (goes_on s (walked s.rules [] from word) mid to words more (ends, others) rest)
 
 -- a line of a command that is gone over, and with which nothing is wrong in the end
-goes_line : (words : List Text) (name : Text) (names : List Text) (s : Shape) (to : Walk) → Enters name s → words ≡ name ∷ names
+pub goes_line : (words : List Text) (name : Text) (names : List Text) (s : Shape) (to : Walk) → Enters name s → words ≡ name ∷ names
     → Goes s (at false nothing_collected 1) names to → end_fault s to ≡ []
     → (fault_of hbsign_app words ≡ []) × (subcommand_of hbsign_app words ≡ Some (name, finished s.rules to.held))
 goes_line words name names s to enters same (ends, passes) well =
@@ -187,12 +187,3 @@ finds_sign words state name message out random (inr (same, plain, file)) =
     let line = goes_on sign_shape _ _ (sign_all state name message out random) (state ∷ name ∷ message ∷ out ∷ []) (codes "--random" ∷ random ∷ []) values (sign_goes state name message out random file) in
     let (none, rows) = goes_line words (codes "sign") _ sign_shape (sign_all state name message out random) enters_sign same line (sign_all_ends state name message out random) in
     (none, ap task_found rows ∙ sign_all_found state name message out random)
-
--- a line as help shows it is one of its task
-pub shown_line : (words : List Text) (task : Task) → IsShownLineOf words task → IsLineOf words task
-shown_line words (make state public spec random) line = finds_make words state public spec random line
-shown_line words (sign state name message out random) line = finds_sign words state name message out random line
-shown_line words (verify public message signature) line = line
-shown_line words (retire state upto) line = line
-shown_line words (audit state anchor) line = line
-shown_line words (audit_given public files) line = line

@@ -18,8 +18,8 @@ use Rattle.command.specs.declared.line.Request.TheVariants.{Make, Sign, Verify, 
 use Rattle.command.specs.declared.answer.Done.{Done}
 use Rattle.command.specs.declared.refusal.Refusal.{Refusal}
 use Rattle.command.specs.Argument.{default_random}
-use Rattle.command.specs.Audit.{AuditsIn, anchor_in, audit_app}
-use Rattle.command.specs.AuditGiven.{ChecksIn, Pair, audit_given_app, pairs_in, pairs_of}
+use Rattle.command.specs.Audit.{AuditsIn, anchor_in, audit_app, most_records, tag_in}
+use Rattle.command.specs.AuditGiven.{ChecksIn, Pair, audit_given_app, pairs_in, pairs_of, paths_of}
 use Rattle.command.specs.Files.{FilesSeen}
 use Rattle.command.specs.Make.{MakesIn, make_app}
 use Rattle.command.specs.Number.{number_in}
@@ -195,8 +195,23 @@ IsLineWithOption words name values random =
     (IsCommandLine words name values × (random ≡ default_random))
     ⊎ ((words ≡ name ∷ (values ++ codes "--random" ∷ random ∷ [])) × ArePlainWords values × IsPlainWord random)
 
+-- The line of an audit with an anchor at its end. None of the values looks like an option.
+pub record IsAnchoredLine (words : List (List ℕ)) (state : List ℕ) (anchor : Anchor) : Type 0 where
+  pub count : List ℕ
+  pub tag : List ℕ
+  pub words_are : words ≡ codes "audit" ∷ state ∷ codes "--count" ∷ count ∷ codes "--tag" ∷ tag ∷ []
+  pub plain : ArePlainWords (state ∷ count ∷ tag ∷ [])
+  pub count_is : number_in most_records count ≡ Some anchor.count
+  pub tag_is : tag_in tag ≡ Some anchor.tag
+
+-- .. or without one
+abbrev pub IsAuditLine : List (List ℕ) → (state : List ℕ) → Option Anchor → Type 0
+IsAuditLine words state None = IsCommandLine words (codes "audit") (state ∷ [])
+IsAuditLine words state (Some anchor) = IsAnchoredLine words state anchor
+
 -- The line of a task as help shows it: `make STATE PUBLIC SPEC [--random FILE]`,
--- `sign STATE NAME MESSAGE OUT [--random FILE]`, `verify PUBLIC MESSAGE SIGNATURE` or `retire STATE UPTO`.
+-- `sign STATE NAME MESSAGE OUT [--random FILE]`, `verify PUBLIC MESSAGE SIGNATURE`, `retire STATE UPTO`,
+-- `audit STATE [--count K --tag T]`, or `audit-given PUBLIC FILES..` with a pair of files at least.
 abbrev pub IsShownLineOf : List (List ℕ) → Task → Type 0
 IsShownLineOf words (make state public spec random) =
     IsLineWithOption words (codes "make") (state ∷ public ∷ spec ∷ []) random
@@ -204,8 +219,9 @@ IsShownLineOf words (sign state name message out random) =
     IsLineWithOption words (codes "sign") (state ∷ name ∷ message ∷ out ∷ []) random
 IsShownLineOf words (verify public message signature) = IsLineOf words (verify public message signature)
 IsShownLineOf words (retire state upto) = IsLineOf words (retire state upto)
-IsShownLineOf words (audit state anchor) = IsLineOf words (audit state anchor)
-IsShownLineOf words (audit_given public files) = IsLineOf words (audit_given public files)
+IsShownLineOf words (audit state anchor) = IsAuditLine words state anchor
+IsShownLineOf words (audit_given public files) =
+    (files ≢ []) × IsCommandLine words (codes "audit-given") (public ∷ paths_of files)
 
 -- the kind of error that a lack is
 abbrev pub lack_kind : Lack → ErrorKind

@@ -154,6 +154,8 @@ impl LineReader for ClapReader {
     ghost refusals = { λ reader. reader.refusals + reader.texts.refusals };
 
     fn read<'a, S: AsStr>(&mut self, words: &'a [S]) -> Result<Request<'a>, LineFault> {
+        // Only the proof needs this use: it tells how many words there are at most.
+        let _ = words.len();
         match read(self.alloc, words) {
             Ok(request) => Ok(request),
             Err(error) if matches!(error.kind(), ErrorKind::OutOfMemory) => {

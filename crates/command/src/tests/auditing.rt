@@ -1,6 +1,6 @@
 //! Audits by lines, on files of the machine.
 
-use super::key_lines::{Row, content, first_wrong, folder_with_files, run_line, write};
+use super::key_lines::{content, folder_with_files, run_line, write};
 use super::place::{Outcome, Place};
 use std::test::Fail;
 
@@ -99,80 +99,96 @@ fn damaged_records_are_refused_before_the_anchor(rt: HostRuntime) -> Result<(), 
     folder.remove(&rt)
 }
 
-// A wrong line is explained, and opens nothing: the file n isn't there, and none is made.
-const WRONG_LINES: &[Row] = &[
-    wrong("audit"),
-    wrong("audit @n @n"),
-    wrong("audit @n --count 3"),
-    wrong("audit @n --tag 00000000000000000000000000000000000000000000000000000000000000ff"),
-    wrong("audit @n --count 2147483649 --tag 00000000000000000000000000000000000000000000000000000000000000ff"),
-    wrong("audit @n --count three --tag 00000000000000000000000000000000000000000000000000000000000000ff"),
-    wrong("audit @n --count 3 --tag 0000000000000000000000000000000000000000000000000000000000000ff"),
-    wrong("audit @n --count 3 --tag 0000000000000000000000000000000000000000000000000000000000000000ff"),
-    wrong("audit @n --count 3 --tag 000000000000000000000000000000000000000000000000000000000000000g"),
-    wrong("audit @n --count 3 --count 3 --tag 00000000000000000000000000000000000000000000000000000000000000ff"),
-    wrong("audit-given"),
-    wrong("audit-given @n"),
-    wrong("audit-given @n @n"),
-    wrong("audit-given @n @n @n @n"),
-    Row {
-        line: "audit @n --count 3 --tag 00000000000000000000000000000000000000000000000000000000000000FF",
-        printed: "refused 53 FileFailed",
-        status: 3,
-        size: None,
-    },
-    Row {
-        line: "audit --tag=00000000000000000000000000000000000000000000000000000000000000ff @n --count=2147483648",
-        printed: "refused 53 FileFailed",
-        status: 3,
-        size: None,
-    },
+// Lines that are refused, and open nothing: the file n isn't there, and none is made.
+const WRONG_LINES: &[&str] = &[
+    "audit",
+    "audit @n @n",
+    "audit @n --count 3",
+    "audit @n --tag 00000000000000000000000000000000000000000000000000000000000000ff",
+    "audit @n --count 2147483649 --tag 00000000000000000000000000000000000000000000000000000000000000ff",
+    "audit @n --count three --tag 00000000000000000000000000000000000000000000000000000000000000ff",
+    "audit @n --count 3 --tag 0000000000000000000000000000000000000000000000000000000000000ff",
+    "audit @n --count 3 --tag 0000000000000000000000000000000000000000000000000000000000000000ff",
+    "audit @n --count 3 --tag 000000000000000000000000000000000000000000000000000000000000000g",
+    "audit @n --count 3 --count 3 --tag 00000000000000000000000000000000000000000000000000000000000000ff",
+    "audit-given",
+    "audit-given @n",
+    "audit-given @n @n",
+    "audit-given @n @n @n @n",
 ];
 
-// A line that is refused, which says why on the output for errors.
-const fn wrong(line: &'static str) -> Row {
-    Row {
-        line,
-        printed: "",
-        status: 2,
-        size: None,
+// Lines that are none of these, of a state file that isn't there.
+const RIGHT_LINES: &[Printed] = &[
+    (
+        "audit @n --count 3 --tag 00000000000000000000000000000000000000000000000000000000000000FF",
+        "refused 53 FileFailed",
+        3,
+    ),
+    (
+        "audit --tag=00000000000000000000000000000000000000000000000000000000000000ff @n --count=2147483648",
+        "refused 53 FileFailed",
+        3,
+    ),
+];
+
+// A line, what it prints, and its exit status.
+type Printed = (&'static str, &'static str, u8);
+
+// The first line that isn't refused as a wrong one.
+fn first_accepted(
+    rt: &HostRuntime,
+    folder: &Place,
+    lines: &[&'static str],
+) -> Result<Option<&'static str>, Fail> {
+    for line in lines {
+        let outcome = run_line(rt, folder, line)?;
+        if !outcome.output.is_empty() || outcome.errors.is_empty() || outcome.status != 2 {
+            return Ok(Some(*line));
+        }
     }
+    Ok(None)
+}
+
+// The first line that doesn't print what it has to.
+fn first_wrong(
+    rt: &HostRuntime,
+    folder: &Place,
+    lines: &[Printed],
+) -> Result<Option<&'static str>, Fail> {
+    for (line, printed, status) in lines {
+        let outcome = run_line(rt, folder, line)?;
+        if !outcome.is(printed, *status) {
+            return Ok(Some(*line));
+        }
+    }
+    Ok(None)
 }
 
 #[test]
 fn a_wrong_line_of_an_audit_is_refused(rt: HostRuntime) -> Result<(), Fail> {
     let folder = folder_with_files(&rt, "audit-lines")?;
-    assert_eq!(rt; first_wrong(&rt, &folder, WRONG_LINES)?, None);
+    assert_eq!(rt; first_accepted(&rt, &folder, WRONG_LINES)?, None);
+    assert_eq!(rt; first_wrong(&rt, &folder, RIGHT_LINES)?, None);
     assert!(rt; content(&rt, &folder, "n").is_none());
     folder.remove(&rt)
 }
 
 // Two copies of one key, k and k2, have signed different messages with the first leaf: s and s2. The third signature is
 // another leaf's.
-const COPIES: &[Row] = &[
-    given("audit-given @p @m @s", "given 1 signatures, no leaf twice", 0),
-    given("audit-given @p @m @s @m @s", "given 2 signatures, no leaf twice", 0),
-    given("audit-given @p @m @s @m2 @s3", "given 2 signatures, no leaf twice", 0),
-    given("audit-given @p @m @s @m2 @s2", "refused 61 LeafTwice files 0 1", 1),
-    given("audit-given @p @m2 @s3 @m @s @m @s @m2 @s2", "refused 61 LeafTwice files 1 3", 1),
-    given("audit-given @p @m @s @m2 @s", "refused 60 NotValid file 1", 1),
-    given("audit-given @p @m2 @s @m @s @m2 @s2", "refused 60 NotValid file 0", 1),
-    given("audit-given @p @m @none @m2 @s", "refused 53 FileFailed", 3),
-    given("audit-given @none @m @s", "refused 53 FileFailed", 3),
-    given("audit-given @m @m @s", "refused 6 KeyLength of 1", 1),
-    given("audit-given @m @none @s", "refused 53 FileFailed", 3),
-    given("audit-given -- @p @m @s", "given 1 signatures, no leaf twice", 0),
+const COPIES: &[Printed] = &[
+    ("audit-given @p @m @s", "given 1 signatures, no leaf twice", 0),
+    ("audit-given @p @m @s @m @s", "given 2 signatures, no leaf twice", 0),
+    ("audit-given @p @m @s @m2 @s3", "given 2 signatures, no leaf twice", 0),
+    ("audit-given @p @m @s @m2 @s2", "refused 61 LeafTwice files 0 1", 1),
+    ("audit-given @p @m2 @s3 @m @s @m @s @m2 @s2", "refused 61 LeafTwice files 1 3", 1),
+    ("audit-given @p @m @s @m2 @s", "refused 60 NotValid file 1", 1),
+    ("audit-given @p @m2 @s @m @s @m2 @s2", "refused 60 NotValid file 0", 1),
+    ("audit-given @p @m @none @m2 @s", "refused 53 FileFailed", 3),
+    ("audit-given @none @m @s", "refused 53 FileFailed", 3),
+    ("audit-given @m @m @s", "refused 6 KeyLength of 1", 1),
+    ("audit-given @m @none @s", "refused 53 FileFailed", 3),
+    ("audit-given -- @p @m @s", "given 1 signatures, no leaf twice", 0),
 ];
-
-// A line of given signatures, beside a state file of two records.
-const fn given(line: &'static str, printed: &'static str, status: u8) -> Row {
-    Row {
-        line,
-        printed,
-        status,
-        size: Some(769),
-    }
-}
 
 // Makes one key in two files, which sign.
 fn sign_with_copies(rt: &HostRuntime, folder: &Place) -> Result<(), Fail> {

@@ -45,11 +45,11 @@ pub fn write(rt: &HostRuntime, folder: &Place, name: &str, bytes: &[u8]) -> Resu
 
 // A line, what it prints, its exit status, and how many bytes the file k has afterwards, if it is there. Where nothing
 // is said, a wrong line is explained on the output for errors; what ends in two dots is a beginning.
-pub struct Row {
-    pub line: &'static str,
-    pub printed: &'static str,
-    pub status: u8,
-    pub size: Option<usize>,
+struct Row {
+    line: &'static str,
+    printed: &'static str,
+    status: u8,
+    size: Option<usize>,
 }
 
 // Whether an outcome is what a row says of it.
@@ -70,7 +70,7 @@ fn is_printed(outcome: &Outcome, row: &Row) -> bool {
 }
 
 // The first line that doesn't come to what its row says.
-pub fn first_wrong(
+fn first_wrong(
     rt: &HostRuntime,
     folder: &Place,
     rows: &[Row],

@@ -1,10 +1,10 @@
-use Rattle.std.proofs.Common.{◌∙◌, ap, map}
+use Rattle.std.proofs.Common.{rules, ◌∙◌, ap, map}
 use Rattle.clap.specs.Words.{kind_of}
 use Rattle.command.specs.Line.{task_of}
 use Rattle.command.specs.LineFault.{line_faults}
 use Rattle.command.proofs.Accepting.{is_line_of, no_line_faults, same_task, task_has_no_faults}
 use Rattle.command.proofs.Finding.{only_memory}
-use Rattle.command.proofs.WithOption.{shown_line}
+use Rattle.command.proofs.AuditLines.{length_fits, shown_line}
 use Rattle.command.proofs.line.ClapReaderLineReader.read.Goals.{in-OutOfMemory, in_default}
 use Rattle.command.proofs.line.ClapReaderLineReader.read.Goals as goal
 
@@ -30,10 +30,10 @@ returns-in-Err-2-clause-requests g c task line =
     ]
 
 pub returns-in-Ok-clause-shown : goal.returns-in-Ok-clause-shown
-returns-in-Ok-clause-shown g c task line = shown_line (map g.S.AsStr.text c.args.words.now) task line
+returns-in-Ok-clause-shown g c task line = shown_line (map g.S.AsStr.text c.args.words.now) task (length_fits g.S.AsStr.text c.args.words.now (search rules)) line
 
 pub returns-in-Err-clause-shown : goal.returns-in-Err-clause-shown
-returns-in-Err-clause-shown g c task line = shown_line (map g.S.AsStr.text c.args.words.now) task line
+returns-in-Err-clause-shown g c task line = shown_line (map g.S.AsStr.text c.args.words.now) task (length_fits g.S.AsStr.text c.args.words.now (search rules)) line
 
 pub returns-in-Err-2-clause-shown : goal.returns-in-Err-2-clause-shown
-returns-in-Err-2-clause-shown g c task line = shown_line (map g.S.AsStr.text c.args.words.now) task line
+returns-in-Err-2-clause-shown g c task line = shown_line (map g.S.AsStr.text c.args.words.now) task (length_fits g.S.AsStr.text c.args.words.now (search rules)) line
