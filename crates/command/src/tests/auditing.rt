@@ -25,20 +25,26 @@ fn folder_with_three_records(rt: &HostRuntime, name: &str) -> Result<Place, Fail
     Ok(folder)
 }
 
-// What an audit prints of a file of so many records, of which one leaf of each level is used.
-fn report_of(rt: &HostRuntime, folder: &Place, records: usize) -> Result<String, Fail> {
+// What an audit prints of a file of so many records, the last of which has this tag; a leaf of the top tree is used, and
+// so many of the tree below are left.
+fn report_of(
+    rt: &HostRuntime,
+    folder: &Place,
+    records: &str,
+    tag: &str,
+    left: &str,
+) -> Result<String, Fail> {
     let public = hex_in(rt, folder, "p", 0, 60)?;
-    let tag = hex_in(rt, folder, "k", 256 * records - 32, 256 * records)?;
-    Ok(
-        format!(in rt.alloc(); "public {public}\nrecords {records}\ntag {tag}\nlevel 0 left 31\nlevel 1 left {}", 34 - records)?,
-    )
+    let lines = format!(in rt.alloc(); "public {public}\nrecords {records}\ntag {tag}\n")?;
+    Ok(format!(in rt.alloc(); "{lines}level 0 left 31\nlevel 1 left {left}")?)
 }
 
 #[test]
 fn an_audit_prints_what_the_records_say(rt: HostRuntime) -> Result<(), Fail> {
     let folder = folder_with_three_records(&rt, "audit")?;
     let before = content(&rt, &folder, "k");
-    let report = report_of(&rt, &folder, 3)?;
+    let tag = hex_in(&rt, &folder, "k", 736, 768)?;
+    let report = report_of(&rt, &folder, "3", &tag, "31")?;
     let outcome = run_line(&rt, &folder, "audit @k")?;
     assert!(rt; outcome.is(&report, 0));
     assert!(rt; before.is_some() && content(&rt, &folder, "k") == before);
@@ -56,12 +62,12 @@ fn audit(rt: &HostRuntime, folder: &Place, count: &str, tag: &str) -> Result<Out
 fn an_anchor_fits_its_file_and_later_ones(rt: HostRuntime) -> Result<(), Fail> {
     let folder = folder_with_three_records(&rt, "audit-later")?;
     let tag = hex_in(&rt, &folder, "k", 736, 768)?;
-    let first = report_of(&rt, &folder, 3)?;
+    let first = report_of(&rt, &folder, "3", &tag, "31")?;
     assert!(rt; audit(&rt, &folder, "3", &tag)?.is(&first, 0));
     let signed = run_line(&rt, &folder, "sign @k fw-2 @m2 @s2")?;
     assert!(rt; signed.is("signed fw-2 2644 bytes", 0));
-    let second = report_of(&rt, &folder, 4)?;
-    assert!(rt; first != second);
+    let last = hex_in(&rt, &folder, "k", 992, 1024)?;
+    let second = report_of(&rt, &folder, "4", &last, "30")?;
     assert!(rt; audit(&rt, &folder, "3", &tag)?.is(&second, 0));
     assert!(rt; audit(&rt, &folder, "4", &tag)?.is("refused 48 AnchorTag", 1));
     folder.remove(&rt)
@@ -80,7 +86,7 @@ fn a_file_that_was_put_back_is_found(rt: HostRuntime) -> Result<(), Fail> {
     assert!(rt; audit(&rt, &folder, "0", &tag)?.is("refused 47 AnchorCount", 1));
     assert!(rt; audit(&rt, &folder, "2", &tag)?.is("refused 48 AnchorTag", 1));
     let own = hex_in(&rt, &folder, "k", 480, 512)?;
-    let report = report_of(&rt, &folder, 2)?;
+    let report = report_of(&rt, &folder, "2", &own, "32")?;
     assert!(rt; audit(&rt, &folder, "2", &own)?.is(&report, 0));
     folder.remove(&rt)
 }
