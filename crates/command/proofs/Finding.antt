@@ -114,7 +114,6 @@ no_retire_task None upto Command lacks = refl
 no_retire_task (Some path) None Command lacks = refl
 no_retire_task (Some path) (Some text) Command (inl none) = absurd cc
 no_retire_task (Some path) (Some text) Command (inr none) = absurd cc
-
 no_retire_task state upto Count never = absurd never
 no_retire_task state upto Tag never = absurd never
 no_retire_task state upto NoAnchor never = absurd never

@@ -1,5 +1,6 @@
 -- What is read of files, and how reading them fails.
-use Rattle.std.specs.Prelude.{length, ℕ, List, [], ◌∷◌, ◌++◌, Result, Ok, Err, ◌≡◌, Option, Some, IfSome, ◌≢◌, ◌⊎◌, ◌<◌, take}
+use Rattle.std.specs.Prelude.{length, ℕ, List, [], ◌∷◌, ◌++◌, Result, Ok, Err, ◌≡◌, Option, Some, IfSome, ◌≢◌}
+use Rattle.std.specs.Prelude.{◌⊎◌, ◌<◌, take}
 use Rattle.sign_core.specs.declared.key.AnyPublic.{AnyPublic}
 use Rattle.sign_core.specs.declared.key.KeyFault.{KeyFault}
 use Rattle.sign_core.specs.Key.{KeyHasFault, SpellsKey}

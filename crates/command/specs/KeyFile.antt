@@ -94,6 +94,7 @@ audit_reported (Err fault) = Err (Audit fault)
 abbrev pub AuditsOn : {K : Type 0} → (d : disk.Ghosts K) → (old new : K) → Option Anchor → Result Report Refusal
     → Type 0
 AuditsOn {K} d old new anchor answer =
-    ((fault : OpenFault) × FindsRecords {bound = d} d old (Err (refused_with fault new)) × (answer ≡ Err (Opening fault)))
+    ((fault : OpenFault) × FindsRecords {bound = d} d old (Err (refused_with fault new))
+    × (answer ≡ Err (Opening fault)))
     ⊎ ((found after : FileStore K d) × (audited : Result Report AuditFault) × FindsRecords d old (Ok found)
     × Audits d found after anchor audited × (answer ≡ audit_reported audited) × (new ≡ disk_of after))

@@ -55,7 +55,11 @@ impl Done {
             Done::Audited(public, report) => print_report(public.as_slice(), report, output),
             Done::Checked(count) => {
                 let count = Part::Number(*count as u64);
-                output.print(&[Part::Text("given "), count, Part::Text(" signatures, no leaf twice\n")])
+                output.print(&[
+                    Part::Text("given "),
+                    count,
+                    Part::Text(" signatures, no leaf twice\n"),
+                ])
             }
         }
     }

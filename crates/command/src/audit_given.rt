@@ -142,9 +142,9 @@ fn read_pairs<D: Folder>(
 ) -> Result<Vec<Given>, Refusal>
     ensures { MatchResult result
         (λ given. ReadsPairs (D.content folder.old) (map pair_of files.now) given.items (D.trace folder.old)
-            (D.trace folder.new))
+        (D.trace folder.new))
         (λ refusal. FailsPairs (D.content folder.old) (map pair_of files.now) refusal (D.trace folder.old)
-            (D.trace folder.new)) }
+        (D.trace folder.new)) }
 {
     let mut given = Vec::new(alloc);
     for pair in files {
@@ -166,7 +166,7 @@ fn read_pair<D: Folder>(
     ensures reads { MatchResult result
         (λ given. ReadsPair (D.content folder.old) (pair_of files.now) given (D.trace folder.old) (D.trace folder.new))
         (λ refusal. FailsPair (D.content folder.old) (pair_of files.now) refusal (D.trace folder.old)
-            (D.trace folder.new)) }
+        (D.trace folder.new)) }
 {
     let message = files::read_file(alloc, folder, Role::Message, files.message)?;
     let signature = files::read_signature_file(alloc, folder, Role::Signature, files.signature)?;

@@ -172,7 +172,7 @@ pub fn read_key_file<D: Folder>(
 ) -> Result<Result<AnyPublic, KeyFault>, Refusal>
     ensures reads { MatchResult result
         (λ key. (bytes : List ℕ) × ReadsFile (D.content folder.old) role path.now bytes (D.trace folder.old)
-            (D.trace folder.new) × ReadsKey bytes key)
+        (D.trace folder.new) × ReadsKey bytes key)
         (λ refusal. FailsFile role path.now refusal (D.trace folder.old) (D.trace folder.new)) }
     ensures content { (path : List ℕ) → D.content folder.new path ≡ D.content folder.old path }
 {
@@ -189,7 +189,7 @@ pub fn read_file<D: Folder>(
 ) -> Result<Vec<u8>, Refusal>
     ensures reads { MatchResult result
         (λ bytes. ReadsFile (D.content folder.old) role path.now bytes.items (D.trace folder.old)
-            (D.trace folder.new))
+        (D.trace folder.new))
         (λ refusal. FailsToHold role path.now refusal (D.trace folder.old) (D.trace folder.new)) }
     ensures content { (path : List ℕ) → D.content folder.new path ≡ D.content folder.old path }
 {
@@ -197,7 +197,8 @@ pub fn read_file<D: Folder>(
     read_all(alloc, folder, &mut file)
 }
 
-/// Opens a signature's file and reads it to its end, or as far as its first bytes decide: see `DECISIVE`. They are kept.
+/// Opens a signature's file and reads it to its end, or as far as its first bytes decide: see `DECISIVE`. These are
+/// kept.
 pub fn read_signature_file<D: Folder>(
     alloc: Global,
     folder: &mut D,
@@ -206,7 +207,7 @@ pub fn read_signature_file<D: Folder>(
 ) -> Result<Vec<u8>, Refusal>
     ensures reads { MatchResult result
         (λ first. ReadsStart (D.content folder.old) role path.now first.items (D.trace folder.old)
-            (D.trace folder.new))
+        (D.trace folder.new))
         (λ refusal. FailsToHold role path.now refusal (D.trace folder.old) (D.trace folder.new)) }
     ensures content { (path : List ℕ) → D.content folder.new path ≡ D.content folder.old path }
 {
@@ -215,10 +216,14 @@ pub fn read_signature_file<D: Folder>(
 }
 
 // Reads a file to its end, and keeps its bytes.
-fn read_all<D: Folder>(alloc: Global, folder: &mut D, file: &mut D::File) -> Result<Vec<u8>, Refusal>
+fn read_all<D: Folder>(
+    alloc: Global,
+    folder: &mut D,
+    file: &mut D::File,
+) -> Result<Vec<u8>, Refusal>
     ensures reads { MatchResult result
         (λ bytes. IsContent (D.File.remaining file.old) bytes.items
-            × ReadsToEnd (D.File.role file.old) bytes.items (D.trace folder.old) (D.trace folder.new))
+        × ReadsToEnd (D.File.role file.old) bytes.items (D.trace folder.old) (D.trace folder.new))
         (λ refusal. CantHold (D.File.role file.old) refusal (D.trace folder.old) (D.trace folder.new)) }
     ensures content { (path : List ℕ) → D.content folder.new path ≡ D.content folder.old path }
 {
@@ -237,10 +242,14 @@ fn read_all<D: Folder>(alloc: Global, folder: &mut D, file: &mut D::File) -> Res
 }
 
 // Reads the first bytes of a signature's file, as many as decide, and keeps them.
-fn read_start<D: Folder>(alloc: Global, folder: &mut D, file: &mut D::File) -> Result<Vec<u8>, Refusal>
+fn read_start<D: Folder>(
+    alloc: Global,
+    folder: &mut D,
+    file: &mut D::File,
+) -> Result<Vec<u8>, Refusal>
     ensures reads { MatchResult result
         (λ first. BeginsContent (D.File.remaining file.old) first.items
-            × Fills (D.File.role file.old) decisive first.items (D.trace folder.old) (D.trace folder.new))
+        × Fills (D.File.role file.old) decisive first.items (D.trace folder.old) (D.trace folder.new))
         (λ refusal. CantHold (D.File.role file.old) refusal (D.trace folder.old) (D.trace folder.new)) }
     ensures content { (path : List ℕ) → D.content folder.new path ≡ D.content folder.old path }
 {

@@ -3,8 +3,8 @@
 ghost use Rattle.std.specs.Prelude.{◌≡◌, ◌≢◌, ◌⊎◌, ◌+◌, ℕ, [], Ok, IfErr, IfOk, MatchResult, map};
 ghost use Rattle.clap.specs.Words.{HasKind, app_of, fault_of, kind_of, subcommand_of, subcommand_rows_of};
 ghost use Rattle.clap.specs.Words.{found_of, rows_of};
-ghost use Rattle.command.specs.Line.{AreTexts, IsLineOf, IsShownLineOf, bare_app, fixed_task_named, hbsign_app, lack_kind};
-ghost use Rattle.command.specs.Line.{task_found, task_of, task_or_lack};
+ghost use Rattle.command.specs.Line.{AreTexts, IsLineOf, IsShownLineOf, bare_app, fixed_task_named, hbsign_app};
+ghost use Rattle.command.specs.Line.{lack_kind, task_found, task_of, task_or_lack};
 ghost use Rattle.command.specs.Line.{Task as LineTask};
 ghost use Rattle.command.specs.LineFault.{CountsRefusals, HasLineFault, HasText, line_faults};
 
@@ -199,13 +199,15 @@ fn hbsign<'a>(alloc: Global) -> Result<Command<'a>, AllocError>
 fn bare_hbsign<'a>(alloc: Global) -> Result<Command<'a>, AllocError>
     ensures { IfOk result (λ command. app_of command ≡ bare_app) }
 {
-    Ok(Command::new(alloc, "hbsign")
-        .bin_name("hbsign")?
-        .about("Hash-based signatures on files")
-        .version(VERSION)
-        .no_binary_name(true)
-        .subcommand_required(true)
-        .arg_required_else_help(true))
+    Ok(
+        Command::new(alloc, "hbsign")
+            .bin_name("hbsign")?
+            .about("Hash-based signatures on files")
+            .version(VERSION)
+            .no_binary_name(true)
+            .subcommand_required(true)
+            .arg_required_else_help(true),
+    )
 }
 
 // The request: the subcommand that was used, with its words. Memory is wanted for the files of `audit-given`.

@@ -182,18 +182,50 @@ fn a_wrong_line_of_an_audit_is_refused(rt: HostRuntime) -> Result<(), Fail> {
 // Two copies of one key, k and k2, have signed different messages with the first leaf: s and s2. The third signature is
 // another leaf's.
 const COPIES: &[Printed] = &[
-    ("audit-given @p @m @s", "given 1 signatures, no leaf twice", 0),
-    ("audit-given @p @m @s @m @s", "given 2 signatures, no leaf twice", 0),
-    ("audit-given @p @m @s @m2 @s3", "given 2 signatures, no leaf twice", 0),
-    ("audit-given @p @m @s @m2 @s2", "refused 61 LeafTwice files 0 1", 1),
-    ("audit-given @p @m2 @s3 @m @s @m @s @m2 @s2", "refused 61 LeafTwice files 1 3", 1),
-    ("audit-given @p @m @s @m2 @s", "refused 60 NotValid file 1", 1),
-    ("audit-given @p @m2 @s @m @s @m2 @s2", "refused 60 NotValid file 0", 1),
+    (
+        "audit-given @p @m @s",
+        "given 1 signatures, no leaf twice",
+        0,
+    ),
+    (
+        "audit-given @p @m @s @m @s",
+        "given 2 signatures, no leaf twice",
+        0,
+    ),
+    (
+        "audit-given @p @m @s @m2 @s3",
+        "given 2 signatures, no leaf twice",
+        0,
+    ),
+    (
+        "audit-given @p @m @s @m2 @s2",
+        "refused 61 LeafTwice files 0 1",
+        1,
+    ),
+    (
+        "audit-given @p @m2 @s3 @m @s @m @s @m2 @s2",
+        "refused 61 LeafTwice files 1 3",
+        1,
+    ),
+    (
+        "audit-given @p @m @s @m2 @s",
+        "refused 60 NotValid file 1",
+        1,
+    ),
+    (
+        "audit-given @p @m2 @s @m @s @m2 @s2",
+        "refused 60 NotValid file 0",
+        1,
+    ),
     ("audit-given @p @m @none @m2 @s", "refused 53 FileFailed", 3),
     ("audit-given @none @m @s", "refused 53 FileFailed", 3),
     ("audit-given @m @m @s", "refused 6 KeyLength of 1", 1),
     ("audit-given @m @none @s", "refused 53 FileFailed", 3),
-    ("audit-given -- @p @m @s", "given 1 signatures, no leaf twice", 0),
+    (
+        "audit-given -- @p @m @s",
+        "given 1 signatures, no leaf twice",
+        0,
+    ),
 ];
 
 // Makes one key in two files, which sign.
