@@ -1,9 +1,7 @@
 -- Lines of the audits, as help shows them.
-use Rattle.std.proofs.Common.{◌≡◌, ◌≢◌, ◌∙◌, ◌+◌, ◌<◌, ◌≤◌, ℕ, Bool, List, [], ◌∷◌, ◌++◌, Ok, Some, None, true, false, refl, codes, fold, length, ap, subst, sym, inl, inr, arith, append_assoc, append-nil, length-append, ap₂, map}
+use Rattle.std.proofs.Common.{◌≡◌, ◌≢◌, ◌∙◌, ◌<◌, ◌≤◌, ℕ, Bool, List, [], ◌∷◌, ◌++◌, Ok, Some, None, true, false, refl, codes, length, ap, subst, sym, inl, inr, arith, append_assoc, append-nil, length-append, ap₂, map}
 use Rattle.std.proofs.lemmas.List.{length-map}
-use Rattle.std.specs.Prelude.{⊤}
 use Rattle.std.proofs.lemmas.Bool.{cases_eq, le-ltb, ne_eqb}
-use Rattle.key_audit.specs.declared.report.Anchor.{Anchor}
 use Rattle.clap.specs.Faults.{check_fault, defaults_fault, settle_fault, turn_fault, word_fault}
 use Rattle.clap.specs.Kinds.{or_else, range_kinds, values_kinds}
 use Rattle.clap.specs.Lexer.{usize_max}
@@ -16,9 +14,9 @@ use Rattle.clap.specs.declared.builder.value_parser.ValueParser.TheVariants.{Str
 use Rattle.clap.proofs.OnLiterals.{clap_on_literals}
 use Rattle.command.specs.Audit.{anchor_with, most_records, tag_in}
 use Rattle.command.specs.AuditGiven.{Pair, pairs_in, paths_of}
-use Rattle.command.specs.Line.{ArePlainWords, Finds, GivesValues, IsAnchoredLine, IsAuditLine, IsCommandLine, IsLineOf, IsPlainWord, IsShownLineOf, Task, audit, audit_anchored, audit_given, audit_given_pairs, audit_given_task, hbsign_app, make, retire, sign, task_found, verify}
+use Rattle.command.specs.Line.{Finds, GivesValues, IsAuditLine, IsCommandLine, IsLineOf, IsPlainWord, IsShownLineOf, Task, audit, audit_anchored, audit_given, audit_given_pairs, audit_given_task, hbsign_app, make, retire, sign, task_found, verify}
 use Rattle.command.specs.Number.{number_in}
-use Rattle.command.proofs.Walking.{AllTaken, Goes, IsTaken, TakesAll, any_taken, at, audit_given_shape, audit_shape, end_fault, enters_audit, enters_audit_given, first_held, goes, is_no_hyphen, next_held, plain_taken, stays, takes_line, turn_passes, word_walks}
+use Rattle.command.proofs.Walking.{AllTaken, Goes, IsTaken, TakesAll, any_taken, at, audit_given_shape, audit_shape, end_fault, enters_audit, enters_audit_given, first_held, goes, is_no_hyphen, plain_taken, stays, takes_line, turn_passes, word_walks}
 use Rattle.command.proofs.WithOption.{after_value_word, after_word, finds_make, finds_sign, goes_line, goes_on, value_turn_passes, value_walks}
 
 -- ---- audit

@@ -177,8 +177,8 @@ task_found (Some (name, rows)) = task_named name rows
 abbrev pub Finds : List (List ℕ) → Task → Type 0
 Finds words task = (fault_of hbsign_app words ≡ []) × (task_found (subcommand_of hbsign_app words) ≡ Ok task)
 
--- The line of a task: `verify PUBLIC MESSAGE SIGNATURE`, or `retire STATE UPTO`; and of the commands that have options or
--- any number of files, each in which `clap` finds it.
+-- The line of a task: `verify PUBLIC MESSAGE SIGNATURE`, or `retire STATE UPTO`; and of the commands that have options
+-- or any number of files, each in which `clap` finds it.
 abbrev pub IsLineOf : List (List ℕ) → Task → Type 0
 IsLineOf words (make state public spec random) = Finds words (make state public spec random)
 IsLineOf words (sign state name message out random) = Finds words (sign state name message out random)

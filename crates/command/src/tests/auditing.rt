@@ -25,8 +25,8 @@ fn folder_with_three_records(rt: &HostRuntime, name: &str) -> Result<Place, Fail
     Ok(folder)
 }
 
-// What an audit prints of a file of so many records, the last of which has this tag; a leaf of the top tree is used, and
-// so many of the tree below are left.
+// What an audit prints of a file of so many records, the last of which has this tag; a leaf of the top tree is used,
+// and so many of the tree below are left.
 fn report_of(
     rt: &HostRuntime,
     folder: &Place,
