@@ -51,13 +51,18 @@ use line::ClapReader;
 use machine::Machine;
 use output::{Output, Part, Printer};
 use refusal::Refusal;
+use std::io::BufWriter;
 use std::process::ExitCode;
 use std::{env, io};
 
 fn main(rt: HostRuntime) -> ExitCode {
     let stderr = rt.stderr();
-    let mut output = Printer::new(io::writer(&rt));
     let mut errors = Printer::new(io::writer(&stderr));
+    // A line is written in one piece: what a stop leaves of it is all or nothing.
+    let Ok(writer) = BufWriter::new(rt.alloc(), io::writer(&rt)) else {
+        return ExitCode::from(no_memory(&rt));
+    };
+    let mut output = Printer::new(writer);
     ExitCode::from(match words(&rt) {
         Ok(words) => program::run(
             rt.alloc(),
@@ -68,14 +73,20 @@ fn main(rt: HostRuntime) -> ExitCode {
             &mut output,
             &mut errors,
         ),
-        Err(error) if error.kind() == io::ErrorKind::OutOfMemory => {
-            answer::report(&Err(Refusal::OutOfMemory), &mut output)
-        }
+        Err(error) if error.kind() == io::ErrorKind::OutOfMemory => no_memory(&rt),
         Err(_) => {
             let _ = errors.print(&[Part::Text("error: a word of the line isn't UTF-8\n")]);
             program::LINE_REFUSED
         }
     })
+}
+
+// Prints that there is no memory, without taking any.
+fn no_memory(rt: &HostRuntime) -> u8 {
+    answer::report(
+        &Err(Refusal::OutOfMemory),
+        &mut Printer::new(io::writer(rt)),
+    )
 }
 
 // The words of the command line without the program's name.
