@@ -257,6 +257,72 @@ fn a_key_of_two_levels_signs(rt: HostRuntime) -> Result<(), Fail> {
     folder.remove(&rt)
 }
 
+// Random bytes that are all the same: a key of two levels is made of them, and no tree below it.
+const OF_SAME_BYTES: &[Row] = &[
+    Row {
+        line: "make @k @p hss:H5/W8,H5/W8 --random @ones",
+        printed: "public 00000002000000050000000411111111111111111111111111111111..",
+        status: 0,
+        size: Some(257),
+    },
+    Row {
+        line: "sign @k fw-1 @m @s --random @ones",
+        printed: "refused 24 RandomRepeated",
+        status: 1,
+        size: Some(257),
+    },
+];
+
+// Leaves of a key that has signed nothing: all are given up, and then no name is signed.
+const RETIRED: &[Row] = &[
+    Row {
+        line: "make @k @p lms:H5/W8 --random @ones",
+        printed: "public 000000050000000411111111111111111111111111111111..",
+        status: 0,
+        size: Some(257),
+    },
+    Row {
+        line: "retire @k 33",
+        printed: "refused 32 RetireRange",
+        status: 1,
+        size: Some(257),
+    },
+    Row {
+        line: "retire @k 32",
+        printed: "retired upto 32",
+        status: 0,
+        size: Some(513),
+    },
+    Row {
+        line: "sign @k fw-1 @m @s",
+        printed: "refused 22 Exhausted",
+        status: 1,
+        size: Some(513),
+    },
+    Row {
+        line: "retire @k 5",
+        printed: "retired upto 5",
+        status: 0,
+        size: Some(513),
+    },
+];
+
+#[test]
+fn the_same_bytes_make_no_second_tree(rt: HostRuntime) -> Result<(), Fail> {
+    let folder = folder_with_files(&rt, "lines-ones")?;
+    write(&rt, &folder, "ones", &[0x11; 256])?;
+    assert_eq!(rt; first_wrong(&rt, &folder, OF_SAME_BYTES)?, None);
+    folder.remove(&rt)
+}
+
+#[test]
+fn a_key_without_leaves_signs_nothing(rt: HostRuntime) -> Result<(), Fail> {
+    let folder = folder_with_files(&rt, "lines-retired")?;
+    write(&rt, &folder, "ones", &[0x11; 256])?;
+    assert_eq!(rt; first_wrong(&rt, &folder, RETIRED)?, None);
+    folder.remove(&rt)
+}
+
 // Files that can't be opened, or that are others of the same line: each is found before a leaf is used.
 const WRONG_FILES: &[Row] = &[
     Row {

@@ -81,6 +81,23 @@ const RETIRE: &[u8] =
 
 const VERIFY: &[u8] = b"Verifies a signature of a message\n\nUsage: hbsign verify";
 
+const AUDIT: &[u8] =
+    b"Says what the records of a state file are, and whether it was put back behind an anchor\n\nUsage: hbsign audit";
+
+const AUDIT_GIVEN: &[u8] =
+    b"Says whether signatures of a key are valid, and no leaf signed two digests\n\nUsage: hbsign audit-given";
+
+// The help of each command has an example of it.
+#[test]
+fn help_shows_an_example(rt: HostRuntime) -> Result<(), Fail> {
+    for name in ["make", "sign", "verify", "retire", "audit", "audit-given"] {
+        let outcome = run_words(&rt, &[name, "--help"]);
+        let example = format!(in rt.alloc(); "\nExample:\n  $ hbsign {name} firmware.")?;
+        assert!(rt; has(&outcome.output, example.as_bytes()), "{name}");
+    }
+    Ok(())
+}
+
 #[test]
 fn helps(rt: HostRuntime) -> Result<(), Fail> {
     for (line, beginning) in [
@@ -95,6 +112,8 @@ fn helps(rt: HostRuntime) -> Result<(), Fail> {
         ("help sign", SIGN),
         ("retire --help", RETIRE),
         ("help retire", RETIRE),
+        ("audit --help", AUDIT),
+        ("audit-given -h", AUDIT_GIVEN),
     ] {
         let words: Vec<&str> = line.split_whitespace().collect(rt.alloc())?;
         let outcome = run_words(&rt, &words);
