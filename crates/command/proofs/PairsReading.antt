@@ -83,9 +83,9 @@ next_fails content view items k given pair refusal old mid new reads stands fail
 
 pub no_room : {X : Type 0} (content : List ℕ → Option (List ℕ)) (view : X → Pair) (items : List X) (k : ℕ) (given : List Given)
     (refusal : Refusal) (old new : List Happening) → ReadsPairs content (map view (take k items)) given old new
-    → refusal ≡ refused.OutOfMemory → FailsPairs content (map view items) refusal old new
-no_room content view items k given refusal old new reads memory =
-    (k, given, new, subst (λ l. ReadsPairs content l given old new) (sym (take-map view k items)) reads, inl (memory, refl))
+    → 0 < k → refusal ≡ refused.OutOfMemory → FailsPairs content (map view items) refusal old new
+no_room content view items k given refusal old new reads some memory =
+    (k, given, new, subst (λ l. ReadsPairs content l given old new) (sym (take-map view k items)) reads, inl (some, memory, refl))
 
 -- a refusal that is handed on
 pub handed_on : {A : Type 0} (Good : A → Type 0) (Bad : Refusal → Type 0) (result : Result A Refusal) (refusal : Refusal)

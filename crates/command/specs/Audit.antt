@@ -70,7 +70,7 @@ IsAudited (Ok report) answer = (bytes : PublicBytes) × SpellsKey report.public 
 IsAudited (Err refusal) answer = answer ≡ Err refusal
 
 -- The state file at this path couldn't be opened, or is locked, which is reported. Or it was opened; the disk that this
--- gave was audited, once, and it was closed; what came of it is the answer. No other file was opened.
+-- gave was audited, and it was closed; what came of it is the answer. No other file was opened.
 abbrev pub AuditsIn : {K : Type 0} → disk.Ghosts K → FilesSeen K → (state : List ℕ) → Option Anchor
     → Result Done Refusal → (old new : List Happening) → Type 0
 AuditsIn {K} d files state anchor answer old new =

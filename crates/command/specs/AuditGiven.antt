@@ -1,5 +1,5 @@
 -- `audit-given PUBLIC FILES..`: its words, and what it does.
-use Rattle.std.specs.Prelude.{◌≡◌, ◌⊎◌, ◌∷◌, [], ℕ, List, codes, length, map, take, slice_get, Option, Some, None}
+use Rattle.std.specs.Prelude.{◌≡◌, ◌⊎◌, ◌<◌, ◌∷◌, [], ℕ, List, codes, length, map, take, slice_get, Option, Some, None}
 use Rattle.std.specs.Prelude.{Result, Ok, Err}
 use Rattle.std.specs.Option.{option_map}
 use Rattle.clap.specs.Words.{App, Text, new_app, with_rule}
@@ -79,12 +79,12 @@ FailsPair content pair refusal old new =
     ⊎ ((bytes : List ℕ) × (mid : List Happening) × ReadsFile content role.Message pair.0 bytes old mid
     × FailsToHold role.Signature pair.1 refusal mid new)
 
--- Some pairs were read, and no more: the next one couldn't be, or there was no memory for those that were.
+-- Some pairs were read, and no more: the next one couldn't be, or there was no memory for those that were, one at least.
 abbrev pub FailsPairs : (content : List ℕ → Option (List ℕ)) → List Pair → Refusal → (old new : List Happening)
     → Type 0
 FailsPairs content pairs refusal old new = (k : ℕ) × (given : List Given) × (mid : List Happening)
     × ReadsPairs content (take k pairs) given old mid
-    × (((refusal ≡ refused.OutOfMemory) × (new ≡ mid))
+    × (((0 < k) × (refusal ≡ refused.OutOfMemory) × (new ≡ mid))
     ⊎ ((pair : Pair) × (slice_get pairs k ≡ Some pair) × FailsPair content pair refusal mid new))
 
 -- ---- what it answers

@@ -89,7 +89,7 @@ abbrev pub audit_reported : Result Report AuditFault → Result Report Refusal
 audit_reported (Ok report) = Ok report
 audit_reported (Err fault) = Err (Audit fault)
 
--- A disk was audited: its records were found, and the store of them was audited, once, and gave its disk back. Or they
+-- A disk was audited: its records were found, and the store of them was audited, and gave its disk back. Or they
 -- couldn't be found, which is reported.
 abbrev pub AuditsOn : {K : Type 0} → (d : disk.Ghosts K) → (old new : K) → Option Anchor → Result Report Refusal
     → Type 0

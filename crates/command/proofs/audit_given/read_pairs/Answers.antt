@@ -1,4 +1,4 @@
-use Rattle.std.proofs.Common.{◌≡◌, ◌∙◌, ◌<◌, ◌++◌, ◌∷◌, [], ◌+◌, rules, length, refl}
+use Rattle.std.proofs.Common.{◌≡◌, ◌∙◌, ◌<◌, ◌++◌, ◌∷◌, [], ◌+◌, rules, arith, length, refl}
 use Rattle.command.specs.AuditGiven.{pair_of}
 use Rattle.command.proofs.PairsReading.{handed_on, next_fails, no_room, one_more_of, reads_none, reads_one_more, same_failure, same_pair, stands_at}
 use Rattle.command.proofs.audit_given.read_pairs.Goals as goal
@@ -35,4 +35,4 @@ returns-then-is_err g c =
     let all = reads_one_more (g.D.Folder.content c.args.folder.now) _ _ _ c.in_ok-read.read _ _ _ c.loop-pair.invariant.0 read in
     let given = c.loop-pair.given.items ++ c.in_ok-read.read ∷ [] in
     no_room (g.D.Folder.content c.args.folder.now) pair_of c.args.files.now (k + 1) given _ _ _
-    (one_more_of (g.D.Folder.content c.args.folder.now) pair_of c.args.files.now k _ given given _ _ within refl all) refl
+    (one_more_of (g.D.Folder.content c.args.folder.now) pair_of c.args.files.now k _ given given _ _ within refl all) (omega arith) refl
