@@ -79,8 +79,8 @@ FailsPair content pair refusal old new =
     ⊎ ((bytes : List ℕ) × (mid : List Happening) × ReadsFile content role.Message pair.0 bytes old mid
     × FailsToHold role.Signature pair.1 refusal mid new)
 
--- Some pairs were read, and no more: the next one couldn't be, or there was no memory for those that were, which are one
--- at least.
+-- Some pairs were read, and no more: the next one couldn't be, or there was no memory for those that were, which are
+-- one at least.
 abbrev pub FailsPairs : (content : List ℕ → Option (List ℕ)) → List Pair → Refusal → (old new : List Happening)
     → Type 0
 FailsPairs content pairs refusal old new = (k : ℕ) × (given : List Given) × (mid : List Happening)
