@@ -14,7 +14,7 @@ use Rattle.clap.specs.Walk.{Held as Collected, nothing_held as nothing_collected
 use Rattle.clap.specs.Words.{Rule, Text, all_of, fault_of, first_of, subcommand_of}
 use Rattle.clap.proofs.OnLiterals.{clap_on_literals}
 use Rattle.clap.specs.Simple.{Shape}
-use Rattle.command.specs.Line.{AreTexts, Finds, GivesValues, IsCommandLine, IsLineOf, IsPlainWord, Task, audit, audit_anchored, audit_given, audit_given_pairs, audit_given_task, audit_task, hbsign_app, make, make_task, retire, retire_number, sign, sign_task, task_found, task_named, verify}
+use Rattle.command.specs.Line.{AreTexts, FindsTask, GivesValues, IsCommandLine, IsLineOf, IsPlainWord, Task, audit, audit_anchored, audit_given, audit_given_pairs, audit_given_task, audit_task, hbsign_app, make, make_task, retire, retire_number, sign, sign_task, task_found, task_named, verify}
 use Rattle.key_audit.specs.declared.report.Anchor.{Anchor}
 use Rattle.command.specs.Audit.{anchor_in}
 use Rattle.command.specs.AuditGiven.{Pair, pairs_in}
@@ -476,9 +476,9 @@ of_retire words state text task None spells line same = absurd cc
 
 -- that of a line `make` is one
 of_make : (words : List Text) (state public spec random : Option Text) (task : Task) → make_task state public spec random ≡ Ok task
-    → Finds words task → IsLineOf words task
+    → FindsTask words task → IsLineOf words task
 of_make words (Some s) (Some p) (Some x) (Some r) task same found =
-    let is = ok_same (make s p x r) task same in subst (IsLineOf words) is (subst (Finds words) (sym is) found)
+    let is = ok_same (make s p x r) task same in subst (IsLineOf words) is (subst (FindsTask words) (sym is) found)
 of_make words None public spec random task same found = absurd cc
 of_make words (Some s) None spec random task same found = absurd cc
 of_make words (Some s) (Some p) None random task same found = absurd cc
@@ -486,9 +486,9 @@ of_make words (Some s) (Some p) (Some x) None task same found = absurd cc
 
 -- and so is that of a line `sign`
 of_sign : (words : List Text) (state name message out random : Option Text) (task : Task) → sign_task state name message out random ≡ Ok task
-    → Finds words task → IsLineOf words task
+    → FindsTask words task → IsLineOf words task
 of_sign words (Some s) (Some n) (Some m) (Some o) (Some r) task same found =
-    let is = ok_same (sign s n m o r) task same in subst (IsLineOf words) is (subst (Finds words) (sym is) found)
+    let is = ok_same (sign s n m o r) task same in subst (IsLineOf words) is (subst (FindsTask words) (sym is) found)
 of_sign words None name message out random task same found = absurd cc
 of_sign words (Some s) None message out random task same found = absurd cc
 of_sign words (Some s) (Some n) None out random task same found = absurd cc
@@ -497,25 +497,25 @@ of_sign words (Some s) (Some n) (Some m) (Some o) None task same found = absurd 
 
 -- .. of a line `audit`,
 of_anchor : (words : List Text) (state : Text) (anchor : Result (Option Anchor) Lack) (task : Task) → audit_anchored state anchor ≡ Ok task
-    → Finds words task → IsLineOf words task
+    → FindsTask words task → IsLineOf words task
 of_anchor words state (Ok anchor) task same found =
-    let is = ok_same (audit state anchor) task same in subst (IsLineOf words) is (subst (Finds words) (sym is) found)
+    let is = ok_same (audit state anchor) task same in subst (IsLineOf words) is (subst (FindsTask words) (sym is) found)
 of_anchor words state (Err lack) task same found = absurd cc
 
 of_audit : (words : List Text) (state count tag : Option Text) (task : Task) → audit_task state count tag ≡ Ok task
-    → Finds words task → IsLineOf words task
+    → FindsTask words task → IsLineOf words task
 of_audit words (Some state) count tag task same found = of_anchor words state (anchor_in count tag) task same found
 of_audit words None count tag task same found = absurd cc
 
 -- .. and of a line `audit-given`
 of_pairs : (words : List Text) (public : Text) (pairs : Option (List Pair)) (task : Task) → audit_given_pairs public pairs ≡ Ok task
-    → Finds words task → IsLineOf words task
+    → FindsTask words task → IsLineOf words task
 of_pairs words public (Some pairs) task same found =
-    let is = ok_same (audit_given public pairs) task same in subst (IsLineOf words) is (subst (Finds words) (sym is) found)
+    let is = ok_same (audit_given public pairs) task same in subst (IsLineOf words) is (subst (FindsTask words) (sym is) found)
 of_pairs words public None task same found = absurd cc
 
 of_audit_given : (words : List Text) (public : Option Text) (files : Option (List Text)) (task : Task) → audit_given_task public files ≡ Ok task
-    → Finds words task → IsLineOf words task
+    → FindsTask words task → IsLineOf words task
 of_audit_given words (Some public) (Some paths) task same found = of_pairs words public (pairs_in paths) task same found
 of_audit_given words None files task same found = absurd cc
 of_audit_given words (Some public) None task same found = absurd cc

@@ -14,7 +14,7 @@ use Rattle.clap.specs.declared.builder.value_parser.ValueParser.TheVariants.{Str
 use Rattle.clap.proofs.OnLiterals.{clap_on_literals}
 use Rattle.command.specs.Audit.{anchor_with, most_records, tag_in}
 use Rattle.command.specs.AuditGiven.{Pair, pairs_in, paths_of}
-use Rattle.command.specs.Line.{Finds, GivesValues, IsAuditLine, IsCommandLine, IsLineOf, IsPlainWord, IsShownLineOf, Task, audit, audit_anchored, audit_given, audit_given_pairs, audit_given_task, hbsign_app, make, retire, sign, task_found, verify}
+use Rattle.command.specs.Line.{FindsTask, GivesValues, IsAuditLine, IsCommandLine, IsLineOf, IsPlainWord, IsShownLineOf, Task, audit, audit_anchored, audit_given, audit_given_pairs, audit_given_task, hbsign_app, make, retire, sign, task_found, verify}
 use Rattle.command.specs.Number.{number_in}
 use Rattle.command.proofs.Walking.{AllTaken, Goes, IsTaken, TakesAll, any_taken, at, audit_given_shape, audit_shape, end_fault, enters_audit, enters_audit_given, first_held, goes, is_no_hyphen, plain_taken, stays, takes_line, turn_passes, word_walks}
 use Rattle.command.proofs.WithOption.{after_value_word, after_word, finds_make, finds_sign, goes_line, goes_on, value_turn_passes, value_walks}
@@ -72,7 +72,7 @@ audit_all_found : (state count tag : Text) → task_found (Some (codes "audit", 
 unfolding clap_on_literals
 audit_all_found state count tag = refl
 
-finds_audit : (words : List Text) (state : Text) (anchor : _) → IsAuditLine words state anchor → Finds words (audit state anchor)
+finds_audit : (words : List Text) (state : Text) (anchor : _) → IsAuditLine words state anchor → FindsTask words (audit state anchor)
 finds_audit words state None line =
     let (none, rows) = takes_line words (codes "audit") (state ∷ []) audit_shape 2 (audit_1 state) enters_audit (audit_takes state) (audit_ends state) line in
     (none, ap task_found rows ∙ audit_found state)
@@ -226,7 +226,7 @@ finds_files words public file files most (names, same, given) =
     (given_ends b public file files fits) in (none, ap task_found rows ∙ given_found b public file files)
 
 finds_audit_given : (words : List Text) (public : Text) (pairs : List Pair) → length words ≤ usize_max → pairs ≢ []
-    → IsCommandLine words (codes "audit-given") (public ∷ paths_of pairs) → Finds words (audit_given public pairs)
+    → IsCommandLine words (codes "audit-given") (public ∷ paths_of pairs) → FindsTask words (audit_given public pairs)
 unfolding paths_of
 finds_audit_given words public [] most some line = absurd (some refl)
 finds_audit_given words public (pair ∷ pairs) most some line =

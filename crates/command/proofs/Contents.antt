@@ -7,10 +7,10 @@ use Rattle.std.specs.declared.io.ErrorKind.TheVariants as kind
 use Rattle.sign_core.specs.declared.key.AnyPublic.{AnyPublic}
 use Rattle.sign_core.specs.declared.key.KeyFault.{KeyFault}
 use Rattle.sign_core.specs.Key.{KeyHasFault, SpellsKey}
-use Rattle.command.specs.Verify.{Answers, AnswersOf}
+use Rattle.command.specs.Verify.{AnswersFiles, AnswersOf}
 use Rattle.typecodes.specs.Message.{IsContent}
 use Rattle.typecodes.proofs.Messages.{some_content}
-use Rattle.command.specs.Files.{ReadsKey, Shows}
+use Rattle.command.specs.Files.{ReadsKey, ShowsContent}
 use Rattle.command.specs.Refusal.{refusal_of}
 use Rattle.command.specs.declared.refusal.Refusal.{Refusal}
 use Rattle.command.specs.declared.refusal.Refusal.TheVariants.{OutOfMemory, FileFailed}
@@ -23,9 +23,9 @@ failure_of : (k : ErrorKind) → IsFailure (refusal_of k)
 failure_of kind.OutOfMemory = inl refl
 failure_of _ = inr refl
 
-failed : (A : Type 0) (p m s : List ℕ) (refusal : Refusal) → IsFailure refusal → Answers {A = A} p m s (Err refusal)
-failed A p m s refusal (inl is) = subst (λ r. Answers {A = A} p m s (Err r)) (sym is) tt
-failed A p m s refusal (inr is) = subst (λ r. Answers {A = A} p m s (Err r)) (sym is) tt
+failed : (A : Type 0) (p m s : List ℕ) (refusal : Refusal) → IsFailure refusal → AnswersFiles {A = A} p m s (Err refusal)
+failed A p m s refusal (inl is) = subst (λ r. AnswersFiles {A = A} p m s (Err r)) (sym is) tt
+failed A p m s refusal (inr is) = subst (λ r. AnswersFiles {A = A} p m s (Err r)) (sym is) tt
 
 -- a failure is an answer whatever the files hold
 pub failed_answer : (A : Type 0) (public message signature : Option (List ℕ)) (refusal : Refusal) → IsFailure refusal
@@ -43,13 +43,13 @@ failed_read public message signature k (Ok a) is = absurd is
 failed_read {A = A} public message signature k (Err refusal) is =
     failed_answer A public message signature refusal (subst IsFailure (sym is) (failure_of k))
 
-pub same_content : (content left : Option (List ℕ)) (bytes : List ℕ) → Shows content left → IsContent left bytes → IsContent content bytes
+pub same_content : (content left : Option (List ℕ)) (bytes : List ℕ) → ShowsContent content left → IsContent left bytes → IsContent content bytes
 same_content None left bytes shows fits = tt
 same_content (Some content) left bytes shows fits = subst (λ l. IsContent l bytes) shows fits
 
 -- an answer that is right for what readers have left is right for what is known of their files
 pub answers_of_files : {A : Type 0} (p m s p_left m_left s_left : Option (List ℕ)) (answer : Result A Refusal)
-    → Shows p p_left → Shows m m_left → Shows s s_left → AnswersOf p_left m_left s_left answer → AnswersOf p m s answer
+    → ShowsContent p p_left → ShowsContent m m_left → ShowsContent s s_left → AnswersOf p_left m_left s_left answer → AnswersOf p m s answer
 answers_of_files p m s p_left m_left s_left answer p_shows m_shows s_shows (a, b, d, a_fits, b_fits, d_fits, right) =
     (a, b, d, same_content p p_left a p_shows a_fits, same_content m m_left b m_shows b_fits, same_content s s_left d s_shows d_fits, right)
 

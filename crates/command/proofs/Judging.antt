@@ -3,7 +3,7 @@ use Rattle.std.proofs.Common.{◌≡◌, ◌∙◌, ℕ, List, Result, Ok, Err, 
 use Rattle.sign_core.specs.declared.key.AnyPublic.{AnyPublic}
 use Rattle.sign_core.specs.declared.key.KeyFault.{KeyFault}
 use Rattle.sign_core.specs.Key.{SpellsKey}
-use Rattle.command.specs.Verify.{Answers, Judgement}
+use Rattle.command.specs.Verify.{AnswersFiles, Judgement}
 use Rattle.command.specs.Files.{ReadsKey}
 use Rattle.command.specs.declared.refusal.Refusal.{Refusal}
 use Rattle.command.specs.declared.refusal.Refusal.TheVariants.{Key, Signature, OutOfMemory, FileFailed}
@@ -34,7 +34,7 @@ no_key {A = A} bytes message signature (Err fault) r e (Err x) reads mapped was 
     subst (λ y. Judgement {A = A} bytes message signature (Err y)) (sym same) reads
 
 -- a judgement is an answer
-pub judgement_answers : {A : Type 0} (p m s : List ℕ) (answer : Result A Refusal) → Judgement p m s answer → Answers p m s answer
+pub judgement_answers : {A : Type 0} (p m s : List ℕ) (answer : Result A Refusal) → Judgement p m s answer → AnswersFiles p m s answer
 judgement_answers p m s (Ok a) judged = judged
 judgement_answers p m s (Err (Key fault)) judged = judged
 judgement_answers p m s (Err (Signature refusal)) judged = judged

@@ -10,7 +10,7 @@ use Rattle.state_file.specs.declared.store.file_store.FileStore.{FileStore}
 use Rattle.command.specs.declared.answer.Done.{Done}
 use Rattle.command.specs.declared.refusal.Refusal.{Refusal}
 use Rattle.command.specs.declared.trace.Role.TheVariants as role
-use Rattle.command.specs.Files.{FilesSeen, Shows}
+use Rattle.command.specs.Files.{FilesSeen, ShowsContent}
 use Rattle.command.specs.Make.{MakesIn, MakesOpened, make_answer}
 use Rattle.command.specs.Sign.{DeliversSigned, SignsAndDelivers, SignsFile, SignsIn, SignsOpened, ready_to_sign, sign_answer}
 use Rattle.command.specs.Signing.{Delivers, PublicBytes}
@@ -20,9 +20,9 @@ use Rattle.command.specs.Trace.{Happening, made, opened}
 pub makes_in : {K R : Type 0} {bound : _} (d : disk.Ghosts K) (g : store.Ghosts (FileStore K bound)) (r : source.Ghosts R) (files : FilesSeen K)
     (spec : Spec) (state public text random : List ℕ) (before after : K) (content : List ℕ → Option (List ℕ)) (published : Result PublicBytes Refusal)
     (answer : Result Done Refusal) (old first last new : List Happening) → IsSpec spec → text ≡ spec_text spec
-    → ((other : List ℕ) → other ≢ state → content other ≡ files.content other) → files.IsOpened before
+    → ((other : List ℕ) → other ≢ state → content other ≡ files.content other) → files.IsOpenedDisk before
     → MakesOpened {bound = bound} d g r content before after spec public random published first last → first ≡ old ++ made state ∷ []
-    → new ≡ last → files.IsClosed after → answer ≡ make_answer published → MakesIn {bound = bound} d g r files state public text random answer old new
+    → new ≡ last → files.IsClosedDisk after → answer ≡ make_answer published → MakesIn {bound = bound} d g r files state public text random answer old new
 makes_in {bound = bound} d g r files spec state public text random before after content published answer old first last new is spelled known was makes begins ends closed answers =
     let from = subst (λ t. MakesOpened {bound = bound} d g r content before after spec public random published t last) begins makes in
     let to = subst (λ t. MakesOpened {bound = bound} d g r content before after spec public random published (old ++ made state ∷ []) t) (sym ends) from in
@@ -53,7 +53,7 @@ signs_and_delivers {bound = bound} d g r before after random name left out answe
 -- the other files were opened before
 pub signs_opened : {K R : Type 0} {bound : _} (d : disk.Ghosts K) (g : store.Ghosts (FileStore K bound)) (r : source.Ghosts R)
     (content : List ℕ → Option (List ℕ)) (before after : K) (name message out random : List ℕ) (source : R) (left : Option (List ℕ))
-    (answer : Result ℕ Refusal) (old ready new : List Happening) → Shows (content random) (r.upcoming source) → Shows (content message) left
+    (answer : Result ℕ Refusal) (old ready new : List Happening) → ShowsContent (content random) (r.upcoming source) → ShowsContent (content message) left
     → ready ≡ old ++ ready_to_sign message out random
     → SignsAndDelivers {bound = bound} d g r before after source name left out answer ready new
     → SignsOpened {bound = bound} d g r content before after name message out random answer old new
@@ -64,9 +64,9 @@ signs_opened {bound = bound} d g r content before after name message out random 
 pub signs_in : {K R : Type 0} {bound : _} (d : disk.Ghosts K) (g : store.Ghosts (FileStore K bound)) (r : source.Ghosts R) (files : FilesSeen K)
     (state given name message out random : List ℕ) (before after : K) (content : List ℕ → Option (List ℕ)) (signed : Result ℕ Refusal)
     (answer : Result Done Refusal) (old first last new : List Happening) → given ≡ name → IsName name
-    → ((other : List ℕ) → content other ≡ files.content other) → files.IsOpened before
+    → ((other : List ℕ) → content other ≡ files.content other) → files.IsOpenedDisk before
     → SignsOpened {bound = bound} d g r content before after given message out random signed first last → first ≡ old ++ opened role.State state ∷ []
-    → new ≡ last → files.IsClosed after → answer ≡ sign_answer name signed
+    → new ≡ last → files.IsClosedDisk after → answer ≡ sign_answer name signed
     → SignsIn {bound = bound} d g r files state name message out random answer old new
 signs_in {bound = bound} d g r files state given name message out random before after content signed answer old first last new same is known was signs begins ends closed answers =
     let named = subst (λ n. SignsOpened {bound = bound} d g r content before after n message out random signed first last) same signs in

@@ -8,7 +8,7 @@ use Rattle.std.specs.declared.io.Error.{Error}
 use Rattle.std.specs.declared.io.ErrorKind.TheVariants.{FileTooLarge, Interrupted, OutOfMemory, TimedOut}
 use Rattle.typecodes.specs.Message.{IsContent, ReadOutcome, Transitions, Transition}
 use Rattle.typecodes.proofs.Messages.{Progress, gave-append, interruptions-append, reads-append}
-use Rattle.command.specs.Files.{CantHold, FailsToRead, Fills, ReadsAllOrFails}
+use Rattle.command.specs.Files.{CantHold, FailsToRead, FillsRoom, ReadsAllOrFails}
 use Rattle.command.specs.Refusal.{refusal_of}
 use Rattle.command.specs.declared.refusal.Refusal.{Refusal}
 use Rattle.command.specs.declared.refusal.Refusal.TheVariants as refused
@@ -41,20 +41,20 @@ pub same_role : (of role : Role) (old new : List Happening) (outcome : ReadOutco
 same_role of role old new outcome same once = subst (λ r. ReadsOnce r old outcome new) same once
 
 -- room that has no bytes yet
-pub fills_to_end : (role : Role) (room : ℕ) (bytes : List ℕ) (old new : List Happening) → Fills role room bytes old new → length bytes < room
+pub fills_to_end : (role : Role) (room : ℕ) (bytes : List ℕ) (old new : List Happening) → FillsRoom role room bytes old new → length bytes < room
     → ReadsToEnd role bytes old new
 fills_to_end role room bytes old new (inl (full, reads)) less = absurd (omega (arith, full, less))
 fills_to_end role room bytes old new (inr (short, reads)) less = reads
 
 -- room that was
-pub fills_whole : (role : Role) (room : ℕ) (bytes : List ℕ) (old new : List Happening) → Fills role room bytes old new → room ≤ length bytes
+pub fills_whole : (role : Role) (room : ℕ) (bytes : List ℕ) (old new : List Happening) → FillsRoom role room bytes old new → room ≤ length bytes
     → ReadsOn role bytes old new
 fills_whole role room bytes old new (inl (full, reads)) enough = reads
 fills_whole role room bytes old new (inr (short, reads)) enough = absurd (omega (arith, short, enough))
 
 -- the same room by another name
-pub fills_same : (role : Role) (n room : ℕ) (bytes : List ℕ) (old new : List Happening) → n ≡ room → Fills role n bytes old new → Fills role room bytes old new
-fills_same role n room bytes old new same fills = subst (λ m. Fills role m bytes old new) same fills
+pub fills_same : (role : Role) (n room : ℕ) (bytes : List ℕ) (old new : List Happening) → n ≡ room → FillsRoom role n bytes old new → FillsRoom role room bytes old new
+fills_same role n room bytes old new same fills = subst (λ m. FillsRoom role m bytes old new) same fills
 
 -- ---- pieces, one after the other
 
@@ -122,13 +122,13 @@ content_after (Some xs) (Some ys) bytes rest read fits = sym (read ∙ ap (λ l.
 
 -- a piece more, which filled its room or ended the file
 pub reads_part : (role of : Role) (room : ℕ) (a b : List ℕ) (old before new : List Happening) → ReadsOn role a old before → of ≡ role
-    → Fills of room b before new → ReadsOn role (a ++ b) old new ⊎ ReadsToEnd role (a ++ b) old new
+    → FillsRoom of room b before new → ReadsOn role (a ++ b) old new ⊎ ReadsToEnd role (a ++ b) old new
 reads_part role of room a b old before new first same (inl (full, more)) = inl (reads_more role of a b old before new first same more)
 reads_part role of room a b old before new first same (inr (short, more)) = inr (reads_rest role of a b old before new first same more)
 
 -- memory for it was refused
 pub keeps_no_more : (role of : Role) (room : ℕ) (a b : List ℕ) (refusal : Refusal) (old before new : List Happening) → refusal ≡ refused.OutOfMemory
-    → ReadsOn role a old before → of ≡ role → Fills of room b before new → CantHold role refusal old new
+    → ReadsOn role a old before → of ≡ role → FillsRoom of room b before new → CantHold role refusal old new
 keeps_no_more role of room a b refusal old before new memory first same fills =
     inr (memory, (a ++ b, reads_part role of room a b old before new first same fills))
 
@@ -141,6 +141,6 @@ cant_read role kind Good (Err refusal) old new is fails = inl (kind, is, fails)
 
 -- .. and a first piece
 pub keeps_none : (role : Role) (room : ℕ) (b : List ℕ) (refusal : Refusal) (old new : List Happening) → refusal ≡ refused.OutOfMemory
-    → Fills role room b old new → CantHold role refusal old new
+    → FillsRoom role room b old new → CantHold role refusal old new
 keeps_none role room b refusal old new memory (inl (full, reads)) = inr (memory, (b, inl reads))
 keeps_none role room b refusal old new memory (inr (short, reads)) = inr (memory, (b, inr reads))

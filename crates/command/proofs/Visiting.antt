@@ -5,9 +5,9 @@ use Rattle.state_file.specs.declared.disk.Disk as disk
 use Rattle.state_file.specs.declared.store.Store as store
 use Rattle.state_file.specs.declared.store.file_store.FileStore.{FileStore}
 use Rattle.command.specs.declared.answer.Done.{Done}
-use Rattle.command.specs.Verify.{AnswersOf, FailsToOpen, OpensInTurn, ReadsInTurn, Verifies, all_opened}
-use Rattle.command.specs.Files.{FilesSeen, Shows}
-use Rattle.command.specs.Line.{Serves, Task}
+use Rattle.command.specs.Verify.{AnswersOf, FailsToOpen, OpensInTurn, ReadsInTurn, VerifiesIn, all_opened}
+use Rattle.command.specs.Files.{FilesSeen, ShowsContent}
+use Rattle.command.specs.Line.{ServesTask, Task}
 use Rattle.command.specs.Trace.{Happening}
 use Rattle.command.specs.declared.refusal.Refusal.{Refusal}
 use Rattle.command.specs.declared.refusal.Refusal.TheVariants.{FileFailed}
@@ -28,7 +28,7 @@ opens_err p m s refusal (Err error) old new same fails = fails
 
 -- files that can't be opened
 pub verifies_failed : {A : Type 0} (content : List ℕ → Option (List ℕ)) (p m s : List ℕ) (refusal : Refusal) (answer : Result A Refusal) (old new : List Happening)
-    → refusal ≡ FileFailed → IsErrAnd answer (λ e. e ≡ refusal) → FailsToOpen p m s old new → Verifies content p m s answer old new
+    → refusal ≡ FileFailed → IsErrAnd answer (λ e. e ≡ refusal) → FailsToOpen p m s old new → VerifiesIn content p m s answer old new
 verifies_failed content p m s refusal (Ok a) old new is same fails = absurd same
 verifies_failed {A = A} content p m s refusal (Err error) old new is same fails =
     (failed_answer A (content p) (content m) (content s) error (inr (same ∙ is)), inl (same ∙ is, fails))
@@ -36,9 +36,9 @@ verifies_failed {A = A} content p m s refusal (Err error) old new is same fails 
 -- files that were opened
 pub verifies_opened : {A : Type 0} (content : List ℕ → Option (List ℕ)) (p m s : List ℕ) (p_left m_left s_left : Option (List ℕ))
     (p_role s_role m_role : Role) (answer : Result A Refusal) (old opened new : List Happening)
-    → (p_role ≡ role.Public) × Shows (content p) p_left → (m_role ≡ role.Message) × Shows (content m) m_left
-    → (s_role ≡ role.Signature) × Shows (content s) s_left → opened ≡ old ++ all_opened p m s
-    → AnswersOf p_left m_left s_left answer → ReadsInTurn p_role s_role m_role answer opened new → Verifies content p m s answer old new
+    → (p_role ≡ role.Public) × ShowsContent (content p) p_left → (m_role ≡ role.Message) × ShowsContent (content m) m_left
+    → (s_role ≡ role.Signature) × ShowsContent (content s) s_left → opened ≡ old ++ all_opened p m s
+    → AnswersOf p_left m_left s_left answer → ReadsInTurn p_role s_role m_role answer opened new → VerifiesIn content p m s answer old new
 verifies_opened content p m s p_left m_left s_left p_role s_role m_role answer old opened new (p_is, p_shows) (m_is, m_shows) (s_is, s_shows) opened_is answers reads = (
   answers_of_files (content p) (content m) (content s) p_left m_left s_left answer p_shows m_shows s_shows answers,
   inr (subst (λ t. ReadsInTurn role.Public role.Signature role.Message answer t new) opened_is
@@ -49,6 +49,6 @@ verifies_opened content p m s p_left m_left s_left p_role s_role m_role answer o
 
 -- one task is served as another that is the same
 pub serves_same : {K R : Type 0} {bound : _} (d : disk.Ghosts K) (g : store.Ghosts (FileStore K bound)) (r : source.Ghosts R) (files : FilesSeen K)
-    (answer : Result Done Refusal) (old new : List Happening) (task other : Task) → task ≡ other → Serves d g r files task answer old new
-    → Serves d g r files other answer old new
-serves_same d g r files answer old new task other same serves = subst (λ t. Serves d g r files t answer old new) same serves
+    (answer : Result Done Refusal) (old new : List Happening) (task other : Task) → task ≡ other → ServesTask d g r files task answer old new
+    → ServesTask d g r files other answer old new
+serves_same d g r files answer old new task other same serves = subst (λ t. ServesTask d g r files t answer old new) same serves

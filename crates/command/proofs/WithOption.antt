@@ -8,7 +8,7 @@ use Rattle.clap.specs.Walk.{Held as Collected, Walk, after_step, finished, nothi
 use Rattle.clap.specs.Words.{Rule, Text, fault_of, subcommand_of}
 use Rattle.clap.proofs.OnLiterals.{clap_on_literals}
 use Rattle.command.specs.Argument.{default_random}
-use Rattle.command.specs.Line.{Finds, IsLineWithOption, IsPlainWord, hbsign_app, make, sign, task_found}
+use Rattle.command.specs.Line.{FindsTask, IsLineWithOption, IsPlainWord, hbsign_app, make, sign, task_found}
 use Rattle.command.proofs.Accepting.{none_of}
 use Rattle.command.proofs.Walking.{Enters, Goes, TakesAll, at, end_fault, entered_faults, entered_rows, enters_make, enters_sign, first_held, goes, is_no_hyphen, make_shape, next_held, over_all, plain_taken, sign_shape, stays, takes_line}
 
@@ -118,7 +118,7 @@ unfolding clap_on_literals
 make_all_found state public spec random = refl
 
 pub finds_make : (words : List Text) (state public spec random : Text) → IsLineWithOption words (codes "make") (state ∷ public ∷ spec ∷ []) random
-    → Finds words (make state public spec random)
+    → FindsTask words (make state public spec random)
 finds_make words state public spec random (inl (line, same)) =
     let (none, rows) = takes_line words (codes "make") (state ∷ public ∷ spec ∷ []) make_shape 4 (make_3 state public spec) enters_make (make_takes state public spec) (make_ends state public spec) line in
     (none, ap task_found rows ∙ make_found state public spec ∙ ap (λ r. Ok (make state public spec r)) (sym same))
@@ -178,7 +178,7 @@ unfolding clap_on_literals
 sign_all_found state name message out random = refl
 
 pub finds_sign : (words : List Text) (state name message out random : Text) → IsLineWithOption words (codes "sign") (state ∷ name ∷ message ∷ out ∷ []) random
-    → Finds words (sign state name message out random)
+    → FindsTask words (sign state name message out random)
 finds_sign words state name message out random (inl (line, same)) =
     let (none, rows) = takes_line words (codes "sign") (state ∷ name ∷ message ∷ out ∷ []) sign_shape 5 (sign_4 state name message out) enters_sign (sign_takes state name message out) (sign_ends state name message out) line in
     (none, ap task_found rows ∙ sign_found state name message out ∙ ap (λ r. Ok (sign state name message out r)) (sym same))

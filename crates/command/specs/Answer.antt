@@ -18,7 +18,7 @@ use Rattle.state_file.specs.declared.file.format.FormatFault.TheVariants as prep
 use Rattle.typecodes.specs.declared.refusal.Refusal.TheVariants.{MessageRead}
 use Rattle.command.specs.LineFault.{BeginsWithCapital, IsHelp, has_lowercase_line}
 use Rattle.command.specs.Refusal.{refusal_line}
-use Rattle.command.specs.Output.{Taken, Writes, Fails, level_lines}
+use Rattle.command.specs.Output.{Taken, WritesText, Fails, level_lines}
 
 -- the line of a file whose records go on in another, by the version of that file
 abbrev pub moved_line : Option ℕ → List ℕ
@@ -73,9 +73,9 @@ IsOfWord answer = (answer ≡ Err BadName) ⊎ (answer ≡ Err BadSpec)
 
 -- The answer was reported: its line was written, and the status is its own; or the output failed, and the status
 -- is 3. What an output has taken stands before and after.
-abbrev pub Reports : Result Done Refusal → Taken → Taken → ℕ → Type 0
-Reports answer old new status =
-    ((status ≡ status_of answer) × Writes (answer_line answer) old new) ⊎ ((status ≡ 3) × Fails old new)
+abbrev pub ReportsRequest : Result Done Refusal → Taken → Taken → ℕ → Type 0
+ReportsRequest answer old new status =
+    ((status ≡ status_of answer) × WritesText (answer_line answer) old new) ⊎ ((status ≡ 3) × Fails old new)
 
 -- No answer's line begins with a capital letter.
 pub line_is_lower : (answer : Result Done Refusal) → BeginsWithCapital (answer_line answer) → ⊥

@@ -76,6 +76,6 @@ abbrev pub AuditsIn : {K : Type 0} → disk.Ghosts K → FilesSeen K → (state 
 AuditsIn {K} d files state anchor answer old new =
     ((refusal : Refusal) × IsStateRefusal refusal × (answer ≡ Err refusal)
     × (new ≡ old ++ opening_state {A = K} state (Err refusal) ∷ []))
-    ⊎ ((before after : K) × (audited : Result Report Refusal) × files.IsOpened before
-    × AuditsOn d before after anchor audited × files.IsClosed after × IsAudited audited answer
+    ⊎ ((before after : K) × (audited : Result Report Refusal) × files.IsOpenedDisk before
+    × AuditsOn d before after anchor audited × files.IsClosedDisk after × IsAudited audited answer
     × (new ≡ old ++ opened role.State state ∷ []))

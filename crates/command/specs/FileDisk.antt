@@ -72,8 +72,8 @@ abbrev pub Breaks : {M : Type 0} → Transition M → M → M → Type 0
 Breaks step old new = ReadFails step old new ⊎ GivesUp step old new
 
 -- The range has no end: there is no offset of 2^64 or more, and the file was left alone.
-abbrev pub IsBeyond : (at size : ℕ) (old new : List Happening) → Type 0
-IsBeyond at size old new = (2 ^ 64 ≤ at + size) × (new ≡ old)
+abbrev pub EndsBeyond : (at size : ℕ) (old new : List Happening) → Type 0
+EndsBeyond at size old new = (2 ^ 64 ≤ at + size) × (new ≡ old)
 
 -- ---- the calls of the disk
 
@@ -82,7 +82,7 @@ abbrev pub ReadsAt : {A : Type 0} → (at : ℕ) (bytes : List ℕ) → Result A
     → Type 0
 ReadsAt at bytes (Ok _) old new =
     GivesText (ReadsRest at (length bytes)) bytes (0, old) (length bytes, new)
-ReadsAt at bytes (Err PastEnd) old new = IsBeyond at (length bytes) old new
+ReadsAt at bytes (Err PastEnd) old new = EndsBeyond at (length bytes) old new
     ⊎ ((done : ℕ) × (first : List ℕ) × GivesAll (ReadsRest at (length bytes)) first (0, old) (done, new))
 ReadsAt at bytes (Err Failed) old new =
     (done : ℕ) × Breaks (ReadsRest at (length bytes)) (0, old) (done, new)
@@ -92,7 +92,7 @@ ReadsAt at bytes (Err OutOfMemory) old new = ⊥
 abbrev pub WritesAt : {A : Type 0} → (at : ℕ) (bytes : List ℕ) → Result A DiskFault → (old new : List Happening)
     → Type 0
 WritesAt at bytes (Ok _) old new = GivesText (WritesRest at bytes) bytes (0, old) (length bytes, new)
-WritesAt at bytes (Err Failed) old new = IsBeyond at (length bytes) old new
+WritesAt at bytes (Err Failed) old new = EndsBeyond at (length bytes) old new
     ⊎ ((done : ℕ) × (first : List ℕ) × GivesAll (WritesRest at bytes) first (0, old) (done, new))
     ⊎ ((done : ℕ) × Breaks (WritesRest at bytes) (0, old) (done, new))
 WritesAt at bytes (Err PastEnd) old new = ⊥

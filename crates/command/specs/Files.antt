@@ -21,8 +21,8 @@ ReadsKey bytes (Ok key) = SpellsKey key bytes
 ReadsKey bytes (Err fault) = KeyHasFault bytes fault
 
 -- Where it is known what a file holds, these bytes are before a reader of it.
-abbrev pub Shows : Option (List ℕ) → Option (List ℕ) → Type 0
-Shows content left = IfSome content (λ bytes. left ≡ Some bytes)
+abbrev pub ShowsContent : Option (List ℕ) → Option (List ℕ) → Type 0
+ShowsContent content left = IfSome content (λ bytes. left ≡ Some bytes)
 
 -- Reading failed with this kind of error: a read failed so; or there was no end of bytes and interruptions, and the
 -- kind names no memory.
@@ -30,13 +30,13 @@ abbrev pub FailsToRead : Role → ErrorKind → List Happening → List Happenin
 FailsToRead role kind old new = ReadsToFailure role kind old new ⊎ ((kind ≢ OutOfMemory) × ReadsForever role old new)
 
 -- Room for so many bytes was filled by reading a file: these bytes fill it, or they are fewer, and the file ended.
-abbrev pub Fills : Role → ℕ → List ℕ → List Happening → List Happening → Type 0
-Fills role room bytes old new =
+abbrev pub FillsRoom : Role → ℕ → List ℕ → List Happening → List Happening → Type 0
+FillsRoom role room bytes old new =
     ((length bytes ≡ room) × ReadsOn role bytes old new) ⊎ ((length bytes < room) × ReadsToEnd role bytes old new)
 
 -- A buffer was filled, and has so many bytes of the file; or reading failed.
 abbrev pub FillsOrFails : Role → Result ℕ Error → List ℕ → List Happening → List Happening → Type 0
-FillsOrFails role (Ok count) buffer old new = Fills role (length buffer) (take count buffer) old new
+FillsOrFails role (Ok count) buffer old new = FillsRoom role (length buffer) (take count buffer) old new
 FillsOrFails role (Err error) buffer old new = FailsToRead role (error_kind error) old new
 
 -- A file was read to its end, and the value fits the bytes that it gave, which are all that was known to be left of it;
@@ -70,7 +70,7 @@ ReadsFile content role path bytes old new =
 abbrev pub ReadsStart : (content : List ℕ → Option (List ℕ)) → Role → (path first : List ℕ) → (old new : List Happening)
     → Type 0
 ReadsStart content role path first old new =
-    BeginsContent (content path) first × Fills role decisive first (old ++ opened role path ∷ []) new
+    BeginsContent (content path) first × FillsRoom role decisive first (old ++ opened role path ∷ []) new
 
 -- A read of a file failed, which is reported by its kind.
 abbrev pub ReportsRead : Role → Refusal → (old new : List Happening) → Type 0
@@ -101,9 +101,9 @@ FailsToHold role path refusal old new =
 -- a state file gives it, and whether it is that of the state file that was closed last.
 pub record FilesSeen (K : Type 0) : Type 1 where
   pub content : List ℕ → Option (List ℕ)
-  pub IsOpened : K → Type 0
-  pub IsClosed : K → Type 0
+  pub IsOpenedDisk : K → Type 0
+  pub IsClosedDisk : K → Type 0
 
 abbrev pub files_seen : {K : Type 0} → (List ℕ → Option (List ℕ)) → (is_opened is_closed : K → Type 0) → FilesSeen K
 files_seen content is_opened is_closed =
-    record { content = content; IsOpened = is_opened; IsClosed = is_closed }
+    record { content = content; IsOpenedDisk = is_opened; IsClosedDisk = is_closed }

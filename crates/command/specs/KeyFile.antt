@@ -62,16 +62,16 @@ MakesOn {K} {R} {bound} d g r given spec random (Err refused) =
     × (refused.fault ≡ Signer fault) × (refused.given ≡ disk_of after))
 
 -- What a request came to: a signature, which the output has, or a refusal, which is reported.
-abbrev pub IsSigned : Result (List ℕ) SignFault → (output : List ℕ) → Result Unit Refusal → Type 0
-IsSigned (Ok signature) output answer = (output ≡ signature) × (answer ≡ Ok tt)
-IsSigned (Err fault) output answer = answer ≡ Err (Signer fault)
+abbrev pub ReportsSigning : Result (List ℕ) SignFault → (output : List ℕ) → Result Unit Refusal → Type 0
+ReportsSigning (Ok signature) output answer = (output ≡ signature) × (answer ≡ Ok tt)
+ReportsSigning (Err fault) output answer = answer ≡ Err (Signer fault)
 
 -- The signer made a step of signing this name's message, and what it answered is reported.
 abbrev pub SignsFor : {S R M : Type 0} → store.Ghosts S → source.Ghosts R → message.Ghosts M → (old new : View S R)
     → (name : List ℕ) → (before after : M) → (capacity : ℕ) → (output : List ℕ) → Result Unit Refusal → Type 0
 SignsFor g r m old new name before after capacity output answer =
     (signed : Result (List ℕ) SignFault) × Signs g r m old new name before after capacity signed
-    × IsSigned signed output answer
+    × ReportsSigning signed output answer
 
 -- A message was signed under a name on a disk: a signer was opened on it, made the step, and gave its store's disk
 -- back; or it couldn't be opened, and the message is as it was.

@@ -23,7 +23,7 @@ use Rattle.command.specs.AuditGiven.{ChecksIn, Pair, audit_given_app, pairs_in, 
 use Rattle.command.specs.Files.{FilesSeen}
 use Rattle.command.specs.Make.{MakesIn, make_app}
 use Rattle.command.specs.Number.{number_in}
-use Rattle.command.specs.Verify.{verify_app, Verifies}
+use Rattle.command.specs.Verify.{verify_app, VerifiesIn}
 use Rattle.command.specs.Retire.{RetiresIn, most_leaves, retire_app}
 use Rattle.command.specs.Sign.{SignsIn, sign_app}
 use Rattle.command.specs.Trace.{Happening}
@@ -174,20 +174,20 @@ task_found None = Err Command
 task_found (Some (name, rows)) = task_named name rows
 
 -- In these words `clap` finds nothing wrong, and this task.
-abbrev pub Finds : List (List ℕ) → Task → Type 0
-Finds words task = (fault_of hbsign_app words ≡ []) × (task_found (subcommand_of hbsign_app words) ≡ Ok task)
+abbrev pub FindsTask : List (List ℕ) → Task → Type 0
+FindsTask words task = (fault_of hbsign_app words ≡ []) × (task_found (subcommand_of hbsign_app words) ≡ Ok task)
 
 -- The line of a task: `verify PUBLIC MESSAGE SIGNATURE`, or `retire STATE UPTO`; and of the commands that have options
 -- or any number of files, each in which `clap` finds it.
 abbrev pub IsLineOf : List (List ℕ) → Task → Type 0
-IsLineOf words (make state public spec random) = Finds words (make state public spec random)
-IsLineOf words (sign state name message out random) = Finds words (sign state name message out random)
+IsLineOf words (make state public spec random) = FindsTask words (make state public spec random)
+IsLineOf words (sign state name message out random) = FindsTask words (sign state name message out random)
 IsLineOf words (verify public message signature) =
     IsCommandLine words (codes "verify") (public ∷ message ∷ signature ∷ [])
 IsLineOf words (retire state upto) = (text : List ℕ) × (number_in most_leaves text ≡ Some upto)
     × IsCommandLine words (codes "retire") (state ∷ text ∷ [])
-IsLineOf words (audit state anchor) = Finds words (audit state anchor)
-IsLineOf words (audit_given public files) = Finds words (audit_given public files)
+IsLineOf words (audit state anchor) = FindsTask words (audit state anchor)
+IsLineOf words (audit_given public files) = FindsTask words (audit_given public files)
 
 -- A line of values, with the option at its end or without it. None of the values looks like an option.
 abbrev pub IsLineWithOption : List (List ℕ) → (name : List ℕ) → (values : List (List ℕ)) → (random : List ℕ) → Type 0
@@ -235,15 +235,15 @@ lack_kind lack.Pairs = kind.WrongNumberOfValues
 -- ---- how a task is served
 
 -- A task is served so.
-abbrev pub Serves : {K R : Type 0} {bound : _} → disk.Ghosts K → store.Ghosts (FileStore K bound) → source.Ghosts R
+abbrev pub ServesTask : {K R : Type 0} {bound : _} → disk.Ghosts K → store.Ghosts (FileStore K bound) → source.Ghosts R
     → FilesSeen K → Task → Result Done Refusal → List Happening → List Happening → Type 0
-Serves d g r files (make state public spec random) answer old new =
+ServesTask d g r files (make state public spec random) answer old new =
     MakesIn d g r files state public spec random answer old new
-Serves d g r files (sign state name message out random) answer old new =
+ServesTask d g r files (sign state name message out random) answer old new =
     SignsIn d g r files state name message out random answer old new
-Serves d g r files (verify public message signature) answer old new =
-    Verifies files.content public message signature answer old new
-Serves d g r files (retire state upto) answer old new = RetiresIn d g files state upto answer old new
-Serves d g r files (audit state anchor) answer old new = AuditsIn d files state anchor answer old new
-Serves d g r files (audit_given public pairs) answer old new =
+ServesTask d g r files (verify public message signature) answer old new =
+    VerifiesIn files.content public message signature answer old new
+ServesTask d g r files (retire state upto) answer old new = RetiresIn d g files state upto answer old new
+ServesTask d g r files (audit state anchor) answer old new = AuditsIn d files state anchor answer old new
+ServesTask d g r files (audit_given public pairs) answer old new =
     ChecksIn files.content public pairs answer old new

@@ -18,7 +18,7 @@ use Rattle.command.specs.declared.refusal.Refusal.TheVariants.{BadSpec, FileFail
 use Rattle.command.specs.declared.trace.Role.TheVariants as role
 use Rattle.command.specs.Argument.{random_rule, required_rule}
 use Rattle.command.specs.FileDisk.{IsStateRefusal}
-use Rattle.command.specs.Files.{FilesSeen, Shows}
+use Rattle.command.specs.Files.{FilesSeen, ShowsContent}
 use Rattle.command.specs.KeyFile.{MakesOn, refused_with}
 use Rattle.command.specs.Signing.{PublicBytes, Publishes}
 use Rattle.command.specs.Trace.{Happening, made, making, not_opened, not_writable, opened, writable}
@@ -43,7 +43,7 @@ FailsToMake public random old new = (new ≡ old ++ not_opened role.Random rando
 -- Both are so: this source gives the random bytes; or one isn't.
 abbrev pub ReadiesToMake : {R : Type 0} → (upcoming : R → Option (List ℕ)) → (content : List ℕ → Option (List ℕ))
     → (public random : List ℕ) → Result R Refusal → (old new : List Happening) → Type 0
-ReadiesToMake upcoming content public random (Ok source) old new = Shows (content random) (upcoming source)
+ReadiesToMake upcoming content public random (Ok source) old new = ShowsContent (content random) (upcoming source)
     × (new ≡ old ++ opened role.Random random ∷ writable role.Public public ∷ [])
 ReadiesToMake upcoming content public random (Err refusal) old new =
     (refusal ≡ FileFailed) × FailsToMake public random old new
@@ -83,9 +83,9 @@ MakesAt {K} {R} {bound} d g r files spec state public random answer old new =
     ((refusal : Refusal) × IsStateRefusal refusal × (answer ≡ Err refusal)
     × (new ≡ old ++ making {A = K} state (Err refusal) ∷ []))
     ⊎ ((before after : K) × (content : List ℕ → Option (List ℕ)) × (published : Result PublicBytes Refusal)
-    × ((other : List ℕ) → other ≢ state → content other ≡ files.content other) × files.IsOpened before
+    × ((other : List ℕ) → other ≢ state → content other ≡ files.content other) × files.IsOpenedDisk before
     × MakesOpened {bound = bound} d g r content before after spec public random published (old ++ made state ∷ []) new
-    × files.IsClosed after × (answer ≡ make_answer published))
+    × files.IsClosedDisk after × (answer ≡ make_answer published))
 
 -- The words were refused as none of a spec, and no file was opened; or they are this spec's, for which a key was made.
 abbrev pub MakesIn : {K R : Type 0} {bound : _} → disk.Ghosts K → store.Ghosts (FileStore K bound) → source.Ghosts R

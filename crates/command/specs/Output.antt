@@ -41,8 +41,8 @@ CountsFailure (Ok _) old new = new ≡ old
 CountsFailure (Err _) old new = new ≡ old + 1
 
 -- The text was written after what was there.
-abbrev pub Writes : List ℕ → Taken → Taken → Type 0
-Writes text old new = (new.failures ≡ old.failures) × Appends old.contents new.contents text
+abbrev pub WritesText : List ℕ → Taken → Taken → Type 0
+WritesText text old new = (new.failures ≡ old.failures) × Appends old.contents new.contents text
 
 -- A text couldn't be written, and this is counted.
 abbrev pub Fails : Taken → Taken → Type 0
@@ -50,5 +50,5 @@ Fails old new = new.failures ≡ old.failures + 1
 
 -- What printing a text does.
 abbrev pub Prints : {A E : Type 0} → List ℕ → Taken → Taken → Result A E → Type 0
-Prints text old new (Ok _) = Writes text old new
+Prints text old new (Ok _) = WritesText text old new
 Prints text old new (Err _) = Fails old new

@@ -10,21 +10,22 @@ use Rattle.command.specs.declared.line_fault.LineFault.{LineFault}
 use Rattle.command.specs.declared.line_fault.LineFault.TheVariants as fault
 use Rattle.command.specs.declared.refusal.Refusal.TheVariants.{OutOfMemory}
 use Rattle.command.specs.Files.{FilesSeen}
-use Rattle.command.specs.Line.{AreTexts, IsLineOf, Serves, Task}
+use Rattle.command.specs.Line.{AreTexts, IsLineOf, ServesTask, Task}
 use Rattle.command.specs.LineFault.{HasLineFault, HasText, line_faults}
-use Rattle.command.specs.Answer.{IsOfWord, Reports, answer_line}
-use Rattle.command.specs.Output.{Taken, Writes, Fails}
+use Rattle.command.specs.Answer.{IsOfWord, ReportsRequest, answer_line}
+use Rattle.command.specs.Output.{Taken, WritesText, Fails}
 use Rattle.command.specs.Trace.{Happening}
 
 -- A task is served, and the answer reported.
 abbrev pub ReportsTask : {K R : Type 0} {bound : _} → disk.Ghosts K → store.Ghosts (FileStore K bound)
     → source.Ghosts R → FilesSeen K → Task → List Happening → List Happening → Taken → Taken → ℕ → Type 0
 ReportsTask d g r files task before after old new status =
-    (answer : Result Done Refusal) × Serves d g r files task answer before after × Reports answer old new status
+    (answer : Result Done Refusal) × ServesTask d g r files task answer before after
+    × ReportsRequest answer old new status
 
 -- A text that was requested was written, with status 0, or the output failed.
 abbrev pub Helps : List ℕ → Taken → Taken → ℕ → Type 0
-Helps text old new status = ((status ≡ 0) × Writes text old new) ⊎ ((status ≡ 3) × Fails old new)
+Helps text old new status = ((status ≡ 0) × WritesText text old new) ⊎ ((status ≡ 3) × Fails old new)
 
 -- the line of the program's name and version
 abbrev pub version_line : List ℕ
@@ -32,7 +33,7 @@ version_line = codes "hbsign 0.1.0\n"
 
 -- A text that isn't empty was written, or the output failed.
 abbrev pub Says : Taken → Taken → Type 0
-Says old new = ((text : List ℕ) × (0 < length text) × Writes text old new) ⊎ Fails old new
+Says old new = ((text : List ℕ) × (0 < length text) × WritesText text old new) ⊎ Fails old new
 
 -- A line was refused: nothing is on the output, and a text on the output for errors, or this failed.
 abbrev pub RefusesLine : Taken → Taken → Taken → Taken → Type 0
@@ -42,7 +43,8 @@ RefusesLine old new errors_old errors_new = (new ≡ old) × Says errors_old err
 -- errors.
 abbrev pub RefusesWord : Taken → Taken → Taken → Taken → Type 0
 RefusesWord old new errors_old errors_new =
-    (answer : Result Done Refusal) × IsOfWord answer × Writes (answer_line answer) old new × (errors_new ≡ errors_old)
+    (answer : Result Done Refusal) × IsOfWord answer × WritesText (answer_line answer) old new
+    × (errors_new ≡ errors_old)
 
 -- A line or a word of it was refused.
 abbrev pub Refuses : Taken → Taken → Taken → Taken → Type 0
@@ -55,7 +57,7 @@ abbrev pub Explains : LineFault → Taken → Taken → ℕ → Type 0
 Explains (fault.Help text) old new status = Helps (string_bytes text) old new status
 Explains fault.Version old new status = Helps version_line old new status
 Explains (fault.Refused text) old new status = (status ≡ 2) × (new ≡ old)
-Explains fault.OutOfMemory old new status = Reports (Err OutOfMemory) old new status
+Explains fault.OutOfMemory old new status = ReportsRequest (Err OutOfMemory) old new status
 
 -- The words have a fault, of which this comes. No line of a text of help can be taken for an answer's.
 abbrev pub ExplainsLine : List (List ℕ) → Taken → Taken → ℕ → Type 0
@@ -65,7 +67,7 @@ ExplainsLine words old new status =
 -- Memory was refused to the reader of the line: this is reported, and no file was opened.
 abbrev pub ReportsNoMemory : Type 0 → List Happening → List Happening → Taken → Taken → ℕ → Type 0
 ReportsNoMemory refused before after old new status =
-    refused × (after ≡ before) × Reports (Err OutOfMemory) old new status
+    refused × (after ≡ before) × ReportsRequest (Err OutOfMemory) old new status
 
 -- What a run of the program on these words does to files and the output: of words without a fault it serves some task,
 -- and where the words are texts, they are a line of this task; of others it does what their fault requests, and opens

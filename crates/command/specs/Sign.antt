@@ -16,7 +16,7 @@ use Rattle.command.specs.declared.trace.Role.{Role}
 use Rattle.command.specs.declared.trace.Role.TheVariants as role
 use Rattle.command.specs.Argument.{random_rule, required_rule}
 use Rattle.command.specs.FileDisk.{IsStateRefusal}
-use Rattle.command.specs.Files.{FilesSeen, Shows}
+use Rattle.command.specs.Files.{FilesSeen, ShowsContent}
 use Rattle.command.specs.KeyFile.{SignsOn}
 use Rattle.command.specs.Signing.{Delivers}
 use Rattle.command.specs.Trace.{Happening, ReadsOnce, not_opened, not_writable, opened, opening_state, writable}
@@ -66,8 +66,8 @@ abbrev pub ReadiesToSign : {F R : Type 0} → (role_of : F → Role) → (remain
     → (upcoming : R → Option (List ℕ)) → (content : List ℕ → Option (List ℕ)) → (message out random : List ℕ)
     → Result (F × R) Refusal → (old new : List Happening) → Type 0
 ReadiesToSign role_of remaining upcoming content message out random (Ok (file, source)) old new =
-    (role_of file ≡ role.Message) × Shows (content message) (remaining file)
-    × Shows (content random) (upcoming source) × (new ≡ old ++ ready_to_sign message out random)
+    (role_of file ≡ role.Message) × ShowsContent (content message) (remaining file)
+    × ShowsContent (content random) (upcoming source) × (new ≡ old ++ ready_to_sign message out random)
 ReadiesToSign role_of remaining upcoming content message out random (Err refusal) old new =
     (refusal ≡ FileFailed) × FailsToSign message out random old new
 
@@ -103,8 +103,9 @@ abbrev pub SignsOpened : {K R : Type 0} {bound : _} → disk.Ghosts K → store.
     → Result ℕ Refusal → (old new : List Happening) → Type 0
 SignsOpened {K} {R} {bound} d g r content before after name message out random answer old new =
     ((answer ≡ Err FileFailed) × (after ≡ before) × FailsToSign message out random old new)
-    ⊎ ((source : R) × (left : Option (List ℕ)) × Shows (content random) (r.upcoming source)
-    × Shows (content message) left × SignsAndDelivers {bound = bound} d g r before after source name left out answer
+    ⊎ ((source : R) × (left : Option (List ℕ)) × ShowsContent (content random) (r.upcoming source)
+    × ShowsContent (content message) left
+    × SignsAndDelivers {bound = bound} d g r before after source name left out answer
     (old ++ ready_to_sign message out random) new)
 
 -- the answer, for what came of signing under a name
@@ -120,10 +121,10 @@ SignsAt {K} {R} {bound} d g r files state name message out random answer old new
     ((refusal : Refusal) × IsStateRefusal refusal × (answer ≡ Err refusal)
     × (new ≡ old ++ opening_state {A = K} state (Err refusal) ∷ []))
     ⊎ ((before after : K) × (content : List ℕ → Option (List ℕ)) × (signed : Result ℕ Refusal)
-    × ((other : List ℕ) → content other ≡ files.content other) × files.IsOpened before
+    × ((other : List ℕ) → content other ≡ files.content other) × files.IsOpenedDisk before
     × SignsOpened {bound = bound} d g r content before after name message out random signed
     (old ++ opened role.State state ∷ []) new
-    × files.IsClosed after × (answer ≡ sign_answer name signed))
+    × files.IsClosedDisk after × (answer ≡ sign_answer name signed))
 
 -- The word was refused as no name, and no file was opened; or it is one, under which the message was signed.
 abbrev pub SignsIn : {K R : Type 0} {bound : _} → disk.Ghosts K → store.Ghosts (FileStore K bound) → source.Ghosts R

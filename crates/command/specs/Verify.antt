@@ -12,7 +12,7 @@ use Rattle.command.specs.declared.refusal.Refusal.TheVariants.{BadName, BadSpec}
 use Rattle.std.specs.declared.io.ErrorKind.{ErrorKind}
 use Rattle.command.specs.declared.trace.Role.{Role}
 use Rattle.command.specs.Refusal.{refusal_of}
-use Rattle.command.specs.Files.{FailsToRead, Fills, decisive}
+use Rattle.command.specs.Files.{FailsToRead, FillsRoom, decisive}
 use Rattle.typecodes.specs.Message.{IsContent, Transition}
 use Rattle.command.specs.Trace.{Happening, opened, not_opened, nothing_known, ReadsOnce, ReadsToEnd}
 
@@ -61,28 +61,28 @@ Judgement public message signature (Err BadName) = ⊥
 Judgement public message signature (Err BadSpec) = ⊥
 
 -- The same of files: opening or reading one may also fail.
-abbrev pub Answers : {A : Type 0} → List ℕ → List ℕ → List ℕ → Result A Refusal → Type 0
-Answers public message signature (Ok a) = Judgement public message signature (Ok a)
-Answers public message signature (Err (Key fault)) = Judgement {A = ⊤} public message signature (Err (Key fault))
-Answers public message signature (Err (Signature refusal)) =
+abbrev pub AnswersFiles : {A : Type 0} → List ℕ → List ℕ → List ℕ → Result A Refusal → Type 0
+AnswersFiles public message signature (Ok a) = Judgement public message signature (Ok a)
+AnswersFiles public message signature (Err (Key fault)) = Judgement {A = ⊤} public message signature (Err (Key fault))
+AnswersFiles public message signature (Err (Signature refusal)) =
     Judgement {A = ⊤} public message signature (Err (Signature refusal))
-Answers public message signature (Err OutOfMemory) = ⊤
-Answers public message signature (Err FileFailed) = ⊤
-Answers public message signature (Err (Signer fault)) = ⊥
-Answers public message signature (Err (Opening fault)) = ⊥
-Answers public message signature (Err (Preparing fault)) = ⊥
-Answers public message signature (Err (Audit fault)) = ⊥
-Answers public message signature (Err (Given fault)) = ⊥
-Answers public message signature (Err Locked) = ⊥
-Answers public message signature (Err BadName) = ⊥
-Answers public message signature (Err BadSpec) = ⊥
+AnswersFiles public message signature (Err OutOfMemory) = ⊤
+AnswersFiles public message signature (Err FileFailed) = ⊤
+AnswersFiles public message signature (Err (Signer fault)) = ⊥
+AnswersFiles public message signature (Err (Opening fault)) = ⊥
+AnswersFiles public message signature (Err (Preparing fault)) = ⊥
+AnswersFiles public message signature (Err (Audit fault)) = ⊥
+AnswersFiles public message signature (Err (Given fault)) = ⊥
+AnswersFiles public message signature (Err Locked) = ⊥
+AnswersFiles public message signature (Err BadName) = ⊥
+AnswersFiles public message signature (Err BadSpec) = ⊥
 
 -- Of what is known of three files, this is the answer for some contents that fit: for the contents, where all are
 -- known.
 abbrev pub AnswersOf : {A : Type 0} → Option (List ℕ) → Option (List ℕ) → Option (List ℕ) → Result A Refusal → Type 0
 AnswersOf public message signature answer =
     (p : List ℕ) × (m : List ℕ) × (s : List ℕ) × IsContent public p × IsContent message m × IsContent signature s
-    × Answers p m s answer
+    × AnswersFiles p m s answer
 
 -- What becomes of a message for an answer: what verification by the key that the public bytes spell does with it, and
 -- nothing where they spell none.
@@ -126,7 +126,7 @@ ReadsInTurn public signature message answer old new =
     ⊎ ((p : List ℕ) × (first : List Happening) × ReadsToEnd public p old first
     × ((kind : ErrorKind) × IsRefusalOf kind answer × FailsToRead signature kind first new))
     ⊎ ((p : List ℕ) × (s : List ℕ) × (first : List Happening) × (second : List Happening)
-    × ReadsToEnd public p old first × Fills signature decisive s first second
+    × ReadsToEnd public p old first × FillsRoom signature decisive s first second
     × JudgesReads message p s answer second new)
 
 -- The files of these paths were opened one after the other, up to one that couldn't be, which was reported; then they
@@ -138,8 +138,8 @@ Visits public message signature answer old new =
     ⊎ ReadsInTurn role.Public role.Signature role.Message answer (old ++ all_opened public message signature) new
 
 -- `verify` of these paths answers so: rightly for what is known of the files, which it opens and reads in turn.
-abbrev pub Verifies : {A : Type 0} → (List ℕ → Option (List ℕ)) → List ℕ → List ℕ → List ℕ → Result A Refusal
+abbrev pub VerifiesIn : {A : Type 0} → (List ℕ → Option (List ℕ)) → List ℕ → List ℕ → List ℕ → Result A Refusal
     → List Happening → List Happening → Type 0
-Verifies content public message signature answer old new =
+VerifiesIn content public message signature answer old new =
     AnswersOf (content public) (content message) (content signature) answer
     × Visits public message signature answer old new

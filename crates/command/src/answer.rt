@@ -1,8 +1,9 @@
 //! What a command answers, and how this is reported.
 
 ghost use Rattle.std.specs.Prelude.{◌≡◌};
-ghost use Rattle.command.specs.Answer.{IsOfWord, Reports, answer_line, done_lines, moved_line, report_lines, status_of};
-ghost use Rattle.command.specs.Output.{Prints, Writes, text_of};
+ghost use Rattle.command.specs.Answer.{IsOfWord, ReportsRequest, answer_line, done_lines, moved_line, report_lines};
+ghost use Rattle.command.specs.Answer.{status_of};
+ghost use Rattle.command.specs.Output.{Prints, WritesText, text_of};
 
 use crate::output::{Output, Part};
 use crate::refusal::Refusal;
@@ -114,8 +115,8 @@ const WORD_REFUSED: u8 = 2;
 
 /// Prints the answer's lines, and gives the exit status of the program.
 pub fn report<O: Output>(answer: &Answer, output: &mut O) -> u8
-    ensures reports { Reports answer.now (O.taken output.old) (O.taken output.new) result }
-    ensures refuses { result ≡ 2 → IsOfWord answer.now × Writes (answer_line answer.now) (O.taken output.old)
+    ensures reports { ReportsRequest answer.now (O.taken output.old) (O.taken output.new) result }
+    ensures refuses { result ≡ 2 → IsOfWord answer.now × WritesText (answer_line answer.now) (O.taken output.old)
         (O.taken output.new) }
 {
     let printed = match answer {

@@ -6,8 +6,8 @@ ghost use Rattle.std.specs.Io.{ReadsAtMost};
 ghost use Rattle.std.specs.Io.KnownBytes.{Consumes, IsAtEnd, ReadConsumes};
 ghost use Rattle.std.specs.declared.option.Option.{Option};
 ghost use Rattle.typecodes.specs.Message.{IsContent, read_outcome};
-ghost use Rattle.command.specs.Files.{BeginsContent, CantHold, FailsFile, FailsToHold, Fills, FillsOrFails};
-ghost use Rattle.command.specs.Files.{ReadsAllOrFails, ReadsFile, ReadsKey, ReadsStart, Shows, decisive};
+ghost use Rattle.command.specs.Files.{BeginsContent, CantHold, FailsFile, FailsToHold, FillsRoom, FillsOrFails};
+ghost use Rattle.command.specs.Files.{ReadsAllOrFails, ReadsFile, ReadsKey, ReadsStart, ShowsContent, decisive};
 ghost use Rattle.command.specs.FileDisk.{IsStateRefusal};
 ghost use Rattle.command.specs.Trace.{ReadsOnce, ReadsToEnd, checking, making, opening, opening_state, writing};
 ghost use Rattle.command.specs.declared.trace.Role.{Role as FileRole};
@@ -43,7 +43,7 @@ pub trait Folder: Traced {
         ensures trace { Self.trace self.new ≡ Self.trace self.old ++ opening role path.now result ∷ [] }
         ensures content { (other : List ℕ) → content self.new other ≡ content self.old other }
         ensures role { IfOk result (λ file. Self.File.role file ≡ role) }
-        ensures shows { IfOk result (λ file. Shows (content self.old path.now) (Self.File.remaining file)) }
+        ensures shows { IfOk result (λ file. ShowsContent (content self.old path.now) (Self.File.remaining file)) }
         ensures err { IfErr result (λ refusal. refusal ≡ Refusal.FileFailed) };
 
     /// Reads into the buffer, as `Read::read` does.
@@ -113,7 +113,7 @@ pub trait SignerFolder: Folder + Outlet {
         ensures trace { Self.trace self.new ≡ Self.trace self.old ++ opening Role.Random path.now result ∷ [] }
         ensures content { (other : List ℕ) → Self.content self.new other ≡ Self.content self.old other }
         ensures shows { IfOk result (λ source.
-            Shows (Self.content self.old path.now) (Self.Random.upcoming source)) }
+            ShowsContent (Self.content self.old path.now) (Self.Random.upcoming source)) }
         ensures err { IfErr result (λ refusal. refusal ≡ Refusal.FileFailed) };
 }
 
@@ -249,7 +249,7 @@ fn read_start<D: Folder>(
 ) -> Result<Vec<u8>, Refusal>
     ensures reads { MatchResult result
         (λ first. BeginsContent (D.File.remaining file.old) first.items
-        × Fills (D.File.role file.old) decisive first.items (D.trace folder.old) (D.trace folder.new))
+        × FillsRoom (D.File.role file.old) decisive first.items (D.trace folder.old) (D.trace folder.new))
         (λ refusal. CantHold (D.File.role file.old) refusal (D.trace folder.old) (D.trace folder.new)) }
     ensures content { (path : List ℕ) → D.content folder.new path ≡ D.content folder.old path }
 {

@@ -44,11 +44,11 @@ pub enum Request<'a> {
 
 impl<'a> Request<'a> {
     ghost use Rattle.command.specs.Files.{files_seen};
-    ghost use Rattle.command.specs.Line.{Serves, task_of};
+    ghost use Rattle.command.specs.Line.{ServesTask, task_of};
 
     /// Does what is requested, and gives the answer.
     pub fn answer<D: SignerFolder>(&self, alloc: Global, folder: &mut D) -> Answer
-        ensures { Serves D.Disk.Disk ⟦<FileStore<D::Disk> as Store>⟧ D.Random.Source
+        ensures { ServesTask D.Disk.Disk ⟦<FileStore<D::Disk> as Store>⟧ D.Random.Source
             (files_seen (D.content folder.old) D.is_opened (D.is_closed folder.new)) (task_of self.now) result
             (D.trace folder.old) (D.trace folder.new) }
     {

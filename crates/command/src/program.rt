@@ -5,7 +5,7 @@ ghost use Rattle.command.specs.Files.{files_seen};
 ghost use Rattle.command.specs.Line.{IsLineOf, Task as LineTask};
 ghost use Rattle.command.specs.LineFault.{HasText, line_faults};
 ghost use Rattle.command.specs.Program.{Explains, Helps, Refuses, RefusesLine, Runs, RunsTask, Says};
-ghost use Rattle.command.specs.Output.{Fails, Writes};
+ghost use Rattle.command.specs.Output.{Fails, WritesText};
 
 use crate::answer::{OUTPUT_FAILED, report};
 use crate::files::SignerFolder;

@@ -4,8 +4,8 @@ ghost use Rattle.std.specs.Prelude.{◌≡◌, ◌↔◌, ℕ, List, Some, take,
 ghost use Rattle.clap.specs.declared.builder.command.Command.{Command as ClapCommand};
 ghost use Rattle.clap.specs.Words.{AddsSubcommand, app_of, first_value, found_of, with_subcommand};
 ghost use Rattle.command.specs.Verify.{AnswerLeaves, AnswersOf, Judgement, OpensInTurn};
-ghost use Rattle.command.specs.Verify.{ReadsInTurn, Verifies, verify_app};
-ghost use Rattle.command.specs.Files.{Decides, ReadsKey, Shows};
+ghost use Rattle.command.specs.Verify.{ReadsInTurn, VerifiesIn, verify_app};
+ghost use Rattle.command.specs.Files.{Decides, ReadsKey, ShowsContent};
 ghost use Rattle.typecodes.specs.Message.{IsContent};
 
 use crate::answer::{Answer, Done};
@@ -51,7 +51,7 @@ impl<'a> Verify<'a> {
             → app_of new ≡ with_subcommand (app_of old) verify_app.top) }
     {
         Command::new(alloc, Verify::NAME)
-            .about("Verifies a signature of a message")
+            .about("VerifiesIn a signature of a message")
             .after_help(
                 "Example:\n  $ hbsign verify firmware.pub firmware.bin firmware.sig\n  verified",
             )
@@ -84,11 +84,11 @@ impl<'a> Verify<'a> {
         ensures opens { OpensInTurn self.now.public.now self.now.message.now self.now.signature.now result
             (D.trace folder.old) (D.trace folder.new) }
         ensures public { IfOk result (λ files. (D.File.role files.public ≡ Role.Public)
-            × Shows (D.content folder.old self.now.public.now) (D.File.remaining files.public)) }
+            × ShowsContent (D.content folder.old self.now.public.now) (D.File.remaining files.public)) }
         ensures message { IfOk result (λ files. (D.File.role files.message ≡ Role.Message)
-            × Shows (D.content folder.old self.now.message.now) (D.File.remaining files.message)) }
+            × ShowsContent (D.content folder.old self.now.message.now) (D.File.remaining files.message)) }
         ensures signature { IfOk result (λ files. (D.File.role files.signature ≡ Role.Signature)
-            × Shows (D.content folder.old self.now.signature.now) (D.File.remaining files.signature)) }
+            × ShowsContent (D.content folder.old self.now.signature.now) (D.File.remaining files.signature)) }
         ensures err { IfErr result (λ refusal. refusal ≡ Refusal.FileFailed) }
     {
         Ok(Opened {
@@ -100,8 +100,8 @@ impl<'a> Verify<'a> {
 
     /// Opens the files, reads them, and judges what they hold.
     pub fn answer<D: Folder>(&self, folder: &mut D) -> Answer
-        ensures { Verifies (D.content folder.old) self.now.public.now self.now.message.now self.now.signature.now result
-            (D.trace folder.old) (D.trace folder.new) }
+        ensures { VerifiesIn (D.content folder.old) self.now.public.now self.now.message.now self.now.signature.now
+            result (D.trace folder.old) (D.trace folder.new) }
     {
         let mut files = self.open(folder)?;
         judge_files(

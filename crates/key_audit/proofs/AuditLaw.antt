@@ -7,7 +7,7 @@ use Rattle.sign_core.proofs.Illegal.{none_from_legal}
 use Rattle.key_audit.specs.declared.report.Anchor.{Anchor}
 use Rattle.key_audit.specs.declared.report.AuditFault.{AuditFault}
 use Rattle.key_audit.specs.declared.report.AuditFault.TheVariants.{Stopped, NoKey, Damaged, Illegal, DeviceFailed, OutOfMemory, AnchorCount, AnchorTag}
-use Rattle.key_audit.specs.Audit.{AreTags, AuditLaw, IsBeyond, IsOutside, IsTagged, IsWithin, Judges}
+use Rattle.key_audit.specs.Audit.{AreTags, AuditLaw, IsBeyond, IsOutsideRecords, IsTagged, IsWithin, Judges}
 use Rattle.key_audit.specs.Tags.{IsTag}
 use Rattle.key_audit.proofs.Audits.{some_legal}
 use Rattle.key_audit.proofs.Tags.{tag_law}
@@ -21,7 +21,7 @@ none_or_some : {k : ℕ} → ◌≡◌ {A = Option ℕ} None (Some k) → ⊥
 none_or_some is = absurd cc
 
 accepted_else : (records : List Record) (anchor : Option Anchor) (fault : AuditFault) → IsLegal records → IsWithin anchor records
-    → IsTagged (IsTag records) anchor → Judges true records anchor (Err fault) → AreTags (IsTag records) anchor (Err fault) → IsOutside fault
+    → IsTagged (IsTag records) anchor → Judges true records anchor (Err fault) → AreTags (IsTag records) anchor (Err fault) → IsOutsideRecords fault
 accepted_else records anchor Stopped legal within tagged judges tags = tt
 accepted_else records anchor DeviceFailed legal within tagged judges tags = tt
 accepted_else records anchor OutOfMemory legal within tagged judges tags = tt

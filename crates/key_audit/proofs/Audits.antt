@@ -16,7 +16,7 @@ use Rattle.key_audit.specs.declared.report.AuditFault.{AuditFault}
 use Rattle.key_audit.specs.declared.report.AuditFault.TheVariants.{Stopped, NoKey, Damaged, Illegal, DeviceFailed, OutOfMemory, AnchorCount, AnchorTag}
 use Rattle.key_audit.specs.declared.report.Report.{Report}
 use Rattle.key_audit.specs.Audit.{AreTags, Audits, IsBeyond, IsTagged, IsWithin, Judges, ReadsStore, Reports, is_fault, is_stopped}
-use Rattle.key_audit.specs.Loading.{AreLoaded, ChecksAnchor, Fits, GivesTag, IsNoLedger, IsSlotTag, ReadsTag}
+use Rattle.key_audit.specs.Loading.{AreLoaded, ChecksAnchor, FitsAnchor, GivesTag, IsNoLedger, IsSlotTag, ReadsSlotTag}
 use Rattle.key_audit.specs.Tags.{IsTag}
 use Rattle.key_audit.proofs.Loads.{IsKept, answered, kept_by, reads_after}
 use Rattle.key_audit.proofs.Tags.{tag_law}
@@ -93,7 +93,7 @@ beyond_alike a b (Some anchor) same (inr few) = inr (omega (arith, few, same))
 
 -- an anchor that isn't fitted
 judged_anchor : (A : ℕ → List ℕ → Type 0) (honest kept : Bool) (list records : List Record) (anchor : Option Anchor) (fault : AuditFault) → IsLegal records
-    → length list ≡ length records → Fits A kept list anchor (Err fault)
+    → length list ≡ length records → FitsAnchor A kept list anchor (Err fault)
     → Judges honest records anchor (Err fault)
     × ((B : ℕ → List ℕ → Type 0) → IsTrue kept → ((k : ℕ) (tag : List ℕ) → B k tag → A k tag) → AreTags B anchor (Err fault))
 judged_anchor A honest kept list records anchor Stopped legal same fits = (tt, λ B is back. tt)
@@ -206,7 +206,7 @@ module _ {D : Type 0} (d : disk.Ghosts D) where
   -- the last tag couldn't be read
   pub no_tag : {A : Type 0} → GivesBytes → (old mid last new : FileStore D d) (anchor : Option Anchor) (fault : AuditFault) (x : A) (y : Unit {0}) (records : List Record) (k : ℕ)
       → ReadsStore d old mid (Ok x) → AreLoaded (d.honest (disk_of old)) (records_of old) records
-      → ChecksAnchor d mid last anchor (Ok y) → ReadsTag d last new k (Err fault) → Audits d old new anchor (Err fault)
+      → ChecksAnchor d mid last anchor (Ok y) → ReadsSlotTag d last new k (Err fault) → Audits d old new anchor (Err fault)
   no_tag gives_bytes old mid last new anchor fault x y records k reads are checks tagged =
       let kept = kept_by d old mid x reads in
       let kept_on = kept_by d old last y (reads_after d old mid last (Ok y) kept checks.store) in
@@ -217,7 +217,7 @@ module _ {D : Type 0} (d : disk.Ghosts D) where
   -- nothing is refused
   pub accepted : {A : Type 0} → GivesBytes → (old mid last new : FileStore D d) (anchor : Option Anchor) (x : A) (y : Unit {0}) (records : List Record) (k : ℕ)
       (tag : List ℕ) (report : Report) → ReadsStore d old mid (Ok x) → AreLoaded (d.honest (disk_of old)) (records_of old) records → IsLegal records
-      → ChecksAnchor d mid last anchor (Ok y) → ReadsTag d last new k (Ok tag) → k ≡ length (records_of last) - 1 → Reports records report
+      → ChecksAnchor d mid last anchor (Ok y) → ReadsSlotTag d last new k (Ok tag) → k ≡ length (records_of last) - 1 → Reports records report
       → report.tag ≡ tag → Audits d old new anchor (Ok report)
   accepted gives_bytes old mid last new anchor x y records k tag report reads are legal checks tagged here reports same_tag =
       let kept = kept_by d old mid x reads in

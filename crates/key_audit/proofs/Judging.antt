@@ -14,7 +14,7 @@ use Rattle.sign_core.specs.Key.{KeyLeavesMessage, KeyVerdict}
 use Rattle.sign_core.specs.Once.{Verifies}
 use Rattle.key_audit.specs.declared.given.Given.{Given}
 use Rattle.key_audit.specs.declared.in_memory.InMemory.{InMemory}
-use Rattle.key_audit.specs.Given.{IsValid}
+use Rattle.key_audit.specs.Given.{IsValidGiven}
 use Rattle.key_audit.specs.InMemory.{GivesNext}
 
 -- what is left to read
@@ -100,7 +100,7 @@ judged public text bytes old new (Err refusal) whole verdict leaves = (
 pub judges : (public : AnyPublic) (given : Given) (text bytes : List ℕ) (old new : InMemory) (result : Result (Unit {0}) Refusal)
     → text ≡ old.rest.now → old.rest.now ≡ given.message.items → bytes ≡ given.signature.items
     → KeyVerdict public text bytes result → KeyLeavesMessage GivesNext rest_of public text old new result
-    → (IsOk result → IsValid public given) × (IsValid public given → IsOk result)
+    → (IsOk result → IsValidGiven public given) × (IsValidGiven public given → IsOk result)
 judges public given text bytes old new result whole is_message is_signature verdict leaves =
     let (ok, back) = judged public text bytes old new result whole verdict leaves in
     let same : text ≡ given.message.items = whole ∙ is_message in (

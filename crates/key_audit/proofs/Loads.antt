@@ -15,7 +15,7 @@ use Rattle.sign_core.proofs.Adding.{length_one_more}
 use Rattle.sign_core.proofs.Lists.{take_with_next}
 use Rattle.key_audit.specs.declared.report.AuditFault.{AuditFault}
 use Rattle.key_audit.specs.Audit.{ReadsStore, is_device_failed, is_fault, is_stopped, unreadable_slot}
-use Rattle.key_audit.specs.Loading.{AreLoaded, LoadsRecord}
+use Rattle.key_audit.specs.Loading.{AreLoaded, LoadsSlot}
 
 -- Calls that didn't fail left all of a store as it was.
 pub record IsKept {D : Type 0} (d : disk.Ghosts D) (old now : FileStore D d) : Type 0 where
@@ -132,7 +132,7 @@ module _ {D : Type 0} (d : disk.Ghosts D) where
   record_at false list k entry at is = absurd (true≢false (sym is))
 
   pub loaded_more : (old now next : FileStore D d) (records : List Record) (k : ℕ) (entry : Record) → HasLoaded old now records k
-      → LoadsRecord d now next k (Ok (Some entry)) → HasLoaded old next (records ++ entry ∷ []) (k + 1)
+      → LoadsSlot d now next k (Ok (Some entry)) → HasLoaded old next (records ++ entry ∷ []) (k + 1)
   loaded_more old now next records k entry is loads = record {
     kept = kept_by old next (Some entry) (reads_after old now next (Ok (Some entry)) is.kept loads.store);
     long = length_one_more records entry ∙ ap (λ n. n + 1) is.long;

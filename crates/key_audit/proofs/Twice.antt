@@ -32,7 +32,7 @@ use Rattle.sign_core.specs.Uses.{LeafUse as Use, MakesUses, lms_use}
 use Rattle.key_audit.specs.declared.given.Given.{Given}
 use Rattle.key_audit.specs.declared.leaf_index.FirstUse.{FirstUse}
 use Rattle.key_audit.specs.declared.uses.LeafUse.{LeafUse}
-use Rattle.key_audit.specs.Given.{AreValid, IsFirstTwice, IsTwice, IsValid, NoneTwice, Uses}
+use Rattle.key_audit.specs.Given.{AreValid, IsFirstTwice, IsTwice, IsValidGiven, NoneTwice, Uses}
 use Rattle.key_audit.specs.LeafIndex.{AddsUses, AreKept, IsKept, IsLeastOther, UseAt, other_place, place_of_other, use_at}
 use Rattle.key_audit.specs.Uses.{AreUsesOf, kept_use, leaf_bytes}
 
@@ -65,15 +65,15 @@ in-range_below n i (k, below, is) =
 -- ---- the uses of one signature
 
 abbrev pub AreValidBefore : AnyPublic → List Given → ℕ → Type 0
-AreValidBefore public given n = (k : ℕ) (other : Given) → k < n → slice_get given k ≡ Some other → IsValid public other
+AreValidBefore public given n = (k : ℕ) (other : Given) → k < n → slice_get given k ≡ Some other → IsValidGiven public other
 
-pub valid_more : (public : AnyPublic) (given : List Given) (n : ℕ) (each : Given) → slice_get given n ≡ Some each → IsValid public each
+pub valid_more : (public : AnyPublic) (given : List Given) (n : ℕ) (each : Given) → slice_get given n ≡ Some each → IsValidGiven public each
     → AreValidBefore public given n → AreValidBefore public given (n + 1)
 valid_more public given n each stands valid before k other low at = elim (cases_lt k n) [
   | inl below ↦ before k other below at
   | inr above ↦
       let end : k ≡ n = omega (arith, low, above) in
-      subst (IsValid public) (same_Some each other (sym stands ∙ ap (slice_get given) (sym end) ∙ at)) valid
+      subst (IsValidGiven public) (same_Some each other (sym stands ∙ ap (slice_get given) (sym end) ∙ at)) valid
 ]
 
 pub stands_at : (given : List Given) (n : ℕ) (each : Given) → n < length given → each ≡ get_or given n each → slice_get given n ≡ Some each
@@ -102,7 +102,7 @@ xmss_most xmss.H16 = omega arith
 xmss_most xmss.H20 = omega arith
 
 -- a leaf that a valid signature uses has a number of 4 bytes
-small_use : (public : AnyPublic) (given : Given) (u : Use) → IsValid public given → Uses public given u → u.leaf < 2 ^ 32
+small_use : (public : AnyPublic) (given : Given) (u : Use) → IsValidGiven public given → Uses public given u → u.leaf < 2 ^ 32
 small_use (Lms key) given u valid (uses, (s, spelled, are), has) =
     let (t, t_spelled, ok) = valid.verifies in
     let same : t ≡ s = one_value lms_signature t s given.signature.items t_spelled spelled in
@@ -132,7 +132,7 @@ number_back : (u : Use) → u.leaf < 2 ^ 32 → big_number 4 (take 4 (leaf_bytes
 number_back u small = big_number-reads_back 4 u.leaf [] small
 
 -- leaves that are named by the same bytes are one
-one_leaf : (public : AnyPublic) (a b : Given) (u v : Use) → IsValid public a → IsValid public b → Uses public a u → Uses public b v
+one_leaf : (public : AnyPublic) (a b : Given) (u v : Use) → IsValidGiven public a → IsValidGiven public b → Uses public a u → Uses public b v
     → leaf_bytes u ≡ leaf_bytes v → IsOneLeaf u v
 one_leaf public a b u v a_valid b_valid by_a by_b same = record {
   identifier = ap (drop 4) same;

@@ -140,17 +140,17 @@ abbrev pub anchor_of : Report → Anchor
 anchor_of report = record { count = report.records; tag = report.tag }
 
 -- The fault says nothing of the records: the store had stopped, its disk failed, or memory was refused.
-abbrev pub IsOutside : AuditFault → Type 0
-IsOutside Stopped = Unit {0}
-IsOutside DeviceFailed = Unit {0}
-IsOutside OutOfMemory = Unit {0}
-IsOutside _ = ⊥
+abbrev pub IsOutsideRecords : AuditFault → Type 0
+IsOutsideRecords Stopped = Unit {0}
+IsOutsideRecords DeviceFailed = Unit {0}
+IsOutsideRecords OutOfMemory = Unit {0}
+IsOutsideRecords _ = ⊥
 
 pub record AuditLaw : Type 0 where
   -- records that are legal and fit the anchor are refused for a reason outside of them alone
   pub accepts : (records : List Record) (anchor : Option Anchor) (fault : AuditFault) → IsLegal records
       → IsWithin anchor records → IsTagged (IsTag records) anchor → Judges true records anchor (Err fault)
-      → AreTags (IsTag records) anchor (Err fault) → IsOutside fault
+      → AreTags (IsTag records) anchor (Err fault) → IsOutsideRecords fault
   -- a report makes an anchor that the records fit, whatever records follow
   pub anchors : (honest : Bool) (records more : List Record) (anchor : Option Anchor) (report : Report)
       → Judges honest records anchor (Ok report) → AreTags (IsTag records) anchor (Ok report)

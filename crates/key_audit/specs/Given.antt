@@ -11,7 +11,7 @@ use Rattle.key_audit.specs.declared.given.GivenFault.TheVariants.{NotValid, Leaf
 -- ---- one signature
 
 -- It signs its message under the key, and the message has fewer than 2^60 bytes, as every one that is signed.
-pub record IsValid (public : AnyPublic) (given : Given) : Type 0 where
+pub record IsValidGiven (public : AnyPublic) (given : Given) : Type 0 where
   pub verifies : Verifies public given.message.items given.signature.items
   pub short : length given.message.items < 2 ^ 60
 
@@ -43,7 +43,7 @@ pub record IsTwice (public : AnyPublic) (given : List Given) (i j : ℕ) : Type 
 
 -- All are valid.
 abbrev pub AreValid : AnyPublic → List Given → Type 0
-AreValid public given = (k : ℕ) (each : Given) → slice_get given k ≡ Some each → IsValid public each
+AreValid public given = (k : ℕ) (each : Given) → slice_get given k ≡ Some each → IsValidGiven public each
 
 -- No two at different places below n use one leaf for different digests.
 abbrev pub NoneTwice : AnyPublic → List Given → ℕ → Type 0
@@ -53,8 +53,8 @@ NoneTwice public given n = (i j : ℕ) → i ≢ j → i < n → j < n → IsTwi
 pub record IsFirstNotValid (public : AnyPublic) (given : List Given) (i : ℕ) : Type 0 where
   pub each : Given
   pub stands : slice_get given i ≡ Some each
-  pub not_valid : IsValid public each → ⊥
-  pub first : (k : ℕ) (other : Given) → k < i → slice_get given k ≡ Some other → IsValid public other
+  pub not_valid : IsValidGiven public each → ⊥
+  pub first : (k : ℕ) (other : Given) → k < i → slice_get given k ≡ Some other → IsValidGiven public other
 
 -- That at place j is the first that uses a leaf of an earlier one for another digest, and that at place i is the first
 -- of these.

@@ -15,18 +15,18 @@ use Rattle.key_audit.specs.declared.report.AuditFault.TheVariants.{OutOfMemory, 
 use Rattle.key_audit.specs.Audit.{IsBeyond, IsTagged, IsWithin, Judges, ReadsStore}
 
 -- What the load of record k finds.
-abbrev pub Finds : (honest : Bool) → List Record → (k : ℕ) → Result (Option Record) AuditFault → Type 0
-Finds honest list k (Ok None) = length list ≤ k
-Finds honest list k (Ok (Some entry)) = (k < length list) × IsRecordAt honest list k entry
-Finds honest list k (Err Stopped) = Unit {0}
-Finds honest list k (Err (Damaged slot)) = (honest ≡ false) × (slot ≡ k) × (k < length list)
-Finds honest list k (Err DeviceFailed) = Unit {0}
-Finds honest list k (Err _) = ⊥
+abbrev pub FindsRecord : (honest : Bool) → List Record → (k : ℕ) → Result (Option Record) AuditFault → Type 0
+FindsRecord honest list k (Ok None) = length list ≤ k
+FindsRecord honest list k (Ok (Some entry)) = (k < length list) × IsRecordAt honest list k entry
+FindsRecord honest list k (Err Stopped) = Unit {0}
+FindsRecord honest list k (Err (Damaged slot)) = (honest ≡ false) × (slot ≡ k) × (k < length list)
+FindsRecord honest list k (Err DeviceFailed) = Unit {0}
+FindsRecord honest list k (Err _) = ⊥
 
-pub record LoadsRecord {D : Type 0} (d : disk.Ghosts D) (old new : FileStore D d) (k : ℕ)
+pub record LoadsSlot {D : Type 0} (d : disk.Ghosts D) (old new : FileStore D d) (k : ℕ)
     (answer : Result (Option Record) AuditFault) : Type 0 where
   pub store : ReadsStore d old new answer
-  pub finds : Finds (d.honest (disk_of old)) (records_of old) k answer
+  pub finds : FindsRecord (d.honest (disk_of old)) (records_of old) k answer
 
 -- These are as many records as a store has, and where it is honest its own.
 pub record AreLoaded (honest : Bool) (list records : List Record) : Type 0 where
@@ -42,11 +42,11 @@ StopsLoading honest list OutOfMemory = 0 < length list
 StopsLoading honest list _ = ⊥
 
 -- why records aren't those of a key
-abbrev pub IsRefused : List Record → AuditFault → Type 0
-IsRefused records NoKey = records ≡ []
-IsRefused records (Illegal k) = first_illegal records ≡ Some k
-IsRefused records OutOfMemory = 0 < length records
-IsRefused records _ = ⊥
+abbrev pub IsRefusedLedger : List Record → AuditFault → Type 0
+IsRefusedLedger records NoKey = records ≡ []
+IsRefusedLedger records (Illegal k) = first_illegal records ≡ Some k
+IsRefusedLedger records OutOfMemory = 0 < length records
+IsRefusedLedger records _ = ⊥
 
 -- why a store's records weren't loaded, or aren't those of a key
 abbrev pub IsNoLedger : (honest : Bool) → List Record → AuditFault → Type 0
@@ -66,23 +66,23 @@ GivesTag IsTagOf honest k (Err Stopped) = Unit {0}
 GivesTag IsTagOf honest k (Err DeviceFailed) = Unit {0}
 GivesTag IsTagOf honest k (Err _) = ⊥
 
-pub record ReadsTag {D : Type 0} (d : disk.Ghosts D) (old new : FileStore D d) (k : ℕ)
+pub record ReadsSlotTag {D : Type 0} (d : disk.Ghosts D) (old new : FileStore D d) (k : ℕ)
     (answer : Result (List ℕ) AuditFault) : Type 0 where
   pub store : ReadsStore d old new answer
   pub gives : GivesTag (IsSlotTag d (disk_of old)) (d.honest (disk_of old)) k answer
 
 -- What is answered to an anchor, if one is given, by a store of these records.
-abbrev pub Fits : (IsTagOf : ℕ → List ℕ → Type 0) → (honest : Bool) → List Record → Option Anchor
+abbrev pub FitsAnchor : (IsTagOf : ℕ → List ℕ → Type 0) → (honest : Bool) → List Record → Option Anchor
     → Result (Unit {0}) AuditFault → Type 0
-Fits IsTagOf honest list anchor (Ok _) = IsWithin anchor list × (IsTrue honest → IsTagged IsTagOf anchor)
-Fits IsTagOf honest list anchor (Err Stopped) = Unit {0}
-Fits IsTagOf honest list anchor (Err DeviceFailed) = Unit {0}
-Fits IsTagOf honest list anchor (Err AnchorCount) = IsBeyond anchor list
-Fits IsTagOf honest list anchor (Err AnchorTag) =
+FitsAnchor IsTagOf honest list anchor (Ok _) = IsWithin anchor list × (IsTrue honest → IsTagged IsTagOf anchor)
+FitsAnchor IsTagOf honest list anchor (Err Stopped) = Unit {0}
+FitsAnchor IsTagOf honest list anchor (Err DeviceFailed) = Unit {0}
+FitsAnchor IsTagOf honest list anchor (Err AnchorCount) = IsBeyond anchor list
+FitsAnchor IsTagOf honest list anchor (Err AnchorTag) =
     IsSome anchor × IsWithin anchor list × (IsTrue honest → IsTagged IsTagOf anchor → ⊥)
-Fits IsTagOf honest list anchor (Err _) = ⊥
+FitsAnchor IsTagOf honest list anchor (Err _) = ⊥
 
 pub record ChecksAnchor {D : Type 0} (d : disk.Ghosts D) (old new : FileStore D d) (anchor : Option Anchor)
     (answer : Result (Unit {0}) AuditFault) : Type 0 where
   pub store : ReadsStore d old new answer
-  pub fits : Fits (IsSlotTag d (disk_of old)) (d.honest (disk_of old)) (records_of old) anchor answer
+  pub fits : FitsAnchor (IsSlotTag d (disk_of old)) (d.honest (disk_of old)) (records_of old) anchor answer

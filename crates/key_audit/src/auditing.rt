@@ -4,8 +4,8 @@ ghost use Rattle.std.specs.Prelude.{◌≡◌, ◌<◌, false, length, IfErr, If
 ghost use Rattle.state_file.specs.Laws.{IsLegal};
 ghost use Rattle.state_file.specs.FileStore.{disk_of, has_stopped, records_of};
 ghost use Rattle.key_audit.specs.Audit.{Audits, ReadsStore, Reports};
-ghost use Rattle.key_audit.specs.Loading.{AreLoaded, ChecksAnchor, IsNoLedger, IsRefused};
-ghost use Rattle.key_audit.specs.Loading.{LoadsRecord, ReadsTag, StopsLoading};
+ghost use Rattle.key_audit.specs.Loading.{AreLoaded, ChecksAnchor, IsNoLedger, IsRefusedLedger};
+ghost use Rattle.key_audit.specs.Loading.{LoadsSlot, ReadsSlotTag, StopsLoading};
 
 use crate::report::{Anchor, AuditFault, Report};
 use sign_core::{Ledger, LedgerFault};
@@ -17,7 +17,7 @@ fn load_at<D: Disk + Drop>(
     store: &mut FileStore<D>,
     slot: u32,
 ) -> Result<Option<Record>, AuditFault>
-    ensures { LoadsRecord D.Disk store.old store.new slot result }
+    ensures { LoadsSlot D.Disk store.old store.new slot result }
 {
     match store.load(slot) {
         Ok(found) => Ok(found),
@@ -52,7 +52,7 @@ fn load_records<D: Disk + Drop>(
 fn take_up(alloc: Global, records: &[Record]) -> Result<Ledger, AuditFault>
     ensures records { IfOk result (λ ledger. ledger.records ≡ records.now) }
     ensures legal { OnOk result (IsLegal records.now) }
-    ensures refused { IfErr result (IsRefused records.now) }
+    ensures refused { IfErr result (IsRefusedLedger records.now) }
 {
     Ledger::replay(alloc, records).map_err(|fault| match fault {
         LedgerFault::Empty => AuditFault::NoKey,
@@ -64,7 +64,7 @@ fn take_up(alloc: Global, records: &[Record]) -> Result<Ledger, AuditFault>
 // Reads the tag of a slot.
 fn read_tag<D: Disk + Drop>(store: &mut FileStore<D>, slot: u32) -> Result<[u8; 32], AuditFault>
     requires { slot < length (records_of store.old) }
-    ensures { ReadsTag D.Disk store.old store.new slot result }
+    ensures { ReadsSlotTag D.Disk store.old store.new slot result }
 {
     match store.tag_at(slot) {
         Ok(tag) => Ok(tag),

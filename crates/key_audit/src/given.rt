@@ -1,7 +1,7 @@
 //! Signatures that were given out: whether two of them use one leaf for different digests.
 
 ghost use Rattle.std.specs.Prelude.{◌≡◌, ◌↔◌, true, MatchOption};
-ghost use Rattle.key_audit.specs.Given.{AreValid, Checks, IsFirstNotValid, IsValid, fault_number};
+ghost use Rattle.key_audit.specs.Given.{AreValid, Checks, IsFirstNotValid, IsValidGiven, fault_number};
 
 use crate::in_memory::InMemory;
 use crate::leaf_index::LeafIndex;
@@ -68,7 +68,7 @@ pub fn check_given(alloc: Global, public: &AnyPublic, given: &[Given]) -> Result
 
 // Whether a signature is valid for its message.
 fn is_valid(public: &AnyPublic, given: &Given) -> bool
-    ensures { (result ≡ true) ↔ IsValid public.now given.now }
+    ensures { (result ≡ true) ↔ IsValidGiven public.now given.now }
 {
     let mut message = InMemory {
         rest: &given.message,

@@ -8,14 +8,14 @@ use Rattle.std.proofs.lemmas.Nat.{pow-add, pow_pos}
 use Rattle.std.proofs.Math.Nat.{div-div-eq-div-mul, div-lt_iff_lt-mul, pow-le-pow_right}
 use Rattle.merkle.specs.Tree.{Leaves, Joins, node, path_of, root_of, sibling}
 use Rattle.merkle.specs.Nodes.{path_from}
-use Rattle.merkle.specs.Cache.{View, Keeps, block_height, block_nodes, upper_nodes}
+use Rattle.merkle.specs.Cache.{View, KeepsNodes, block_height, block_nodes, upper_nodes}
 use Rattle.merkle.proofs.Listing.{nodes_count, nodes_last}
 
 -- the upper tree and a block are all that is kept, and no more nodes than may be
 pub keeps_both : {T : Type 0} (leaf : Leaves) (join : Joins) (height index : ℕ) (cache : View T)
     → cache.height ≡ height → cache.kept ≡ index
     → cache.upper ≡ upper_nodes leaf join height → cache.block ≡ block_nodes leaf join height index
-    → Keeps leaf join height index cache
+    → KeepsNodes leaf join height index cache
 keeps_both leaf join height index cache same_height same_index upper block = record {
   same_height = same_height;
   same_index = same_index;
@@ -51,9 +51,9 @@ pub kept_already : {T : Type 0} (leaf_of : T → Leaves) (join_of : T → Joins)
     → index ≡ inner.kept
     → inner.upper ≡ upper_nodes (leaf_of inner.tree) (join_of inner.tree) inner.height
     → inner.block ≡ block_nodes (leaf_of inner.tree) (join_of inner.tree) inner.height inner.kept
-    → Keeps (leaf_of cache.tree) (join_of cache.tree) cache.height index cache
+    → KeepsNodes (leaf_of cache.tree) (join_of cache.tree) cache.height index cache
 kept_already {T} leaf_of join_of inner cache index same is upper block =
-    let P : View T → Type 0 = λ v. Keeps (leaf_of v.tree) (join_of v.tree) v.height index v in
+    let P : View T → Type 0 = λ v. KeepsNodes (leaf_of v.tree) (join_of v.tree) v.height index v in
     subst P same
     (keeps_both (leaf_of inner.tree) (join_of inner.tree) inner.height index inner refl (sym is) upper
     (block ∙ ap (block_nodes (leaf_of inner.tree) (join_of inner.tree) inner.height) (sym is)))
@@ -64,9 +64,9 @@ pub kept_now : {T : Type 0} (leaf_of : T → Leaves) (join_of : T → Joins) (in
     → after.height ≡ inner.height → after.upper ≡ inner.upper → after.kept ≡ index
     → inner.upper ≡ upper_nodes (leaf_of inner.tree) (join_of inner.tree) inner.height
     → after.block ≡ block_nodes (leaf_of inner.tree) (join_of inner.tree) inner.height index
-    → Keeps (leaf_of cache.tree) (join_of cache.tree) cache.height index after
+    → KeepsNodes (leaf_of cache.tree) (join_of cache.tree) cache.height index after
 kept_now {T} leaf_of join_of inner cache after index same height_stays upper_stays is upper block =
-    let P : View T → Type 0 = λ v. Keeps (leaf_of v.tree) (join_of v.tree) v.height index after in
+    let P : View T → Type 0 = λ v. KeepsNodes (leaf_of v.tree) (join_of v.tree) v.height index after in
     subst P same
     (keeps_both (leaf_of inner.tree) (join_of inner.tree) inner.height index after height_stays is
     (upper_stays ∙ upper) block)

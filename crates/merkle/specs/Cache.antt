@@ -35,7 +35,7 @@ abbrev pub block_nodes : Leaves → Joins → ℕ → ℕ → List (List ℕ)
 block_nodes leaf join height index = nodes_under leaf join 0 (block_height height) index
 
 -- A cache keeps the upper tree and the block of this index, and no more.
-pub record Keeps {T : Type 0} (leaf : Leaves) (join : Joins) (height index : ℕ) (cache : View T) : Type 0 where
+pub record KeepsNodes {T : Type 0} (leaf : Leaves) (join : Joins) (height index : ℕ) (cache : View T) : Type 0 where
   pub same_height : cache.height ≡ height
   pub same_index : cache.kept ≡ index
   pub upper_kept : cache.upper ≡ upper_nodes leaf join height

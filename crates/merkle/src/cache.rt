@@ -2,7 +2,7 @@
 
 ghost use Rattle.std.specs.Prelude.{◌≡◌, ◌==◌, ◌≤◌, ◌<◌, ◌+◌, ◌-◌, ◌/◌, ◌^◌, IfOk, length, min, vec_len};
 ghost use Rattle.std.specs.Prelude.{if◌then◌else◌};
-ghost use Rattle.merkle.specs.Cache.{Keeps, block_height};
+ghost use Rattle.merkle.specs.Cache.{KeepsNodes, block_height};
 ghost use Rattle.merkle.specs.Tree.{path_of, root_of};
 
 use crate::nodes::{fill, fill_from, read_path};
@@ -49,7 +49,7 @@ impl<T: TreeHash> PathCache<T> {
         ensures counted { IfOk result (λ cache. T.made cache.tree ≡ 2 ^ height) }
         ensures leaves { IfOk result (λ cache. T.leaf_of cache.tree ≡ T.leaf_of tree) }
         ensures joins { IfOk result (λ cache. T.join_of cache.tree ≡ T.join_of tree) }
-        ensures nodes { IfOk result (Keeps (T.leaf_of tree) (T.join_of tree) height 0) }
+        ensures nodes { IfOk result (KeepsNodes (T.leaf_of tree) (T.join_of tree) height 0) }
     {
         let block_height = height / 2;
         let mut upper = nodes_of(alloc, height - block_height)?;
@@ -86,7 +86,7 @@ impl<T: TreeHash> PathCache<T> {
             ≡ T.made self.old.tree + (if index == self.old.kept then 0 else 2 ^ block_height self.old.height) }
         ensures leaves { T.leaf_of self.new.tree ≡ T.leaf_of self.old.tree }
         ensures joins { T.join_of self.new.tree ≡ T.join_of self.old.tree }
-        ensures nodes { Keeps (T.leaf_of self.old.tree) (T.join_of self.old.tree) self.old.height
+        ensures nodes { KeepsNodes (T.leaf_of self.old.tree) (T.join_of self.old.tree) self.old.height
             (q / 2 ^ block_height self.old.height) self.new }
     {
         let block_height = self.height / 2;
@@ -104,7 +104,7 @@ impl<T: TreeHash> PathCache<T> {
             ≡ T.made self.old.tree + (if index == self.old.kept then 0 else 2 ^ block_height self.old.height) }
         ensures leaves { T.leaf_of self.new.tree ≡ T.leaf_of self.old.tree }
         ensures joins { T.join_of self.new.tree ≡ T.join_of self.old.tree }
-        ensures nodes { Keeps (T.leaf_of self.old.tree) (T.join_of self.old.tree) self.old.height index self.new }
+        ensures nodes { KeepsNodes (T.leaf_of self.old.tree) (T.join_of self.old.tree) self.old.height index self.new }
     {
         if index == self.kept {
             return;

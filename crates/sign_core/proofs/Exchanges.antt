@@ -22,10 +22,10 @@ use Rattle.sign_core.specs.declared.serving.Reply.{Reply}
 use Rattle.sign_core.specs.declared.serving.Reply.TheVariants.{BadName, Refused, Signed}
 use Rattle.sign_core.specs.declared.source.Source as source
 use Rattle.sign_core.specs.Fault.{serve_number_of}
-use Rattle.sign_core.specs.Frames.{CutsField, Ending, Fills, Reads, ReadsField, ReadsHead, Request, after_size, broken, bytes_of, ended, given_by, going, head, said_by}
+use Rattle.sign_core.specs.Frames.{CutsField, Ending, FillsBuffer, ReadsInput, ReadsField, ReadsHead, Request, after_size, broken, bytes_of, ended, given_by, going, head, said_by}
 use Rattle.sign_core.specs.Records.{binding_in}
 use Rattle.sign_core.specs.Serving.{AnswersFrame, AnswersInTurn, AreFrames, Asks, Closes, ComesTo, Exchange, Finishes, Serves, SignsGiven, Turn}
-use Rattle.sign_core.specs.Serving.{Turns, Writes, is_unread, reply_bytes, reply_frame, reply_of}
+use Rattle.sign_core.specs.Serving.{Turns, WritesReply, is_unread, reply_bytes, reply_frame, reply_of}
 use Rattle.sign_core.specs.Signer.{IsRead, Signs, View, state_of}
 use Rattle.sign_core.specs.World.{Outcome}
 use Rattle.sign_core.proofs.InputReading.{IsPart, part_cut, part_done, reads_close, reads_none, reads_then}
@@ -69,13 +69,13 @@ block_cut n part cuts = elim (cuts 0).1 [
 
 -- a name that isn't there whole
 name_cut_so : {M : Type 0} (m : message.Ghosts M) (size : ℕ) (buffer : List ℕ) (old new : M) (e : ServeFault)
-    → length buffer ≡ size → Fills m buffer old new (Err e) → ReadsField m (block size) bytes_of old new (Err e)
+    → length buffer ≡ size → FillsBuffer m buffer old new (Err e) → ReadsField m (block size) bytes_of old new (Err e)
 name_cut_so m size buffer old new FrameCut is (part, less, reads) = (part, λ from. (from, inl (omega (arith, less, is), refl)), reads)
 name_cut_so m size buffer old new MessageRead is (part, less, reads) = (part, λ from. (from, inl (omega (arith, less, is), refl)), reads)
 name_cut_so m size buffer old new WriteFailed is never = absurd never
 
 pub name_cut : {M : Type 0} (m : message.Ghosts M) (size : ℕ) (buffer : List ℕ) (old new : M) (e : ServeFault) (result : Result Name ServeFault)
-    → result ≡ Err e → length buffer ≡ size → Fills m buffer old new (Err e) → ReadsField m (block size) bytes_of old new result
+    → result ≡ Err e → length buffer ≡ size → FillsBuffer m buffer old new (Err e) → ReadsField m (block size) bytes_of old new result
 name_cut m size buffer old new e result answer is fills =
     subst (λ (a : Result Name ServeFault). ReadsField m (block size) bytes_of old new a) (sym answer) (name_cut_so m size buffer old new e is fills)
 
@@ -95,7 +95,7 @@ after_name_cut m size old new e result answer name =
 
 -- nor where the size of the message isn't there whole
 after_number_cut_so : {M : Type 0} (m : message.Ghosts M) (size : ℕ) (name : Name) (old middle new : M) (buffer : List ℕ) (e : ServeFault)
-    → length buffer ≡ 4 → ReadsField m (block size) bytes_of old middle (Ok name) → Fills m buffer middle new (Err e)
+    → length buffer ≡ 4 → ReadsField m (block size) bytes_of old middle (Ok name) → FillsBuffer m buffer middle new (Err e)
     → ReadsField m (after_size size) said_by old new (Err e)
 after_number_cut_so m size name old middle new buffer FrameCut four (bytes, spelled, first) (part, less, reads) =
     let (len, is) = block_is size name.items bytes spelled in
@@ -107,14 +107,14 @@ after_number_cut_so m size name old middle new buffer WriteFailed four read neve
 
 pub after_number_cut : {M : Type 0} (m : message.Ghosts M) (size : ℕ) (name : Name) (old middle new : M) (buffer : List ℕ) (e : ServeFault)
     (result : Result Head ServeFault) → result ≡ Err e → length buffer ≡ 4 → ReadsField m (block size) bytes_of old middle (Ok name)
-    → Fills m buffer middle new (Err e) → ReadsField m (after_size size) said_by old new result
+    → FillsBuffer m buffer middle new (Err e) → ReadsField m (after_size size) said_by old new result
 after_number_cut m size name old middle new buffer e result answer four read fills =
     subst (λ (a : Result Head ServeFault). ReadsField m (after_size size) said_by old new a) (sym answer)
     (after_number_cut_so m size name old middle new buffer e four read fills)
 
 -- both were read
 pub after_read : {M : Type 0} (m : message.Ghosts M) (size announced : ℕ) (name : Name) (old middle new : M) (buffer : List ℕ) → length buffer ≡ 4
-    → announced ≡ big_number 4 buffer → ReadsField m (block size) bytes_of old middle (Ok name) → Reads m buffer going middle new
+    → announced ≡ big_number 4 buffer → ReadsField m (block size) bytes_of old middle (Ok name) → ReadsInput m buffer going middle new
     → ReadsField m (after_size size) said_by old new (Ok (head_of name announced))
 after_read m size announced name old middle new buffer four number (bytes, spelled, first) reads =
     let (len, is) = block_is size name.items bytes spelled in
@@ -124,25 +124,25 @@ after_read m size announced name old middle new buffer four number (bytes, spell
 
 -- a head that isn't there whole, or the end of the input
 pub head_ends : {M : Type 0} (m : message.Ghosts M) (first : List ℕ) (old middle new : M) (e : ServeFault) → length first ≡ 1
-    → Reads m first going old middle → ReadsField m (after_size (slice_index first 0)) said_by middle new (Err e) → ReadsHead m old new (Err e)
+    → ReadsInput m first going old middle → ReadsField m (after_size (slice_index first 0)) said_by middle new (Err e) → ReadsHead m old new (Err e)
 head_ends m first old middle new FrameCut is reads (rest, cuts, more) =
     (first ++ rest, omega (arith, is, length-append first rest), head_cut first rest is cuts, reads_then m first rest ended old middle new reads more)
 head_ends m first old middle new MessageRead is reads (rest, cuts, more) =
     (first ++ rest, head_cut first rest is cuts, reads_then m first rest broken old middle new reads more)
 head_ends m first old middle new WriteFailed is reads never = absurd never
 
-pub head_read : {M : Type 0} (m : message.Ghosts M) (first : List ℕ) (found : Head) (old middle new : M) → length first ≡ 1 → Reads m first going old middle
+pub head_read : {M : Type 0} (m : message.Ghosts M) (first : List ℕ) (found : Head) (old middle new : M) → length first ≡ 1 → ReadsInput m first going old middle
     → ReadsField m (after_size (slice_index first 0)) said_by middle new (Ok found) → ReadsHead m old new (Ok (Some found))
 head_read m first found old middle new is reads (rest, spelled, more) =
     (first ++ rest, head_said first rest (said_by found) is spelled, reads_then m first rest going old middle new reads more)
 
 -- its first byte isn't there
-pub head_over : {M : Type 0} (m : message.Ghosts M) (first : List ℕ) (old new : M) → length first ≡ 1 → Fills m first old new (Err FrameCut)
+pub head_over : {M : Type 0} (m : message.Ghosts M) (first : List ℕ) (old new : M) → length first ≡ 1 → FillsBuffer m first old new (Err FrameCut)
     → ReadsHead m old new (Ok None)
-head_over m first old new is (part, less, reads) = subst (λ l. Reads m l ended old new) (empty part (omega (arith, less, is))) reads
+head_over m first old new is (part, less, reads) = subst (λ l. ReadsInput m l ended old new) (empty part (omega (arith, less, is))) reads
 
 pub head_unread : {M : Type 0} (m : message.Ghosts M) (first : List ℕ) (old new : M) (e : ServeFault) → length first ≡ 1 → (e ≡ FrameCut → ⊥)
-    → Fills m first old new (Err e) → ReadsHead m old new (Err e)
+    → FillsBuffer m first old new (Err e) → ReadsHead m old new (Err e)
 head_unread m first old new FrameCut is other fills = absurd (other refl)
 head_unread m first old new MessageRead is other (part, less, reads) = (part, λ from. (from, inl (omega (arith, less, is), refl)), reads)
 head_unread m first old new WriteFailed is other never = absurd never
@@ -159,7 +159,7 @@ pub record ReadTo {M : Type 0} (m : message.Ghosts M) (name : List ℕ) (announc
   pub text : List ℕ
   pub ending : Ending
   pub comes : ComesTo ending (request_of name announced text whole) whole
-  pub reads : Reads m text ending old new
+  pub reads : ReadsInput m text ending old new
   pub given_is : is_read ≡ true → given ≡ given_by (request_of name announced text whole)
 
 module _ {P M : Type 0} (p : message.Ghosts P) (m : message.Ghosts M) (input_of : P → M) (left_of : P → ℕ) (is : IsPart p m input_of left_of) (name : List ℕ) where
@@ -175,7 +175,7 @@ module _ {P M : Type 0} (p : message.Ghosts P) (m : message.Ghosts M) (input_of 
         ending = going;
         comes = (refl, (refl, size));
         reads = reads_close m text going (input_of old) (input_of middle) (input_of new) reads
-            (subst (λ l. Reads m l going (input_of middle) (input_of new)) nothing more);
+            (subst (λ l. ReadsInput m l going (input_of middle) (input_of new)) nothing more);
         given_is = λ is. refl;
       }
   read_whole true None rest old middle new first known later = absurd (known refl refl)
@@ -206,7 +206,7 @@ module _ {P M : Type 0} (p : message.Ghosts P) (m : message.Ghosts M) (input_of 
         text = text;
         ending = ending;
         comes = (refl, cuts);
-        reads = subst (λ x. Reads m text ending (input_of old) (input_of x)) (sym same) reads;
+        reads = subst (λ x. ReadsInput m text ending (input_of old) (input_of x)) (sym same) reads;
         given_is = λ is. refl;
       }
   read_none true (Some text) old middle new bound known none cant same = absurd (cc)
@@ -358,7 +358,7 @@ answered_at g r m said name announced old new before after reader capacity room 
   announced = frame.announced ∙ announced_is;
   ending = frame.ending;
   comes = frame.comes;
-  reads = subst (λ x. Reads m frame.request.message frame.ending before x) same frame.reads;
+  reads = subst (λ x. ReadsInput m frame.request.message frame.ending before x) same frame.reads;
   room_kept = frame.room_kept;
   answers = frame.answers;
 }
@@ -372,7 +372,7 @@ pub record Taken {S R I : Type 0} (g : store.Ghosts S) (r : source.Ghosts R) (m 
   pub ending : Ending
   pub exchanges : List Exchange
   pub turn : Turn bytes ending exchanges reply fault
-  pub reads : Reads m bytes ending before after
+  pub reads : ReadsInput m bytes ending before after
   pub answers : AnswersInTurn g r exchanges old new capacity room
 
 -- a head that isn't there whole
@@ -457,7 +457,7 @@ module _ {S R I : Type 0} (g : store.Ghosts S) (r : source.Ghosts R) (m : messag
 
   -- or a part of it
   pub turn_lost : (reply : List ℕ) (fault : Option ServeFault) (e : ServeFault) → Taken g r m old new before after capacity room reply fault
-      → Writes reply contents left (Err e) → Turns g r m old new before after contents left capacity room (Err e)
+      → WritesReply reply contents left (Err e) → Turns g r m old new before after contents left capacity room (Err e)
   turn_lost reply fault WriteFailed taken (part, lost, is, written) = record {
     bytes = taken.bytes;
     ending = taken.ending;
@@ -479,12 +479,12 @@ module _ {S R I : Type 0} (g : store.Ghosts S) (r : source.Ghosts R) (m : messag
       turn_fails g r m signer signer before after capacity capacity contents left (reply_frame (serve_number_of e) []) e
       (taken_head g r m signer before after capacity e head_is) (subst (λ n. Appends contents left (reply_frame n [])) is written)
 
-  pub head_lost : (lost : ServeFault) (result : Result Bool ServeFault) → result ≡ Err lost → Writes (reply_frame number []) contents left (Err lost)
+  pub head_lost : (lost : ServeFault) (result : Result Bool ServeFault) → result ≡ Err lost → WritesReply (reply_frame number []) contents left (Err lost)
       → Turns g r m signer signer before after contents left capacity capacity result
   head_lost lost result answer writes =
       subst (λ (a : Result Bool ServeFault). Turns g r m signer signer before after contents left capacity capacity a) (sym answer)
       (turn_lost g r m signer signer before after capacity capacity contents left (reply_frame (serve_number_of e) []) (Some e) lost
-      (taken_head g r m signer before after capacity e head_is) (subst (λ n. Writes (reply_frame n []) contents left (Err lost)) is writes))
+      (taken_head g r m signer before after capacity e head_is) (subst (λ n. WritesReply (reply_frame n []) contents left (Err lost)) is writes))
 
 -- And a request is.
 module _ {S R I : Type 0} (g : store.Ghosts S) (r : source.Ghosts R) (m : message.Ghosts I) (found : Head) (old new : View S R) (before middle after : I)
@@ -504,7 +504,7 @@ module _ {S R I : Type 0} (g : store.Ghosts S) (r : source.Ghosts R) (m : messag
   frame_cut is written =
       turn_fails g r m old new before after capacity room contents left (reply_bytes reply bytes) MessageRead (frame_taken false is) written
 
-  pub frame_lost : (lost : ServeFault) (result : Result Bool ServeFault) → result ≡ Err lost → Writes (reply_bytes reply bytes) contents left (Err lost)
+  pub frame_lost : (lost : ServeFault) (result : Result Bool ServeFault) → result ≡ Err lost → WritesReply (reply_bytes reply bytes) contents left (Err lost)
       → Turns g r m old new before after contents left capacity room result
   frame_lost lost result answer writes =
       subst (λ (a : Result Bool ServeFault). Turns g r m old new before after contents left capacity room a) (sym answer)
@@ -550,7 +550,7 @@ pub record HasServed {S R I : Type 0} (g : store.Ghosts S) (r : source.Ghosts R)
   pub frames : List ℕ
   pub count_is : length whole ≡ count
   pub are_frames : AreFrames whole frames
-  pub reads : Reads m frames going before after
+  pub reads : ReadsInput m frames going before after
   pub answers : AnswersInTurn g r whole old new capacity room
   pub writes : Appends contents left (concat (map reply_of whole))
 
@@ -583,7 +583,7 @@ module _ {S R I : Type 0} (g : store.Ghosts S) (r : source.Ghosts R) (m : messag
         frames = served.frames ++ turn.bytes;
         count_is = omega (arith, served.count_is, length-append served.whole (exchange ∷ []));
         are_frames = frames_append served.whole (exchange ∷ []) served.frames turn.bytes served.are_frames own;
-        reads = reads_then m served.frames turn.bytes going before between after served.reads (subst (λ e. Reads m turn.bytes e between after) more turn.reads);
+        reads = reads_then m served.frames turn.bytes going before between after served.reads (subst (λ e. ReadsInput m turn.bytes e between after) more turn.reads);
         answers = answers_append g r served.whole (exchange ∷ []) old middle new capacity room space served.answers
             (subst (λ l. AnswersInTurn g r l middle new room space) only turn.answers);
         writes = subst (Appends contents left) (sym (replies_append served.whole (exchange ∷ [])))
@@ -594,7 +594,7 @@ module _ {S R I : Type 0} (g : store.Ghosts S) (r : source.Ghosts R) (m : messag
   -- and what closes them
   closed : (served : HasServed g r m old middle before between contents given 0 room count) (result : Result ℕ ServeFault)
       (bytes : List ℕ) (ending : Ending) (exchanges : List Exchange) (written : List ℕ) → Closes (length served.whole) bytes ending exchanges written result
-      → Reads m bytes ending between after → AnswersInTurn g r exchanges middle new room space → Appends given left written
+      → ReadsInput m bytes ending between after → AnswersInTurn g r exchanges middle new room space → Appends given left written
       → Serves g r m old new before after contents left result
   closed served result bytes ending exchanges written closes reads answers writes = record {
     input = served.frames ++ bytes;

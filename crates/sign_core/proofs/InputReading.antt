@@ -8,12 +8,12 @@ use Rattle.std.specs.declared.io.ErrorKind.TheVariants.{Interrupted}
 use Rattle.typecodes.specs.declared.message.Message as message
 use Rattle.typecodes.specs.Message.{CantBeRead, Gave, ReadOutcome, ReadWhole, Transition, Transitions, interruptions}
 use Rattle.typecodes.proofs.Messages.{Progress, gave-append, interruptions-append, reads-append}
-use Rattle.sign_core.specs.Frames.{CutsAt, Ending, LastRead, Reads, ReadsPart, broken, ended, going}
+use Rattle.sign_core.specs.Frames.{CutsAt, Ending, LastRead, ReadsInput, ReadsPart, broken, ended, going}
 
 -- ---- reads of an input
 
 -- none
-pub reads_none : {M : Type 0} (m : message.Ghosts M) (old : M) → Reads m [] going old old
+pub reads_none : {M : Type 0} (m : message.Ghosts M) (old : M) → ReadsInput m [] going old old
 reads_none m old = record { earlier = []; last = []; reads = refl; gave = refl; ends = refl; bytes = Consumes-nil (m.remaining old); none = tt }
 
 ends_later : (ending : Ending) (xs ys last : List ReadOutcome) → LastRead ending ys last → LastRead ending (xs ++ ys) last
@@ -23,8 +23,8 @@ ends_later broken xs ys last (inl failed) = inl failed
 ends_later broken xs ys last (inr (none, many)) = inr (none, omega (arith, many, interruptions-append xs ys))
 
 -- some, and then others
-pub reads_then : {M : Type 0} (m : message.Ghosts M) (a b : List ℕ) (ending : Ending) (old middle new : M) → Reads m a going old middle
-    → Reads m b ending middle new → Reads m (a ++ b) ending old new
+pub reads_then : {M : Type 0} (m : message.Ghosts M) (a b : List ℕ) (ending : Ending) (old middle new : M) → ReadsInput m a going old middle
+    → ReadsInput m b ending middle new → ReadsInput m (a ++ b) ending old new
 reads_then m a b ending old middle new first second =
     let none_last : first.earlier ++ first.last ≡ first.earlier = ap (λ l. first.earlier ++ l) first.ends ∙ append-nil first.earlier in
     let begun = subst (λ l. Transitions m.transition l old middle) none_last first.reads in
@@ -40,17 +40,17 @@ reads_then m a b ending old middle new first second =
     }
 
 -- and then one that gives nothing more
-pub reads_close : {M : Type 0} (m : message.Ghosts M) (a : List ℕ) (ending : Ending) (old middle new : M) → Reads m a going old middle
-    → Reads m [] ending middle new → Reads m a ending old new
+pub reads_close : {M : Type 0} (m : message.Ghosts M) (a : List ℕ) (ending : Ending) (old middle new : M) → ReadsInput m a going old middle
+    → ReadsInput m [] ending middle new → ReadsInput m a ending old new
 reads_close m a ending old middle new first second =
-    subst (λ l. Reads m l ending old new) (append-nil a) (reads_then m a [] ending old middle new first second)
+    subst (λ l. ReadsInput m l ending old new) (append-nil a) (reads_then m a [] ending old middle new first second)
 
 reads_end : {M : Type 0} (m : message.Ghosts M) (old new : M) → m.transition old (Ok []) new → Consumes (m.remaining old) (m.remaining new) []
-    → IsAtEnd (m.remaining new) → Reads m [] ended old new
+    → IsAtEnd (m.remaining new) → ReadsInput m [] ended old new
 reads_end m old new one bytes end = record { earlier = []; last = Ok [] ∷ []; reads = (new, one, refl); gave = refl; ends = refl; bytes = bytes; none = end }
 
 reads_failure : {M : Type 0} (m : message.Ghosts M) (kind : ErrorKind) (old new : M) → m.transition old (Err kind) new
-    → Keeps (m.remaining old) (m.remaining new) → kind ≢ Interrupted → Reads m [] broken old new
+    → Keeps (m.remaining old) (m.remaining new) → kind ≢ Interrupted → ReadsInput m [] broken old new
 reads_failure m kind old new one kept other = record {
   earlier = [];
   last = Err kind ∷ [];
@@ -63,7 +63,7 @@ reads_failure m kind old new one kept other = record {
 
 -- those of a loop, so far
 pub so_far : {M : Type 0} (m : message.Ghosts M) (turns : ℕ) (text all : List ℕ) (old new : M) → Progress m.transition turns text old new
-    → Consumes (m.remaining old) (m.remaining new) text → text ≡ all → Reads m all going old new
+    → Consumes (m.remaining old) (m.remaining new) text → text ≡ all → ReadsInput m all going old new
 so_far m turns text all old new (outcomes, reads, gave, least) bytes is = record {
   earlier = outcomes;
   last = [];
@@ -76,7 +76,7 @@ so_far m turns text all old new (outcomes, reads, gave, least) bytes is = record
 
 -- where it takes too many
 pub too_many : {M : Type 0} (m : message.Ghosts M) (turns : ℕ) (text : List ℕ) (old new : M) → Progress m.transition turns text old new
-    → Consumes (m.remaining old) (m.remaining new) text → 2 ^ 20 ≤ turns → length text ≤ 255 → Reads m text broken old new
+    → Consumes (m.remaining old) (m.remaining new) text → 2 ^ 20 ≤ turns → length text ≤ 255 → ReadsInput m text broken old new
 too_many m turns text old new (outcomes, reads, gave, least) bytes all few = record {
   earlier = outcomes;
   last = [];
@@ -90,7 +90,7 @@ too_many m turns text old new (outcomes, reads, gave, least) bytes all few = rec
 -- where the input is at its end
 pub so_far_ends : {M : Type 0} (m : message.Ghosts M) (turns : ℕ) (text none : List ℕ) (old middle new : M) → Progress m.transition turns text old middle
     → Consumes (m.remaining old) (m.remaining middle) text → none ≡ [] → m.transition middle (Ok none) new
-    → Consumes (m.remaining middle) (m.remaining new) none → IsAtEnd (m.remaining new) → Reads m text ended old new
+    → Consumes (m.remaining middle) (m.remaining new) none → IsAtEnd (m.remaining new) → ReadsInput m text ended old new
 so_far_ends m turns text none old middle new progress bytes is one consumed end =
     reads_close m text ended old middle new (so_far m turns text text old middle progress bytes refl)
     (reads_end m middle new (subst (λ l. m.transition middle (Ok l) new) is one) (subst (Consumes _ _) is consumed) end)
@@ -98,7 +98,7 @@ so_far_ends m turns text none old middle new progress bytes is one consumed end 
 -- where a read fails
 pub so_far_fails : {M : Type 0} (m : message.Ghosts M) (turns : ℕ) (text : List ℕ) (kind : ErrorKind) (old middle new : M)
     → Progress m.transition turns text old middle → Consumes (m.remaining old) (m.remaining middle) text → m.transition middle (Err kind) new
-    → Keeps (m.remaining middle) (m.remaining new) → kind ≢ Interrupted → Reads m text broken old new
+    → Keeps (m.remaining middle) (m.remaining new) → kind ≢ Interrupted → ReadsInput m text broken old new
 so_far_fails m turns text kind old middle new progress bytes one kept other =
     reads_close m text broken old middle new (so_far m turns text text old middle progress bytes refl) (reads_failure m kind middle new one kept other)
 
@@ -161,7 +161,7 @@ module _ {P M : Type 0} (p : message.Ghosts P) (m : message.Ghosts M) (input_of 
 
   -- all of it
   pub part_done : (text : List ℕ) (old new : P) → ReadWhole p.transition p.remaining text old new
-      → (length text ≡ left_of old) × (left_of new ≡ 0) × Reads m text going (input_of old) (input_of new)
+      → (length text ≡ left_of old) × (left_of new ≡ 0) × ReadsInput m text going (input_of old) (input_of new)
   part_done text old new whole =
       let (outcomes, reads, gave) = whole.gave in
       let (middle, before, (next, last, same)) = reads_split p.transition outcomes (Ok [] ∷ []) old new reads in
@@ -172,7 +172,7 @@ module _ {P M : Type 0} (p : message.Ghosts P) (m : message.Ghosts M) (input_of 
             let there : input_of new ≡ input_of middle = ap input_of same ∙ stays in (
               omega (arith, size, over),
               omega (arith, ap left_of same, fewer, over),
-              subst (λ x. Reads m text going (input_of old) x) (sym there) (record {
+              subst (λ x. ReadsInput m text going (input_of old) x) (sym there) (record {
                 earlier = outcomes;
                 last = [];
                 reads = subst (λ l. Transitions m.transition l (input_of old) (input_of middle)) (sym (append-nil outcomes)) more;
@@ -188,7 +188,7 @@ module _ {P M : Type 0} (p : message.Ghosts P) (m : message.Ghosts M) (input_of 
   -- as much of it as came
   abbrev pub Came : P → P → Type 0
   Came old new = (text : List ℕ) × (ending : Ending) × (1 ≤ left_of old) × CutsAt ending (length text) (left_of old)
-      × Reads m text ending (input_of old) (input_of new)
+      × ReadsInput m text ending (input_of old) (input_of new)
 
   came_broken : (outcomes last : List ReadOutcome) (text : List ℕ) (old new : P) → Gave outcomes text
       → Transitions m.transition (outcomes ++ last) (input_of old) (input_of new) → LastRead broken outcomes last
@@ -214,7 +214,7 @@ module _ {P M : Type 0} (p : message.Ghosts P) (m : message.Ghosts M) (input_of 
               broken,
               omega (arith, size, least),
               omega (arith, size),
-              subst (λ x. Reads m text broken (input_of old) x) (sym there) (reads_close m text broken (input_of old) (input_of middle) (input_of next)
+              subst (λ x. ReadsInput m text broken (input_of old) x) (sym there) (reads_close m text broken (input_of old) (input_of middle) (input_of next)
                   (so_far m 0 text text (input_of old) (input_of middle) (outcomes, more, gave, omega arith) consumed refl) failing),
             )
         | inr (uninterrupted, one, none, end) ↦ (
@@ -222,7 +222,7 @@ module _ {P M : Type 0} (p : message.Ghosts P) (m : message.Ghosts M) (input_of 
           ended,
           omega (arith, size, least),
           omega (arith, size, least),
-          subst (λ x. Reads m text ended (input_of old) x) (sym there) (reads_close m text ended (input_of old) (input_of middle) (input_of next)
+          subst (λ x. ReadsInput m text ended (input_of old) x) (sym there) (reads_close m text ended (input_of old) (input_of middle) (input_of next)
               (so_far m 0 text text (input_of old) (input_of middle) (outcomes, more, gave, omega arith) consumed refl)
               (reads_end m (input_of middle) (input_of next) one none end)),
         )

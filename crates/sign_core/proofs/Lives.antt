@@ -17,7 +17,7 @@ use Rattle.state_file.proofs.Adding.{prepared_no_key}
 use Rattle.state_file.proofs.Contents.{some_opening, standing}
 use Rattle.sign_core.specs.declared.fault.SignFault.{SignFault}
 use Rattle.sign_core.specs.Calls.{AreLastingCalls, Call, IsCall, IsLastingCall, IsRun, events_of, reached_by, store_after_calls}
-use Rattle.sign_core.specs.Lives.{AreLives, BeginsWith, IsLeftByRun, IsLife, IsStoreOn, IsTriedOn, Life, LivesLaw, Serves, disk_at_end, fails, handed_by, handed_by_all}
+use Rattle.sign_core.specs.Lives.{AreLives, IsAtStart, IsLeftByRun, IsLife, IsStoreOn, IsTriedOn, Life, LivesLaw, IsServingLife, disk_at_end, fails, handed_by, handed_by_all}
 use Rattle.sign_core.specs.Lives.{left_by, left_by_all, serves, world_after, world_on}
 use Rattle.sign_core.specs.Once.{IsBeginning, IsEvent, IsLeftBy, IsOnce}
 use Rattle.sign_core.specs.SignerCalls.{world_of}
@@ -252,20 +252,20 @@ module _ {D : Type 0} (d : disk.Ghosts D) (g : store.Ghosts (FileStore D d)) (ti
   LeavesByRuns before handed = (content : List ℕ) → before content → IsLeftByRun limit beginning handed content
 
   -- the run to the world in which a life's calls begin
-  run_to : (before : List ℕ → Type 0) (handed : List Handed) (on : D) (store : FileStore D d) → LeavesByRuns before handed → BeginsWith d before on
+  run_to : (before : List ℕ → Type 0) (handed : List Handed) (on : D) (store : FileStore D d) → LeavesByRuns before handed → IsAtStart d before on
       → IsStoreOn d on store → IsRun limit beginning (world_on store handed)
   run_to before handed on store known begins is =
       let was = known (d.state on).content (begins.holds (d.state on).content (time.shows on begins.honest)) in
       subst (λ l. IsRun limit beginning (world_of (closed_on l) handed)) (sym (finds on store was.records is was.stands)) was.runs
 
   after_service : (before : List ℕ → Type 0) (handed : List Handed) (on : D) (store : FileStore D d) (calls : List (Call (FileStore D d)))
-      (last : Call (FileStore D d)) → BeginsWith d before on → Serves d g limit handed on store calls last
+      (last : Call (FileStore D d)) → IsAtStart d before on → IsServingLife d g limit handed on store calls last
       → HasServed (world_on store handed) (world_after limit store calls handed) (store_after_calls store calls)
   after_service before handed on store calls last begins is =
       all_calls (world_on store handed) (world_on store handed) store calls (served_first on store handed begins.honest is.is_store) is.each
 
   -- no store was had
-  failed : (before : List ℕ → Type 0) (handed : List Handed) (old new : D) (content : List ℕ) → LeavesByRuns before handed → BeginsWith d before old
+  failed : (before : List ℕ → Type 0) (handed : List Handed) (old new : D) (content : List ℕ) → LeavesByRuns before handed → IsAtStart d before old
       → IsTriedOn d old new → d.left_since new (d.moment old) content → IsLeftByRun limit beginning handed content
   failed before handed old new content known begins (inl leaves) since = known content (begins.holds content (leaves.each content since))
   failed before handed old new content known begins (inr leaves) since = elim (leaves.each content since) [
@@ -308,7 +308,7 @@ module _ {D : Type 0} (d : disk.Ghosts D) (g : store.Ghosts (FileStore D d)) (ti
 -- ---- what a life may begin with
 
 after_power : {D : Type 0} (d : disk.Ghosts D) (before : List ℕ → Type 0) (on : D) (content : List ℕ) → IsTrue (d.honest on)
-    → d.state on ≡ settled content → before content → BeginsWith d before on
+    → d.state on ≡ settled content → before content → IsAtStart d before on
 after_power d before on content honest same left = record {
   honest = honest;
   holds = λ other may. subst before (sym (synced_left content other (subst (λ s. MayLeave s other) same may))) left;
@@ -327,7 +327,7 @@ tried_later d old new (inr leaves) = leaves.later
 
 goes_on : {D : Type 0} (d : disk.Ghosts D) (g : store.Ghosts (FileStore D d)) → KeepsTime d → (over : IsOver d g) → (limit : ℕ) (before : List ℕ → Type 0)
     (handed : List Handed) (life : Life D d) → IsTrue (d.honest (disk_at_end life)) → IsLife d g limit before handed life
-    → BeginsWith d (left_by d life) (disk_at_end life)
+    → IsAtStart d (left_by d life) (disk_at_end life)
 goes_on d g time over limit before handed (fails old new) honest is = record {
   honest = honest;
   holds = λ content may. time.counts_now new (d.moment old) content honest (tried_later d old new is.1) may;

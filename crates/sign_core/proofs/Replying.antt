@@ -5,7 +5,7 @@ use Rattle.std.specs.Io.KnownBytes.{Appends, Keeps}
 use Rattle.std.proofs.KnownBytes.{Appends-nil, Appends-trans, Appends-kept}
 use Rattle.sign_core.specs.declared.fault.ServeFault.{ServeFault}
 use Rattle.sign_core.specs.declared.fault.ServeFault.TheVariants.{FrameCut, MessageRead, WriteFailed}
-use Rattle.sign_core.specs.Serving.{Writes}
+use Rattle.sign_core.specs.Serving.{WritesReply}
 
 -- All bytes but the rest were written.
 abbrev pub HasWritten : (bytes rest : List ℕ) → (old new : Option (List ℕ)) → Type 0
@@ -30,18 +30,18 @@ all_written bytes rest old new (part, lost, whole, written, is) none =
     let all : part ≡ bytes = sym (append-nil part) ∙ ap (λ l. part ++ l) (sym none ∙ sym is) ∙ sym whole in
     subst (Appends old new) all written
 
-pub part_written : (bytes rest : List ℕ) (old new : Option (List ℕ)) → HasWritten bytes rest old new → Writes bytes old new (Err WriteFailed)
+pub part_written : (bytes rest : List ℕ) (old new : Option (List ℕ)) → HasWritten bytes rest old new → WritesReply bytes old new (Err WriteFailed)
 part_written bytes rest old new (part, lost, whole, written, is) = (part, lost, whole, written)
 
 -- ---- one part after the other
 
 -- what was written whole, and a part of what follows
 pub then_part : (a b all : List ℕ) (old middle new : Option (List ℕ)) (e : ServeFault) (result : Result (Unit {0}) ServeFault) → result ≡ Err e
-    → all ≡ a ++ b → Appends old middle a → Writes b middle new (Err e) → Writes all old new result
+    → all ≡ a ++ b → Appends old middle a → WritesReply b middle new (Err e) → WritesReply all old new result
 then_part a b all old middle new e result answer whole first later =
-    subst (λ (r : Result (Unit {0}) ServeFault). Writes all old new r) (sym answer) (part_so e later)
+    subst (λ (r : Result (Unit {0}) ServeFault). WritesReply all old new r) (sym answer) (part_so e later)
   where
-    part_so : (e : ServeFault) → Writes b middle new (Err e) → Writes all old new (Err e)
+    part_so : (e : ServeFault) → WritesReply b middle new (Err e) → WritesReply all old new (Err e)
     part_so WriteFailed (part, lost, is, more) =
         (a ++ part, lost, whole ∙ ap (λ l. a ++ l) is ∙ sym (append_assoc a part lost), Appends-trans old middle new a part first more)
     part_so FrameCut never = absurd never
@@ -49,20 +49,20 @@ then_part a b all old middle new e result answer whole first later =
 
 -- a part of the first, and nothing of what follows
 pub first_part : (a b all : List ℕ) (old new : Option (List ℕ)) (e : ServeFault) (result : Result (Unit {0}) ServeFault) → result ≡ Err e
-    → all ≡ a ++ b → Writes a old new (Err e) → Writes all old new result
+    → all ≡ a ++ b → WritesReply a old new (Err e) → WritesReply all old new result
 first_part a b all old new e result answer whole first =
-    subst (λ (r : Result (Unit {0}) ServeFault). Writes all old new r) (sym answer) (part_so e first)
+    subst (λ (r : Result (Unit {0}) ServeFault). WritesReply all old new r) (sym answer) (part_so e first)
   where
-    part_so : (e : ServeFault) → Writes a old new (Err e) → Writes all old new (Err e)
+    part_so : (e : ServeFault) → WritesReply a old new (Err e) → WritesReply all old new (Err e)
     part_so WriteFailed (part, lost, is, more) = (part, lost ++ b, whole ∙ ap (λ l. l ++ b) is ∙ append_assoc part lost b, more)
     part_so FrameCut never = absurd never
     part_so MessageRead never = absurd never
 
 -- all of it, whatever becomes of passing it on
-pub whole_part : (bytes : List ℕ) (old middle new : Option (List ℕ)) → Appends old middle bytes → Keeps middle new → Writes bytes old new (Err WriteFailed)
+pub whole_part : (bytes : List ℕ) (old middle new : Option (List ℕ)) → Appends old middle bytes → Keeps middle new → WritesReply bytes old new (Err WriteFailed)
 whole_part bytes old middle new written kept = (bytes, [], sym (append-nil bytes), Appends-kept old middle new bytes written kept)
 
-pub none_part : (bytes : List ℕ) (old : Option (List ℕ)) → Writes bytes old old (Err WriteFailed)
+pub none_part : (bytes : List ℕ) (old : Option (List ℕ)) → WritesReply bytes old old (Err WriteFailed)
 none_part bytes old = ([], bytes, refl, Appends-nil old)
 
 -- the parts of a reply

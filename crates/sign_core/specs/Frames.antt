@@ -38,7 +38,8 @@ LeavesNone ended left = IsAtEnd left
 LeavesNone broken left = Unit {0}
 
 -- Reads of an input gave these bytes, and then ended so.
-pub record Reads {M : Type 0} (m : message.Ghosts M) (given : List ℕ) (ending : Ending) (old new : M) : Type 0 where
+pub record ReadsInput {M : Type 0} (m : message.Ghosts M) (given : List ℕ) (ending : Ending) (old new : M)
+    : Type 0 where
   pub earlier : List ReadOutcome
   pub last : List ReadOutcome
   pub reads : Transitions m.transition (earlier ++ last) old new
@@ -79,8 +80,8 @@ IsFrame request bytes =
     (front : List ℕ) × Spells head (request.name, request.announced) front × (bytes ≡ front ++ request.message)
 
 -- All of the message came.
-abbrev pub IsWhole : Request → Type 0
-IsWhole request = (request.is_whole ≡ true) × (length request.message ≡ request.announced)
+abbrev pub IsWholeMessage : Request → Type 0
+IsWholeMessage request = (request.is_whole ≡ true) × (length request.message ≡ request.announced)
 
 -- Where an input ends or a read of it fails, fewer bytes of a message came than were announced; but a read may fail
 -- after the last one, too.
@@ -106,24 +107,24 @@ CutsField layout bytes = (from : ℕ) → (place : ℕ) × HasFault layout bytes
 -- ---- how frames are read
 
 -- A buffer was filled with the next bytes; or the input ended before, or a read of it failed.
-abbrev pub Fills : {M : Type 0} → message.Ghosts M → (buffer : List ℕ) → (old new : M) → Result (Unit {0}) ServeFault
-    → Type 0
-Fills m buffer old new (Ok _) = Reads m buffer going old new
-Fills m buffer old new (Err FrameCut) =
-    (part : List ℕ) × (length part < length buffer) × Reads m part ended old new
-Fills m buffer old new (Err MessageRead) =
-    (part : List ℕ) × (length part < length buffer) × Reads m part broken old new
-Fills m buffer old new (Err WriteFailed) = ⊥
+abbrev pub FillsBuffer : {M : Type 0} → message.Ghosts M → (buffer : List ℕ) → (old new : M)
+    → Result (Unit {0}) ServeFault → Type 0
+FillsBuffer m buffer old new (Ok _) = ReadsInput m buffer going old new
+FillsBuffer m buffer old new (Err FrameCut) =
+    (part : List ℕ) × (length part < length buffer) × ReadsInput m part ended old new
+FillsBuffer m buffer old new (Err MessageRead) =
+    (part : List ℕ) × (length part < length buffer) × ReadsInput m part broken old new
+FillsBuffer m buffer old new (Err WriteFailed) = ⊥
 
 -- What was read spells the value; or it is cut.
 abbrev pub ReadsField : {M A V : Type 0} → message.Ghosts M → Layout V → (A → V) → (old new : M) → Result A ServeFault
     → Type 0
 ReadsField m layout view old new (Ok x) =
-    (bytes : List ℕ) × Spells layout (view x) bytes × Reads m bytes going old new
+    (bytes : List ℕ) × Spells layout (view x) bytes × ReadsInput m bytes going old new
 ReadsField m layout view old new (Err FrameCut) =
-    (bytes : List ℕ) × CutsField layout bytes × Reads m bytes ended old new
+    (bytes : List ℕ) × CutsField layout bytes × ReadsInput m bytes ended old new
 ReadsField m layout view old new (Err MessageRead) =
-    (bytes : List ℕ) × CutsField layout bytes × Reads m bytes broken old new
+    (bytes : List ℕ) × CutsField layout bytes × ReadsInput m bytes broken old new
 ReadsField m layout view old new (Err WriteFailed) = ⊥
 
 -- the bytes of a name, and what a head says
@@ -136,11 +137,11 @@ said_by head = (head.name.items, head.announced)
 -- A head was read; or the input is at its end, before its first byte; or it is cut.
 abbrev pub ReadsHead : {M : Type 0} → message.Ghosts M → (old new : M) → Result (Option Head) ServeFault → Type 0
 ReadsHead m old new (Ok (Some found)) =
-    (bytes : List ℕ) × Spells head (said_by found) bytes × Reads m bytes going old new
-ReadsHead m old new (Ok None) = Reads m [] ended old new
+    (bytes : List ℕ) × Spells head (said_by found) bytes × ReadsInput m bytes going old new
+ReadsHead m old new (Ok None) = ReadsInput m [] ended old new
 ReadsHead m old new (Err FrameCut) =
-    (bytes : List ℕ) × (1 ≤ length bytes) × CutsField head bytes × Reads m bytes ended old new
-ReadsHead m old new (Err MessageRead) = (bytes : List ℕ) × CutsField head bytes × Reads m bytes broken old new
+    (bytes : List ℕ) × (1 ≤ length bytes) × CutsField head bytes × ReadsInput m bytes ended old new
+ReadsHead m old new (Err MessageRead) = (bytes : List ℕ) × CutsField head bytes × ReadsInput m bytes broken old new
 ReadsHead m old new (Err WriteFailed) = ⊥
 
 -- What a read of a frame's message does, of which so many bytes are left: it gives some of the input's, at most as

@@ -118,7 +118,7 @@ pub record Stays (old new : Table) : Type 0 where
   pub spare : old.spare ≤ new.spare
 
 -- One more record can be counted, and there is memory for it.
-pub record HasRoom (entry : Record) (table : Table) : Type 0 where
+pub record HasRoomForOne (entry : Record) (table : Table) : Type 0 where
   pub few : length table.records < 2 ^ 32 - 1
   pub room : TakesMemory entry → 0 < table.spare
 
@@ -126,7 +126,7 @@ pub record HasRoom (entry : Record) (table : Table) : Type 0 where
 pub record CanPush (entry : Record) (table : Table) : Type 0 where
   pub follows : can_follow (Some table.key) table.records entry ≡ true
   pub sizes : HasSizes entry
-  pub room : HasRoom entry table
+  pub room : HasRoomForOne entry table
 
 -- It takes memory and there was none, or there are as many records as can be counted.
 abbrev pub LacksRoom : (entry : Record) → Table → Type 0

@@ -73,13 +73,14 @@ handed_by limit handed (fails old new) = handed
 handed_by limit handed (serves on store calls last) = (world_after limit store calls handed).handed
 
 -- The disk keeps what was synced, and whatever a stop may leave of it now, the life before may have left.
-pub record BeginsWith {D : Type 0} (d : disk.Ghosts D) (before : List ℕ → Type 0) (on : D) : Type 0 where
+pub record IsAtStart {D : Type 0} (d : disk.Ghosts D) (before : List ℕ → Type 0) (on : D) : Type 0 where
   pub honest : IsTrue (d.honest on)
   pub holds : (content : List ℕ) → MayLeave (d.state on) content → before content
 
 -- A store is had, and calls on it lead to the one in which the power goes.
-pub record Serves {D : Type 0} (d : disk.Ghosts D) (g : store.Ghosts (FileStore D d)) (limit : ℕ) (handed : List Handed)
-    (on : D) (store : FileStore D d) (calls : List (Call (FileStore D d))) (last : Call (FileStore D d)) : Type 0 where
+pub record IsServingLife {D : Type 0} (d : disk.Ghosts D) (g : store.Ghosts (FileStore D d)) (limit : ℕ)
+    (handed : List Handed) (on : D) (store : FileStore D d) (calls : List (Call (FileStore D d)))
+    (last : Call (FileStore D d)) : Type 0 where
   pub is_store : IsStoreOn d on store
   pub each : AreLastingCalls g limit (world_on store handed) store calls
   pub is_last : IsCall g.moment g.left_since limit (world_after limit store calls handed)
@@ -88,9 +89,9 @@ pub record Serves {D : Type 0} (d : disk.Ghosts D) (g : store.Ghosts (FileStore 
 -- The life begins with what the one before may have left.
 abbrev pub IsLife : {D : Type 0} (d : disk.Ghosts D) → store.Ghosts (FileStore D d) → (limit : ℕ)
     → (before : List ℕ → Type 0) → List Handed → Life D d → Type 0
-IsLife d g limit before handed (fails old new) = BeginsWith d before old × IsTriedOn d old new
+IsLife d g limit before handed (fails old new) = IsAtStart d before old × IsTriedOn d old new
 IsLife d g limit before handed (serves on store calls last) =
-    BeginsWith d before on × Serves d g limit handed on store calls last
+    IsAtStart d before on × IsServingLife d g limit handed on store calls last
 
 -- ---- lives one after the other
 
@@ -123,11 +124,11 @@ pub record LivesLaw {D : Type 0} (d : disk.Ghosts D) (g : store.Ghosts (FileStor
   -- where the power went, the next life may begin with the content that this left, all of it synced
   pub after_power : (lives : List (Life D d)) (on : D) (content : List ℕ) → IsTrue (d.honest on)
       → d.state on ≡ settled content → left_by_all d HasNoKey lives content
-      → BeginsWith d (left_by_all d HasNoKey lives) on
+      → IsAtStart d (left_by_all d HasNoKey lives) on
   -- where it didn't, with the disk that the life hands back
   pub goes_on : (limit : ℕ) (lives : List (Life D d)) (life : Life D d) → IsTrue (d.honest (disk_at_end life))
       → IsLife d g limit (left_by_all d HasNoKey lives) (handed_by_all limit [] lives) life
-      → BeginsWith d (left_by d life) (disk_at_end life)
+      → IsAtStart d (left_by d life) (disk_at_end life)
   -- a store has the records that the disk's content stands for, and so those that the life before left
   pub finds : (on : D) (store : FileStore D d) (records : List Record) → IsStoreOn d on store
       → StandsFor records (d.state on).content → records_of store ≡ records

@@ -19,8 +19,8 @@ use Rattle.sign_core.specs.declared.serving.Reply.{Reply}
 use Rattle.sign_core.specs.declared.serving.Reply.TheVariants.{BadName, Refused, Signed}
 use Rattle.sign_core.specs.declared.source.Source as source
 use Rattle.sign_core.specs.Fault.{number_of}
-use Rattle.sign_core.specs.Frames.{CutsField, Ending, IsCut, IsFrame, IsWhole, Reads, Request, broken, ended, given_by}
-use Rattle.sign_core.specs.Frames.{going, head}
+use Rattle.sign_core.specs.Frames.{CutsField, Ending, IsCut, IsFrame, IsWholeMessage, ReadsInput, Request, broken}
+use Rattle.sign_core.specs.Frames.{ended, given_by, going, head}
 use Rattle.sign_core.specs.Once.{AreDrawsOf}
 use Rattle.sign_core.specs.Records.{binding_in, deepest, key_in}
 use Rattle.sign_core.specs.Signer.{Ends, KeepsAtRefusal, LacksMemory, RefusesMemory, Signs, UsesMemory, View}
@@ -88,9 +88,9 @@ AnswersBy g r (Refused fault) signature request old new capacity =
 AnswersBy g r BadName signature request old new capacity = (IsName request.name → ⊥) × (new ≡ old)
 
 -- The output keeps its capacity.
-abbrev pub Answers : {S R : Type 0} → store.Ghosts S → source.Ghosts R → Exchange → (old new : View S R)
+abbrev pub AnswersExchange : {S R : Type 0} → store.Ghosts S → source.Ghosts R → Exchange → (old new : View S R)
     → (capacity after : ℕ) → Type 0
-Answers g r exchange old new capacity after =
+AnswersExchange g r exchange old new capacity after =
     (capacity ≤ after) × AnswersBy g r exchange.reply exchange.signature exchange.request old new capacity
 
 -- Requests are answered one after the other.
@@ -98,7 +98,7 @@ abbrev pub AnswersInTurn : {S R : Type 0} → store.Ghosts S → source.Ghosts R
     → (capacity after : ℕ) → Type 0
 AnswersInTurn g r [] old new capacity after = (new ≡ old) × (after ≡ capacity)
 AnswersInTurn {S} {R} g r (first ∷ later) old new capacity after = (next : View S R) × (room : ℕ)
-    × Answers g r first old next capacity room × AnswersInTurn g r later next new room after
+    × AnswersExchange g r first old next capacity room × AnswersInTurn g r later next new room after
 
 -- ---- an exchange of frames
 
@@ -106,13 +106,13 @@ AnswersInTurn {S} {R} g r (first ∷ later) old new capacity after = (next : Vie
 abbrev pub AreFrames : List Exchange → List ℕ → Type 0
 AreFrames [] bytes = bytes ≡ []
 AreFrames (first ∷ later) bytes = (own : List ℕ) × (rest : List ℕ) × (bytes ≡ own ++ rest)
-    × IsFrame first.request own × IsWhole first.request × AreFrames later rest
+    × IsFrame first.request own × IsWholeMessage first.request × AreFrames later rest
 
 -- What is replied to the next bytes of an input, and what is then ended with, if anything: a whole frame; a head that
 -- is cut at the input's end (35), or where a read fails (27); or a message that is cut (27).
 abbrev pub Turn : (bytes : List ℕ) → Ending → List Exchange → (reply : List ℕ) → Option ServeFault → Type 0
 Turn bytes ending exchanges reply None = (exchange : Exchange) × (exchanges ≡ exchange ∷ []) × (ending ≡ going)
-    × IsFrame exchange.request bytes × IsWhole exchange.request × (reply ≡ reply_of exchange)
+    × IsFrame exchange.request bytes × IsWholeMessage exchange.request × (reply ≡ reply_of exchange)
 Turn bytes ending exchanges reply (Some FrameCut) = (exchanges ≡ []) × (ending ≡ ended) × (1 ≤ length bytes)
     × CutsField head bytes × (reply ≡ reply_frame 35 [])
 Turn bytes ending exchanges reply (Some MessageRead) =
@@ -166,7 +166,7 @@ pub record Serves {S R I : Type 0} (g : store.Ghosts S) (r : source.Ghosts R) (m
   pub exchanges : List Exchange
   pub output : List ℕ
   pub session : Session input ending exchanges output result
-  pub reads : Reads m input ending before after
+  pub reads : ReadsInput m input ending before after
   pub capacity : ℕ
   pub answers : AnswersInTurn g r exchanges old new 0 capacity
   pub writes : Appends contents left output
@@ -182,20 +182,20 @@ pub record Turns {S R I : Type 0} (g : store.Ghosts S) (r : source.Ghosts R) (m 
   pub exchanges : List Exchange
   pub written : List ℕ
   pub ends : TurnEnds bytes ending exchanges written result
-  pub reads : Reads m bytes ending before after
+  pub reads : ReadsInput m bytes ending before after
   pub answers : AnswersInTurn g r exchanges old new capacity room
   pub writes : Appends contents left written
 
 -- Some bytes were written, or a part of them.
-abbrev pub Writes : (bytes : List ℕ) → (old new : Option (List ℕ)) → Result (Unit {0}) ServeFault → Type 0
-Writes bytes old new (Ok _) = Appends old new bytes
-Writes bytes old new (Err WriteFailed) =
+abbrev pub WritesReply : (bytes : List ℕ) → (old new : Option (List ℕ)) → Result (Unit {0}) ServeFault → Type 0
+WritesReply bytes old new (Ok _) = Appends old new bytes
+WritesReply bytes old new (Err WriteFailed) =
     (part : List ℕ) × (lost : List ℕ) × (bytes ≡ part ++ lost) × Appends old new part
-Writes bytes old new (Err _) = ⊥
+WritesReply bytes old new (Err _) = ⊥
 
 -- How a frame's message ends: it came whole, or was cut.
 abbrev pub ComesTo : Ending → Request → (is_whole : Bool) → Type 0
-ComesTo ending request true = (ending ≡ going) × IsWhole request
+ComesTo ending request true = (ending ≡ going) × IsWholeMessage request
 ComesTo ending request false = IsCut ending request
 
 -- A request whose head was read is answered: its message is read as far as it comes.
@@ -207,7 +207,7 @@ pub record AnswersFrame {S R I : Type 0} (g : store.Ghosts S) (r : source.Ghosts
   pub announced : request.announced ≡ said.1
   pub ending : Ending
   pub comes : ComesTo ending request result.1
-  pub reads : Reads m request.message ending before after
+  pub reads : ReadsInput m request.message ending before after
   pub room_kept : capacity ≤ room
   pub answers : AnswersBy g r result.0 signature request old new capacity
 

@@ -1,7 +1,7 @@
 //! Frames of requests, as reads of an input give them: what stands before a message, and the message.
 
 ghost use Rattle.std.specs.Prelude.{◌≡◌, ◌≤◌, ◌<◌, length, OnErr, OnOk};
-ghost use Rattle.sign_core.specs.Frames.{Fills, ReadsField, ReadsHead, Skips, after_size, bytes_of, said_by};
+ghost use Rattle.sign_core.specs.Frames.{FillsBuffer, ReadsField, ReadsHead, Skips, after_size, bytes_of, said_by};
 ghost use Rattle.typecodes.specs.Fields.{block};
 
 use crate::fault::ServeFault;
@@ -24,7 +24,7 @@ pub(crate) struct Head {
 // input counts as failed.
 fn fill<I: Message>(input: &mut I, buffer: &mut [u8]) -> Result<(), ServeFault>
     requires { length buffer.old ≤ 255 }
-    ensures { Fills I.Message buffer.new input.old input.new result }
+    ensures { FillsBuffer I.Message buffer.new input.old input.new result }
 {
     let mut at = 0;
     for turn in 0..TRIES {

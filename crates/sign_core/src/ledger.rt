@@ -150,7 +150,7 @@ impl Ledger {
     ghost use Rattle.state_file.specs.declared.record.Record.TheVariants.{Key as KeyRecord, Extend as ExtendRecord};
     ghost use Rattle.state_file.specs.declared.record.Record.TheVariants.{Bound as BoundRecord, Retire as RetireRecord};
     ghost use Rattle.state_file.specs.declared.record.Record.TheVariants.{Moved as MovedRecord};
-    ghost use Rattle.sign_core.specs.Ledger.{CanPush, Grows, HasRoom, IsRefused, LacksRoom, Stays, TakesUp};
+    ghost use Rattle.sign_core.specs.Ledger.{CanPush, Grows, HasRoomForOne, IsRefused, LacksRoom, Stays, TakesUp};
     ghost use Rattle.sign_core.specs.Ledger.{binding_kept, made_at};
     ghost use Rattle.sign_core.specs.declared.ledger.LedgerFault.TheVariants.{Illegal, OutOfMemory};
     ghost use Rattle.sign_core.specs.Trees.{tree_at};
@@ -394,7 +394,7 @@ impl Ledger {
     fn make_room(&mut self, entry: &Record) -> Result<(), LedgerFault>
         ensures stays { Stays self.old self.new }
         ensures untaken { (TakesMemory entry.now → ⊥) → self.new.spare ≡ self.old.spare }
-        ensures room { OnOk result (HasRoom entry.now self.new) }
+        ensures room { OnOk result (HasRoomForOne entry.now self.new) }
         ensures lacking { IfErr result (λ fault. (fault ≡ OutOfMemory) × LacksRoom entry.now self.old) }
     {
         if self.count == u32::MAX {

@@ -2,8 +2,8 @@
 
 ghost use Rattle.std.specs.Prelude.{◌≡◌, ◌<◌, ◌^◌, vec_capacity};
 ghost use Rattle.sign_core.specs.Frames.{said_by};
-ghost use Rattle.sign_core.specs.Serving.{AnswersFrame, Asks, Finishes, Serves, Turns, Writes, is_unread, reply_bytes};
-ghost use Rattle.sign_core.specs.Serving.{reply_frame};
+ghost use Rattle.sign_core.specs.Serving.{AnswersFrame, Asks, Finishes, Serves, Turns, WritesReply, is_unread};
+ghost use Rattle.sign_core.specs.Serving.{reply_bytes, reply_frame};
 ghost use Rattle.sign_core.specs.Signing.{KeepsCapacity};
 
 use crate::fault::{ServeFault, SignFault};
@@ -162,7 +162,7 @@ fn ask<S: Store, R: Source, M: Message>(
 
 // Writes what is replied to a request, where it is Ok with this signature.
 fn write_answer<W: Write>(writer: &mut W, reply: &Reply, signature: &[u8]) -> Result<(), ServeFault>
-    ensures { Writes (reply_bytes reply.now signature.now) (W.contents writer.old) (W.contents writer.new) result }
+    ensures { WritesReply (reply_bytes reply.now signature.now) (W.contents writer.old) (W.contents writer.new) result }
 {
     match reply {
         Reply::Signed => write_reply(writer, 0, signature),
@@ -174,7 +174,7 @@ fn write_answer<W: Write>(writer: &mut W, reply: &Reply, signature: &[u8]) -> Re
 
 // Writes a reply, and passes it on. A body has fewer than 2^32 bytes, as each signature has.
 fn write_reply<W: Write>(writer: &mut W, number: u8, body: &[u8]) -> Result<(), ServeFault>
-    ensures { Writes (reply_frame number body.now) (W.contents writer.old) (W.contents writer.new) result }
+    ensures { WritesReply (reply_frame number body.now) (W.contents writer.old) (W.contents writer.new) result }
 {
     let size = match u32::try_from(body.len()) {
         Ok(size) => size,
@@ -191,7 +191,7 @@ fn write_reply<W: Write>(writer: &mut W, number: u8, body: &[u8]) -> Result<(), 
 
 // Writes bytes, all of them or those before a write that fails. An interrupted write is tried again.
 fn write_all<W: Write>(writer: &mut W, bytes: &[u8]) -> Result<(), ServeFault>
-    ensures { Writes bytes.now (W.contents writer.old) (W.contents writer.new) result }
+    ensures { WritesReply bytes.now (W.contents writer.old) (W.contents writer.new) result }
 {
     let mut rest = bytes;
     for turn in 0..u64::MAX {

@@ -4,7 +4,7 @@ use Rattle.std.proofs.lemmas.Bool.{cases_lt}
 use Rattle.std.proofs.lemmas.List.{get_or-set_other, get_or-set_same, get_or-take, length-set, length-take-le}
 use Rattle.std.proofs.lemmas.List.FromFn.{fill_by_all}
 use Rattle.std.proofs.Math.Logic.{⊎_elim}
-use Rattle.wots_plus.specs.LTree.{Joins, IsLTreeRoot, at_height, next_height, l_tree_root}
+use Rattle.wots_plus.specs.LTree.{LTreeJoins, IsLTreeRoot, at_height, next_height, l_tree_root}
 
 -- as many values as there are pairs, and the odd one
 pub length-next_height : (join : ℕ → List ℕ → List ℕ → List ℕ) (i : ℕ) (values : List (List ℕ))
@@ -77,7 +77,7 @@ next_height_with_odd join old new pairs count halves all long odd each rest =
     (λ _. get_or-set_same new pairs last [] (omega arith) ∙ rest (2 * pairs) (omega arith))
 
 -- one value stays alone
-pub alone : (join : Joins) (values : List (List ℕ)) (k n : ℕ) (root : List ℕ)
+pub alone : (join : LTreeJoins) (values : List (List ℕ)) (k n : ℕ) (root : List ℕ)
     → at_height join values k ≡ root ∷ [] → at_height join values (k + n) ≡ root ∷ []
 unfolding at_height next_height
 alone join values k zero root is = let same : k + 0 ≡ k = omega arith in ap (at_height join values) same ∙ is
@@ -86,7 +86,7 @@ alone join values k (suc n) root is =
     ap (at_height join values) more ∙ ap (next_height (join (k + n)) 0) (alone join values k n root is)
 
 -- so the root is one
-pub one_root : (join : Joins) (values : List (List ℕ)) (root other : List ℕ)
+pub one_root : (join : LTreeJoins) (values : List (List ℕ)) (root other : List ℕ)
     → IsLTreeRoot join values root → IsLTreeRoot join values other → other ≡ root
 one_root join values root other (k, is) (m, was) =
     let both : m + k ≡ k + m = omega arith in
@@ -94,21 +94,21 @@ one_root join values root other (k, is) (m, was) =
     (sym (alone join values m k other was) ∙ ap (at_height join values) both ∙ alone join values k m root is)
 
 -- and it is left at the greatest height
-pub root_is : (join : Joins) (values : List (List ℕ)) (k : ℕ) (root : List ℕ) → k ≤ length values
+pub root_is : (join : LTreeJoins) (values : List (List ℕ)) (k : ℕ) (root : List ℕ) → k ≤ length values
     → at_height join values k ≡ root ∷ [] → root ≡ l_tree_root join values
 root_is join values k root low is =
     let all : k + (length values - k) ≡ length values = omega arith in
     ap (λ list. get_or list 0 []) (sym (alone join values k (length values - k) root is) ∙ ap (at_height join values) all)
 
 -- one height more
-pub height_more : (join : Joins) (values : List (List ℕ)) (k : ℕ) (before after : List (List ℕ))
+pub height_more : (join : LTreeJoins) (values : List (List ℕ)) (k : ℕ) (before after : List (List ℕ))
     → before ≡ at_height join values k → after ≡ next_height (join k) 0 before → after ≡ at_height join values (k + 1)
 unfolding at_height
 height_more join values k before after was is =
     is ∙ ap (next_height (join k) 0) was ∙ ap (at_height join values) (sym (add-one k))
 
 -- the values themselves have height 0
-pub height_none : (join : Joins) (values : List (List ℕ)) → values ≡ at_height join values 0
+pub height_none : (join : LTreeJoins) (values : List (List ℕ)) → values ≡ at_height join values 0
 unfolding at_height
 height_none join values = refl
 

@@ -4,8 +4,8 @@ use Rattle.wots_plus.specs.Address.{l_tree}
 use Rattle.wots_plus.specs.Hashes.{rand_hash}
 
 -- a node from its two children, by the children's height and the node's index among those of its height
-abbrev pub Joins : Type 0
-Joins = ℕ → ℕ → List ℕ → List ℕ → List ℕ
+abbrev pub LTreeJoins : Type 0
+LTreeJoins = ℕ → ℕ → List ℕ → List ℕ → List ℕ
 
 -- the values of the next height: neighbours joined, the nodes above them numbered from i, and an odd
 -- last value as it is
@@ -15,18 +15,18 @@ next_height join i (last ∷ []) = last ∷ []
 next_height join i (left ∷ right ∷ rest) = join i left right ∷ next_height join (i + 1) rest
 
 -- the values of height k, over those of height 0
-unfoldable pub at_height : Joins → List (List ℕ) → ℕ → List (List ℕ)
+unfoldable pub at_height : LTreeJoins → List (List ℕ) → ℕ → List (List ℕ)
 at_height join values zero = values
 at_height join values (suc k) = next_height (join k) 0 (at_height join values k)
 
 -- at some height the root alone is left
-abbrev pub IsLTreeRoot : Joins → List (List ℕ) → List ℕ → Type 0
+abbrev pub IsLTreeRoot : LTreeJoins → List (List ℕ) → List ℕ → Type 0
 IsLTreeRoot join values root = (k : ℕ) × (at_height join values k ≡ root ∷ [])
 
 -- the root: the first value, and by then the only one, at a height as great as their number
-abbrev pub l_tree_root : Joins → List (List ℕ) → List ℕ
+abbrev pub l_tree_root : LTreeJoins → List (List ℕ) → List ℕ
 l_tree_root join values = slice_index_or (at_height join values (length values)) 0 []
 
 -- the join of a leaf's L-tree (4.1.5)
-abbrev pub l_tree_join : List ℕ → ℕ → Joins
+abbrev pub l_tree_join : List ℕ → ℕ → LTreeJoins
 l_tree_join seed leaf height index left right = rand_hash seed (l_tree leaf height index) left right

@@ -7,7 +7,7 @@ use Rattle.typecodes.specs.Types.{xmss_height_of}
 use Rattle.typecodes.specs.Layout.{Spells}
 use Rattle.winternitz.specs.Chain.{Steps, walk_on}
 use Rattle.merkle.specs.Tree.{node, sibling}
-use Rattle.wots_plus.specs.LTree.{Joins, at_height, l_tree_join, next_height}
+use Rattle.wots_plus.specs.LTree.{LTreeJoins, at_height, l_tree_join, next_height}
 use Rattle.wots_plus.specs.Key.{chain_value, ends_of_secret, private_value, step_of}
 use Rattle.xmss.specs.declared.secret.XmssSecret.{XmssSecret}
 use Rattle.xmss.specs.Nodes.{leaf_of}
@@ -39,13 +39,13 @@ some_next join i [] some = absurd (omega (arith, some))
 some_next join i (last ∷ []) some = some
 some_next join i (left ∷ right ∷ rest) some = omega arith
 
-long_height : (join : Joins) (values : List (List ℕ)) (k : ℕ) → ((h n : ℕ) (a b : List ℕ) → length (join h n a b) ≡ 32) → AreLong values
+long_height : (join : LTreeJoins) (values : List (List ℕ)) (k : ℕ) → ((h n : ℕ) (a b : List ℕ) → length (join h n a b) ≡ 32) → AreLong values
     → AreLong (at_height join values k)
 unfolding at_height
 long_height join values zero each are = are
 long_height join values (suc k) each are = long_next (join k) 0 (at_height join values k) (each k) (long_height join values k each are)
 
-some_height : (join : Joins) (values : List (List ℕ)) (k : ℕ) → 0 < length values → 0 < length (at_height join values k)
+some_height : (join : LTreeJoins) (values : List (List ℕ)) (k : ℕ) → 0 < length values → 0 < length (at_height join values k)
 unfolding at_height
 some_height join values zero some = some
 some_height join values (suc k) some = some_next (join k) 0 (at_height join values k) (some_height join values k some)
@@ -63,7 +63,7 @@ unfolding walk_on
 walk_size step c a zero value each size = size
 walk_size step c a (suc n) value each size = each c (a + n) (walk_on step c a n value)
 
-root_size : (join : Joins) (values : List (List ℕ)) (k : ℕ) → ((h n : ℕ) (a b : List ℕ) → length (join h n a b) ≡ 32) → 0 < length values → AreLong values
+root_size : (join : LTreeJoins) (values : List (List ℕ)) (k : ℕ) → ((h n : ℕ) (a b : List ℕ) → length (join h n a b) ≡ 32) → 0 < length values → AreLong values
     → length (get_or (at_height join values k) 0 []) ≡ 32
 root_size join values k each some are = long_first (at_height join values k) (some_height join values k some) (long_height join values k each are)
 

@@ -3,7 +3,7 @@ use Rattle.std.specs.Io.KnownBytes.{Consumes, IsAtEnd}
 use Rattle.std.proofs.KnownBytes.{Consumes-trans}
 use Rattle.typecodes.specs.Message.{IsContent}
 use Rattle.typecodes.proofs.Messages.{content_at_end}
-use Rattle.command.specs.Files.{Fills}
+use Rattle.command.specs.Files.{FillsRoom}
 use Rattle.command.specs.Trace.{Happening, ReadsOn, ReadsToEnd}
 use Rattle.command.specs.declared.trace.Role.{Role}
 use Rattle.command.proofs.Reading.{fails_later, fills_to_end, fills_whole, gives_forever, reads_err, reads_more, reads_rest, too_large}
@@ -17,7 +17,7 @@ Counted role count left right old new =
 
 -- those of one more piece
 counted : (role of : Role) (count n room : ℕ) (first left right : Option (List ℕ)) (piece : List ℕ) (old before new : List Happening)
-    → n ≤ length piece → room ≤ n → of ≡ role → Consumes left right (take n piece) → Fills of room (take n piece) before new
+    → n ≤ length piece → room ≤ n → of ≡ role → Consumes left right (take n piece) → FillsRoom of room (take n piece) before new
     → Counted role count first left old before → Counted role (count + n) first right old new
 counted role of count n room first left right piece old before new within enough same read fills (bytes, count_is, consumed, reads) =
     let size : length (take n piece) ≡ n = length-take-le n piece within in (
@@ -29,7 +29,7 @@ counted role of count n room first left right piece old before new within enough
 
 -- those of the last piece
 counted_all : (role of : Role) (count n room : ℕ) (first left right : Option (List ℕ)) (piece : List ℕ) (old before new : List Happening)
-    → n ≤ length piece → n < room → of ≡ role → Consumes left right (take n piece) → IsAtEnd right → Fills of room (take n piece) before new
+    → n ≤ length piece → n < room → of ≡ role → Consumes left right (take n piece) → IsAtEnd right → FillsRoom of room (take n piece) before new
     → Counted role count first left old before
     → (bytes : List ℕ) × IsContent first bytes × (count + n ≡ length bytes) × ReadsToEnd role bytes old new
 counted_all role of count n room first left right piece old before new within less same read end fills (bytes, count_is, consumed, reads) =

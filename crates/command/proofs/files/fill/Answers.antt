@@ -5,7 +5,7 @@ use Rattle.std.proofs.KnownBytes.{Consumes-trans, Consumes-kept}
 use borrow.Rule.Slice.PartMut.{put_mid}
 use Rattle.typecodes.proofs.Written.{slice_range-put_mid, take_split}
 use Rattle.typecodes.proofs.Messages.{Progress, gives, gives-all, interrupted-once, read-more}
-use Rattle.command.specs.Files.{Fills}
+use Rattle.command.specs.Files.{FillsRoom}
 use Rattle.command.specs.Trace.{Happening, ReadsOnce}
 use Rattle.command.specs.declared.trace.Role.{Role}
 use Rattle.command.proofs.Reading.{read_fails, same_role, takes_forever, timed_out}
@@ -42,7 +42,7 @@ returns-then-at-buffer-clause-role g c = c.loop-turn.invariant.3
 
 -- the buffer is full
 full : (role : Role) (turns a : ℕ) (buffer : List ℕ) (old new : List Happening) → a ≤ length buffer → length buffer ≤ a
-    → Progress (ReadsOnce role) turns (take a buffer) old new → Fills role (length buffer) (take a buffer) old new
+    → Progress (ReadsOnce role) turns (take a buffer) old new → FillsRoom role (length buffer) (take a buffer) old new
 full role turns a buffer old new within enough progress =
     let whole : take a buffer ≡ buffer = take_all a buffer enough in
     inl (ap length whole, gives (ReadsOnce role) turns (take a buffer) (take a buffer) old new progress refl)
@@ -56,7 +56,7 @@ returns-in-Ok-eq0-clause-role g c = c.read.ensures.role ∙ c.loop-turn.invarian
 -- the last read gave nothing, and the bytes before it still stand in the buffer
 ended : (role : Role) (turns a k n : ℕ) (xs ys : List ℕ) (old before new : List Happening) → a < length xs
     → length (put_mid a k xs ys) ≡ length xs → n ≡ 0 → Progress (ReadsOnce role) turns (take a xs) old before
-    → ReadsOnce role before (Ok (take n ys)) new → Fills role (length (put_mid a k xs ys)) (take a (put_mid a k xs ys)) old new
+    → ReadsOnce role before (Ok (take n ys)) new → FillsRoom role (length (put_mid a k xs ys)) (take a (put_mid a k xs ys)) old new
 ended role turns a k n xs ys old before new less size none progress last =
     let within : a ≤ length xs = omega (arith, less) in
     let front : take a (put_mid a k xs ys) ≡ take a xs = take-put_mid_below _ _ _ _ _ (le_refl _) within in
