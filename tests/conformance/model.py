@@ -1,0 +1,593 @@
+"""The formulas of RFC 8554 and RFC 8391, and the state file, the signer and the frames of docs/FORMATS.md and
+docs/REFUSALS.md, in plain Python over hashlib alone. Expected values of tests come from here and not from any program
+that they test. Numbers are big-endian.
+"""
+import hashlib
+
+H = hashlib.sha256
+# one-time types by their code: bits of a digit, chains, shift of the checksum (RFC 8554 4.1)
+WIDTHS = {1: (1, 265, 7), 2: (2, 133, 6), 3: (4, 67, 4), 4: (8, 34, 0)}
+# heights by the code of a tree (RFC 8554 5.1), and of XMSS (RFC 8391 5.3)
+HEIGHTS = {5: 5, 6: 10, 7: 15, 8: 20, 9: 25}
+XMSS_HEIGHTS = {1: 10, 2: 16, 3: 20}
+LMS, HSS, XMSS = 1, 2, 3
+
+
+class Refused(Exception):
+    """A numbered refusal, with the record that it names."""
+    def __init__(self, number, slot=None):
+        super().__init__(number)
+        self.number, self.slot = number, slot
+
+
+def u8(number):
+    return number.to_bytes(1, "big")
+
+
+def u16(number):
+    return number.to_bytes(2, "big")
+
+
+def u32(number):
+    return number.to_bytes(4, "big")
+
+
+def sha256(*parts):
+    return H(b"".join(parts)).digest()
+
+
+def pair_of(text):
+    """The codes of a tree and its one-time type, of a text such as H5/W8."""
+    height, width = text.split("/")
+    tree = {f"H{height}": code for code, height in HEIGHTS.items()}[height]
+    return tree, {f"W{values[0]}": code for code, values in WIDTHS.items()}[width]
+
+
+def digits_of(values, digest):
+    """The digits of a digest and of its checksum (RFC 8554 4.4)."""
+    width, chains, shift = values
+
+    def coef(data, i):
+        at = i * width
+        return data[at // 8] >> (8 - width - at % 8) & (2**width - 1)
+    checksum = sum(2**width - 1 - coef(digest, i) for i in range(256 // width)) << shift
+    return [coef(digest + u16(checksum), i) for i in range(chains)]
+
+
+def node_path(levels, leaf):
+    """The siblings on the way from a leaf to the root, of the nodes of a tree by height."""
+    return b"".join(levels[height][leaf >> height ^ 1] for height in range(len(levels) - 1))
+
+
+class LmsTree:
+    """A tree of LMS by its secret (RFC 8554 4, 5 and Appendix A). Its nodes are made when they are asked for."""
+    def __init__(self, pair, identifier, seed):
+        self.pair, self.identifier, self.seed = pair, identifier, seed
+        self.height, self.values = HEIGHTS[pair[0]], WIDTHS[pair[1]]
+        self.levels = None
+
+    def leaf_count(self):
+        return 2**self.height
+
+    def climbed(self, prefix, chain, first, last, value):
+        head = prefix + u16(chain)
+        for step in range(first, last):
+            value = H(head + u8(step) + value).digest()
+        return value
+
+    def private_value(self, prefix, chain):
+        return sha256(prefix, u16(chain), b"\xff", self.seed)
+
+    def public_hash(self, leaf):
+        prefix = self.identifier + u32(leaf)
+        last = 2**self.values[0] - 1
+        ends = [self.climbed(prefix, i, 0, last, self.private_value(prefix, i)) for i in range(self.values[1])]
+        return sha256(prefix, b"\x80\x80", *ends)
+
+    def nodes(self):
+        """The nodes by height, leaves first (RFC 8554 5.3)."""
+        if self.levels is None:
+            count = self.leaf_count()
+            level = [sha256(self.identifier, u32(count + q), b"\x82\x82", self.public_hash(q)) for q in range(count)]
+            self.levels = [level]
+            while len(level) > 1:
+                first = len(level) // 2
+                level = [sha256(self.identifier, u32(first + j), b"\x83\x83", level[2 * j], level[2 * j + 1])
+                         for j in range(first)]
+                self.levels.append(level)
+        return self.levels
+
+    def root(self):
+        return self.nodes()[-1][0]
+
+    def public(self, root=None):
+        return u32(self.pair[0]) + u32(self.pair[1]) + self.identifier + (self.root() if root is None else root)
+
+    def digest(self, leaf, randomizer, message):
+        return sha256(self.identifier, u32(leaf), b"\x81\x81", randomizer, message)
+
+    def signature(self, leaf, randomizer, digest):
+        """The whole signature of a digest by a leaf (RFC 8554 4.5 and 5.4)."""
+        prefix = self.identifier + u32(leaf)
+        digits = digits_of(self.values, digest)
+        values = [self.climbed(prefix, i, 0, digit, self.private_value(prefix, i)) for i, digit in enumerate(digits)]
+        return (u32(leaf) + u32(self.pair[1]) + randomizer + b"".join(values) + u32(self.pair[0])
+                + node_path(self.nodes(), leaf))
+
+
+def xor(first, second):
+    return (int.from_bytes(first, "big") ^ int.from_bytes(second, "big")).to_bytes(32, "big")
+
+
+def xmss_digits(digest):
+    """The digits of a digest and of its checksum (RFC 8391 3.1.5)."""
+    digits = [half for byte in digest for half in (byte >> 4, byte & 15)]
+    checksum = sum(15 - digit for digit in digits) << 4
+    return digits + [checksum >> 12 & 15, checksum >> 8 & 15, checksum >> 4 & 15]
+
+
+class XmssTree:
+    """A tree of XMSS by its secret (RFC 8391 2 to 4.1), whose private values are those of docs/FORMATS.md."""
+    def __init__(self, code, secret, prf_key, seed):
+        self.code, self.secret, self.prf_key, self.seed = code, secret, prf_key, seed
+        self.height = XMSS_HEIGHTS[code]
+        self.levels = None
+        self.keyed = H((3).to_bytes(32, "big") + seed)
+
+    def leaf_count(self):
+        return 2**self.height
+
+    def mask(self, *words):
+        """PRF of an address: its type and four words; layer and tree are 0."""
+        hasher = self.keyed.copy()
+        hasher.update(bytes(12) + b"".join(map(u32, words)))
+        return hasher.digest()
+
+    def climbed(self, leaf, chain, first, last, value):
+        for step in range(first, last):
+            key, mask = self.mask(0, leaf, chain, step, 0), self.mask(0, leaf, chain, step, 1)
+            value = sha256(bytes(32), key, xor(value, mask))
+        return value
+
+    def join(self, kind, first, height, index, left, right):
+        key, one, two = (self.mask(kind, first, height, index, which) for which in (0, 1, 2))
+        return sha256((1).to_bytes(32, "big"), key, xor(left, one), xor(right, two))
+
+    def private_value(self, leaf, chain):
+        address = bytes(12) + b"".join(map(u32, (0, leaf, chain, 0, 0)))
+        return sha256((4).to_bytes(32, "big"), self.secret, self.seed, address)
+
+    def leaf(self, leaf):
+        return self.l_tree(leaf, [self.climbed(leaf, i, 0, 15, self.private_value(leaf, i)) for i in range(67)])
+
+    def l_tree(self, leaf, values):
+        """The root of the values of a leaf, of which an odd last one goes up unchanged (RFC 8391 4.1.5)."""
+        height = 0
+        while len(values) > 1:
+            above = [self.join(1, leaf, height, i // 2, values[i], values[i + 1]) for i in range(0, len(values) - 1, 2)]
+            values = above + values[len(values) // 2 * 2:]
+            height += 1
+        return values[0]
+
+    def nodes(self):
+        if self.levels is None:
+            level = [self.leaf(i) for i in range(self.leaf_count())]
+            self.levels = [level]
+            while len(level) > 1:
+                height = len(self.levels) - 1
+                level = [self.join(2, 0, height, j, level[2 * j], level[2 * j + 1]) for j in range(len(level) // 2)]
+                self.levels.append(level)
+        return self.levels
+
+    def root(self):
+        return self.nodes()[-1][0]
+
+    def public(self, root=None):
+        return u32(self.code) + (self.root() if root is None else root) + self.seed
+
+    def randomizer(self, leaf):
+        return sha256((3).to_bytes(32, "big"), self.prf_key, leaf.to_bytes(32, "big"))
+
+    def digest(self, leaf, _, message, root=None):
+        place = leaf.to_bytes(32, "big")
+        root = self.root() if root is None else root
+        return sha256((2).to_bytes(32, "big"), self.randomizer(leaf), root, place, message)
+
+    def signature(self, leaf, _, digest):
+        values = [self.climbed(leaf, i, 0, digit, self.private_value(leaf, i))
+                  for i, digit in enumerate(xmss_digits(digest))]
+        return u32(leaf) + self.randomizer(leaf) + b"".join(values) + node_path(self.nodes(), leaf)
+
+
+# ---- the records of a state file, as the bytes 1 to 223 of their slots
+
+
+def body(kind, *fields):
+    content = u8(kind) + b"".join(fields)
+    return content + bytes(223 - len(content))
+
+
+def key_body(scheme, pairs, identifier, seed, prf_key, public_seed, root, version=1, levels=None):
+    codes = b"".join(u32(tree) + u32(ots) for tree, ots in pairs)
+    levels = len(pairs) if levels is None else levels
+    return body(1, b"HBSSTATE", u16(version), u8(scheme), u8(levels), codes + bytes(64 - len(codes)),
+                identifier, seed, prf_key, public_seed, root)
+
+
+def extend_body(level, parent_leaf, identifier, seed, randomizer, digest, root):
+    return body(2, u8(level), u32(parent_leaf), identifier, seed, randomizer, digest, root)
+
+
+def bound_body(name, leaf, randomizer, digest):
+    return body(3, u8(len(name)), name + bytes(64 - len(name)), u32(leaf), randomizer, digest)
+
+
+def retire_body(upto):
+    return body(4, u32(upto))
+
+
+def moved_body(version=2):
+    return body(5, u16(version))
+
+
+def state_file(bodies):
+    """The content of a file with these records, their tags, and the closed gate after the last."""
+    content, tag = b"", bytes(32)
+    for each in bodies:
+        tag = sha256(tag, each)
+        content += b"\xa5" + each + tag
+    return content + b"\x00"
+
+
+def last_tag(bodies):
+    tag = bytes(32)
+    for each in bodies:
+        tag = sha256(tag, each)
+    return tag
+
+
+class Tape:
+    """A source of random bytes that ends."""
+    def __init__(self, content):
+        self.content = content
+
+    def draw(self, size):
+        if len(self.content) < size:
+            raise Refused(23)
+        drawn, self.content = self.content[:size], self.content[size:]
+        return drawn
+
+
+class Current:
+    """A current tree: its record, its secret, what the record says of its root, and its next leaf."""
+    def __init__(self, slot, tree, root):
+        self.slot, self.tree, self.root, self.next = slot, tree, root, 0
+        self.parent = None
+
+    def is_free(self):
+        return self.next < self.tree.leaf_count()
+
+
+class Signer:
+    """A key with its records (docs/FORMATS.md), in the scheme of its spec. `limit` is how many records it takes."""
+    def __init__(self, spec, tape, limit=2**31):
+        kind, text = spec.split(":")
+        self.limit = limit
+        self.scheme = {"lms": LMS, "hss": HSS, "xmss": XMSS}[kind]
+        if self.scheme == XMSS:
+            code = {str(height): code for code, height in XMSS_HEIGHTS.items()}[text]
+            self.pairs = [(code, 0)]
+            secrets = tape.draw(32), tape.draw(32), tape.draw(32)
+            tree = XmssTree(code, *secrets)
+            record = key_body(XMSS, self.pairs, bytes(16), *secrets, tree.root())
+        else:
+            self.pairs = [pair_of(pair) for pair in text.split(",")]
+            identifier, seed = tape.draw(16), tape.draw(32)
+            tree = LmsTree(self.pairs[0], identifier, seed)
+            record = key_body(self.scheme, self.pairs, identifier, seed, bytes(32), bytes(32), tree.root())
+        self.bodies = [record]
+        self.current = [Current(0, tree, tree.root())] + [None] * (len(self.pairs) - 1)
+        self.bound = {}
+        self.identifiers = set() if self.scheme == XMSS else {tree.identifier}
+        self.has_moved = False
+        # what a record says of a new tree, and what would be right
+        self.extends = {}
+
+    def public(self):
+        top = self.current[0]
+        return (u32(len(self.pairs)) if self.scheme == HSS else b"") + top.tree.public(top.root)
+
+    def left(self):
+        return [at.tree.leaf_count() - at.next if at else 0 for at in self.current]
+
+    def content(self):
+        return state_file(self.bodies)
+
+    def report(self):
+        """The lines of an audit."""
+        lines = [f"public {self.public().hex()}", f"records {len(self.bodies)}", f"tag {last_tag(self.bodies).hex()}"]
+        lines += [f"level {level} left {left}" for level, left in enumerate(self.left())]
+        return lines + (["moved 2"] if self.has_moved else [])
+
+    def fit(self, count):
+        """Refuses records past the limit."""
+        if len(self.bodies) + count > self.limit:
+            raise Refused(30)
+
+    def check(self, chain):
+        """Refuses the first tree from the top whose root, or whose record's digest, is another than that of its secret."""
+        for at in chain:
+            if at.root != at.tree.root():
+                raise Refused(28, at.slot)
+            if at.parent:
+                parent, leaf, randomizer, digest = at.parent
+                if digest != parent.tree.digest(leaf, randomizer, at.tree.public(at.root)):
+                    raise Refused(28, at.slot)
+
+    def extend(self, level, tape):
+        """A new tree at a level, signed by the next leaf of the level above."""
+        parent = self.current[level - 1]
+        identifier = tape.draw(16)
+        if identifier in self.identifiers:
+            raise Refused(24)
+        seed, randomizer = tape.draw(32), tape.draw(32)
+        tree = LmsTree(self.pairs[level], identifier, seed)
+        self.add_extend(level, parent.next, tree, randomizer,
+                        parent.tree.digest(parent.next, randomizer, tree.public()), tree.root())
+
+    def add_extend(self, level, leaf, tree, randomizer, digest, root):
+        parent = self.current[level - 1]
+        self.bodies.append(extend_body(level, leaf, tree.identifier, tree.seed, randomizer, digest, root))
+        new = Current(len(self.bodies) - 1, tree, root)
+        new.parent = parent, leaf, randomizer, digest
+        parent.next = leaf + 1
+        self.identifiers.add(tree.identifier)
+        self.current[level:] = [new] + [None] * (len(self.pairs) - level - 1)
+
+    def chain_of(self, at):
+        chain = [at]
+        while chain[0].parent:
+            chain.insert(0, chain[0].parent[0])
+        return chain
+
+    def signature(self, name):
+        """The signature of a bound name, by its record and those of the trees above it."""
+        at, leaf, randomizer, digest = self.bound[name]
+        written = at.tree.signature(leaf, randomizer, digest)
+        while at.parent:
+            parent, leaf, randomizer, digest = at.parent
+            written = parent.tree.signature(leaf, randomizer, digest) + at.tree.public(at.root) + written
+            at = parent
+        return (u32(len(self.pairs) - 1) if self.scheme == HSS else b"") + written
+
+    def sign(self, name, message, tape):
+        """Signs a message, which is None where it can't be read."""
+        if self.has_moved:
+            raise Refused(31)
+        if name in self.bound:
+            at, leaf, randomizer, digest = self.bound[name]
+            if message is None:
+                raise Refused(27)
+            if at.tree.digest(leaf, randomizer, message) != digest:
+                raise Refused(21)
+            self.check(self.chain_of(at))
+            return self.signature(name)
+        free = [level for level, at in enumerate(self.current) if at and at.is_free()]
+        if not free:
+            raise Refused(22)
+        deepest = free[-1]
+        self.fit(len(self.pairs) - deepest)
+        self.check(self.chain_of(self.current[deepest]))
+        for level in range(deepest + 1, len(self.pairs)):
+            self.extend(level, tape)
+        bottom = self.current[-1]
+        randomizer = bytes(32) if self.scheme == XMSS else tape.draw(32)
+        if message is None:
+            raise Refused(27)
+        self.add_bound(name, bottom.next, randomizer, bottom.tree.digest(bottom.next, randomizer, message))
+        return self.signature(name)
+
+    def add_bound(self, name, leaf, randomizer, digest):
+        bottom = self.current[-1]
+        self.bodies.append(bound_body(name, leaf, randomizer, digest))
+        self.bound[name] = bottom, leaf, randomizer, digest
+        bottom.next = leaf + 1
+
+    def retire(self, upto):
+        if self.has_moved:
+            raise Refused(31)
+        bottom = self.current[-1]
+        if upto > (bottom.tree.leaf_count() if bottom else 0):
+            raise Refused(32)
+        if bottom and upto > bottom.next:
+            self.fit(1)
+            self.bodies.append(retire_body(upto))
+            bottom.next = upto
+
+    def move(self):
+        """The record that says that the records go on in another file."""
+        self.bodies.append(moved_body())
+        self.has_moved = True
+
+
+# ---- the frames of `serve`
+
+
+def frame(name, message):
+    return u8(len(name)) + name + u32(len(message)) + message
+
+
+def is_name(name):
+    return 1 <= len(name) <= 64 and all(0x21 <= byte <= 0x7E for byte in name)
+
+
+def reply(number, content=b""):
+    return u8(number) + u32(len(content)) + content
+
+
+def answer(signer, tape, name, message):
+    """The reply to a request, and its number. The message is None where the input ends inside it."""
+    if not is_name(name):
+        return reply(34), 34
+    try:
+        return reply(0, signer.sign(name, message, tape)), 0
+    except Refused as refused:
+        return reply(refused.number, b"" if refused.slot is None else u32(refused.slot)), refused.number
+
+
+def served(signer, tape, given):
+    """What `serve` writes for an input, and the number of the refusal that it ends with, 0 where it ends well."""
+    written, at = b"", 0
+    while at < len(given):
+        size = given[at]
+        if len(given) < at + 1 + size + 4:
+            return written + reply(35), 35
+        name = given[at + 1:at + 1 + size]
+        at += 1 + size + 4
+        length = int.from_bytes(given[at - 4:at], "big")
+        is_whole = at + length <= len(given)
+        # a refusal before the message is read comes first; the rest of the message is skipped then
+        written += answer(signer, tape, name, given[at:at + length] if is_whole else None)[0]
+        if not is_whole:
+            return written, 27
+        at += length
+    return written, 0
+
+
+# ---- verification: the line that belongs to a public key, a message and a signature
+
+
+class Invalid(Exception):
+    """The line of a refusal."""
+
+
+class Fields:
+    """Reads bytes from the left, field by field, from a place on."""
+    def __init__(self, data, at=0):
+        self.data, self.at = data, at
+
+    def take(self, size):
+        if self.at + size > len(self.data):
+            raise Invalid(f"refused 1 Truncated at {self.at}")
+        self.at += size
+        return self.data[self.at - size:self.at]
+
+    def number(self):
+        return int.from_bytes(self.take(4), "big")
+
+    def values(self, count):
+        return [self.take(32) for _ in range(count)]
+
+    def code(self, known):
+        code = self.number()
+        if code not in known:
+            raise Invalid(f"refused 2 UnknownType at {self.at - 4}")
+        return code
+
+    def end(self):
+        if self.at != len(self.data):
+            raise Invalid(f"refused 5 Trailing at {self.at}")
+
+
+class LmsKey:
+    def __init__(self, fields):
+        start = fields.at
+        self.pair = fields.code(HEIGHTS), fields.code(WIDTHS)
+        self.identifier, self.root = fields.take(16), fields.take(32)
+        self.bytes = fields.data[start:fields.at]
+
+
+class LmsSignature:
+    def __init__(self, fields):
+        start = fields.at
+        self.leaf = fields.number()
+        ots = fields.code(WIDTHS)
+        self.randomizer = fields.take(32)
+        self.values = fields.values(WIDTHS[ots][1])
+        self.pair = fields.code(HEIGHTS), ots
+        if self.leaf >= 2**HEIGHTS[self.pair[0]]:
+            raise Invalid(f"refused 4 LeafOutOfRange at {start}")
+        self.path = fields.values(HEIGHTS[self.pair[0]])
+
+    def judge(self, key, message, level):
+        if self.pair != key.pair:
+            raise Invalid(f"refused 10 TypeMismatch level {level}")
+        tree = LmsTree(key.pair, key.identifier, b"")
+        digest = tree.digest(self.leaf, self.randomizer, message)
+        prefix = key.identifier + u32(self.leaf)
+        digits, last = digits_of(tree.values, digest), 2**tree.values[0] - 1
+        ends = [tree.climbed(prefix, i, digits[i], last, value) for i, value in enumerate(self.values)]
+        public_hash = sha256(prefix, b"\x80\x80", *ends)
+        number = 2**tree.height + self.leaf
+        node = sha256(key.identifier, u32(number), b"\x82\x82", public_hash)
+        for sibling in self.path:
+            pair = (sibling, node) if number % 2 else (node, sibling)
+            number //= 2
+            node = sha256(key.identifier, u32(number), b"\x83\x83", *pair)
+        if node != key.root:
+            raise Invalid(f"refused 12 RootMismatch level {level}")
+
+
+def judge_lms(public, message, signature):
+    key = LmsKey(Fields(public))
+    fields = Fields(signature)
+    given = LmsSignature(fields)
+    fields.end()
+    given.judge(key, message, 0)
+
+
+def judge_hss(public, message, signature):
+    fields = Fields(public)
+    levels = fields.number()
+    if not 1 <= levels <= 8:
+        raise Invalid("refused 3 LevelCount at 0")
+    key = LmsKey(fields)
+    fields = Fields(signature)
+    above = fields.number()
+    if above > 7:
+        raise Invalid("refused 3 LevelCount at 0")
+    signed = []
+    for _ in range(above):
+        given = LmsSignature(fields)
+        signed.append((given, LmsKey(fields)))
+    bottom = LmsSignature(fields)
+    fields.end()
+    if above + 1 != levels:
+        raise Invalid("refused 11 LevelMismatch")
+    for level, (given, lower) in enumerate(signed):
+        given.judge(key, lower.bytes, level)
+        key = lower
+    bottom.judge(key, message, above)
+
+
+def judge_xmss(public, message, signature):
+    fields = Fields(public)
+    code = fields.code(XMSS_HEIGHTS)
+    root, seed = fields.take(32), fields.take(32)
+    tree = XmssTree(code, b"", b"", seed)
+    fields = Fields(signature)
+    leaf = fields.number()
+    if leaf >= 2**tree.height:
+        raise Invalid("refused 4 LeafOutOfRange at 0")
+    randomizer, values, path = fields.take(32), fields.values(67), fields.values(tree.height)
+    fields.end()
+    digest = sha256((2).to_bytes(32, "big"), randomizer, root, leaf.to_bytes(32, "big"), message)
+    ends = [tree.climbed(leaf, i, digit, 15, value) for i, (digit, value) in enumerate(zip(xmss_digits(digest), values))]
+    node, index = tree.l_tree(leaf, ends), leaf
+    for height, sibling in enumerate(path):
+        pair = (sibling, node) if index % 2 else (node, sibling)
+        index //= 2
+        node = tree.join(2, 0, height, index, *pair)
+    if node != root:
+        raise Invalid("refused 12 RootMismatch level 0")
+
+
+def verdict(public, message, signature):
+    judges = {56: judge_lms, 60: judge_hss, 68: judge_xmss}
+    if len(public) not in judges:
+        return f"refused 6 KeyLength of {len(public)}"
+    try:
+        judges[len(public)](public, message, signature)
+    except Invalid as refused:
+        return str(refused)
+    return "verified"
