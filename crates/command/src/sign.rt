@@ -46,7 +46,7 @@ impl<'a> Sign<'a> {
         Command::new(alloc, Sign::NAME)
             .about("Signs a message under a name")
             .after_help(
-                "Example:\n  $ hbsign sign firmware.key fw-1.0 firmware.bin firmware.sig\n  signed fw-1.0 1292 bytes",
+                "Example:\n  $ hbsign sign firmware.key fw-1.0 firmware.bin firmware.sig\n  signed fw-1.0 1452 bytes",
             )
             .arg(required(
                 alloc,

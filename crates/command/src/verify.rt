@@ -51,7 +51,7 @@ impl<'a> Verify<'a> {
             → app_of new ≡ with_subcommand (app_of old) verify_app.top) }
     {
         Command::new(alloc, Verify::NAME)
-            .about("VerifiesIn a signature of a message")
+            .about("Verifies a signature of a message")
             .after_help(
                 "Example:\n  $ hbsign verify firmware.pub firmware.bin firmware.sig\n  verified",
             )

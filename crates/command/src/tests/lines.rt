@@ -79,7 +79,7 @@ const SIGN: &[u8] = b"Signs a message under a name\n\nUsage: hbsign sign";
 const RETIRE: &[u8] =
     b"Gives up the leaves of the current bottom tree below a number\n\nUsage: hbsign retire";
 
-const VERIFY: &[u8] = b"VerifiesIn a signature of a message\n\nUsage: hbsign verify";
+const VERIFY: &[u8] = b"Verifies a signature of a message\n\nUsage: hbsign verify";
 
 const AUDIT: &[u8] =
     b"Says what the records of a state file are, and whether it was put back behind an anchor\n\nUsage: hbsign audit";
