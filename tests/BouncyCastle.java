@@ -33,7 +33,8 @@ import org.bouncycastle.pqc.crypto.xmss.XMSSSigner;
  * <p>verify: for each line of the input, the paths of a public key, a message and a signature with tabs between them, it
  * prints `verified` or `refused`. time-verify PUBLIC MESSAGE SIGNATURE HASHES: the milliseconds of a verification, and of
  * as many bare hashes of 55 bytes. time-sign lms:H10/W8 or xmss:10: the milliseconds of making a key, and of signing by it
- * as it is read from its bytes, at its first leaf and at its 500th. Times are those of the processor.
+ * as it is read from its bytes, at its first leaf and at its 500th. time-session lms:H10/W8 COUNT: the milliseconds of
+ * making a key, and of so many signatures by it as it is kept. Times are those of the processor.
  */
 public class BouncyCastle {
     static final byte[] MESSAGE = {1};
@@ -43,6 +44,7 @@ public class BouncyCastle {
             case "verify" -> verifyLines();
             case "time-verify" -> timeVerify(words);
             case "time-sign" -> timeSign(words[1].equals("xmss:10") ? new XmssKey() : new LmsKey());
+            case "time-session" -> timeSession(Integer.parseInt(words[2]));
             default -> throw new IllegalArgumentException(words[0]);
         }
     }
@@ -100,6 +102,24 @@ public class BouncyCastle {
         System.out.println(make + " " + first + " " + later);
     }
 
+    /** The shortest time of three keys of LMS of H10/W8, and that of the first signatures of each. */
+    static void timeSession(int count) {
+        double make = Double.MAX_VALUE;
+        double sign = Double.MAX_VALUE;
+        for (int round = 0; round < 3; round++) {
+            long start = now();
+            LMSSigner signer = new LMSSigner();
+            signer.init(true, LmsKey.generated());
+            make = Math.min(make, since(start));
+            start = now();
+            for (int leaf = 0; leaf < count; leaf++) {
+                signer.generateSignature(MESSAGE);
+            }
+            sign = Math.min(sign, since(start));
+        }
+        System.out.println(make + " " + sign);
+    }
+
     static double signing(Supplier<byte[]> signature) {
         double shortest = Double.MAX_VALUE;
         for (int round = 0; round < 3; round++) {
@@ -122,11 +142,15 @@ public class BouncyCastle {
     static class LmsKey implements Key {
         byte[] bytes;
 
-        public void make() throws IOException {
+        static LMSPrivateKeyParameters generated() {
             LMSKeyPairGenerator generator = new LMSKeyPairGenerator();
             LMSParameters parameters = new LMSParameters(LMSigParameters.lms_sha256_n32_h10, LMOtsParameters.sha256_n32_w8);
             generator.init(new LMSKeyGenerationParameters(parameters, new SecureRandom()));
-            bytes = ((LMSPrivateKeyParameters) generator.generateKeyPair().getPrivate()).getEncoded();
+            return (LMSPrivateKeyParameters) generator.generateKeyPair().getPrivate();
+        }
+
+        public void make() throws IOException {
+            bytes = generated().getEncoded();
         }
 
         public Supplier<byte[]> at(int leaves) {
