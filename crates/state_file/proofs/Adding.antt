@@ -2,7 +2,7 @@
 use Rattle.std.proofs.Common.{◌≡◌, inl, inr, ⊎_elim, ℕ, ◌+◌, ◌-◌, ◌*◌, ◌<◌, ◌≤◌, List, [], ◌∷◌, ◌++◌, length, take, drop, slice_index, slice_range, sym, ◌∙◌, ap, arith, length-append, length-take, length-drop, get_or-drop}
 use Rattle.std.proofs.lemmas.List.{get_or_at, get_or-take}
 use Rattle.std.specs.Prelude.{max}
-use Rattle.state_file.specs.File.{HasNoKey}
+use Rattle.state_file.specs.File.{HasNoKey, open_value}
 use Rattle.state_file.specs.Disk.{DiskState, ChangesOnly, range_of, IsSynced}
 use Rattle.state_file.specs.FileStore.{closed_gate}
 use Rattle.state_file.specs.Format.{PreparesPlace}
@@ -16,7 +16,7 @@ first_stays k bytes content c size first = record {
   no_longer = omega (arith, size, first.no_longer);
 }
 
-pub both_stay : (k : ℕ) (bytes content mid c : List ℕ) → length bytes ≡ 256 → ChangesOnly (range_of (256 * k + 1) bytes ∷ []) content mid → ChangesOnly (range_of (256 * k) (165 ∷ []) ∷ []) mid c
+pub both_stay : (k : ℕ) (bytes content mid c : List ℕ) → length bytes ≡ 256 → ChangesOnly (range_of (256 * k + 1) bytes ∷ []) content mid → ChangesOnly (range_of (256 * k) (open_value ∷ []) ∷ []) mid c
     → ChangesOnly (slot_and_gate k ∷ []) content c
 both_stay k bytes content mid c size first second = record {
   kept = λ offset inside outside.
@@ -31,7 +31,7 @@ pub block_size : (body bytes : List ℕ) → length body ≡ 255 → bytes ≡ b
 block_size body bytes body_len is = omega (arith, ap length is, length-append body (0 ∷ []))
 
 pub slot_added : (k : ℕ) (body bytes content mid : List ℕ) (new : DiskState) → length body ≡ 255 → bytes ≡ body ++ 0 ∷ [] → ChangesOnly (range_of (256 * k + 1) bytes ∷ []) content mid
-    → slice_range mid (256 * k + 1) (256 * k + 1 + length bytes) ≡ bytes → IsSynced new → ChangesOnly (range_of (256 * k) (165 ∷ []) ∷ []) mid new.content → AddsSlot k content new
+    → slice_range mid (256 * k + 1) (256 * k + 1 + length bytes) ≡ bytes → IsSynced new → ChangesOnly (range_of (256 * k) (open_value ∷ []) ∷ []) mid new.content → AddsSlot k content new
 slot_added k body bytes content mid new body_len is first put synced second =
     let tail = drop (256 * k + 1) mid in
     let size = block_size body bytes body_len is in

@@ -1,9 +1,9 @@
 -- Finding the records of a file, slot after slot.
-use Rattle.std.proofs.Common.{◌≡◌, ℕ, ◌+◌, ◌*◌, ◌<◌, Bool, true, false, List, [], ◌∷◌, ◌++◌, length, replicate, slice_index, Option, Some, None, Result, Err, refl, sym, ap, ◌∙◌, subst, arith, eqb-true, add-one, true≢false}
+use Rattle.std.proofs.Common.{◌≡◌, ℕ, ◌+◌, ◌*◌, ◌<◌, Bool, true, false, List, [], ◌∷◌, ◌++◌, length, slice_index, Option, Some, None, Result, Err, refl, sym, ap, ◌∙◌, subst, arith, eqb-true, add-one, true≢false}
 use Rattle.std.specs.Prelude.{◌==◌, IfErr, slice_get}
 use Rattle.std.proofs.lemmas.Option.{slice_get-get_or, slice_get_within}
 use Rattle.typecodes.specs.Layout.{Spells}
-use Rattle.state_file.specs.File.{Begins, Holds, IsClosed, IsDamagedAt, IsOpen, IsWhole, SpellsRecords, fields_at, most_records, previous_tag, tag_at, tag_of, IsFileOf, IsSyncedFile}
+use Rattle.state_file.specs.File.{Begins, Holds, IsClosed, IsDamagedAt, IsOpen, IsWhole, SpellsRecords, fields_at, first_tag, most_records, open_value, previous_tag, tag_at, tag_of, IsFileOf, IsSyncedFile}
 use Rattle.state_file.specs.Disk.{DiskState, MayLeave, settled, Elapses, LeavesOnly}
 use Rattle.state_file.specs.FileStore.{closed_gate, fields_length, open_by_byte}
 use Rattle.state_file.specs.DiskCalls.{OnlyReads}
@@ -56,10 +56,10 @@ module _ {D : Type 0} (state : D → DiskState) (moment : D → ℕ) (left_since
 
 -- ---- gates
 
-pub gate_open : (content : List ℕ) (k : ℕ) → 256 * k < length content → slice_index content (256 * k) == 165 ≡ true → IsOpen content k
-gate_open content k within is = open_by_byte content k within (eqb-true (slice_index content (256 * k)) 165 is)
+pub gate_open : (content : List ℕ) (k : ℕ) → 256 * k < length content → slice_index content (256 * k) == open_value ≡ true → IsOpen content k
+gate_open content k within is = open_by_byte content k within (eqb-true (slice_index content (256 * k)) open_value is)
 
-pub gate_closed : (content : List ℕ) (k : ℕ) → 256 * k < length content → slice_index content (256 * k) == 165 ≡ false → IsClosed content k
+pub gate_closed : (content : List ℕ) (k : ℕ) → 256 * k < length content → slice_index content (256 * k) == open_value ≡ false → IsClosed content k
 gate_closed content k within other = closed_gate content k within (λ is_open. true≢false (let clash : true ≡ false = cc in clash))
 
 -- ---- slots
@@ -102,7 +102,7 @@ pub record BeginsFound (content : List ℕ) (count : ℕ) (records : List Record
   pub begins : Begins content records
   pub last : tag ≡ previous_tag content count
 
-pub found_none : (content : List ℕ) (count : ℕ) (records : List Record) (tag : List ℕ) → count ≡ 0 → records ≡ [] → tag ≡ replicate 32 0 → StartsWithKey content → BeginsFound content count records tag
+pub found_none : (content : List ℕ) (count : ℕ) (records : List Record) (tag : List ℕ) → count ≡ 0 → records ≡ [] → tag ≡ first_tag → StartsWithKey content → BeginsFound content count records tag
 found_none content count records tag none_yet none zeros key = record {
   begins = subst (Begins content) (sym none) (begins-none content key.may);
   last = zeros ∙ sym (ap (λ n. previous_tag content n) none_yet);
@@ -185,8 +185,8 @@ fault_reported P result fault is reported = subst (λ (r : Result _ OpenFault). 
 pub gate_within : (first now : DiskState) (count : ℕ) (records : List Record) (tag : List ℕ) → now ≡ first → count ≡ length records → BeginsFound first.content count records tag → 256 * count < length now.content
 gate_within first now count records tag same counted found = subst (λ (s : DiskState). 256 * count < length s.content) (sym same) (omega (arith, found.begins.ends, counted))
 
-pub found_open : (first now : DiskState) (k : ℕ) (opened : Bool) → now ≡ first → 256 * k < length now.content → opened ≡ (slice_index now.content (256 * k) == 165) → opened ≡ true → IsOpen first.content k
+pub found_open : (first now : DiskState) (k : ℕ) (opened : Bool) → now ≡ first → 256 * k < length now.content → opened ≡ (slice_index now.content (256 * k) == open_value) → opened ≡ true → IsOpen first.content k
 found_open first now k opened same within gate is = subst (λ (s : DiskState). IsOpen s.content k) same (gate_open now.content k within (sym gate ∙ is))
 
-pub found_closed : (first now : DiskState) (k : ℕ) (opened : Bool) → now ≡ first → 256 * k < length now.content → opened ≡ (slice_index now.content (256 * k) == 165) → opened ≡ false → IsClosed first.content k
+pub found_closed : (first now : DiskState) (k : ℕ) (opened : Bool) → now ≡ first → 256 * k < length now.content → opened ≡ (slice_index now.content (256 * k) == open_value) → opened ≡ false → IsClosed first.content k
 found_closed first now k opened same within gate is = subst (λ (s : DiskState). IsClosed s.content k) same (gate_closed now.content k within (sym gate ∙ is))

@@ -7,7 +7,7 @@ use Rattle.typecodes.proofs.Read.{spelled-read}
 use Rattle.typecodes.proofs.Steps.{ends-spelled}
 use Rattle.typecodes.specs.Layout.{Spells}
 use Rattle.typecodes.specs.Cursor.{read}
-use Rattle.state_file.specs.File.{Holds, fields_at, tag_at, previous_tag, tag_of, most_records, StandsFor, IsFileOf, IsSyncedFile}
+use Rattle.state_file.specs.File.{Holds, fields_at, tag_at, previous_tag, tag_of, most_records, open_value, StandsFor, IsFileOf, IsSyncedFile}
 use Rattle.state_file.specs.FileStore.{fields_length, file_stands, open_byte, open_by_byte}
 use Rattle.state_file.specs.Store.{begins_with_key, is_key}
 use Rattle.state_file.specs.Disk.{DiskState, LeavesOnly}
@@ -59,7 +59,7 @@ file_stays records content c file ends =
     }
 
 module _ (records : List Record) (content c : List ℕ) (entry : Record) (fields tag : List ℕ) (fields_len : length fields ≡ 223) (tag_len : length tag ≡ 32) (file : IsFileOf records content)
-    (ends : IsClosedAfter (take (256 * length records) content ++ 165 ∷ (fields ++ tag)) c) where
+    (ends : IsClosedAfter (take (256 * length records) content ++ open_value ∷ (fields ++ tag)) c) where
   n : ℕ
   n = 256 * length records
 
@@ -67,7 +67,7 @@ module _ (records : List Record) (content c : List ℕ) (entry : Record) (fields
   front = take (256 * length records) content
 
   whole : List ℕ
-  whole = front ++ 165 ∷ (fields ++ tag)
+  whole = front ++ open_value ∷ (fields ++ tag)
 
   n-is : n ≡ 256 * length records
   unfolding n
@@ -79,7 +79,7 @@ module _ (records : List Record) (content c : List ℕ) (entry : Record) (fields
 
   whole_len : length whole ≡ n + 256
   unfolding whole
-  whole_len = omega (arith, length-append front (165 ∷ (fields ++ tag)), length-append fields tag, fields_len, tag_len, front_len)
+  whole_len = omega (arith, length-append front (open_value ∷ (fields ++ tag)), length-append fields tag, fields_len, tag_len, front_len)
 
   begins : take (n + 256) c ≡ whole
   unfolding whole front
@@ -91,24 +91,24 @@ module _ (records : List Record) (content c : List ℕ) (entry : Record) (fields
 
   whole_front : take n whole ≡ take n content
   unfolding whole front n
-  whole_front = take_at front (165 ∷ (fields ++ tag)) n front_len
+  whole_front = take_at front (open_value ∷ (fields ++ tag)) n front_len
 
   same_front : take n c ≡ take n content
   same_front = sym (take-take n (n + 256) c (omega arith)) ∙ ap (λ (l : List ℕ). take n l) begins ∙ whole_front
 
-  whole_gate : slice_index whole n ≡ 165
+  whole_gate : slice_index whole n ≡ open_value
   unfolding whole
-  whole_gate = get_or_at front 165 (fields ++ tag) 0 n front_len
+  whole_gate = get_or_at front open_value (fields ++ tag) 0 n front_len
 
-  new_gate : slice_index c n ≡ 165
+  new_gate : slice_index c n ≡ open_value
   new_gate = same_byte (n + 256) n c whole same_whole (omega arith) ∙ whole_gate
 
   whole_fields : take 223 (drop (n + 1) whole) ≡ fields
   unfolding whole
   whole_fields =
-      let split : front ++ 165 ∷ (fields ++ tag) ≡ (front ++ 165 ∷ []) ++ (fields ++ tag) = sym (append_assoc front (165 ∷ []) (fields ++ tag)) in
-      let len : length (front ++ 165 ∷ []) ≡ n + 1 = length_push front 165 ∙ ap (λ k. k + 1) front_len in
-      ap (λ (l : List ℕ). take 223 (drop (n + 1) l)) split ∙ ap (λ (l : List ℕ). take 223 l) (drop_at (front ++ 165 ∷ []) (fields ++ tag) (n + 1) len) ∙ take_at fields tag 223 fields_len
+      let split : front ++ open_value ∷ (fields ++ tag) ≡ (front ++ open_value ∷ []) ++ (fields ++ tag) = sym (append_assoc front (open_value ∷ []) (fields ++ tag)) in
+      let len : length (front ++ open_value ∷ []) ≡ n + 1 = length_push front open_value ∙ ap (λ k. k + 1) front_len in
+      ap (λ (l : List ℕ). take 223 (drop (n + 1) l)) split ∙ ap (λ (l : List ℕ). take 223 l) (drop_at (front ++ open_value ∷ []) (fields ++ tag) (n + 1) len) ∙ take_at fields tag 223 fields_len
 
   new_fields : take 223 (drop (n + 1) c) ≡ fields
   new_fields = same_part (n + 256) (n + 1) 223 c whole same_whole (omega arith) ∙ whole_fields
@@ -116,9 +116,9 @@ module _ (records : List Record) (content c : List ℕ) (entry : Record) (fields
   whole_tag : take 32 (drop (n + 224) whole) ≡ tag
   unfolding whole
   whole_tag =
-      let split : front ++ 165 ∷ (fields ++ tag) ≡ (front ++ 165 ∷ fields) ++ tag = sym (append_assoc front (165 ∷ fields) tag) in
-      let len : length (front ++ 165 ∷ fields) ≡ n + 224 = omega (arith, length-append front (165 ∷ fields), front_len, fields_len) in
-      ap (λ (l : List ℕ). take 32 (drop (n + 224) l)) split ∙ ap (λ (l : List ℕ). take 32 l) (drop_at (front ++ 165 ∷ fields) tag (n + 224) len) ∙ take_all 32 tag (omega arith)
+      let split : front ++ open_value ∷ (fields ++ tag) ≡ (front ++ open_value ∷ fields) ++ tag = sym (append_assoc front (open_value ∷ fields) tag) in
+      let len : length (front ++ open_value ∷ fields) ≡ n + 224 = omega (arith, length-append front (open_value ∷ fields), front_len, fields_len) in
+      ap (λ (l : List ℕ). take 32 (drop (n + 224) l)) split ∙ ap (λ (l : List ℕ). take 32 l) (drop_at (front ++ open_value ∷ fields) tag (n + 224) len) ∙ take_all 32 tag (omega arith)
 
   new_tag : take 32 (drop (n + 224) c) ≡ tag
   new_tag = same_part (n + 256) (n + 224) 32 c whole same_whole (omega arith) ∙ whole_tag
@@ -127,7 +127,7 @@ module _ (records : List Record) (content c : List ℕ) (entry : Record) (fields
   unfolding whole front
   new_within = omega (arith, ends.closed.0, whole_len)
 
-  new_closed : slice_index c (n + 256) ≡ 165 → ⊥
+  new_closed : slice_index c (n + 256) ≡ open_value → ⊥
   unfolding whole front
   new_closed = λ is_open. ends.closed.1 (ap (λ m. slice_index c m) whole_len ∙ is_open)
 
@@ -214,19 +214,19 @@ module _ (records : List Record) (last : List ℕ) (state : DiskState) (count : 
   tag_is : tag ≡ tag_of (previous_tag state.content (length records)) fields
   tag_is = tagged ∙ ap (λ (l : List ℕ). tag_of l fields) kept.last
 
-  ends_are : (c : List ℕ) → IsClosedAfter (take (256 * length records) state.content ++ 165 ∷ body) c → IsClosedAfter (take (256 * length records) state.content ++ 165 ∷ (fields ++ tag)) c
-  ends_are c ends = subst (λ (l : List ℕ). IsClosedAfter (take (256 * length records) state.content ++ 165 ∷ l) c) body_is ends
+  ends_are : (c : List ℕ) → IsClosedAfter (take (256 * length records) state.content ++ open_value ∷ body) c → IsClosedAfter (take (256 * length records) state.content ++ open_value ∷ (fields ++ tag)) c
+  ends_are c ends = subst (λ (l : List ℕ). IsClosedAfter (take (256 * length records) state.content ++ open_value ∷ l) c) body_is ends
 
-  grown : (c : List ℕ) → IsClosedAfter (take (256 * length records) state.content ++ 165 ∷ body) c → IsFileOf (records ++ entry ∷ []) c
+  grown : (c : List ℕ) → IsClosedAfter (take (256 * length records) state.content ++ open_value ∷ body) c → IsFileOf (records ++ entry ∷ []) c
   grown c ends =
       file_grows records state.content c entry fields tag fields_len tag_len kept.file (ends_are c ends) (omega arith) key (read_record entry fields fields_len spelled) tag_is
 
-  pub added_leaves : (c : List ℕ) → IsClosedAfter (take (256 * length records) state.content) c ⊎ IsClosedAfter (take (256 * length records) state.content ++ 165 ∷ body) c
+  pub added_leaves : (c : List ℕ) → IsClosedAfter (take (256 * length records) state.content) c ⊎ IsClosedAfter (take (256 * length records) state.content ++ open_value ∷ body) c
       → StandsFor records c ⊎ StandsFor (records ++ entry ∷ []) c
   added_leaves c either =
       ⊎_elim (λ old. inl (file_stands records c (file_stays records state.content c kept.file old))) (λ new. inr (file_stands (records ++ entry ∷ []) c (grown c new))) either
 
-  grown_kept : (after : DiskState) → IsAtRest (take (256 * length records) state.content ++ 165 ∷ body) after → IsSyncedFile (records ++ entry ∷ []) tag after
+  grown_kept : (after : DiskState) → IsAtRest (take (256 * length records) state.content ++ open_value ∷ body) after → IsSyncedFile (records ++ entry ∷ []) tag after
   grown_kept after rest = record {
     synced = rest.synced;
     file = grown after.content rest.ends;
@@ -235,14 +235,14 @@ module _ (records : List Record) (last : List ℕ) (state : DiskState) (count : 
 
 pub kept_grows : (records after : List Record) (last : List ℕ) (state new : DiskState) (count : ℕ) (entry : Record) (fields tag body : List ℕ) → after ≡ records ++ entry ∷ [] → count ≡ length records → count < most_records
     → begins_with_key (records ++ entry ∷ []) ≡ true → length fields ≡ 223 → length tag ≡ 32 → body ≡ fields ++ tag → Spells slot_record entry fields → tag ≡ tag_of last fields → IsSyncedFile records last state
-    → IsAtRest (take (256 * length records) state.content ++ 165 ∷ body) new → IsSyncedFile after tag new
+    → IsAtRest (take (256 * length records) state.content ++ open_value ∷ body) new → IsSyncedFile after tag new
 kept_grows records after last state new count entry fields tag body is counted room key fields_len tag_len body_is spelled tagged kept rest =
     subst (λ (l : List Record). IsSyncedFile l tag new) (sym is) (grown_kept records last state count entry fields tag body counted room key fields_len tag_len body_is spelled tagged kept new rest)
 
 -- what an append leaves at any moment, from what adding its slot leaves
 pub appended_leaves : {D : Type 0} (moment : D → ℕ) (left_since : D → ℕ → List ℕ → Type 0) (old new : D) (records : List Record) (last : List ℕ) (state : DiskState) (count : ℕ) (entry : Record) (fields tag : List ℕ) → count ≡ length records → count < most_records
     → begins_with_key (records ++ entry ∷ []) ≡ true → length fields ≡ 223 → length tag ≡ 32 → Spells slot_record entry fields → tag ≡ tag_of last fields → IsSyncedFile records last state
-    → ((front : List ℕ) → IsAtRest front state → length front ≡ 256 * count → LeavesOnly moment left_since old new (λ c. IsClosedAfter front c ⊎ IsClosedAfter (front ++ 165 ∷ (fields ++ tag)) c))
+    → ((front : List ℕ) → IsAtRest front state → length front ≡ 256 * count → LeavesOnly moment left_since old new (λ c. IsClosedAfter front c ⊎ IsClosedAfter (front ++ open_value ∷ (fields ++ tag)) c))
     → LeavesOnly moment left_since old new (λ c. StandsFor records c ⊎ StandsFor (records ++ entry ∷ []) c)
 appended_leaves moment left_since old new records last state count entry fields tag counted room key fields_len tag_len spelled tagged kept leaves =
     weaker moment left_since old new _ _

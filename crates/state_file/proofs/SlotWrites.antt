@@ -5,6 +5,7 @@ use Rattle.std.proofs.Math.ListN.{set}
 use Rattle.std.proofs.lemmas.List.Prefix.{front_from_reads, front_reads}
 use Rattle.std.proofs.lemmas.Bool.{cases_eq, cases_lt}
 use Rattle.state_file.specs.Disk.{ChangesOnly, range_of}
+use Rattle.state_file.specs.File.{open_value}
 use Rattle.state_file.specs.Gates.{IsClosedAfter}
 
 -- a content that is closed after front, in its parts
@@ -12,7 +13,7 @@ record Splits (front content : List ℕ) : Type 0 where
   gate : ℕ
   rest : List ℕ
   whole : content ≡ front ++ gate ∷ rest
-  closed : gate ≢ 165
+  closed : gate ≢ open_value
 
 split : (front content : List ℕ) → IsClosedAfter front content → Splits front content
 split front content holds =
@@ -39,7 +40,7 @@ pub record Stages (front body content : List ℕ) : Type 0 where
   pub gate : ℕ
   pub rest : List ℕ
   pub whole : content ≡ front ++ gate ∷ (body ++ 0 ∷ rest)
-  pub closed : gate ≢ 165
+  pub closed : gate ≢ open_value
 
 module _ (front body : List ℕ) (at : ℕ) (len : length front ≡ at) where
   -- a change after the closed gate leaves it and what is before it
@@ -77,7 +78,7 @@ module _ (front body : List ℕ) (at : ℕ) (len : length front ≡ at) where
       }
 
   -- a change of the gate alone
-  gated : (content c : List ℕ) (staged : Stages front body content) → ChangesOnly (range_of at (165 ∷ []) ∷ []) content c → c ≡ front ++ slice_index c at ∷ (body ++ 0 ∷ staged.rest)
+  gated : (content c : List ℕ) (staged : Stages front body content) → ChangesOnly (range_of at (open_value ∷ []) ∷ []) content c → c ≡ front ++ slice_index c at ∷ (body ++ 0 ∷ staged.rest)
   gated content c staged changes =
       let gate = slice_index c at in
       let tail = body ++ 0 ∷ staged.rest in
@@ -95,25 +96,25 @@ module _ (front body : List ℕ) (at : ℕ) (len : length front ≡ at) where
       aside : (k : ℕ) → (k ≡ at → ⊥) → (k < at) ⊎ (at + 1 ≤ k)
       aside k other = elim (cases_lt k at) [ inl below ↦ inl below | inr above ↦ inr (omega arith) ]
 
-  opened : (content c : List ℕ) (staged : Stages front body content) → ChangesOnly (range_of at (165 ∷ []) ∷ []) content c → slice_index c at ≡ 165 → Splits (front ++ 165 ∷ body) c
+  opened : (content c : List ℕ) (staged : Stages front body content) → ChangesOnly (range_of at (open_value ∷ []) ∷ []) content c → slice_index c at ≡ open_value → Splits (front ++ open_value ∷ body) c
   opened content c staged changes is_open = record {
     gate = 0;
     rest = staged.rest;
-    whole = gated content c staged changes ∙ ap (λ n. front ++ n ∷ (body ++ 0 ∷ staged.rest)) is_open ∙ sym (append_assoc front (165 ∷ body) (0 ∷ staged.rest));
+    whole = gated content c staged changes ∙ ap (λ n. front ++ n ∷ (body ++ 0 ∷ staged.rest)) is_open ∙ sym (append_assoc front (open_value ∷ body) (0 ∷ staged.rest));
     closed = omega arith;
   }
 
-  gate_splits : (content c : List ℕ) → Stages front body content → ChangesOnly (range_of at (165 ∷ []) ∷ []) content c → Splits front c ⊎ Splits (front ++ 165 ∷ body) c
-  gate_splits content c staged changes = elim (cases_eq (slice_index c at) 165) [
+  gate_splits : (content c : List ℕ) → Stages front body content → ChangesOnly (range_of at (open_value ∷ []) ∷ []) content c → Splits front c ⊎ Splits (front ++ open_value ∷ body) c
+  gate_splits content c staged changes = elim (cases_eq (slice_index c at) open_value) [
     | inl is_open ↦ inr (opened content c staged changes is_open)
     | inr shut ↦ inl (record { gate = slice_index c at; rest = body ++ 0 ∷ staged.rest; whole = gated content c staged changes; closed = shut })
   ]
 
-  gate_parts : (content new : List ℕ) → Stages front body content → ChangesOnly (range_of at (165 ∷ []) ∷ []) content new → slice_range new at (at + 1) ≡ 165 ∷ [] → Splits (front ++ 165 ∷ body) new
+  gate_parts : (content new : List ℕ) → Stages front body content → ChangesOnly (range_of at (open_value ∷ []) ∷ []) content new → slice_range new at (at + 1) ≡ open_value ∷ [] → Splits (front ++ open_value ∷ body) new
   gate_parts content new staged changes put =
       let long = ap length staged.whole ∙ length-append front (staged.gate ∷ (body ++ 0 ∷ staged.rest)) in
       let width : at + 1 - at ≡ 1 = omega arith in
-      let one : slice_index new at ∷ [] ≡ 165 ∷ [] =
+      let one : slice_index new at ∷ [] ≡ open_value ∷ [] =
       ap (λ (l : List ℕ). take 1 l) (sym (drop_more new at 0 (omega (arith, long, len, changes.no_shorter)))) ∙ ap (λ n. take n (drop at new)) (sym width) ∙ put in
       opened content new staged changes cc
 
@@ -126,9 +127,9 @@ module _ (front body : List ℕ) (at : ℕ) (len : length front ≡ at) where
   stage_done content new bytes holds = stage_parts content new bytes (split front content holds)
 
   -- what a stop leaves in the second write, and what stands after it
-  pub gate_leaves : (content c : List ℕ) → Stages front body content → ChangesOnly (range_of at (165 ∷ []) ∷ []) content c → IsClosedAfter front c ⊎ IsClosedAfter (front ++ 165 ∷ body) c
+  pub gate_leaves : (content c : List ℕ) → Stages front body content → ChangesOnly (range_of at (open_value ∷ []) ∷ []) content c → IsClosedAfter front c ⊎ IsClosedAfter (front ++ open_value ∷ body) c
   gate_leaves content c staged changes =
-      ⊎_elim (λ old. inl (join front c old)) (λ new. inr (join (front ++ 165 ∷ body) c new)) (gate_splits content c staged changes)
+      ⊎_elim (λ old. inl (join front c old)) (λ new. inr (join (front ++ open_value ∷ body) c new)) (gate_splits content c staged changes)
 
-  pub gate_done : (content new : List ℕ) → Stages front body content → ChangesOnly (range_of at (165 ∷ []) ∷ []) content new → slice_range new at (at + 1) ≡ 165 ∷ [] → IsClosedAfter (front ++ 165 ∷ body) new
-  gate_done content new staged changes put = join (front ++ 165 ∷ body) new (gate_parts content new staged changes put)
+  pub gate_done : (content new : List ℕ) → Stages front body content → ChangesOnly (range_of at (open_value ∷ []) ∷ []) content new → slice_range new at (at + 1) ≡ open_value ∷ [] → IsClosedAfter (front ++ open_value ∷ body) new
+  gate_done content new staged changes put = join (front ++ open_value ∷ body) new (gate_parts content new staged changes put)

@@ -47,9 +47,13 @@ fields_at content k = take 223 (drop (256 * k + 1) content)
 abbrev pub tag_at : List ℕ → ℕ → List ℕ
 tag_at content k = take 32 (drop (256 * k + 224) content)
 
--- the tag of the slot before it; 32 zeros before slot 0
+-- what stands for a tag before slot 0
+abbrev pub first_tag : List ℕ
+first_tag = replicate 32 0
+
+-- the tag of the slot before it
 abbrev pub previous_tag : List ℕ → ℕ → List ℕ
-previous_tag content zero = replicate 32 0
+previous_tag content zero = first_tag
 previous_tag content (suc k) = tag_at content k
 
 -- the tag of these bytes after a slot of that tag

@@ -14,4 +14,4 @@ mod tests;
 pub(crate) use gate::{CLOSED, OPEN, is_open};
 pub(crate) use key::{begins_key, version};
 pub(crate) use record::{read_record, record_bytes};
-pub(crate) use tag::tag;
+pub(crate) use tag::{FIRST_TAG, tag};

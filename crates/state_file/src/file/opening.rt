@@ -1,9 +1,10 @@
 //! What stands in a file: its slots are read one after the other, up to the first whose gate is closed.
 
 ghost use Rattle.std.specs.Prelude.{◌≡◌, ◌+◌, ◌*◌, ◌-◌, ◌<◌, ◌≤◌, ◌==◌, ◌∷◌, [], ◌++◌, IsTrue, IfOk, IfErr};
-ghost use Rattle.std.specs.Prelude.{OnOk, MatchOption, length, replicate, slice_index};
+ghost use Rattle.std.specs.Prelude.{OnOk, MatchOption, length, slice_index};
 ghost use Rattle.typecodes.specs.Layout.{Spells};
-ghost use Rattle.state_file.specs.File.{MayHaveKey, fields_at, most_records, open_value, previous_tag, tag_at, tag_of};
+ghost use Rattle.state_file.specs.File.{MayHaveKey, fields_at, first_tag, most_records, open_value, previous_tag};
+ghost use Rattle.state_file.specs.File.{tag_at, tag_of};
 ghost use Rattle.state_file.specs.Slot.{slot_record};
 ghost use Rattle.state_file.specs.declared.record.Record.{Record as Entry};
 ghost use Rattle.state_file.specs.Disk.{settled, MayLeave, LeavesOnly, is_failure};
@@ -14,7 +15,7 @@ ghost use Rattle.state_file.specs.Opening.{KeepsContent, StartsWithKey, ReportsD
 use crate::disk::{Disk, DiskFault};
 use crate::file::gates::{SLOT, read_within, settle};
 use crate::record::{Record, RecordList};
-use crate::slot::{begins_key, is_open, read_record, tag, version};
+use crate::slot::{FIRST_TAG, begins_key, is_open, read_record, tag, version};
 use thiserror::Error;
 
 /// How many records a file has at most.
@@ -121,14 +122,14 @@ fn read_body<D: Disk>(disk: &mut D, k: u32) -> Result<Body, DiskFault>
     Ok(Body { fields, tag })
 }
 
-// The tag of the slot before slot k; 32 zeros before slot 0.
+// The tag of the slot before slot k.
 fn read_previous_tag<D: Disk>(disk: &mut D, k: u32) -> Result<[u8; 32], DiskFault>
     requires { HasBytes D.Disk disk.old (256 * k) }
     ensures tag { IsTrue (D.honest disk.old) → IfOk result (λ tag. tag ≡ previous_tag (D.state disk.old).content k) }
     ensures reads { ReadsDisk D.Disk is_failure disk.old disk.new result }
 {
     match k.checked_sub(1) {
-        None => Ok([0; 32]),
+        None => Ok(FIRST_TAG),
         Some(before) => read_tag(disk, before),
     }
 }
@@ -224,11 +225,11 @@ fn check_key<D: Disk>(disk: &mut D, len: u64) -> Result<(), OpenFault>
 impl Found {
     // No record yet.
     fn none() -> Self
-        ensures { (result.count ≡ 0) × (result.tag ≡ replicate 32 0) × (result.records ≡ []) }
+        ensures { (result.count ≡ 0) × (result.tag ≡ first_tag) × (result.records ≡ []) }
     {
         Found {
             count: 0,
-            tag: [0; 32],
+            tag: FIRST_TAG,
             records: RecordList::new(),
         }
     }

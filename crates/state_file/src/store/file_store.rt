@@ -19,7 +19,7 @@ use crate::file::{
 };
 use crate::record::{Record, RecordList};
 use crate::refused::Refused;
-use crate::slot::{record_bytes, tag};
+use crate::slot::{FIRST_TAG, record_bytes, tag};
 use crate::store::{SlotList, Store, StoreFault};
 
 /// Records on a disk, each in a slot of 256 bytes.
@@ -67,7 +67,7 @@ impl<D: Disk + Drop> FileStore<D> {
             Ok(()) => Ok(FileStore {
                 disk,
                 count: 0,
-                tag: [0; 32],
+                tag: FIRST_TAG,
                 stopped: false,
                 records: RecordList::new(),
                 unreadable: SlotList::new(),

@@ -3,6 +3,7 @@
 mod turning_disk;
 
 use crate::samples::{is_loaded, record};
+use crate::slot::record_bytes;
 use crate::*;
 use sha2::{Digest, Sha256};
 use std::alloc::Global;
@@ -265,22 +266,32 @@ fn gates_with_another_value(rt: HostRuntime) {
     }
 }
 
-// The fault that a file opens with where a byte of a slot, but not of its gate, is changed.
-fn fault_at(offset: usize) -> Option<OpenFault> {
-    match offset {
-        1..=9 => Some(OpenFault::NotKeyFile),
-        10 | 11 => Some(OpenFault::Version),
-        _ => Some(OpenFault::Damaged(u32::try_from(offset / 256).ok()?)),
+// What the file of three records opens with where this byte of it has another value.
+fn changed_at(offset: usize, value: u8) -> Option<Result<u32, OpenFault>> {
+    match (offset, value) {
+        (0, _) => Some(Err(OpenFault::NoKey)),
+        (1..=9, _) => Some(Err(OpenFault::NotKeyFile)),
+        (10 | 11, _) => Some(Err(OpenFault::Version)),
+        (256, _) => Some(Ok(1)),
+        (512, _) => Some(Ok(2)),
+        (768, 0xA5) => Some(Err(OpenFault::Damaged(3))),
+        (768, _) => Some(Ok(3)),
+        _ => Some(Err(OpenFault::Damaged(u32::try_from(offset / 256).ok()?))),
     }
 }
 
-// The first byte of the file of three records, but its gates, which changed doesn't give the fault.
+// The first byte of the file of three records which, set to one of these values or with bits turned, opens otherwise than
+// it has to.
 fn first_that_opens_otherwise(alloc: Global) -> Option<Option<usize>> {
     let file = file_of(alloc, 3)?;
     for (offset, byte) in file.iter().enumerate() {
-        for change in [0x01, 0x5A] {
-            let found = opened_with(alloc, &file, offset, *byte ^ change)?;
-            if offset % 256 != 0 && found != Err(fault_at(offset)?) {
+        for value in [0x00, 0x37, 0xA5, 0xFF, *byte ^ 0x01, *byte ^ 0x5A] {
+            let wanted = if value == *byte {
+                Ok(3)
+            } else {
+                changed_at(offset, value)?
+            };
+            if opened_with(alloc, &file, offset, value)? != wanted {
                 return Some(Some(offset));
             }
         }
@@ -289,8 +300,41 @@ fn first_that_opens_otherwise(alloc: Global) -> Option<Option<usize>> {
 }
 
 #[test]
-fn each_byte_of_a_slot_changed(rt: HostRuntime) {
+fn each_byte_of_a_file_changed(rt: HostRuntime) {
     assert_eq!(rt; first_that_opens_otherwise(rt.alloc()), Some(None));
+}
+
+// What a file of one slot opens with, which has these fields and their tag.
+fn opened_with_slot(alloc: Global, fields: &[u8; 223]) -> Option<Result<u32, OpenFault>> {
+    let mut content = Vec::new(alloc);
+    content.push(0xA5).ok()?;
+    content.extend_from_slice(fields).ok()?;
+    content.extend_from_slice(&tagged(&[0; 32], fields)).ok()?;
+    content.push(0).ok()?;
+    opened_from(alloc, &content)
+}
+
+// The same of the record of this number, with another value in byte 10 of its fields, which is the version's second.
+fn opened_with_record(alloc: Global, k: u32, value: u8) -> Option<Result<u32, OpenFault>> {
+    let mut fields = record_bytes(&record(k)?);
+    fields[10] = value;
+    opened_with_slot(alloc, &fields)
+}
+
+// A file begins with a Key of a known version, whatever its tags.
+#[test]
+fn a_first_slot_of_another_kind(rt: HostRuntime) {
+    for (k, version, wanted) in [
+        (0, 1, Ok(1)),
+        (0, 0, Err(OpenFault::Version)),
+        (0, 2, Err(OpenFault::Version)),
+        (1, 1, Err(OpenFault::NotKeyFile)),
+        (2, 1, Err(OpenFault::NotKeyFile)),
+        (3, 0, Err(OpenFault::NotKeyFile)),
+        (4, 0, Err(OpenFault::NotKeyFile)),
+    ] {
+        assert_eq!(rt; opened_with_record(rt.alloc(), k, version), Some(wanted));
+    }
 }
 
 // The first length at which the file of three records, cut short, opens otherwise than it has to.

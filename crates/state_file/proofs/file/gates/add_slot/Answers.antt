@@ -1,5 +1,6 @@
 use Rattle.std.proofs.Common.{◌≡◌, ◌⊎◌, inl, ℕ, ◌*◌, [], ◌∷◌, ◌++◌, length, ◌∙◌, subst, arith}
 use Rattle.state_file.specs.Disk.{ChangesOnly}
+use Rattle.state_file.specs.File.{open_value}
 use Rattle.state_file.specs.Gates.{AddsSlot, IsClosedAfter, IsAtRest, slot_and_gate}
 use Rattle.state_file.proofs.Adding.{block_size, both_stay, first_stays, slot_added}
 use Rattle.state_file.proofs.Moments.{weaker, combined, ok_along}
@@ -19,7 +20,7 @@ returns-clause-added g c front honest rest size =
     let written = c.in_ok-write_synced.ensures.written honest in
     let staged = stage_done front (c.args.fields.now ++ c.args.tag.now) (256 * c.from-gate.result) len (g.D.Disk.state c.args.disk.now).content (g.D.Disk.state c.write_synced.new.disk).content c.block.result
     rest.ends c.block.ensures.bytes written.1 written.2 in
-    ok_along c.write_synced-2.result _ (IsAtRest (front ++ 165 ∷ (c.args.fields.now ++ c.args.tag.now)) (g.D.Disk.state c.write_synced-2.new.disk))
+    ok_along c.write_synced-2.result _ (IsAtRest (front ++ open_value ∷ (c.args.fields.now ++ c.args.tag.now)) (g.D.Disk.state c.write_synced-2.new.disk))
     (λ done. record {
       synced = done.0;
       ends = gate_done front (c.args.fields.now ++ c.args.tag.now) (256 * c.from-gate.result) len (g.D.Disk.state c.write_synced.new.disk).content (g.D.Disk.state c.write_synced-2.new.disk).content staged done.1 done.2;
@@ -30,14 +31,14 @@ pub returns-clause-any_moment : goal.returns-clause-any_moment
 returns-clause-any_moment g c front honest rest size =
     let len : length front ≡ 256 * c.from-gate.result = omega arith in
     let first =
-    weaker g.D.Disk.moment g.D.Disk.left_since c.args.disk.now c.write_synced.new.disk _ (λ left. IsClosedAfter front left ⊎ IsClosedAfter (front ++ 165 ∷ (c.args.fields.now ++ c.args.tag.now)) left)
+    weaker g.D.Disk.moment g.D.Disk.left_since c.args.disk.now c.write_synced.new.disk _ (λ left. IsClosedAfter front left ⊎ IsClosedAfter (front ++ open_value ∷ (c.args.fields.now ++ c.args.tag.now)) left)
     (λ left changes. inl (stage_leaves front (c.args.fields.now ++ c.args.tag.now) (256 * c.from-gate.result) len (g.D.Disk.state c.args.disk.now).content left c.block.result rest.ends changes))
     (c.write_synced.ensures.any_moment honest rest.synced) in
     let written = c.in_ok-write_synced.ensures.written honest in
     let staged = stage_done front (c.args.fields.now ++ c.args.tag.now) (256 * c.from-gate.result) len (g.D.Disk.state c.args.disk.now).content (g.D.Disk.state c.write_synced.new.disk).content c.block.result
     rest.ends c.block.ensures.bytes written.1 written.2 in
     let second =
-    weaker g.D.Disk.moment g.D.Disk.left_since c.write_synced.new.disk c.write_synced-2.new.disk _ (λ left. IsClosedAfter front left ⊎ IsClosedAfter (front ++ 165 ∷ (c.args.fields.now ++ c.args.tag.now)) left)
+    weaker g.D.Disk.moment g.D.Disk.left_since c.write_synced.new.disk c.write_synced-2.new.disk _ (λ left. IsClosedAfter front left ⊎ IsClosedAfter (front ++ open_value ∷ (c.args.fields.now ++ c.args.tag.now)) left)
     (λ left changes. gate_leaves front (c.args.fields.now ++ c.args.tag.now) (256 * c.from-gate.result) len (g.D.Disk.state c.write_synced.new.disk).content left staged changes)
     (c.write_synced-2.ensures.any_moment (c.write_synced.ensures.counts.honest ∙ honest) written.0) in
     combined g.D.Disk.moment g.D.Disk.left_since c.args.disk.now c.write_synced.new.disk c.write_synced-2.new.disk _ first second
