@@ -113,15 +113,14 @@ fn level_count(number: u8) -> LevelCount
 
 // The signature of the message by both levels, and its key.
 fn signed() -> (HssPublic, [u8; 2644]) {
+    signed_text(&MESSAGE)
+}
+
+// The same of another text.
+fn signed_text(text: &[u8]) -> (HssPublic, [u8; 2644]) {
     let (top_root, top_path) = tree_of(TOP);
     let (bottom_root, bottom_path) = tree_of(BOTTOM);
-    let bottom = level(
-        &BOTTOM,
-        BOTTOM_RANDOMIZER,
-        bottom_root,
-        &bottom_path,
-        &MESSAGE,
-    );
+    let bottom = level(&BOTTOM, BOTTOM_RANDOMIZER, bottom_root, &bottom_path, text);
     let mut key = [0; 56];
     lms::write_public(&bottom.public(), &mut key);
     let top = level(&TOP, TOP_RANDOMIZER, top_root, &top_path, &key);
@@ -201,6 +200,102 @@ fn changes_are_refused(rt: HostRuntime) {
             "{byte} at {offset}"
         );
     }
+}
+
+// The fields of a signature of two levels of H5 and W8, by where a run of fields of one size begins, and that size. At
+// each level these are q and the one-time type, C and 34 values, the tree's type, and five nodes (5.4). Before the top
+// one stands the number of levels, and between them a key: two types, I and the root (5.3).
+const FIELDS: [(u32, u32); 11] = [
+    (0, 4),
+    (12, 32),
+    (1132, 4),
+    (1136, 32),
+    (1296, 4),
+    (1304, 16),
+    (1320, 32),
+    (1352, 4),
+    (1360, 32),
+    (2480, 4),
+    (2484, 32),
+];
+
+// Where the field begins that is cut by an end at this offset.
+fn cut_field(end: u32) -> u32 {
+    let mut place = 0;
+    for (start, size) in FIELDS {
+        if start <= end {
+            place = end - (end - start) % size.max(1);
+        }
+    }
+    place
+}
+
+#[test]
+fn each_beginning_is_cut_in_a_field(rt: HostRuntime) {
+    let (public, signature) = signed();
+    assert_eq!(rt; cut_field(2643), 2612);
+    for end in 0..2644u32 {
+        assert_eq!(rt;
+            refusal(&rt, &public, &signature[..end as usize]),
+            (fault(cut_field(end), Cause::Truncated), 1),
+            "{end}"
+        );
+    }
+}
+
+// Gives its bytes in pieces of this size. Every other read is interrupted.
+#[derive(Drop)]
+struct Pieces<'a> {
+    left: &'a [u8],
+    size: usize,
+    is_interrupted: bool,
+}
+
+impl Read for Pieces<'_> {
+    fn read(&mut self, buffer: &mut [u8]) -> io::Result<usize> {
+        self.is_interrupted = !self.is_interrupted;
+        if self.is_interrupted {
+            return Err(io::Error::from(io::ErrorKind::Interrupted));
+        }
+        let n = self.size.min(buffer.len()).min(self.left.len());
+        let (piece, left) = self.left.split_at(n);
+        buffer[..n].copy_from_slice(piece);
+        self.left = left;
+        Ok(n)
+    }
+}
+
+const fn in_pieces(text: &[u8], size: usize) -> Pieces<'_> {
+    Pieces {
+        left: text,
+        size,
+        is_interrupted: false,
+    }
+}
+
+#[test]
+fn pieces_lead_to_the_verdict_on_the_whole(rt: HostRuntime) {
+    let text = [9; 200];
+    let (public, signature) = signed_text(&text);
+    for size in [1, 2, 63, 64, 65, 129, 199, 200, 20_000] {
+        let mut message = in_pieces(&text, size);
+        let mut shorter = in_pieces(&text[..199], size);
+        assert_eq!(rt;
+            (
+                verify(&public, &mut message, &signature),
+                verify(&public, &mut shorter, &signature)
+            ),
+            (Ok(()), Err(Refusal::RootMismatch(1))),
+            "{size}"
+        );
+        assert!(rt; message.left.is_empty());
+    }
+    // one that gives nothing for ever is empty
+    let mut empty = in_pieces(&text, 0);
+    assert_eq!(rt;
+        verify(&public, &mut empty, &signature),
+        Err(Refusal::RootMismatch(1))
+    );
 }
 
 // Gives so many zeros, and then fails.

@@ -365,6 +365,30 @@ fn signatures_are_verified(rt: HostRuntime) {
     }
 }
 
+// The fields of a signature of H5 and W8, by where a run of fields of one size begins, and that size: q and the one-time
+// type, C and 34 values, the tree's type, and five nodes (5.4).
+const FIELDS: [(u32, u32); 4] = [(0, 4), (8, 32), (1128, 4), (1132, 32)];
+
+// Where the field begins that is cut by an end at this offset.
+fn cut_field(end: u32) -> u32 {
+    let mut place = 0;
+    for (start, size) in FIELDS {
+        if start <= end {
+            place = end - (end - start) % size.max(1);
+        }
+    }
+    place
+}
+
+#[test]
+fn each_beginning_is_cut_in_a_field(rt: HostRuntime) {
+    let signature = sign(&tree(), 5, b"message");
+    for end in 0..1292u32 {
+        let cut = Refusal::Unreadable(fault(cut_field(end), Cause::Truncated));
+        assert_eq!(rt; refusal(&rt, &signature[..end as usize]), cut, "{end}");
+    }
+}
+
 // Gives its bytes in pieces of 1 to 64, whose sizes are those of a linear congruential generator.
 #[derive(Drop)]
 struct Pieces<'a> {

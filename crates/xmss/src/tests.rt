@@ -1,6 +1,6 @@
 //! Refusals in the order of the checks, and signatures that other programs made.
 
-use crate::{XmssPublic, XmssSigView, message_digest, verify};
+use crate::{XmssPublic, XmssSigView, message_digest, message_digest_from, verify};
 use std::io;
 use std::io::Read;
 use std::process::Abort;
@@ -216,6 +216,23 @@ fn signature_of_botan(rt: HostRuntime) -> Result<(), Fail> {
     assert_verified(&rt, &BOTAN_PUBLIC, &BOTAN_MESSAGE, &BOTAN_SIGNATURE)
 }
 
+// The index has 4 bytes, and r, each value and each node 32 (4.1.8).
+#[test]
+fn each_beginning_is_cut_in_a_field(rt: HostRuntime) -> Result<(), Fail> {
+    let key = XmssPublic::read(&CASTLE_PUBLIC)?;
+    for end in 0..2500u32 {
+        let place = if end < 4 { 0 } else { end - (end - 4) % 32 };
+        let cut = Refusal::Unreadable(fault(place, Cause::Truncated));
+        let mut message: &[u8] = &CASTLE_MESSAGE;
+        assert_eq!(rt;
+            verify(&key, &mut message, &CASTLE_SIGNATURE[..end as usize]),
+            Err(cut),
+            "{end}"
+        );
+    }
+    Ok(())
+}
+
 // Under a changed root or SEED, and under the type of a higher tree.
 #[test]
 fn other_keys_refuse(rt: HostRuntime) -> Result<(), Fail> {
@@ -234,6 +251,98 @@ fn other_keys_refuse(rt: HostRuntime) -> Result<(), Fail> {
             "byte {byte}"
         );
     }
+    Ok(())
+}
+
+// Gives its bytes in pieces of this size. Every other read is interrupted.
+#[derive(Drop)]
+struct Pieces<'a> {
+    left: &'a [u8],
+    size: usize,
+    is_interrupted: bool,
+}
+
+impl Read for Pieces<'_> {
+    fn read(&mut self, buffer: &mut [u8]) -> io::Result<usize> {
+        self.is_interrupted = !self.is_interrupted;
+        if self.is_interrupted {
+            return Err(io::Error::from(io::ErrorKind::Interrupted));
+        }
+        let n = self.size.min(buffer.len()).min(self.left.len());
+        let (piece, left) = self.left.split_at(n);
+        buffer[..n].copy_from_slice(piece);
+        self.left = left;
+        Ok(n)
+    }
+}
+
+const fn in_pieces(text: &[u8], size: usize) -> Pieces<'_> {
+    Pieces {
+        left: text,
+        size,
+        is_interrupted: false,
+    }
+}
+
+#[test]
+fn pieces_lead_to_the_verdict_on_the_whole(rt: HostRuntime) -> Result<(), Fail> {
+    let key = XmssPublic::read(&CASTLE_PUBLIC)?;
+    for size in [1, 2, 31, 62, 63, 64, 65, 20_000] {
+        let mut message = in_pieces(&CASTLE_MESSAGE, size);
+        let mut shorter = in_pieces(&CASTLE_MESSAGE[..62], size);
+        assert_eq!(rt;
+            (
+                verify(&key, &mut message, &CASTLE_SIGNATURE),
+                verify(&key, &mut shorter, &CASTLE_SIGNATURE)
+            ),
+            (Ok(()), Err(Refusal::RootMismatch(0))),
+            "{size}"
+        );
+        assert!(rt; message.left.is_empty());
+    }
+    Ok(())
+}
+
+// Long texts, too: 2^14 bytes are read at a time.
+#[test]
+fn pieces_have_the_digest_of_the_whole(rt: HostRuntime) {
+    let mut text = [0; 33_000];
+    for i in 0..33_000usize {
+        text[i] = (i % 251) as u8;
+    }
+    let (randomizer, root) = ([0x11; 32], [0x22; 32]);
+    for size in [1, 63, 64, 65, 1000, 16_383, 16_384, 16_385, 33_000] {
+        let mut message = in_pieces(&text, size);
+        assert_eq!(rt;
+            message_digest_from(&randomizer, &root, 7, &mut message),
+            Ok(message_digest(&randomizer, &root, 7, &text)),
+            "{size}"
+        );
+    }
+}
+
+// A reader that is interrupted for ever.
+#[derive(Drop)]
+struct Interrupted {}
+
+impl Read for Interrupted {
+    fn read(&mut self, _buffer: &mut [u8]) -> io::Result<usize> {
+        Err(io::Error::from(io::ErrorKind::Interrupted))
+    }
+}
+
+// A message that gives nothing for ever is empty, or can't be read.
+#[test]
+fn messages_without_bytes(rt: HostRuntime) -> Result<(), Fail> {
+    let key = XmssPublic::read(&CASTLE_PUBLIC)?;
+    assert_eq!(rt;
+        verify(&key, &mut in_pieces(&[7], 0), &CASTLE_SIGNATURE),
+        Err(Refusal::RootMismatch(0))
+    );
+    assert_eq!(rt;
+        verify(&key, &mut Interrupted {}, &CASTLE_SIGNATURE),
+        Err(Refusal::MessageRead)
+    );
     Ok(())
 }
 

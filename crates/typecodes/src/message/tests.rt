@@ -5,6 +5,8 @@ use super::*;
 enum Step {
     // gives as many bytes as there is room for, but at most so many
     Part(usize),
+    // says that it gave as many, and writes none
+    Claimed(usize),
     Interrupted,
     Fails,
 }
@@ -32,6 +34,7 @@ impl Read for Planned<'_> {
                 }
                 Ok(n)
             }
+            Step::Claimed(most) => Ok(buffer.len().min(*most)),
             Step::Interrupted => Err(io::Error::from(ErrorKind::Interrupted)),
             Step::Fails => Err(io::Error::from(ErrorKind::BrokenPipe)),
         }
@@ -83,6 +86,19 @@ fn interrupted_reads_are_tried_again(rt: HostRuntime) {
         (&[], 0, [0; 5], 0),
     ] {
         assert_eq!(rt; piece_of(plan), (Ok(count), piece, left));
+    }
+}
+
+// Bytes that a read says it gave count as given, also where it wrote none.
+#[test]
+fn claimed_bytes_are_those_of_the_buffer(rt: HostRuntime) {
+    use Step::{Claimed, Part};
+    for (plan, count, piece) in [
+        ([Claimed(9)].as_slice(), 5, [0; 5]),
+        (&[Claimed(2), Part(2)], 4, [0, 0, 1, 2, 0]),
+        (&[Part(2), Claimed(2), Part(9)], 5, [1, 2, 0, 0, 3]),
+    ] {
+        assert_eq!(rt; piece_of(plan), (Ok(count), piece, 0));
     }
 }
 
