@@ -15,8 +15,8 @@ use Rattle.key_audit.specs.declared.report.Anchor.{Anchor}
 use Rattle.key_audit.specs.declared.report.AuditFault.{AuditFault}
 use Rattle.key_audit.specs.declared.report.AuditFault.TheVariants.{Stopped, NoKey, Damaged, Illegal, DeviceFailed, OutOfMemory, AnchorCount, AnchorTag}
 use Rattle.key_audit.specs.declared.report.Report.{Report}
-use Rattle.key_audit.specs.Audit.{AreTags, Audits, IsBeyond, IsTagged, IsWithin, Judges, ReadsStore, Reports, is_fault, is_stopped}
-use Rattle.key_audit.specs.Loading.{AreLoaded, ChecksAnchor, FitsAnchor, GivesTag, IsNoLedger, IsSlotTag, ReadsSlotTag}
+use Rattle.key_audit.specs.Audit.{AreTags, Audits, ChecksAnchor, FitsAnchor, IsBeyond, IsSlotTag, IsTagged, IsWithin, Judges, ReadsStore, Reports, is_fault, is_stopped}
+use Rattle.key_audit.specs.Loading.{AreLoaded, GivesTag, IsNoLedger, ReadsSlotTag}
 use Rattle.key_audit.specs.Tags.{IsTag}
 use Rattle.key_audit.proofs.Loads.{IsKept, answered, kept_by, reads_after}
 use Rattle.key_audit.proofs.Tags.{tag_law}
@@ -192,7 +192,7 @@ module _ {D : Type 0} (d : disk.Ghosts D) where
       let alike = judged_alike (d.honest (disk_of old)) loaded anchor fault judges in
       made gives_bytes old new anchor (Err fault) loaded (refused_alike old new fault reads) are alike.0 (λ honest. alike.1 (IsSlotTag d (disk_of old)))
 
-  -- they don't fit the anchor, or it couldn't be told
+  -- they don't fit the anchor, or its tag couldn't be read
   pub no_anchor : {A : Type 0} → GivesBytes → (old mid new : FileStore D d) (anchor : Option Anchor) (fault : AuditFault) (x : A) (records : List Record)
       → ReadsStore d old mid (Ok x) → AreLoaded (d.honest (disk_of old)) (records_of old) records → IsLegal records
       → ChecksAnchor d mid new anchor (Err fault) → Audits d old new anchor (Err fault)

@@ -34,10 +34,10 @@ never-fails (first ∷ later) kind old new (next, step, rest) = never-fails late
 gives : (outcomes : List ReadOutcome) (text : List ℕ) (old new : InMemory) → Transitions GivesNext outcomes old new → Gave outcomes text
     → (length text ≤ length old.rest.now) × (interruptions outcomes ≡ 0)
 gives [] text old new end gave = (omega (arith, ap length gave), refl)
-gives (Ok read ∷ later) text old new (next, (bytes, is, split), rest) (some, (others, joined, gave)) =
+gives (Ok read ∷ later) text old new (next, (bytes, is, split), rest) (some, (others, sum_of, gave)) =
     let (fewer, none) = gives later others next new rest gave in
     let same : read ≡ bytes = cc in
-    let sum : length text ≡ length read + length others = ap length joined ∙ length-append read others in
+    let sum : length text ≡ length read + length others = ap length sum_of ∙ length-append read others in
     let all : length old.rest.now ≡ length bytes + length next.rest.now = ap length split ∙ length-append bytes next.rest.now in
     (omega (arith, sum, all, fewer, ap length same), none)
 gives (Err kind ∷ later) text old new (next, (bytes, is, split), rest) gave = absurd (err-never kind bytes is)

@@ -1,18 +1,15 @@
--- What the parts of an audit do: loads of records, and reads of tags.
-use Rattle.std.specs.Prelude.{◌≡◌, ℕ, ◌<◌, ◌≤◌, Bool, false, IsTrue, List, [], length}
-use Rattle.std.specs.Prelude.{Option, Some, None, IsSome, Result, Ok, Err}
+-- What an audit loads from a store: its records, and tags of them.
+use Rattle.std.specs.Prelude.{◌≡◌, ℕ, ◌<◌, ◌≤◌, Bool, false, IsTrue, List, [], length, Option, Some, None, Result, Ok, Err}
 use Rattle.state_file.specs.declared.disk.Disk as disk
 use Rattle.state_file.specs.declared.record.Record.{Record}
 use Rattle.state_file.specs.declared.store.file_store.FileStore.{FileStore}
-use Rattle.state_file.specs.File.{tag_at}
 use Rattle.state_file.specs.FileStore.{disk_of, records_of}
 use Rattle.state_file.specs.Store.{IsRecordAt}
 use Rattle.sign_core.specs.Records.{first_illegal}
-use Rattle.key_audit.specs.declared.report.Anchor.{Anchor}
 use Rattle.key_audit.specs.declared.report.AuditFault.{AuditFault}
 use Rattle.key_audit.specs.declared.report.AuditFault.TheVariants.{Stopped, NoKey, Damaged, Illegal, DeviceFailed}
-use Rattle.key_audit.specs.declared.report.AuditFault.TheVariants.{OutOfMemory, AnchorCount, AnchorTag}
-use Rattle.key_audit.specs.Audit.{IsBeyond, IsTagged, IsWithin, Judges, ReadsStore}
+use Rattle.key_audit.specs.declared.report.AuditFault.TheVariants.{OutOfMemory}
+use Rattle.key_audit.specs.Audit.{IsSlotTag, Judges, ReadsStore}
 
 -- What the load of record k finds.
 abbrev pub FindsRecord : (honest : Bool) → List Record → (k : ℕ) → Result (Option Record) AuditFault → Type 0
@@ -55,10 +52,6 @@ IsNoLedger honest list fault =
 
 -- ---- tags
 
--- the tag of slot k of a disk
-abbrev pub IsSlotTag : {D : Type 0} (d : disk.Ghosts D) → D → ℕ → List ℕ → Type 0
-IsSlotTag d on k tag = tag ≡ tag_at (d.state on).content k
-
 -- What the read of the tag of slot k gives.
 abbrev pub GivesTag : (IsTagOf : ℕ → List ℕ → Type 0) → (honest : Bool) → (k : ℕ) → Result (List ℕ) AuditFault → Type 0
 GivesTag IsTagOf honest k (Ok tag) = IsTrue honest → IsTagOf k tag
@@ -70,19 +63,3 @@ pub record ReadsSlotTag {D : Type 0} (d : disk.Ghosts D) (old new : FileStore D 
     (answer : Result (List ℕ) AuditFault) : Type 0 where
   pub store : ReadsStore d old new answer
   pub gives : GivesTag (IsSlotTag d (disk_of old)) (d.honest (disk_of old)) k answer
-
--- What is answered to an anchor, if one is given, by a store of these records.
-abbrev pub FitsAnchor : (IsTagOf : ℕ → List ℕ → Type 0) → (honest : Bool) → List Record → Option Anchor
-    → Result (Unit {0}) AuditFault → Type 0
-FitsAnchor IsTagOf honest list anchor (Ok _) = IsWithin anchor list × (IsTrue honest → IsTagged IsTagOf anchor)
-FitsAnchor IsTagOf honest list anchor (Err Stopped) = Unit {0}
-FitsAnchor IsTagOf honest list anchor (Err DeviceFailed) = Unit {0}
-FitsAnchor IsTagOf honest list anchor (Err AnchorCount) = IsBeyond anchor list
-FitsAnchor IsTagOf honest list anchor (Err AnchorTag) =
-    IsSome anchor × IsWithin anchor list × (IsTrue honest → IsTagged IsTagOf anchor → ⊥)
-FitsAnchor IsTagOf honest list anchor (Err _) = ⊥
-
-pub record ChecksAnchor {D : Type 0} (d : disk.Ghosts D) (old new : FileStore D d) (anchor : Option Anchor)
-    (answer : Result (Unit {0}) AuditFault) : Type 0 where
-  pub store : ReadsStore d old new answer
-  pub fits : FitsAnchor (IsSlotTag d (disk_of old)) (d.honest (disk_of old)) (records_of old) anchor answer

@@ -1,4 +1,4 @@
-//! Messages that are held whole, as readers that are known to give nothing else.
+//! Messages in memory, as readers that are known to give nothing else.
 
 ghost use Rattle.std.specs.Prelude.{Some};
 ghost use Rattle.key_audit.specs.InMemory.{GivesNext};

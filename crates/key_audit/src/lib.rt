@@ -3,7 +3,7 @@
 //! `audit` reads a state file: are its records those of a key, what do they say of it, and do they fit an anchor, which
 //! is how many there once were and the tag of the last of them? Its model is `specs/Audit.antt`. The tag of a record is
 //! that of its slot in every file of these records (`tag_laws`, `specs/Tags.antt`), and it stays, whatever records
-//! follow. So a file's last tag, kept elsewhere, tells whether the file was put back behind it (`audit_laws`).
+//! follow. So a file's last tag, kept elsewhere, tells whether an older copy was put in its place (`audit_laws`).
 //!
 //! `check_given` takes signatures that a key has given out, with their messages: are all valid, and has no leaf of a
 //! tree signed two digests? Its model is `specs/Given.antt`, over the leaf uses that `sign_core` reads off the bytes of
@@ -28,7 +28,7 @@
 //! ```
 #![tactic(auto)]
 
-mod auditing;
+mod file;
 mod given;
 mod in_memory;
 mod laws;
@@ -39,7 +39,7 @@ mod report;
 mod tests;
 mod uses;
 
-pub use crate::auditing::audit;
+pub use crate::file::audit::audit;
 pub use crate::given::{Given, GivenFault, check_given};
 pub use crate::laws::{audit_laws, tag_laws};
 pub use crate::report::{Anchor, AuditFault, Report};

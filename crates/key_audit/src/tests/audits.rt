@@ -4,15 +4,15 @@ use super::files::{Entry, file_in, store_in, stored, tag_in};
 use super::*;
 use state_file::{Disk, FileStore, MemoryDisk};
 
-// What an audit tells, but for the key and the tag: how many records there are, how many leaves are free at the top,
+// What an audit answers, but for the key and the tag: how many records there are, how many leaves are free at the top,
 // and whether the records go on elsewhere.
-pub(super) type Told = Result<(u32, u32, Option<u16>), AuditFault>;
+pub(super) type Audited = Result<(u32, u32, Option<u16>), AuditFault>;
 
-pub(super) fn told<D: Disk + Drop>(
+pub(super) fn audited<D: Disk + Drop>(
     alloc: Global,
     store: &mut FileStore<D>,
     anchor: Option<Anchor>,
-) -> Option<Told> {
+) -> Option<Audited> {
     match audit(alloc, store, anchor) {
         Ok(report) => Some(Ok((
             report.records,
@@ -23,21 +23,21 @@ pub(super) fn told<D: Disk + Drop>(
     }
 }
 
-// What is told of a list without an anchor, and with one that counts nothing.
-fn told_twice(alloc: Global, entries: &[Entry]) -> Option<(Told, Told)> {
+// What an audit answers to a list without an anchor, and with one that counts nothing.
+fn audited_twice(alloc: Global, entries: &[Entry]) -> Option<(Audited, Audited)> {
     let mut store = stored(alloc, entries)?;
     let nothing = Anchor {
         count: 0,
         tag: [0; 32],
     };
     Some((
-        told(alloc, &mut store, None)?,
-        told(alloc, &mut store, Some(nothing))?,
+        audited(alloc, &mut store, None)?,
+        audited(alloc, &mut store, Some(nothing))?,
     ))
 }
 
-// Lists after a key of one tree of 32 leaves, and what is told of them.
-const LISTS: [(&[Entry], Told); 12] = [
+// Lists after a key of one tree of 32 leaves, and what an audit answers to them.
+const LISTS: [(&[Entry], Audited); 12] = [
     (&[], Ok((1, 32, None))),
     (
         &[Entry::Bound(3, b'a'), Entry::Bound(7, b'b')],
@@ -79,14 +79,14 @@ fn lists_are_judged_before_an_anchor(rt: HostRuntime) {
             Err(_) => wanted,
         };
         assert_eq!(rt;
-            told_twice(rt.alloc(), entries),
+            audited_twice(rt.alloc(), entries),
             Some((wanted, with_nothing))
         );
     }
 }
 
-// The anchors of a file from no record to five, each with its own tag and with another: what is told with them.
-fn with_anchors(alloc: Global, file: &[u8]) -> Option<[(Told, Told); 6]> {
+// The anchors of a file from no record to five, each with its own tag and with another: what is answered to them.
+fn with_anchors(alloc: Global, file: &[u8]) -> Option<[(Audited, Audited); 6]> {
     let mut store = store_in(alloc, file)?;
     let mut answers = [(Err(AuditFault::NoKey), Err(AuditFault::NoKey)); 6];
     for (i, answer) in answers.iter_mut().enumerate() {
@@ -95,9 +95,9 @@ fn with_anchors(alloc: Global, file: &[u8]) -> Option<[(Told, Told); 6]> {
             count: i as u32,
             tag: tag_in(file, slot).unwrap_or([0; 32]),
         };
-        let fitting = told(alloc, &mut store, Some(anchor))?;
+        let fitting = audited(alloc, &mut store, Some(anchor))?;
         anchor.tag[31] ^= 1;
-        *answer = (fitting, told(alloc, &mut store, Some(anchor))?);
+        *answer = (fitting, audited(alloc, &mut store, Some(anchor))?);
     }
     Some(answers)
 }
@@ -114,7 +114,7 @@ fn closed_at(alloc: Global, slot: usize) -> Option<Vec<u8>> {
     Some(file)
 }
 
-fn with_anchors_closed_at(alloc: Global, slot: usize) -> Option<[(Told, Told); 6]> {
+fn with_anchors_closed_at(alloc: Global, slot: usize) -> Option<[(Audited, Audited); 6]> {
     with_anchors(alloc, &closed_at(alloc, slot)?)
 }
 
@@ -131,20 +131,23 @@ fn anchors_fit_later_files_alone(rt: HostRuntime) {
     }
 }
 
-// What an audit tells of a place that was prepared, and has no key.
-fn told_of_nothing(alloc: Global) -> Option<Told> {
+// What an audit answers to a place that was prepared, and has no key.
+fn audited_without_key(alloc: Global) -> Option<Audited> {
     let mut store = FileStore::format(MemoryDisk::of(alloc, &[]).ok()?).ok()?;
-    told(alloc, &mut store, None)
+    audited(alloc, &mut store, None)
 }
 
 #[test]
-fn no_key_is_told(rt: HostRuntime) {
-    assert_eq!(rt; told_of_nothing(rt.alloc()), Some(Err(AuditFault::NoKey)));
+fn no_key_is_reported(rt: HostRuntime) {
+    assert_eq!(rt;
+        audited_without_key(rt.alloc()),
+        Some(Err(AuditFault::NoKey))
+    );
 }
 
-// A file whose disk refuses this call: none where the file isn't opened, else what an audit of it tells, and another
-// one after it.
-fn with_failure(alloc: Global, file: &[u8], call: u32) -> Option<Option<(Told, Told)>> {
+// A file whose disk refuses this call: none where the file isn't opened, else what an audit of it answers, and
+// another one after it.
+fn with_failure(alloc: Global, file: &[u8], call: u32) -> Option<Option<(Audited, Audited)>> {
     let mut disk = MemoryDisk::of(alloc, file).ok()?;
     disk.fail_at(call);
     match FileStore::open(disk) {
@@ -153,8 +156,8 @@ fn with_failure(alloc: Global, file: &[u8], call: u32) -> Option<Option<(Told, T
                 count: 2,
                 tag: tag_in(file, 1)?,
             });
-            let first = told(alloc, &mut store, anchor)?;
-            Some(Some((first, told(alloc, &mut store, anchor)?)))
+            let first = audited(alloc, &mut store, anchor)?;
+            Some(Some((first, audited(alloc, &mut store, anchor)?)))
         }
         Err(_) => Some(None),
     }
@@ -196,7 +199,7 @@ fn each_failing_call_is_answered(rt: HostRuntime) {
     assert_eq!(rt; calls_of_audit(rt.alloc()), Some((14, 10)));
 }
 
-// A key, how many names it signs, and what is told of it then: how many records there are and leaves are left.
+// A key, how many names it signs, and what is reported of it then: how many records there are and leaves are left.
 const KEYS: [(&str, &[u8], u32, &[u32]); 4] = [
     ("lms:H5/W8", b"ab", 3, &[30]),
     (TWO_LEVELS, b"a", 3, &[31, 31]),
@@ -233,9 +236,9 @@ fn is_reported(
     let file = file_in(store)?;
     let again = audit(alloc, &mut store_in(alloc, &file)?, None).ok()?;
     let tag = report.tag;
-    let is_told = report.public == public && report.records == records && report.moved.is_none();
+    let is_right = report.public == public && report.records == records && report.moved.is_none();
     let is_last = tag_in(&file, (file.len() / 256).checked_sub(1)?)? == tag;
-    Some(is_told && is_last && report.left.as_slice() == left && again == report)
+    Some(is_right && is_last && report.left.as_slice() == left && again == report)
 }
 
 #[test]

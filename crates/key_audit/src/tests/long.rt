@@ -1,6 +1,6 @@
 //! Audits of long lists. `tests/bench` shows the times of these.
 
-use super::audits::told;
+use super::audits::audited;
 use super::files::{file_in, store_in};
 use super::*;
 use state_file::{Bound, FileStore, Key, MemoryDisk, Record, Secret, Store, Version};
@@ -53,12 +53,12 @@ fn long_file(alloc: Global, count: u32) -> Option<FileStore<MemoryDisk>> {
     Some(store)
 }
 
-// How many records an audit of such a store tells, and how many leaves, after it was done so often.
-fn told_of_long(alloc: Global, count: u32, times: u32) -> Option<(u32, u32)> {
+// How many records an audit of such a store reports, and how many leaves, after it was done so often.
+fn audited_long(alloc: Global, count: u32, times: u32) -> Option<(u32, u32)> {
     let mut store = long_file(alloc, count)?;
     let mut last = (0, 0);
     for _ in 0..times {
-        let (records, left, _) = told(alloc, &mut store, None)?.ok()?;
+        let (records, left, _) = audited(alloc, &mut store, None)?.ok()?;
         last = (records, left);
     }
     Some(last)
@@ -68,7 +68,7 @@ fn told_of_long(alloc: Global, count: u32, times: u32) -> Option<(u32, u32)> {
 #[test]
 fn audits_ten_bits(rt: HostRuntime) {
     assert_eq!(rt;
-        told_of_long(rt.alloc(), 1 << 10, 1 << 8),
+        audited_long(rt.alloc(), 1 << 10, 1 << 8),
         Some((1 << 10, (1 << 20) - (1 << 10) + 1))
     );
 }
@@ -76,7 +76,7 @@ fn audits_ten_bits(rt: HostRuntime) {
 #[test]
 fn audits_twelve_bits(rt: HostRuntime) {
     assert_eq!(rt;
-        told_of_long(rt.alloc(), 1 << 12, 1 << 6),
+        audited_long(rt.alloc(), 1 << 12, 1 << 6),
         Some((1 << 12, (1 << 20) - (1 << 12) + 1))
     );
 }
@@ -84,10 +84,10 @@ fn audits_twelve_bits(rt: HostRuntime) {
 // These make the files alone.
 #[test]
 fn files_of_ten_bits(rt: HostRuntime) {
-    assert_eq!(rt; told_of_long(rt.alloc(), 1 << 10, 0), Some((0, 0)));
+    assert_eq!(rt; audited_long(rt.alloc(), 1 << 10, 0), Some((0, 0)));
 }
 
 #[test]
 fn files_of_twelve_bits(rt: HostRuntime) {
-    assert_eq!(rt; told_of_long(rt.alloc(), 1 << 12, 0), Some((0, 0)));
+    assert_eq!(rt; audited_long(rt.alloc(), 1 << 12, 0), Some((0, 0)));
 }

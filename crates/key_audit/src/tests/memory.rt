@@ -1,19 +1,19 @@
 //! Audits that are answered at the second try where memory is refused at the first. `tests/run` runs these with each
 //! growth of memory refused in turn.
 
-use super::audits::{Told, told};
+use super::audits::{Audited, audited};
 use super::files::{Entry, stored};
 use super::*;
 use state_file::{FileStore, MemoryDisk};
 
-// What is told of a store, at the second try where memory was refused at the first.
-fn told_at_last(
+// What is answered to a store, at the second try where memory was refused at the first.
+fn audited_at_last(
     alloc: Global,
     store: &mut FileStore<MemoryDisk>,
     anchor: Option<Anchor>,
-) -> Option<Told> {
-    match told(alloc, store, anchor)? {
-        Err(AuditFault::OutOfMemory) => told(alloc, store, anchor),
+) -> Option<Audited> {
+    match audited(alloc, store, anchor)? {
+        Err(AuditFault::OutOfMemory) => audited(alloc, store, anchor),
         answer => Some(answer),
     }
 }
@@ -25,15 +25,15 @@ fn stored_at_last(alloc: Global, entries: &[Entry]) -> Option<FileStore<MemoryDi
     }
 }
 
-// What is told of a file at last, and whether an anchor of more records is refused for that.
-fn told_of_file(alloc: Global, entries: &[Entry]) -> Option<(Told, bool)> {
+// What is answered to a file at last, and whether an anchor of more records is refused for that.
+fn audited_file(alloc: Global, entries: &[Entry]) -> Option<(Audited, bool)> {
     let mut store = stored_at_last(alloc, entries)?;
     let beyond = Anchor {
         count: 9,
         tag: [0; 32],
     };
-    let first = told_at_last(alloc, &mut store, None)?;
-    let second = told_at_last(alloc, &mut store, Some(beyond))?;
+    let first = audited_at_last(alloc, &mut store, None)?;
+    let second = audited_at_last(alloc, &mut store, Some(beyond))?;
     Some((first, second == Err(AuditFault::AnchorCount)))
 }
 
@@ -49,7 +49,7 @@ const ENTRIES: [Entry; 5] = [
 #[test]
 fn legal_records_are_audited_at_last(rt: HostRuntime) {
     assert_eq!(rt;
-        told_of_file(rt.alloc(), &ENTRIES),
+        audited_file(rt.alloc(), &ENTRIES),
         Some((Ok((6, 21, None)), true))
     );
 }
@@ -58,17 +58,17 @@ fn legal_records_are_audited_at_last(rt: HostRuntime) {
 fn an_illegal_record_is_found_at_last(rt: HostRuntime) {
     let entries = [Entry::Bound(0, b'a'), Entry::Bound(1, b'a')];
     let illegal = Err(AuditFault::Illegal(2));
-    assert_eq!(rt; told_of_file(rt.alloc(), &entries), Some((illegal, false)));
+    assert_eq!(rt; audited_file(rt.alloc(), &entries), Some((illegal, false)));
 }
 
 // This fails where memory is refused in the audit, and there alone.
 #[test]
 fn legal_records_are_audited_at_first(rt: HostRuntime) {
-    let told_at_first = match stored_at_last(rt.alloc(), &ENTRIES) {
-        Some(mut store) => told(rt.alloc(), &mut store, None),
+    let audited_at_first = match stored_at_last(rt.alloc(), &ENTRIES) {
+        Some(mut store) => audited(rt.alloc(), &mut store, None),
         None => None,
     };
-    assert_eq!(rt; told_at_first, Some(Ok((6, 21, None))));
+    assert_eq!(rt; audited_at_first, Some(Ok((6, 21, None))));
 }
 
 // The signatures of two copies of a key, each of which signs these letters; made at the second try where memory was

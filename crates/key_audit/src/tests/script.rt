@@ -309,8 +309,8 @@ fn ends_well(alloc: Global, file: &[u8], from: usize, before: Vec<Given>) -> Opt
         &mut given,
     )?;
     let report = report_on(alloc, disk, None)?.ok()?;
-    let is_told = report.records == 7 && report.left.as_slice() == [31, 21].as_slice();
-    Some(is_told && are_one_each(&given) && check_given(alloc, &report.public, &given).is_ok())
+    let is_reported = report.records == 7 && report.left.as_slice() == [31, 21].as_slice();
+    Some(is_reported && are_one_each(&given) && check_given(alloc, &report.public, &given).is_ok())
 }
 
 // The contents that a mishap at a call of a step may leave; None where the step comes to its end.

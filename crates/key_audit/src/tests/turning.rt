@@ -2,7 +2,7 @@
 
 ghost use Rattle.std.specs.Prelude.{false};
 
-use super::audits::{Told, told};
+use super::audits::{Audited, audited};
 use super::files::{Entry, filed};
 use super::*;
 use state_file::{Disk, DiskFault, FileStore};
@@ -65,9 +65,9 @@ impl<D: Disk + Drop> Disk for TurningDisk<D> {
     }
 }
 
-// What is told of a file, twice, where a read from this offset on gives other bytes as soon as its store can be opened
+// What is answered to a file, twice, where a read from this offset on gives other bytes as soon as its store can be opened
 // all the same.
-fn told_of_turned(alloc: Global, entries: &[Entry], offset: u64) -> Option<(Told, Told)> {
+fn audited_turned(alloc: Global, entries: &[Entry], offset: u64) -> Option<(Audited, Audited)> {
     for reads in 0..40u32 {
         let disk = TurningDisk {
             disk: filed(alloc, entries)?,
@@ -76,8 +76,8 @@ fn told_of_turned(alloc: Global, entries: &[Entry], offset: u64) -> Option<(Told
         };
         match FileStore::open(disk) {
             Ok(mut store) => {
-                let first = told(alloc, &mut store, None)?;
-                return Some((first, told(alloc, &mut store, None)?));
+                let first = audited(alloc, &mut store, None)?;
+                return Some((first, audited(alloc, &mut store, None)?));
             }
             Err(_) => {}
         }
@@ -85,10 +85,10 @@ fn told_of_turned(alloc: Global, entries: &[Entry], offset: u64) -> Option<(Told
     None
 }
 
-// A slot that can't be read is told, though the record before it is illegal, and however often it is asked. The fields
+// A slot that can't be read is reported, though the record before it is illegal, and however often it is asked. The fields
 // of slot k begin at 256 * k + 1, and its tag at 256 * k + 224.
 #[test]
-fn unreadable_slots_are_told(rt: HostRuntime) {
+fn unreadable_slots_are_reported(rt: HostRuntime) {
     let entries = [
         Entry::Bound(0, b'a'),
         Entry::Bound(0, b'b'),
@@ -97,7 +97,7 @@ fn unreadable_slots_are_told(rt: HostRuntime) {
     for (offset, slot) in [(1, 0), (257, 1), (513, 2), (769, 3), (992, 3)] {
         let damaged = Err(AuditFault::Damaged(slot));
         assert_eq!(rt;
-            told_of_turned(rt.alloc(), &entries, offset),
+            audited_turned(rt.alloc(), &entries, offset),
             Some((damaged, damaged))
         );
     }

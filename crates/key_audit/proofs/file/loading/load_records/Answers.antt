@@ -1,7 +1,7 @@
 use Rattle.std.proofs.Common.{rules, ◌≡◌, ◌+◌, ◌∷◌, ◌++◌, [], Some, Ok, sym, subst}
 use Rattle.key_audit.specs.Loading.{LoadsSlot}
 use Rattle.key_audit.proofs.Loads.{HasLoaded, loaded_more}
-use Rattle.key_audit.proofs.auditing.load_records.Goals as goal
+use Rattle.key_audit.proofs.file.loading.load_records.Goals as goal
 
 pub loop-slot-preserved : goal.loop-slot-preserved
 loop-slot-preserved g c =

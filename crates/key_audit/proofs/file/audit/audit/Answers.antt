@@ -1,7 +1,7 @@
 use Rattle.std.proofs.Common.{rules, ◌≡◌, ◌-◌, Err, sym, ap, subst}
 use Rattle.key_audit.specs.Audit.{Audits}
 use Rattle.key_audit.proofs.Audits.{accepted, no_anchor, no_tag}
-use Rattle.key_audit.proofs.auditing.audit.Goals as goal
+use Rattle.key_audit.proofs.file.audit.audit.Goals as goal
 
 pub returns-in_err-check_anchor : goal.returns-in_err-check_anchor
 returns-in_err-check_anchor g c =
