@@ -315,7 +315,7 @@ class Signer:
             raise Refused(30)
 
     def check(self, chain):
-        """Refuses the first tree from the top whose root, or whose record's digest, is another than that of its secret."""
+        """Refuses the first tree from the top whose root, or whose record's digest, isn't that of its secret."""
         for at in chain:
             if at.root != at.tree.root():
                 raise Refused(28, at.slot)
@@ -572,7 +572,8 @@ def judge_xmss(public, message, signature):
     randomizer, values, path = fields.take(32), fields.values(67), fields.values(tree.height)
     fields.end()
     digest = sha256((2).to_bytes(32, "big"), randomizer, root, leaf.to_bytes(32, "big"), message)
-    ends = [tree.climbed(leaf, i, digit, 15, value) for i, (digit, value) in enumerate(zip(xmss_digits(digest), values))]
+    ends = [tree.climbed(leaf, i, digit, 15, value) for i, (digit,
+                                                            value) in enumerate(zip(xmss_digits(digest), values))]
     node, index = tree.l_tree(leaf, ends), leaf
     for height, sibling in enumerate(path):
         pair = (sibling, node) if index % 2 else (node, sibling)
