@@ -14,7 +14,7 @@ use Rattle.clap.specs.Walk.{Held as Collected, nothing_held as nothing_collected
 use Rattle.clap.specs.Words.{Rule, Text, all_of, fault_of, first_of, subcommand_of}
 use Rattle.clap.proofs.OnLiterals.{clap_on_literals}
 use Rattle.clap.specs.Simple.{Shape}
-use Rattle.command.specs.Line.{AreTexts, FindsTask, GivesValues, IsCommandLine, IsLineOf, IsPlainWord, Task, audit, audit_anchored, audit_given, audit_given_pairs, audit_given_task, audit_task, hbsign_app, make, make_task, retire, retire_number, sign, sign_task, task_found, task_named, verify}
+use Rattle.command.specs.Line.{AreTexts, FindsTask, GivesValues, IsCommandLine, IsLineOf, IsPlainWord, Task, audit, audit_anchored, audit_given, audit_given_pairs, audit_given_task, audit_task, hbsign_app, make, make_task, retire, retire_number, serve, serve_task, sign, sign_task, task_found, task_named, verify}
 use Rattle.key_audit.specs.declared.report.Anchor.{Anchor}
 use Rattle.command.specs.Audit.{anchor_in}
 use Rattle.command.specs.AuditGiven.{Pair, pairs_in}
@@ -22,7 +22,7 @@ use Rattle.command.specs.declared.line.Lack.{Lack}
 use Rattle.command.specs.LineFault.{lacks, line_faults}
 use Rattle.command.specs.Number.{number_in}
 use Rattle.command.specs.Retire.{most_leaves}
-use Rattle.command.proofs.Walking.{Enters, IsTaken, TakesValue, at, audit_given_shape, audit_shape, end_fault, enters_audit, enters_audit_given, enters_make, enters_retire, enters_sign, enters_verify, entered_faults, entered_rows, finds_retire, finds_task, finds_verify, is_no_hyphen, make_shape, retire_1, retire_2, retire_shape, sign_shape, takes_either, takes_message, takes_public, takes_signature, takes_state, takes_upto, turn_passes, verify_1, verify_2, verify_3, verify_shape, whole, word_is_value, word_walks}
+use Rattle.command.proofs.Walking.{Enters, IsTaken, TakesValue, at, audit_given_shape, audit_shape, end_fault, enters_audit, enters_audit_given, enters_make, enters_retire, enters_serve, enters_sign, enters_verify, entered_faults, entered_rows, finds_retire, finds_task, finds_verify, is_no_hyphen, make_shape, retire_1, retire_2, retire_shape, serve_shape, sign_shape, takes_either, takes_message, takes_public, takes_signature, takes_state, takes_upto, turn_passes, verify_1, verify_2, verify_3, verify_shape, whole, word_is_value, word_walks}
 
 -- where nothing is wrong with two parts, nothing is wrong with either
 pub none_of : (a b : Kinds) → or_else a b ≡ [] → (a ≡ []) × (b ≡ [])
@@ -366,21 +366,22 @@ first_fault named word = or_else (other_fault whole.top named word nothing_colle
     (subcommand_or_other whole.top.rules named idle 1 word nothing_collected).1)
 
 -- a word that is no subcommand's name names none
-find_none : {A : Type 0} (test : A → Bool) (t u v w x y z : A) → test t ≡ false → test u ≡ false → test v ≡ false → test w ≡ false
-    → test x ≡ false → test y ≡ false → test z ≡ false → find test (t ∷ u ∷ v ∷ w ∷ x ∷ y ∷ z ∷ []) ≡ None
-find_none test t u v w x y z first second third fourth fifth sixth seventh = rw (first, second, third, fourth, fifth, sixth, seventh) refl
+find_none : {A : Type 0} (test : A → Bool) (s t u v w x y z : A) → test s ≡ false → test t ≡ false → test u ≡ false → test v ≡ false
+    → test w ≡ false → test x ≡ false → test y ≡ false → test z ≡ false → find test (s ∷ t ∷ u ∷ v ∷ w ∷ x ∷ y ∷ z ∷ []) ≡ None
+find_none test s t u v w x y z first second third fourth fifth sixth seventh eighth =
+    rw (first, second, third, fourth, fifth, sixth, seventh, eighth) refl
 
 or_none : (b : Bool) → b ≡ false → (b || false) ≡ false
 or_none b isnt = rw isnt refl
 
 names_none : (word : Text) → bytes_eq (codes "make") word ≡ false → bytes_eq (codes "sign") word ≡ false
     → bytes_eq (codes "verify") word ≡ false → bytes_eq (codes "retire") word ≡ false → bytes_eq (codes "audit") word ≡ false
-    → bytes_eq (codes "audit-given") word ≡ false → bytes_eq (codes "help") word ≡ false
+    → bytes_eq (codes "audit-given") word ≡ false → bytes_eq (codes "serve") word ≡ false → bytes_eq (codes "help") word ≡ false
     → subcommand_met (names_of whole) idle word ≡ None
-names_none word no_make no_sign no_verify no_retire no_audit no_audit_given no_help = ap (option_map (λ s. s.0))
+names_none word no_make no_sign no_verify no_retire no_audit no_audit_given no_serve no_help = ap (option_map (λ s. s.0))
     (find_none (answers_to word) (codes "make", []) (codes "sign", []) (codes "verify", []) (codes "retire", []) (codes "audit", [])
-    (codes "audit-given", []) (codes "help", []) (or_none _ no_make) (or_none _ no_sign) (or_none _ no_verify) (or_none _ no_retire)
-    (or_none _ no_audit) (or_none _ no_audit_given) (or_none _ no_help))
+    (codes "audit-given", []) (codes "serve", []) (codes "help", []) (or_none _ no_make) (or_none _ no_sign) (or_none _ no_verify)
+    (or_none _ no_retire) (or_none _ no_audit) (or_none _ no_audit_given) (or_none _ no_serve) (or_none _ no_help))
 
 -- such a word isn't accepted first,
 plain_fails : (word : Text) → IsPlainWord word → first_fault None word ≢ []
@@ -426,16 +427,18 @@ data IsCommandName (word : Text) : Type 0 where
   is_retire : word ≡ codes "retire" → IsCommandName word
   is_audit : word ≡ codes "audit" → IsCommandName word
   is_audit_given : word ≡ codes "audit-given" → IsCommandName word
+  is_serve : word ≡ codes "serve" → IsCommandName word
 
 -- for any other name
 other_fails : (word : Text) (words : List Text) → IsUtf8 word → fault_of hbsign_app (word ∷ words) ≡ []
     → bytes_eq (codes "make") word ≡ false → bytes_eq (codes "sign") word ≡ false → bytes_eq (codes "verify") word ≡ false
-    → bytes_eq (codes "retire") word ≡ false → bytes_eq (codes "audit") word ≡ false → bytes_eq (codes "audit-given") word ≡ false → ⊥
-other_fails word words text none no_make no_sign no_verify no_retire no_audit no_audit_given = elim (cases_Bool (bytes_eq (codes "help") word)) [
+    → bytes_eq (codes "retire") word ≡ false → bytes_eq (codes "audit") word ≡ false → bytes_eq (codes "audit-given") word ≡ false
+    → bytes_eq (codes "serve") word ≡ false → ⊥
+other_fails word words text none no_make no_sign no_verify no_retire no_audit no_audit_given no_serve = elim (cases_Bool (bytes_eq (codes "help") word)) [
   | inl same ↦ help_fails (subst (λ w. first_fault (subcommand_met (names_of whole) idle w) w ≡ [])
       (sym ((bytes_eq-Decides (codes "help") word).0 same)) (first_passes word words none))
   | inr no_help ↦
-      let passes = subst (λ named. first_fault named word ≡ []) (names_none word no_make no_sign no_verify no_retire no_audit no_audit_given no_help) (first_passes word words none) in
+      let passes = subst (λ named. first_fault named word ≡ []) (names_none word no_make no_sign no_verify no_retire no_audit no_audit_given no_serve no_help) (first_passes word words none) in
       elim (word_is word) [
         | inl plain ↦ plain_fails word plain passes
         | inr (inl hyphens) ↦ hyphens_fail words (subst (λ w. fault_of hbsign_app (w ∷ words) ≡ []) hyphens none)
@@ -456,7 +459,10 @@ is_named word words text none = elim (cases_Bool (bytes_eq (codes "make") word))
           | inl same ↦ is_audit (sym ((bytes_eq-Decides (codes "audit") word).0 same))
           | inr no_audit ↦ elim (cases_Bool (bytes_eq (codes "audit-given") word)) [
             | inl same ↦ is_audit_given (sym ((bytes_eq-Decides (codes "audit-given") word).0 same))
-            | inr no_audit_given ↦ absurd (other_fails word words text none no_make no_sign no_verify no_retire no_audit no_audit_given)
+            | inr no_audit_given ↦ elim (cases_Bool (bytes_eq (codes "serve") word)) [
+              | inl same ↦ is_serve (sym ((bytes_eq-Decides (codes "serve") word).0 same))
+              | inr no_serve ↦ absurd (other_fails word words text none no_make no_sign no_verify no_retire no_audit no_audit_given no_serve)
+            ]
           ]
         ]
       ]
@@ -494,6 +500,14 @@ of_sign words (Some s) None message out random task same found = absurd cc
 of_sign words (Some s) (Some n) None out random task same found = absurd cc
 of_sign words (Some s) (Some n) (Some m) None random task same found = absurd cc
 of_sign words (Some s) (Some n) (Some m) (Some o) None task same found = absurd cc
+
+-- .. of a line `serve`,
+of_serve : (words : List Text) (state random : Option Text) (task : Task) → serve_task state random ≡ Ok task
+    → FindsTask words task → IsLineOf words task
+of_serve words (Some s) (Some r) task same found =
+    let is = ok_same (serve s r) task same in subst (IsLineOf words) is (subst (FindsTask words) (sym is) found)
+of_serve words None random task same found = absurd cc
+of_serve words (Some s) None task same found = absurd cc
 
 -- .. of a line `audit`,
 of_anchor : (words : List Text) (state : Text) (anchor : Result (Option Anchor) Lack) (task : Task) → audit_anchored state anchor ≡ Ok task
@@ -534,6 +548,7 @@ is_line_of (word ∷ names) task none found texts = elim (is_named word names te
   | is_make is ↦ of_make (word ∷ names) _ _ _ _ task (found_in (codes "make") make_shape word names task enters_make is found) (none, found)
   | is_sign is ↦ of_sign (word ∷ names) _ _ _ _ _ task (found_in (codes "sign") sign_shape word names task enters_sign is found) (none, found)
   | is_audit is ↦ of_audit (word ∷ names) _ _ _ task (found_in (codes "audit") audit_shape word names task enters_audit is found) (none, found)
+  | is_serve is ↦ of_serve (word ∷ names) _ _ task (found_in (codes "serve") serve_shape word names task enters_serve is found) (none, found)
   | is_audit_given is ↦
       let rows = rows_after audit_given_shape.rules [] names in
       of_audit_given (word ∷ names) (first_of (codes "PUBLIC") rows) (all_of (codes "FILES") rows) task

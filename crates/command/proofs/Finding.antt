@@ -10,18 +10,21 @@ use Rattle.clap.specs.declared.error.kind.ErrorKind.TheVariants.{OutOfMemory}
 use Rattle.clap.specs.declared.parser.matches.ArgMatches.{ArgMatches}
 use Rattle.clap.specs.declared.parser.matches.ArgMatches.TheViews.{out-ArgMatches, out-SubCommand}
 use Rattle.clap.specs.declared.parser.matches.SubCommand.{SubCommand}
-use Rattle.command.specs.Line.{audit, audit_given, audit_given_task, audit_task, make, make_task, retire, retire_task, sign, sign_task, verify, verify_task}
+use Rattle.command.specs.LineFault.{lacks}
+use Rattle.command.specs.Line.{Task, lack_kind, audit, audit_given, audit_given_task, audit_task, make, make_task, retire, retire_task, serve, serve_task, sign, sign_task, verify, verify_task}
 use Rattle.command.specs.Audit.{IsAudit}
 use Rattle.command.specs.AuditGiven.{IsAuditGiven, pairs_of}
 use Rattle.command.specs.declared.audit.Audit.{Audit}
 use Rattle.command.specs.declared.audit_given.AuditGiven.{AuditGiven}
 use Rattle.command.specs.Make.{IsMake}
 use Rattle.command.specs.Retire.{IsRetire}
+use Rattle.command.specs.Serve.{IsServe}
 use Rattle.command.specs.Sign.{IsSign}
 use Rattle.command.specs.declared.line.Lack.{Lack}
 use Rattle.command.specs.declared.line.Lack.TheVariants.{Anchor as NoAnchor, Command, Count, Number, Pairs, Tag}
 use Rattle.command.specs.declared.make.Make.{Make}
 use Rattle.command.specs.declared.retire.Retire.{Retire}
+use Rattle.command.specs.declared.serve.Serve.{Serve}
 use Rattle.command.specs.declared.sign.Sign.{Sign}
 
 -- the name and the rows of the subcommand that was met
@@ -102,6 +105,22 @@ same_sign {s = s} {t = t} {n = n} {o = o} {m = m} {l = l} {p = p} {q = q} {r = r
     subst (λ a. IsSign a o l q u words) state (subst (λ a. IsSign s a l q u words) name (subst (λ a. IsSign s n a q u words) message
     (subst (λ a. IsSign s n m a u words) out (subst (λ a. IsSign s n m p a words) random is))))
 
+-- the task of `serve`, where all its words are given
+pub is_serve_task : (state random : Option Text) (words : Serve) → IsServe state random (Some words)
+    → Ok (serve words.state.now words.random.now) ≡ serve_task state random
+is_serve_task state random words (state_is, random_is) = rw (state_is, random_is) refl
+
+-- .. and where not
+pub no_serve_task : (state random : Option Text) → IsServe state random None → Err Command ≡ serve_task state random
+no_serve_task None random lacks = refl
+no_serve_task (Some s) None lacks = refl
+no_serve_task (Some s) (Some r) (inl none) = absurd cc
+no_serve_task (Some s) (Some r) (inr none) = absurd cc
+
+pub same_serve : {s t r u : Option Text} (words : Option Serve) → s ≡ t → r ≡ u → IsServe s r words → IsServe t u words
+same_serve {s = s} {t = t} {r = r} {u = u} words state random is =
+    subst (λ a. IsServe a u words) state (subst (λ a. IsServe s a words) random is)
+
 -- the task of `retire`, where its words say what they have to
 pub is_retire_task : (state upto : Option Text) (words : Retire) → IsRetire state upto (Ok words)
     → Ok (retire words.state.now words.upto) ≡ retire_task state upto
@@ -167,3 +186,8 @@ pub or_others : (kinds others : Kinds) (e : Error) → HasKind kinds e → HasKi
 or_others [] others e (inl memory) = inl memory
 or_others [] others e (inr among) = absurd among
 or_others (k ∷ ks) others e has = has
+
+-- what lacks gives the kind of a line in which `clap` finds nothing wrong
+pub lacks_kind : (faults : Kinds) (found : Result Task Lack) (lack : Lack) (e : Error) → faults ≡ [] → found ≡ Err lack → kind_of e ≡ lack_kind lack
+    → HasKind (or_else faults (lacks found)) e
+lacks_kind faults found lack e none is same = rw (none, is) (inr (inl same))

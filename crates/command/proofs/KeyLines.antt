@@ -1,5 +1,6 @@
 -- From the step on the disk of a state file to the whole command.
 use Rattle.std.proofs.Common.{◌≡◌, ◌≢◌, ℕ, List, [], ◌∷◌, ◌++◌, Option, Result, Ok, Err, inr, refl, subst, sym}
+use Rattle.typecodes.specs.declared.message.Message as message
 use Rattle.typecodes.specs.declared.spec.Spec.{Spec}
 use Rattle.typecodes.specs.Name.{IsName}
 use Rattle.typecodes.specs.Spec.{IsSpec, spec_text}
@@ -12,6 +13,7 @@ use Rattle.command.specs.declared.refusal.Refusal.{Refusal}
 use Rattle.command.specs.declared.trace.Role.TheVariants as role
 use Rattle.command.specs.Files.{FilesSeen, ShowsContent}
 use Rattle.command.specs.Make.{MakesIn, MakesOpened, make_answer}
+use Rattle.command.specs.Serve.{ServesIn, ServesOpened}
 use Rattle.command.specs.Sign.{DeliversSigned, SignsAndDelivers, SignsFile, SignsIn, SignsOpened, ready_to_sign, sign_answer}
 use Rattle.command.specs.Signing.{Delivers, PublicBytes}
 use Rattle.command.specs.Trace.{Happening, made, opened}
@@ -73,3 +75,17 @@ signs_in {bound = bound} d g r files state given name message out random before 
     let from = subst (λ t. SignsOpened {bound = bound} d g r content before after name message out random signed t last) begins named in
     let to = subst (λ t. SignsOpened {bound = bound} d g r content before after name message out random signed (old ++ opened role.State state ∷ []) t) (sym ends) from in
     inr (is, inr (before, after, content, signed, known, was, to, closed, answers))
+
+-- ---- serving
+
+-- requests were served on the disk of a state file that was opened and closed
+pub serves_in : {K R I W : Type 0} {bound : _} (d : disk.Ghosts K) (g : store.Ghosts (FileStore K bound)) (r : source.Ghosts R) (m : message.Ghosts I)
+    (contents : W → Option (List ℕ)) (files : FilesSeen K) (state random : List ℕ) (before after : K) (content : List ℕ → Option (List ℕ))
+    (from to : I × W) (served : Result ℕ Refusal) (old first last new : List Happening)
+    → ((other : List ℕ) → content other ≡ files.content other) → files.IsOpenedDisk before
+    → ServesOpened {bound = bound} d g r m contents content before after random from to served first last → first ≡ old ++ opened role.State state ∷ []
+    → new ≡ last → files.IsClosedDisk after → ServesIn {bound = bound} d g r m contents files state random from to served old new
+serves_in {bound = bound} d g r m contents files state random before after content from to served old first last new known was serves begins ends closed =
+    let start = subst (λ t. ServesOpened {bound = bound} d g r m contents content before after random from to served t last) begins serves in
+    let end = subst (λ t. ServesOpened {bound = bound} d g r m contents content before after random from to served (old ++ opened role.State state ∷ []) t) (sym ends) start in
+    inr (before, after, content, known, was, end, closed)

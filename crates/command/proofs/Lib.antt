@@ -2,7 +2,6 @@ pub mod Accepting
 pub mod AuditLines
 pub mod Contents
 pub mod Deciding
-pub mod Explaining
 pub mod HexText
 pub mod FileReading
 pub mod Finding

@@ -12,7 +12,7 @@ use Rattle.command.specs.Trace.{Happening, ReadsOnce, nothing_known}
 use Rattle.command.specs.Verify.{AnswerLeaves}
 use Rattle.command.specs.declared.refusal.Refusal.{Refusal}
 use Rattle.command.specs.declared.refusal.Refusal.TheVariants.{Key, Signature, OutOfMemory, FileFailed}
-use Rattle.command.specs.declared.refusal.Refusal.TheVariants.{Signer, Opening, Preparing, Audit, Given, Locked, BadName, BadSpec}
+use Rattle.command.specs.declared.refusal.Refusal.TheVariants.{Signer, Opening, Preparing, Audit, Given, Serving, Locked, BadName, BadSpec}
 use Rattle.command.specs.declared.trace.Role.{Role}
 
 -- a key that can't be read leaves the message
@@ -76,6 +76,7 @@ answer-carried step remaining other left public text old new before after (Err (
 answer-carried step remaining other left public text old new before after (Err (Preparing fault)) to never = absurd never
 answer-carried step remaining other left public text old new before after (Err (Audit fault)) to never = absurd never
 answer-carried step remaining other left public text old new before after (Err (Given fault)) to never = absurd never
+answer-carried step remaining other left public text old new before after (Err (Serving fault)) to never = absurd never
 answer-carried step remaining other left public text old new before after (Err Locked) to never = absurd never
 answer-carried step remaining other left public text old new before after (Err BadName) to never = absurd never
 answer-carried step remaining other left public text old new before after (Err BadSpec) to never = absurd never
@@ -174,6 +175,7 @@ answer-ends step remaining public text old new (Err (Opening fault)) never = abs
 answer-ends step remaining public text old new (Err (Preparing fault)) never = absurd never
 answer-ends step remaining public text old new (Err (Audit fault)) never = absurd never
 answer-ends step remaining public text old new (Err (Given fault)) never = absurd never
+answer-ends step remaining public text old new (Err (Serving fault)) never = absurd never
 answer-ends step remaining public text old new (Err Locked) never = absurd never
 answer-ends step remaining public text old new (Err BadName) never = absurd never
 answer-ends step remaining public text old new (Err BadSpec) never = absurd never

@@ -8,11 +8,12 @@ use Rattle.clap.specs.Faults.{turn_fault, step_fault, word_fault, walk_fault, se
 use Rattle.clap.specs.Kinds.{Kinds, or_else}
 use Rattle.clap.specs.Words.{Rule, Text, is_simple, subcommand_of, fault_of, is_simple_and_free}
 use Rattle.clap.proofs.OnLiterals.{clap_on_literals}
-use Rattle.command.specs.Line.{ArePlainWords, GivesValues, IsCommandLine, IsLineOf, IsPlainWord, Task, audit, audit_given, hbsign_app, make, retire, retire_number, retire_task, sign, task_found, verify}
+use Rattle.command.specs.Line.{ArePlainWords, GivesValues, IsCommandLine, IsLineOf, IsPlainWord, Task, audit, audit_given, hbsign_app, make, retire, retire_number, retire_task, serve, sign, task_found, verify}
 use Rattle.command.specs.Audit.{audit_app}
 use Rattle.command.specs.AuditGiven.{audit_given_app}
 use Rattle.command.specs.Make.{make_app}
 use Rattle.command.specs.Retire.{retire_app}
+use Rattle.command.specs.Serve.{serve_app}
 use Rattle.command.specs.Sign.{sign_app}
 use Rattle.command.specs.Verify.{verify_app}
 
@@ -337,6 +338,15 @@ pub enters_sign : Enters (codes "sign") sign_shape
 unfolding clap_on_literals
 enters_sign = record { step = refl; well = refl; rows = λ words. refl; fault = λ words. refl }
 
+-- ---- serve
+
+abbrev pub serve_shape : Shape
+serve_shape = built_leaf (inherited (with_leaf_noted (marked_built hbsign_app.top)) serve_app.top)
+
+pub enters_serve : Enters (codes "serve") serve_shape
+unfolding clap_on_literals
+enters_serve = record { step = refl; well = refl; rows = λ words. refl; fault = λ words. refl }
+
 -- ---- audit and audit-given
 
 abbrev pub audit_shape : Shape
@@ -381,3 +391,4 @@ finds_task words (retire state upto) (text, spells, line) =
     let (none, found) = finds_retire words state text line in (none, found ∙ ap (retire_number state) spells)
 finds_task words (audit state anchor) found = found
 finds_task words (audit_given public files) found = found
+finds_task words (serve state random) found = found

@@ -8,9 +8,9 @@ use Rattle.clap.specs.Walk.{Held as Collected, Walk, after_step, finished, nothi
 use Rattle.clap.specs.Words.{Rule, Text, fault_of, subcommand_of}
 use Rattle.clap.proofs.OnLiterals.{clap_on_literals}
 use Rattle.command.specs.Argument.{default_random}
-use Rattle.command.specs.Line.{FindsTask, IsLineWithOption, IsPlainWord, hbsign_app, make, sign, task_found}
+use Rattle.command.specs.Line.{FindsTask, IsLineWithOption, IsPlainWord, hbsign_app, make, serve, sign, task_found}
 use Rattle.command.proofs.Accepting.{none_of}
-use Rattle.command.proofs.Walking.{Enters, Goes, TakesAll, at, end_fault, entered_faults, entered_rows, enters_make, enters_sign, first_held, goes, is_no_hyphen, make_shape, next_held, over_all, plain_taken, sign_shape, stays, takes_line}
+use Rattle.command.proofs.Walking.{Enters, Goes, TakesAll, at, end_fault, entered_faults, entered_rows, enters_make, enters_serve, enters_sign, first_held, goes, is_no_hyphen, make_shape, next_held, over_all, plain_taken, serve_shape, sign_shape, stays, takes_line}
 
 -- a walk after one more word, and after a word that is an option's value
 abbrev pub after_word : Shape → Walk → Text → Walk
@@ -187,3 +187,54 @@ finds_sign words state name message out random (inr (same, plain, file)) =
     let line = goes_on sign_shape _ _ (sign_all state name message out random) (state ∷ name ∷ message ∷ out ∷ []) (codes "--random" ∷ random ∷ []) values (sign_goes state name message out random file) in
     let (none, rows) = goes_line words (codes "sign") _ sign_shape (sign_all state name message out random) enters_sign same line (sign_all_ends state name message out random) in
     (none, ap task_found rows ∙ sign_all_found state name message out random)
+
+-- ---- serve
+
+abbrev serve_1 : Text → Collected
+serve_1 state = first_held (codes "STATE") state
+
+serve_takes : (state : Text) → TakesAll serve_shape 1 nothing_collected (state ∷ []) 2 (serve_1 state)
+serve_takes state = (serve_1 state, record { before = refl; after = refl; well = refl }, (refl, refl))
+
+serve_ends : (state : Text) (b : Bool) → end_fault serve_shape (at b (serve_1 state) 2) ≡ []
+unfolding clap_on_literals
+serve_ends state b = refl
+
+serve_found : (state : Text)
+    → task_found (Some (codes "serve", finished serve_shape.rules (serve_1 state))) ≡ Ok (serve state default_random)
+serve_found state = refl
+
+-- and then the option
+abbrev serve_option : (state : Text) → Walk
+serve_option state = after_word serve_shape (at false (serve_1 state) 2) (codes "--random")
+
+abbrev serve_all : (state random : Text) → Walk
+serve_all state random = after_value_word serve_shape (serve_option state) random
+
+serve_goes : (state random : Text) → IsPlainWord random
+    → Goes serve_shape (at false (serve_1 state) 2) (codes "--random" ∷ random ∷ []) (serve_all state random)
+unfolding clap_on_literals walked
+serve_goes state random plain =
+    goes serve_shape (at false (serve_1 state) 2) (serve_option state) (serve_all state random) (codes "--random") (random ∷ []) refl refl
+    (goes serve_shape (serve_option state) (serve_all state random) (serve_all state random) random [] (value_walks serve_shape (serve_option state) (codes "random") random refl refl refl plain)
+    (value_turn_passes serve_shape (serve_option state) (codes "random") random refl refl refl plain refl) (stays serve_shape (serve_all state random) (serve_all state random) refl))
+
+serve_all_ends : (state random : Text) → end_fault serve_shape (serve_all state random) ≡ []
+unfolding clap_on_literals
+serve_all_ends state random = refl
+
+serve_all_found : (state random : Text)
+    → task_found (Some (codes "serve", finished serve_shape.rules (serve_all state random).held)) ≡ Ok (serve state random)
+unfolding clap_on_literals
+serve_all_found state random = refl
+
+pub finds_serve : (words : List Text) (state random : Text) → IsLineWithOption words (codes "serve") (state ∷ []) random
+    → FindsTask words (serve state random)
+finds_serve words state random (inl (line, same)) =
+    let (none, rows) = takes_line words (codes "serve") (state ∷ []) serve_shape 2 (serve_1 state) enters_serve (serve_takes state) (serve_ends state) line in
+    (none, ap task_found rows ∙ serve_found state ∙ ap (λ r. Ok (serve state r)) (sym same))
+finds_serve words state random (inr (same, plain, file)) =
+    let values = over_all serve_shape false 1 nothing_collected (state ∷ []) 2 (serve_1 state) (plain_taken (state ∷ []) plain) (serve_takes state) in
+    let line = goes_on serve_shape _ _ (serve_all state random) (state ∷ []) (codes "--random" ∷ random ∷ []) values (serve_goes state random file) in
+    let (none, rows) = goes_line words (codes "serve") _ serve_shape (serve_all state random) enters_serve same line (serve_all_ends state random) in
+    (none, ap task_found rows ∙ serve_all_found state random)

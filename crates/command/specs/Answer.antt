@@ -8,10 +8,11 @@ use Rattle.command.specs.declared.answer.Done.TheVariants.{Audited, Checked, Mad
 use Rattle.hex.specs.Hex.{encode_lower}
 use Rattle.command.specs.declared.refusal.Refusal.{Refusal}
 use Rattle.command.specs.declared.refusal.Refusal.TheVariants.{Signature, OutOfMemory, FileFailed, BadName, BadSpec}
-use Rattle.command.specs.declared.refusal.Refusal.TheVariants.{Signer, Opening, Preparing, Audit, Given}
+use Rattle.command.specs.declared.refusal.Refusal.TheVariants.{Signer, Opening, Preparing, Audit, Given, Serving}
 use Rattle.key_audit.specs.declared.given.GivenFault.TheVariants as given
 use Rattle.key_audit.specs.declared.report.AuditFault.TheVariants as audit
 use Rattle.key_audit.specs.declared.report.Report.{Report}
+use Rattle.sign_core.specs.declared.fault.ServeFault.TheVariants as serve
 use Rattle.sign_core.specs.declared.fault.SignFault.TheVariants as sign
 use Rattle.state_file.specs.declared.file.opening.OpenFault.TheVariants as opening
 use Rattle.state_file.specs.declared.file.format.FormatFault.TheVariants as preparing
@@ -65,6 +66,8 @@ status_of (Err (Signer sign.NoMemoryToOpen)) = 3
 status_of (Err (Audit audit.DeviceFailed)) = 3
 status_of (Err (Audit audit.OutOfMemory)) = 3
 status_of (Err (Given given.OutOfMemory)) = 3
+status_of (Err (Serving serve.MessageRead)) = 3
+status_of (Err (Serving serve.WriteFailed)) = 3
 status_of (Err _) = 1
 
 -- It was refused as a word of the line: a name, or a spec.
@@ -76,6 +79,13 @@ IsOfWord answer = (answer ≡ Err BadName) ⊎ (answer ≡ Err BadSpec)
 abbrev pub ReportsRequest : Result Done Refusal → Taken → Taken → ℕ → Type 0
 ReportsRequest answer old new status =
     ((status ≡ status_of answer) × WritesText (answer_line answer) old new) ⊎ ((status ≡ 3) × Fails old new)
+
+-- What a serving of requests ended with was reported on the output for errors: nothing of one that came to its end,
+-- with status 0; of another the refusal's line, unless this output failed, and the status is the refusal's.
+abbrev pub ReportsServing : Result ℕ Refusal → Taken → Taken → ℕ → Type 0
+ReportsServing (Ok replies) old new status = (status ≡ 0) × (new ≡ old)
+ReportsServing (Err refusal) old new status = (status ≡ status_of (Err refusal))
+    × (WritesText (answer_line (Err refusal)) old new ⊎ Fails old new)
 
 -- No answer's line begins with a capital letter.
 pub line_is_lower : (answer : Result Done Refusal) → BeginsWithCapital (answer_line answer) → ⊥

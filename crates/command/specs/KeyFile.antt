@@ -13,12 +13,14 @@ use Rattle.state_file.specs.declared.refused.Refused.{Refused}
 use Rattle.state_file.specs.declared.store.Store as store
 use Rattle.state_file.specs.declared.store.file_store.FileStore.{FileStore}
 use Rattle.state_file.specs.FileStore.{FindsRecords, PreparesDisk, disk_of}
+use Rattle.sign_core.specs.declared.fault.ServeFault.{ServeFault}
 use Rattle.sign_core.specs.declared.fault.SignFault.{SignFault}
 use Rattle.sign_core.specs.declared.source.Source as source
 use Rattle.sign_core.specs.declared.source.TapeSource.{TapeSource}
+use Rattle.sign_core.specs.Serving.{Serves}
 use Rattle.sign_core.specs.Signer.{Creates, Opens, Signs, View}
 use Rattle.command.specs.declared.refusal.Refusal.{Refusal}
-use Rattle.command.specs.declared.refusal.Refusal.TheVariants.{Audit, Opening, Preparing, Signer}
+use Rattle.command.specs.declared.refusal.Refusal.TheVariants.{Audit, Opening, Preparing, Serving, Signer}
 use Rattle.command.specs.Signing.{RetiresBelow}
 
 -- what a refusal hands back, with its fault
@@ -83,6 +85,25 @@ SignsOn {K} {R} {M} {bound} d g r m old new random name before after capacity ou
     × OpensOn {bound = bound} d g old random (Err (refused_with refusal new)))
     ⊎ ((opened left : View (FileStore K bound) R) × OpensOn d g old random (Ok opened)
     × SignsFor g r m opened left name before after capacity output answer × (new ≡ disk_of left.store))
+
+-- what a serving of requests ends with, as the command reports it
+abbrev pub serve_reported : Result ℕ ServeFault → Result ℕ Refusal
+serve_reported (Ok replies) = Ok replies
+serve_reported (Err fault) = Err (Serving fault)
+
+-- The requests of an input were served on a disk, and replied to on an output of which `contents` has the bytes, where
+-- they are known: a signer was opened on the disk, answered them, and gave its store's disk back; or it couldn't be
+-- opened, and the input and the output are as they were.
+abbrev pub ServesOn : {K R I W : Type 0} {bound : _} → disk.Ghosts K → store.Ghosts (FileStore K bound)
+    → source.Ghosts R → message.Ghosts I → (contents : W → Option (List ℕ)) → (old new : K) → (random : R)
+    → (from to : I × W) → Result ℕ Refusal → Type 0
+ServesOn {K} {R} {I} {W} {bound} d g r m contents old new random from to served =
+    ((refusal : Refusal) × (served ≡ Err refusal) × (to ≡ from)
+    × OpensOn {bound = bound} d g old random (Err (refused_with refusal new)))
+    ⊎ ((opened left : View (FileStore K bound) R) × (ended : Result ℕ ServeFault)
+    × OpensOn d g old random (Ok opened)
+    × Serves g r m opened left from.0 to.0 (contents from.1) (contents to.1) ended
+    × (served ≡ serve_reported ended) × (new ≡ disk_of left.store))
 
 -- what an audit refused, as the command reports it
 abbrev pub audit_reported : Result Report AuditFault → Result Report Refusal

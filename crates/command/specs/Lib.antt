@@ -15,7 +15,9 @@ pub mod Program
 pub mod RandomFile
 pub mod Refusal
 pub mod Retire
+pub mod Serve
 pub mod Sign
 pub mod Signing
+pub mod Streams
 pub mod Trace
 pub mod Verify

@@ -14,7 +14,7 @@ use Rattle.command.specs.declared.line.Lack.{Lack}
 use Rattle.command.specs.declared.line.Lack.TheVariants as lack
 use Rattle.command.specs.declared.line.Lack.TheVariants.{Command, Number}
 use Rattle.command.specs.declared.line.Request.{Request}
-use Rattle.command.specs.declared.line.Request.TheVariants.{Make, Sign, Verify, Retire, Audit, AuditGiven}
+use Rattle.command.specs.declared.line.Request.TheVariants.{Make, Sign, Verify, Retire, Audit, AuditGiven, Serve}
 use Rattle.command.specs.declared.answer.Done.{Done}
 use Rattle.command.specs.declared.refusal.Refusal.{Refusal}
 use Rattle.command.specs.Argument.{default_random}
@@ -25,6 +25,7 @@ use Rattle.command.specs.Make.{MakesIn, make_app}
 use Rattle.command.specs.Number.{number_in}
 use Rattle.command.specs.Verify.{verify_app, VerifiesIn}
 use Rattle.command.specs.Retire.{RetiresIn, most_leaves, retire_app}
+use Rattle.command.specs.Serve.{serve_app}
 use Rattle.command.specs.Sign.{SignsIn, sign_app}
 use Rattle.command.specs.Trace.{Happening}
 
@@ -42,7 +43,8 @@ bare_app = record (new_app (codes "hbsign")) {
 -- the program
 abbrev pub hbsign_app : App
 hbsign_app = with_subcommand (with_subcommand (with_subcommand (with_subcommand (with_subcommand (with_subcommand
-    bare_app make_app.top) sign_app.top) verify_app.top) retire_app.top) audit_app.top) audit_given_app.top
+    (with_subcommand bare_app make_app.top) sign_app.top) verify_app.top) retire_app.top) audit_app.top)
+    audit_given_app.top) serve_app.top
 
 -- ---- the words of a line
 
@@ -83,6 +85,7 @@ pub data Task : Type 0 where
   retire : (state : List ℕ) (upto : ℕ) → Task
   audit : (state : List ℕ) (anchor : Option Anchor) → Task
   audit_given : (public : List ℕ) (files : List Pair) → Task
+  serve : (state random : List ℕ) → Task
 
 -- what a request is
 abbrev pub task_of : Request → Task
@@ -93,6 +96,7 @@ task_of (Verify files) = verify files.public.now files.message.now files.signatu
 task_of (Retire words) = retire words.state.now words.upto
 task_of (Audit words) = audit words.state.now words.anchor
 task_of (AuditGiven words) = audit_given words.public.now (pairs_of words)
+task_of (Serve words) = serve words.state.now words.random.now
 
 -- the same, where there is one
 abbrev pub task_or_lack : Result Request Lack → Result Task Lack
@@ -134,6 +138,11 @@ abbrev pub audit_task : (state count tag : Option Text) → Result Task Lack
 audit_task (Some state) count tag = audit_anchored state (anchor_in count tag)
 audit_task None _ _ = Err Command
 
+-- that of `serve`
+abbrev pub serve_task : (state random : Option Text) → Result Task Lack
+serve_task (Some state) (Some random) = Ok (serve state random)
+serve_task _ _ = Err Command
+
 -- that of `audit-given`
 abbrev pub audit_given_pairs : Text → Option (List Pair) → Result Task Lack
 audit_given_pairs public (Some pairs) = Ok (audit_given public pairs)
@@ -159,7 +168,9 @@ fixed_task_named name rows =
     then retire_task (first_of (codes "STATE") rows) (first_of (codes "UPTO") rows)
     else (if bytes_eq name (codes "audit")
     then audit_task (first_of (codes "STATE") rows) (first_of (codes "count") rows) (first_of (codes "tag") rows)
-    else Err Command))))
+    else (if bytes_eq name (codes "serve")
+    then serve_task (first_of (codes "STATE") rows) (first_of (codes "random") rows)
+    else Err Command)))))
 
 -- .. and of every command
 abbrev pub task_named : Text → List Row → Result Task Lack
@@ -188,6 +199,7 @@ IsLineOf words (retire state upto) = (text : List ℕ) × (number_in most_leaves
     × IsCommandLine words (codes "retire") (state ∷ text ∷ [])
 IsLineOf words (audit state anchor) = FindsTask words (audit state anchor)
 IsLineOf words (audit_given public files) = FindsTask words (audit_given public files)
+IsLineOf words (serve state random) = FindsTask words (serve state random)
 
 -- A line of values, with the option at its end or without it. None of the values looks like an option.
 abbrev pub IsLineWithOption : List (List ℕ) → (name : List ℕ) → (values : List (List ℕ)) → (random : List ℕ) → Type 0
@@ -211,7 +223,8 @@ IsAuditLine words state (Some anchor) = IsAnchoredLine words state anchor
 
 -- The line of a task as help shows it: `make STATE PUBLIC SPEC [--random FILE]`,
 -- `sign STATE NAME MESSAGE OUT [--random FILE]`, `verify PUBLIC MESSAGE SIGNATURE`, `retire STATE UPTO`,
--- `audit STATE [--count K --tag T]`, or `audit-given PUBLIC FILES..` with a pair of files at least.
+-- `audit STATE [--count K --tag T]`, `audit-given PUBLIC FILES..` with a pair of files at least, or
+-- `serve STATE [--random FILE]`.
 abbrev pub IsShownLineOf : List (List ℕ) → Task → Type 0
 IsShownLineOf words (make state public spec random) =
     IsLineWithOption words (codes "make") (state ∷ public ∷ spec ∷ []) random
@@ -222,6 +235,7 @@ IsShownLineOf words (retire state upto) = IsLineOf words (retire state upto)
 IsShownLineOf words (audit state anchor) = IsAuditLine words state anchor
 IsShownLineOf words (audit_given public files) =
     (files ≢ []) × IsCommandLine words (codes "audit-given") (public ∷ paths_of files)
+IsShownLineOf words (serve state random) = IsLineWithOption words (codes "serve") (state ∷ []) random
 
 -- the kind of error that a lack is
 abbrev pub lack_kind : Lack → ErrorKind
@@ -234,7 +248,7 @@ lack_kind lack.Pairs = kind.WrongNumberOfValues
 
 -- ---- how a task is served
 
--- A task is served so.
+-- A task whose answer is reported is served so. Those of `serve` are replies.
 abbrev pub ServesTask : {K R : Type 0} {bound : _} → disk.Ghosts K → store.Ghosts (FileStore K bound) → source.Ghosts R
     → FilesSeen K → Task → Result Done Refusal → List Happening → List Happening → Type 0
 ServesTask d g r files (make state public spec random) answer old new =
@@ -247,3 +261,4 @@ ServesTask d g r files (retire state upto) answer old new = RetiresIn d g files 
 ServesTask d g r files (audit state anchor) answer old new = AuditsIn d files state anchor answer old new
 ServesTask d g r files (audit_given public pairs) answer old new =
     ChecksIn files.content public pairs answer old new
+ServesTask d g r files (serve state random) answer old new = ⊥

@@ -1,5 +1,6 @@
 -- What a run of the program does: what it prints, and what it does to files.
 use Rattle.std.specs.Prelude.{ℕ, List, Result, ◌≡◌, ◌⊎◌, codes, ◌<◌, length, Err, [], string_bytes}
+use Rattle.typecodes.specs.declared.message.Message as message
 use Rattle.sign_core.specs.declared.source.Source as source
 use Rattle.state_file.specs.declared.disk.Disk as disk
 use Rattle.state_file.specs.declared.store.Store as store
@@ -10,18 +11,46 @@ use Rattle.command.specs.declared.line_fault.LineFault.{LineFault}
 use Rattle.command.specs.declared.line_fault.LineFault.TheVariants as fault
 use Rattle.command.specs.declared.refusal.Refusal.TheVariants.{OutOfMemory}
 use Rattle.command.specs.Files.{FilesSeen}
-use Rattle.command.specs.Line.{AreTexts, IsLineOf, ServesTask, Task}
+use Rattle.command.specs.Line.{AreTexts, FindsTask, IsLineOf, ServesTask, Task, serve}
 use Rattle.command.specs.LineFault.{HasLineFault, HasText, line_faults}
-use Rattle.command.specs.Answer.{IsOfWord, ReportsRequest, answer_line}
+use Rattle.command.specs.Answer.{IsOfWord, ReportsRequest, ReportsServing, answer_line}
 use Rattle.command.specs.Output.{Taken, WritesText, Fails}
+use Rattle.command.specs.Serve.{ServesIn}
+use Rattle.command.specs.Streams.{OutputSeen, Streams, taken}
 use Rattle.command.specs.Trace.{Happening}
 
--- A task is served, and the answer reported.
-abbrev pub ReportsTask : {K R : Type 0} {bound : _} → disk.Ghosts K → store.Ghosts (FileStore K bound)
-    → source.Ghosts R → FilesSeen K → Task → List Happening → List Happening → Taken → Taken → ℕ → Type 0
-ReportsTask d g r files task before after old new status =
+-- A task is served, and the answer reported. The input and the output for errors are as they were.
+abbrev pub ReportsAnswer : {K R I O : Type 0} {bound : _} → disk.Ghosts K → store.Ghosts (FileStore K bound)
+    → source.Ghosts R → OutputSeen O → FilesSeen K → Task → (before after : List Happening)
+    → (old new : Streams I O) → ℕ → Type 0
+ReportsAnswer d g r o files task before after old new status =
     (answer : Result Done Refusal) × ServesTask d g r files task answer before after
-    × ReportsRequest answer old new status
+    × ReportsRequest answer (taken o.contents o.failures old.output) (taken o.contents o.failures new.output) status
+    × (new.input ≡ old.input) × (new.errors ≡ old.errors)
+
+-- The requests of the input are served, each by a reply on the output, and what this ended with is reported on the
+-- output for errors.
+abbrev pub ReportsEnd : {K R I O : Type 0} {bound : _} → disk.Ghosts K → store.Ghosts (FileStore K bound)
+    → source.Ghosts R → message.Ghosts I → OutputSeen O → FilesSeen K → (state random : List ℕ)
+    → (before after : List Happening) → (old new : Streams I O) → ℕ → Type 0
+ReportsEnd d g r m o files state random before after old new status =
+    (served : Result ℕ Refusal)
+    × ServesIn d g r m o.contents files state random (old.input, old.output) (new.input, new.output) served
+    before after
+    × ReportsServing served old.errors new.errors status
+
+-- What is done for a task: of `serve` the one, of each other the other.
+abbrev pub ReportsTask : {K R I O : Type 0} {bound : _} → disk.Ghosts K → store.Ghosts (FileStore K bound)
+    → source.Ghosts R → message.Ghosts I → OutputSeen O → FilesSeen K → Task → (before after : List Happening)
+    → (old new : Streams I O) → ℕ → Type 0
+ReportsTask d g r m o files (serve state random) before after old new status =
+    ReportsEnd d g r m o files state random before after old new status
+ReportsTask d g r m o files task before after old new status =
+    ReportsAnswer d g r o files task before after old new status
+
+-- The words are a line of `serve`.
+abbrev pub AsksToServe : List (List ℕ) → Type 0
+AsksToServe words = (state : List ℕ) × (random : List ℕ) × FindsTask words (serve state random)
 
 -- A text that was requested was written, with status 0, or the output failed.
 abbrev pub Helps : List ℕ → Taken → Taken → ℕ → Type 0
@@ -59,29 +88,39 @@ Explains fault.Version old new status = Helps version_line old new status
 Explains (fault.Refused text) old new status = (status ≡ 2) × (new ≡ old)
 Explains fault.OutOfMemory old new status = ReportsRequest (Err OutOfMemory) old new status
 
--- The words have a fault, of which this comes. No line of a text of help can be taken for an answer's.
-abbrev pub ExplainsLine : List (List ℕ) → Taken → Taken → ℕ → Type 0
-ExplainsLine words old new status =
-    (why : LineFault) × HasLineFault words why × HasText why × Explains why old new status
+-- The words have a fault, of which this comes. No line of a text of help can be taken for an answer's. The input is as
+-- it was.
+abbrev pub ExplainsLine : {I O : Type 0} → OutputSeen O → List (List ℕ) → (old new : Streams I O) → ℕ → Type 0
+ExplainsLine o words old new status =
+    (why : LineFault) × HasLineFault words why × HasText why
+    × Explains why (taken o.contents o.failures old.output) (taken o.contents o.failures new.output) status
+    × (new.input ≡ old.input)
 
--- Memory was refused to the reader of the line: this is reported, and no file was opened.
-abbrev pub ReportsNoMemory : Type 0 → List Happening → List Happening → Taken → Taken → ℕ → Type 0
-ReportsNoMemory refused before after old new status =
-    refused × (after ≡ before) × ReportsRequest (Err OutOfMemory) old new status
+-- Memory was refused to the reader of the line: this is reported, no file was opened, and the input is as it was.
+abbrev pub ReportsNoMemory : {I O : Type 0} → OutputSeen O → Type 0 → (before after : List Happening)
+    → (old new : Streams I O) → ℕ → Type 0
+ReportsNoMemory o refused before after old new status =
+    refused × (after ≡ before)
+    × ReportsRequest (Err OutOfMemory) (taken o.contents o.failures old.output) (taken o.contents o.failures new.output)
+    status
+    × (new.input ≡ old.input)
 
--- What a run of the program on these words does to files and the output: of words without a fault it serves some task,
--- and where the words are texts, they are a line of this task; of others it does what their fault requests, and opens
--- no file; or there is no memory.
-abbrev pub Runs : {K R : Type 0} {bound : _} → disk.Ghosts K → store.Ghosts (FileStore K bound) → source.Ghosts R
-    → List (List ℕ) → FilesSeen K → Type 0 → List Happening → List Happening → Taken → Taken → ℕ → Type 0
-Runs d g r words files refused before after old new status =
-    ((line_faults words ≡ []) × ((task : Task) × (AreTexts words → IsLineOf words task)
-    × ReportsTask d g r files task before after old new status))
-    ⊎ ((after ≡ before) × ExplainsLine words old new status)
-    ⊎ ReportsNoMemory refused before after old new status
+-- What a run of the program on these words does to files, its input and its outputs: of words without a fault it serves
+-- some task, which `clap` finds in them, and where the words are texts, they are a line of this task; of others it does
+-- what their fault requests, and opens no file; or there is no memory.
+abbrev pub Runs : {K R I O : Type 0} {bound : _} → disk.Ghosts K → store.Ghosts (FileStore K bound) → source.Ghosts R
+    → message.Ghosts I → OutputSeen O → List (List ℕ) → FilesSeen K → Type 0 → (before after : List Happening)
+    → (old new : Streams I O) → ℕ → Type 0
+Runs d g r m o words files refused before after old new status =
+    ((line_faults words ≡ []) × ((task : Task) × FindsTask words task × (AreTexts words → IsLineOf words task)
+    × ReportsTask d g r m o files task before after old new status))
+    ⊎ ((after ≡ before) × ExplainsLine o words old new status)
+    ⊎ ReportsNoMemory o refused before after old new status
 
 -- Of a line of a task it serves the task, unless there is no memory.
-abbrev pub RunsTask : {K R : Type 0} {bound : _} → disk.Ghosts K → store.Ghosts (FileStore K bound)
-    → source.Ghosts R → FilesSeen K → Task → Type 0 → List Happening → List Happening → Taken → Taken → ℕ → Type 0
-RunsTask d g r files task refused before after old new status =
-    ReportsTask d g r files task before after old new status ⊎ ReportsNoMemory refused before after old new status
+abbrev pub RunsTask : {K R I O : Type 0} {bound : _} → disk.Ghosts K → store.Ghosts (FileStore K bound)
+    → source.Ghosts R → message.Ghosts I → OutputSeen O → FilesSeen K → Task → Type 0
+    → (before after : List Happening) → (old new : Streams I O) → ℕ → Type 0
+RunsTask d g r m o files task refused before after old new status =
+    ReportsTask d g r m o files task before after old new status
+    ⊎ ReportsNoMemory o refused before after old new status

@@ -4,10 +4,12 @@ use Rattle.std.specs.declared.io.ErrorKind.TheVariants as kind
 use Rattle.command.specs.declared.refusal.Refusal.{Refusal}
 use Rattle.command.specs.declared.refusal.Refusal.TheVariants.{OutOfMemory, FileFailed, Key, Signature}
 use Rattle.command.specs.declared.refusal.Refusal.TheVariants.{Signer, Opening, Preparing, Audit, Given, Locked}
-use Rattle.command.specs.declared.refusal.Refusal.TheVariants.{BadName, BadSpec}
+use Rattle.command.specs.declared.refusal.Refusal.TheVariants.{BadName, BadSpec, Serving}
+use Rattle.sign_core.specs.declared.fault.ServeFault.{ServeFault}
+use Rattle.sign_core.specs.declared.fault.ServeFault.TheVariants as serve
 use Rattle.sign_core.specs.declared.fault.SignFault.{SignFault}
 use Rattle.sign_core.specs.declared.fault.SignFault.TheVariants as sign
-use Rattle.sign_core.specs.Fault.{number_of as signer_number_of}
+use Rattle.sign_core.specs.Fault.{number_of as signer_number_of, serve_number_of}
 use Rattle.key_audit.specs.declared.given.GivenFault.{GivenFault}
 use Rattle.key_audit.specs.declared.given.GivenFault.TheVariants as given
 use Rattle.key_audit.specs.declared.report.AuditFault.{AuditFault}
@@ -97,6 +99,12 @@ given_name_of (given.NotValid place) = codes "NotValid"
 given_name_of (given.LeafTwice first second) = codes "LeafTwice"
 given_name_of given.OutOfMemory = codes "OutOfMemory"
 
+-- .. of what breaks off a serving of requests
+abbrev pub serve_name_of : ServeFault → List ℕ
+serve_name_of serve.MessageRead = codes "MessageRead"
+serve_name_of serve.FrameCut = codes "FrameCut"
+serve_name_of serve.WriteFailed = codes "WriteFailed"
+
 -- the number of a refusal
 abbrev pub number_of : Refusal → ℕ
 number_of (Key (KeyLength length)) = 6
@@ -107,6 +115,7 @@ number_of (Opening fault) = open_number_of fault
 number_of (Preparing fault) = format_number_of fault
 number_of (Audit fault) = audit_number fault
 number_of (Given fault) = given_number fault
+number_of (Serving fault) = serve_number_of fault
 number_of OutOfMemory = 46
 number_of FileFailed = 53
 number_of Locked = 54
@@ -135,6 +144,7 @@ name_of (Opening fault) = open_name_of fault
 name_of (Preparing fault) = format_name_of fault
 name_of (Audit fault) = audit_name_of fault
 name_of (Given fault) = given_name_of fault
+name_of (Serving fault) = serve_name_of fault
 name_of OutOfMemory = codes "OutOfMemory"
 name_of FileFailed = codes "FileFailed"
 name_of Locked = codes "Locked"

@@ -7,7 +7,7 @@ use Rattle.sign_core.specs.declared.key.AnyPublic.{AnyPublic}
 use Rattle.sign_core.specs.Key.{KeyHasFault, KeyLeavesMessage, KeyVerdict, SpellsKey}
 use Rattle.command.specs.declared.refusal.Refusal.{Refusal}
 use Rattle.command.specs.declared.refusal.Refusal.TheVariants.{Key, Signature, OutOfMemory, FileFailed}
-use Rattle.command.specs.declared.refusal.Refusal.TheVariants.{Signer, Opening, Preparing, Audit, Given, Locked}
+use Rattle.command.specs.declared.refusal.Refusal.TheVariants.{Signer, Opening, Preparing, Audit, Given, Locked, Serving}
 use Rattle.command.specs.declared.refusal.Refusal.TheVariants.{BadName, BadSpec}
 use Rattle.std.specs.declared.io.ErrorKind.{ErrorKind}
 use Rattle.command.specs.declared.trace.Role.{Role}
@@ -56,6 +56,7 @@ Judgement public message signature (Err (Opening fault)) = ⊥
 Judgement public message signature (Err (Preparing fault)) = ⊥
 Judgement public message signature (Err (Audit fault)) = ⊥
 Judgement public message signature (Err (Given fault)) = ⊥
+Judgement public message signature (Err (Serving fault)) = ⊥
 Judgement public message signature (Err Locked) = ⊥
 Judgement public message signature (Err BadName) = ⊥
 Judgement public message signature (Err BadSpec) = ⊥
@@ -73,6 +74,7 @@ AnswersFiles public message signature (Err (Opening fault)) = ⊥
 AnswersFiles public message signature (Err (Preparing fault)) = ⊥
 AnswersFiles public message signature (Err (Audit fault)) = ⊥
 AnswersFiles public message signature (Err (Given fault)) = ⊥
+AnswersFiles public message signature (Err (Serving fault)) = ⊥
 AnswersFiles public message signature (Err Locked) = ⊥
 AnswersFiles public message signature (Err BadName) = ⊥
 AnswersFiles public message signature (Err BadSpec) = ⊥
@@ -101,6 +103,7 @@ AnswerLeaves step remaining public text old new (Err (Opening fault)) = ⊥
 AnswerLeaves step remaining public text old new (Err (Preparing fault)) = ⊥
 AnswerLeaves step remaining public text old new (Err (Audit fault)) = ⊥
 AnswerLeaves step remaining public text old new (Err (Given fault)) = ⊥
+AnswerLeaves step remaining public text old new (Err (Serving fault)) = ⊥
 AnswerLeaves step remaining public text old new (Err Locked) = ⊥
 AnswerLeaves step remaining public text old new (Err BadName) = ⊥
 AnswerLeaves step remaining public text old new (Err BadSpec) = ⊥

@@ -1,15 +1,16 @@
 //! What a command answers, and how this is reported.
 
 ghost use Rattle.std.specs.Prelude.{◌≡◌};
-ghost use Rattle.command.specs.Answer.{IsOfWord, ReportsRequest, answer_line, done_lines, moved_line, report_lines};
-ghost use Rattle.command.specs.Answer.{status_of};
+ghost use Rattle.command.specs.Answer.{IsOfWord, ReportsRequest, ReportsServing, answer_line, done_lines};
+ghost use Rattle.command.specs.Answer.{moved_line, report_lines, status_of};
 ghost use Rattle.command.specs.Output.{Prints, WritesText, text_of};
+ghost use Rattle.command.specs.Streams.{taken};
 
 use crate::output::{Output, Part};
 use crate::refusal::Refusal;
 use arrayvec::ArrayVec;
 use key_audit::{AuditFault, GivenFault, Report};
-use sign_core::SignFault;
+use sign_core::{ServeFault, SignFault};
 use state_file::{FormatFault, OpenFault};
 use std::io;
 use typecodes::{Name, Refusal as SignatureRefusal};
@@ -34,7 +35,8 @@ pub enum Done {
 impl Done {
     // Prints its lines.
     fn print<O: Output>(&self, output: &mut O) -> io::Result<()>
-        ensures { Prints (done_lines self.now) (O.taken output.old) (O.taken output.new) result }
+        ensures { Prints (done_lines self.now) (taken O.contents O.failures output.old)
+            (taken O.contents O.failures output.new) result }
     {
         match self {
             Done::Verified => output.print(&[Part::Text("verified\n")]),
@@ -72,7 +74,8 @@ fn print_report<'a, O: Output>(
     report: &'a Report,
     output: &mut O,
 ) -> io::Result<()>
-    ensures { Prints (report_lines public.now report.now) (O.taken output.old) (O.taken output.new) result }
+    ensures { Prints (report_lines public.now report.now) (taken O.contents O.failures output.old)
+        (taken O.contents O.failures output.new) result }
 {
     let [word, version, end] = moved(report.moved);
     output.print(&[
@@ -115,9 +118,10 @@ const WORD_REFUSED: u8 = 2;
 
 /// Prints the answer's lines, and gives the exit status of the program.
 pub fn report<O: Output>(answer: &Answer, output: &mut O) -> u8
-    ensures reports { ReportsRequest answer.now (O.taken output.old) (O.taken output.new) result }
-    ensures refuses { result ≡ 2 → IsOfWord answer.now × WritesText (answer_line answer.now) (O.taken output.old)
-        (O.taken output.new) }
+    ensures reports { ReportsRequest answer.now (taken O.contents O.failures output.old)
+        (taken O.contents O.failures output.new) result }
+    ensures refuses { result ≡ 2 → IsOfWord answer.now × WritesText (answer_line answer.now)
+        (taken O.contents O.failures output.old) (taken O.contents O.failures output.new) }
 {
     let printed = match answer {
         Ok(done) => done.print(output),
@@ -127,6 +131,19 @@ pub fn report<O: Output>(answer: &Answer, output: &mut O) -> u8
         Ok(()) => status(answer),
         Err(_) => OUTPUT_FAILED,
     }
+}
+
+/// Prints why a serving of requests ended before its input did, if so, and gives the exit status of the program, also
+/// where this can't be printed.
+pub fn report_serving<E: Output>(served: &Result<u64, Refusal>, errors: &mut E) -> u8
+    ensures { ReportsServing served.now (taken E.contents E.failures errors.old)
+        (taken E.contents E.failures errors.new) result }
+{
+    let Err(refusal) = served else {
+        return 0;
+    };
+    let _ = errors.print(&refusal.line());
+    status(&Err(*refusal))
 }
 
 // 0 for what is done, 2 for a name or a spec that is refused, 3 where the machine fails, and 1 for every other refusal.
@@ -145,6 +162,7 @@ fn status(answer: &Answer) -> u8
             | Refusal::Preparing(FormatFault::DeviceFailed)
             | Refusal::Audit(AuditFault::DeviceFailed | AuditFault::OutOfMemory)
             | Refusal::Given(GivenFault::OutOfMemory)
+            | Refusal::Serving(ServeFault::MessageRead | ServeFault::WriteFailed)
             | Refusal::Signer(
                 SignFault::RandomFailed
                 | SignFault::StoreFailed

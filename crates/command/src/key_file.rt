@@ -2,14 +2,16 @@
 
 ghost use Rattle.std.specs.Prelude.{◌≡◌, vec_capacity};
 ghost use Rattle.state_file.specs.FileStore.{disk_of};
-ghost use Rattle.command.specs.KeyFile.{AuditsOn, MakesOn, OpensOn, RetiresOn, SignsFor, SignsOn, audit_reported};
+ghost use Rattle.command.specs.KeyFile.{AuditsOn, MakesOn, OpensOn, RetiresOn, ServesOn, SignsFor, SignsOn};
+ghost use Rattle.command.specs.KeyFile.{audit_reported, serve_reported};
 
 use crate::refusal::Refusal;
 use crate::signing;
 use key_audit::{Anchor, AuditFault, Report};
-use sign_core::{SignFault, Signer, Source, TapeSource};
+use sign_core::{ServeFault, SignFault, Signer, Source, TapeSource};
 use state_file::{Disk, FileStore, Refused, Store};
 use std::alloc::Global;
+use std::io::Write;
 use typecodes::{Message, Name, Spec};
 
 // A signer's refusal, with the disk of its store.
@@ -117,6 +119,38 @@ pub fn sign<D: Disk + Drop, R: Source + Drop, M: Message>(
             (signer.into_store().into_disk(), signed)
         }
         Err(refused) => (refused.given, Err(refused.fault)),
+    }
+}
+
+/// Serves the requests of an input with the key on a disk, each by a reply on the output, up to the input's end, and
+/// gives the disk back.
+pub fn serve<D: Disk + Drop, R: Source + Drop, I: Message, W: Write>(
+    alloc: Global,
+    disk: D,
+    random: R,
+    input: &mut I,
+    output: &mut W,
+) -> (D, Result<u64, Refusal>)
+    ensures { ServesOn D.Disk ⟦<FileStore<D> as Store>⟧ R.Source I.Message W.contents disk result.0 random
+        (input.old, output.old) (input.new, output.new) result.1 }
+{
+    match open_signer(alloc, disk, random) {
+        Ok(signer) => {
+            let mut signer = signer;
+            let served = serve_reported(sign_core::serve(alloc, &mut signer, input, output));
+            (signer.into_store().into_disk(), served)
+        }
+        Err(refused) => (refused.given, Err(refused.fault)),
+    }
+}
+
+// What a serving ends with, as it is reported.
+fn serve_reported(served: Result<u64, ServeFault>) -> Result<u64, Refusal>
+    ensures { result ≡ serve_reported served }
+{
+    match served {
+        Ok(replies) => Ok(replies),
+        Err(fault) => Err(Refusal::Serving(fault)),
     }
 }
 

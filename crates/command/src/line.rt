@@ -3,18 +3,20 @@
 ghost use Rattle.std.specs.Prelude.{◌≡◌, ◌≢◌, ◌⊎◌, ◌+◌, ℕ, [], Ok, IfErr, IfOk, MatchResult, map};
 ghost use Rattle.clap.specs.Words.{HasKind, app_of, fault_of, kind_of, subcommand_of, subcommand_rows_of};
 ghost use Rattle.clap.specs.Words.{found_of, rows_of};
-ghost use Rattle.command.specs.Line.{AreTexts, IsLineOf, IsShownLineOf, bare_app, fixed_task_named, hbsign_app};
-ghost use Rattle.command.specs.Line.{lack_kind, task_found, task_of, task_or_lack};
+ghost use Rattle.command.specs.Line.{AreTexts, FindsTask, IsLineOf, IsShownLineOf, bare_app, fixed_task_named};
+ghost use Rattle.command.specs.Line.{hbsign_app, lack_kind, task_found, task_of, task_or_lack};
 ghost use Rattle.command.specs.Line.{Task as LineTask};
 ghost use Rattle.command.specs.LineFault.{CountsRefusals, HasLineFault, HasText, line_faults};
 
-use crate::answer::Answer;
+use crate::answer::{report, report_serving};
 use crate::audit::Audit;
 use crate::audit_given::AuditGiven;
 use crate::files::SignerFolder;
 use crate::line_fault::LineFault;
 use crate::make::Make;
+use crate::output::Output;
 use crate::retire::Retire;
+use crate::serve::Serve;
 use crate::sign::Sign;
 use crate::texts::Texts;
 use crate::verify::Verify;
@@ -23,7 +25,7 @@ use clap::{ArgMatches, Command, Error};
 use state_file::{Disk, FileStore, Store};
 use std::alloc::{AllocError, Global};
 use std::convert::AsStr;
-use typecodes::Count;
+use typecodes::{Count, Message};
 
 /// What a line requests.
 #[derive(Debug, Drop)]
@@ -40,25 +42,45 @@ pub enum Request<'a> {
     Audit(Audit<'a>),
     /// To check signatures that were given out.
     AuditGiven(AuditGiven<'a>),
+    /// To serve requests that come on the input.
+    Serve(Serve<'a>),
 }
 
 impl<'a> Request<'a> {
     ghost use Rattle.command.specs.Files.{files_seen};
-    ghost use Rattle.command.specs.Line.{ServesTask, task_of};
+    ghost use Rattle.command.specs.Line.{task_of};
+    ghost use Rattle.command.specs.Program.{RefusesWord, ReportsTask};
+    ghost use Rattle.command.specs.Streams.{output_seen, streams, taken};
 
-    /// Does what is requested, and gives the answer.
-    pub fn answer<D: SignerFolder>(&self, alloc: Global, folder: &mut D) -> Answer
-        ensures { ServesTask D.Disk.Disk ⟦<FileStore<D::Disk> as Store>⟧ D.Random.Source
-            (files_seen (D.content folder.old) D.is_opened (D.is_closed folder.new)) (task_of self.now) result
-            (D.trace folder.old) (D.trace folder.new) }
+    /// Does what is requested, reports what came of it, and gives the exit status of the program.
+    pub fn fulfil<D: SignerFolder, I: Message, O: Output, E: Output>(
+        &self,
+        alloc: Global,
+        folder: &mut D,
+        input: &mut I,
+        output: &mut O,
+        errors: &mut E,
+    ) -> u8
+        ensures reports { ReportsTask D.Disk.Disk ⟦<FileStore<D::Disk> as Store>⟧ D.Random.Source I.Message
+            (output_seen O.contents O.failures)
+            (files_seen (D.content folder.old) D.is_opened (D.is_closed folder.new)) (task_of self.now)
+            (D.trace folder.old) (D.trace folder.new)
+            (streams input.old output.old (taken E.contents E.failures errors.old))
+            (streams input.new output.new (taken E.contents E.failures errors.new)) result }
+        ensures refuses { result ≡ 2 → RefusesWord (taken O.contents O.failures output.old)
+            (taken O.contents O.failures output.new)
+            (taken E.contents E.failures errors.old) (taken E.contents E.failures errors.new) }
     {
         match self {
-            Request::Make(words) => words.answer(alloc, folder),
-            Request::Sign(words) => words.answer(alloc, folder),
-            Request::Verify(files) => files.answer(folder),
-            Request::Retire(words) => words.answer(alloc, folder),
-            Request::Audit(words) => words.answer(alloc, folder),
-            Request::AuditGiven(words) => words.answer(alloc, folder),
+            Request::Make(words) => report(&words.answer(alloc, folder), output),
+            Request::Sign(words) => report(&words.answer(alloc, folder), output),
+            Request::Verify(files) => report(&files.answer(folder), output),
+            Request::Retire(words) => report(&words.answer(alloc, folder), output),
+            Request::Audit(words) => report(&words.answer(alloc, folder), output),
+            Request::AuditGiven(words) => report(&words.answer(alloc, folder), output),
+            Request::Serve(words) => {
+                report_serving(&words.answer(alloc, folder, input, output), errors)
+            }
         }
     }
 }
@@ -122,6 +144,7 @@ pub trait LineReader {
         ensures shown { (task : LineTask) → IsShownLineOf (map S.text words.now) task
             → IsLineOf (map S.text words.now) task }
         ensures ok { IfOk result (λ _. line_faults (map S.text words.now) ≡ []) }
+        ensures finds { IfOk result (λ request. FindsTask (map S.text words.now) (task_of request)) }
         ensures accepts { IfOk result (λ request.
             AreTexts (map S.text words.now) → IsLineOf (map S.text words.now) (task_of request)) }
         ensures err { IfErr result (λ fault. (fault ≡ LineFault.OutOfMemory)
@@ -192,7 +215,8 @@ fn hbsign<'a>(alloc: Global) -> Result<Command<'a>, AllocError>
         .subcommand(Verify::command(alloc)?)?
         .subcommand(Retire::command(alloc)?)?
         .subcommand(Audit::command(alloc)?)?
-        .subcommand(AuditGiven::command(alloc)?)
+        .subcommand(AuditGiven::command(alloc)?)?
+        .subcommand(Serve::command(alloc)?)
 }
 
 // The program, before its commands.
@@ -253,6 +277,10 @@ fn find_fixed_request<'a>(name: &str, words: &ArgMatches<'a>) -> Result<Request<
         Audit::NAME => match Audit::of(words) {
             Ok(words) => Ok(Request::Audit(words)),
             Err(lack) => Err(lack),
+        },
+        Serve::NAME => match Serve::of(words) {
+            Some(words) => Ok(Request::Serve(words)),
+            None => Err(Lack::Command),
         },
         _ => Err(Lack::Command),
     }

@@ -11,8 +11,8 @@
 //!
 //! `program::run` is the whole program, over a reader of lines, a folder of files, an input and two outputs. It reads
 //! the line (`line`; `number` reads its numbers, `line_fault` is why one gives no request, and `texts` makes the text
-//! that says so), does what is requested (a module for each command: `make`, `sign`, `verify`, `retire`, `audit` and
-//! `audit_given`, whose arguments `argument` has) and reports what came of it (`answer`, `refusal`). `files` has the
+//! that says so), does what is requested (a module for each command: `make`, `sign`, `verify`, `retire`, `audit`,
+//! `audit_given` and `serve`, whose arguments `argument` has) and reports what came of it (`answer`, `refusal`). `files` has the
 //! traits by which it meets files, `machine` those of a machine (which they are: `file_id`), `output` is where it
 //! writes, and `trace` is what contracts see of what it does to files. `key_file` is what the commands do with a signer
 //! on the disk of a state file, `signing` what they write once it has answered Ok, `file_disk` the disk over a file of
@@ -39,6 +39,7 @@ mod program;
 mod random_file;
 mod refusal;
 mod retire;
+mod serve;
 mod sign;
 mod signing;
 #[cfg(test)]

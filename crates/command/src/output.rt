@@ -1,9 +1,9 @@
 //! Where the program writes, with a count of the texts that it couldn't write.
 
-ghost use Rattle.std.specs.Prelude.{◌≡◌, OnOk};
+ghost use Rattle.std.specs.Prelude.{◌≡◌, ℕ, OnOk};
 ghost use Rattle.std.specs.Io.KnownBytes.{Appends};
 ghost use Rattle.hex.specs.Hex.{encode_lower};
-ghost use Rattle.command.specs.Output.{CountsFailure, Prints, Taken, level_line, level_lines, part_text, taken_of};
+ghost use Rattle.command.specs.Output.{CountsFailure, Prints, level_line, level_lines, part_text, taken_of};
 ghost use Rattle.command.specs.Output.{text_of};
 
 use std::io;
@@ -25,15 +25,16 @@ pub enum Part<'a> {
     Levels(&'a [u32]),
 }
 
-/// What takes the texts of the program.
-pub trait Output {
-    // the bytes that it took, where they are known, and how many texts it couldn't write
-    ghost taken: { Self → Taken };
+/// What takes the texts of the program. As a writer it takes replies of `serve`, which aren't texts.
+pub trait Output: Write {
+    // how many texts it couldn't write
+    ghost failures: { Self → ℕ };
 
     /// Writes the parts of a text one after another, and passes the text on. That it fails only where what it writes to
     /// does, and doesn't keep the text back, is tested.
     fn print(&mut self, parts: &[Part<'_>]) -> io::Result<()>
-        ensures { Prints (text_of parts.now) (taken self.old) (taken self.new) result };
+        ensures { Prints (text_of parts.now) (taken_of (Self.contents self.old) (failures self.old))
+            (taken_of (Self.contents self.new) (failures self.new)) result };
 }
 
 /// A writer, with its count.
@@ -55,8 +56,20 @@ impl<W: Write> Printer<W> {
     }
 }
 
+impl<W: Write> Write for Printer<W> {
+    ghost contents = { λ p. W.contents p.writer };
+
+    fn write(&mut self, bytes: &[u8]) -> io::Result<usize> {
+        self.writer.write(bytes)
+    }
+
+    fn flush(&mut self) -> io::Result<()> {
+        self.writer.flush()
+    }
+}
+
 impl<W: Write> Output for Printer<W> {
-    ghost taken = { λ p. record { contents = W.contents p.writer; failures = p.failures } };
+    ghost failures = { λ p. p.failures };
 
     fn print(&mut self, parts: &[Part<'_>]) -> io::Result<()> {
         write_text(&mut self.writer, &mut self.failures, parts)

@@ -4,8 +4,9 @@ ghost use Rattle.std.specs.Prelude.{◌≡◌, ◌≢◌, ◌+◌, ◌<◌, ◌�
 ghost use Rattle.command.specs.Files.{files_seen};
 ghost use Rattle.command.specs.Line.{IsLineOf, Task as LineTask};
 ghost use Rattle.command.specs.LineFault.{HasText, line_faults};
-ghost use Rattle.command.specs.Program.{Explains, Helps, Refuses, RefusesLine, Runs, RunsTask, Says};
+ghost use Rattle.command.specs.Program.{AsksToServe, Explains, Helps, Refuses, RefusesLine, Runs, RunsTask, Says};
 ghost use Rattle.command.specs.Output.{Fails, WritesText};
+ghost use Rattle.command.specs.Streams.{output_seen, streams, taken};
 
 use crate::answer::{OUTPUT_FAILED, report};
 use crate::files::SignerFolder;
@@ -17,6 +18,7 @@ use state_file::{Disk, FileStore, Store};
 use std::alloc::Global;
 use std::convert::AsStr;
 use std::io::Read;
+use typecodes::Message;
 
 /// The exit status of a line that is refused.
 pub const LINE_REFUSED: u8 = 2;
@@ -26,14 +28,15 @@ const VERSION_LINE: &str = "hbsign 0.1.0\n";
 
 /// Does what the words of a line request, without the program's name, and gives the exit status.
 ///
-/// A line on the output reports what came of it. A line that is refused is explained on `errors`
-/// alone, and status 2 is that of such a line, or of a name or a spec that is refused.
+/// A line on the output reports what came of it; of `serve` the output has replies alone, and a line on `errors` says
+/// why it ended before its input did. A line that is refused is explained on `errors` alone, and status 2 is that of
+/// such a line, or of a name or a spec that is refused.
 pub fn run<L, D, S, I, O, E>(
     alloc: Global,
     lines: &mut L,
     folder: &mut D,
     words: &[S],
-    _input: &mut I,
+    input: &mut I,
     output: &mut O,
     errors: &mut E,
 ) -> u8
@@ -44,24 +47,32 @@ where
     I: Read,
     O: Output,
     E: Output,
-    ensures runs { Runs D.Disk.Disk ⟦<FileStore<D::Disk> as Store>⟧ D.Random.Source (map S.text words.now)
-        (files_seen (D.content folder.old) D.is_opened (D.is_closed folder.new))
-        (L.refusals lines.new ≡ L.refusals lines.old + 1)
-        (D.trace folder.old) (D.trace folder.new) (O.taken output.old) (O.taken output.new) result }
+    ensures runs { Runs D.Disk.Disk ⟦<FileStore<D::Disk> as Store>⟧ D.Random.Source ⟦<I as Message>⟧
+        (output_seen O.contents O.failures)
+        (map S.text words.now) (files_seen (D.content folder.old) D.is_opened (D.is_closed folder.new))
+        (L.refusals lines.new ≡ L.refusals lines.old + 1) (D.trace folder.old) (D.trace folder.new)
+        (streams input.old output.old (taken E.contents E.failures errors.old))
+        (streams input.new output.new (taken E.contents E.failures errors.new)) result }
     ensures requests { (task : LineTask) → IsLineOf (map S.text words.now) task
-        → RunsTask D.Disk.Disk ⟦<FileStore<D::Disk> as Store>⟧ D.Random.Source
+        → RunsTask D.Disk.Disk ⟦<FileStore<D::Disk> as Store>⟧ D.Random.Source ⟦<I as Message>⟧
+        (output_seen O.contents O.failures)
         (files_seen (D.content folder.old) D.is_opened (D.is_closed folder.new)) task
-        (L.refusals lines.new ≡ L.refusals lines.old + 1)
-        (D.trace folder.old) (D.trace folder.new) (O.taken output.old) (O.taken output.new) result }
-    ensures input { _input.new ≡ _input.old }
+        (L.refusals lines.new ≡ L.refusals lines.old + 1) (D.trace folder.old) (D.trace folder.new)
+        (streams input.old output.old (taken E.contents E.failures errors.old))
+        (streams input.new output.new (taken E.contents E.failures errors.new)) result }
+    ensures input { (input.new ≡ input.old) ⊎ AsksToServe (map S.text words.now) }
     ensures opens_none { line_faults (map S.text words.now) ≢ [] → D.trace folder.new ≡ D.trace folder.old }
-    ensures refuses { result ≡ 2
-        → Refuses (O.taken output.old) (O.taken output.new) (E.taken errors.old) (E.taken errors.new) }
-    ensures silent { result ≢ 2 → E.taken errors.new ≡ E.taken errors.old }
-    ensures spares { line_faults (map S.text words.now) ≡ [] → E.taken errors.new ≡ E.taken errors.old }
+    ensures refuses { result ≡ 2 → Refuses (taken O.contents O.failures output.old)
+        (taken O.contents O.failures output.new)
+        (taken E.contents E.failures errors.old) (taken E.contents E.failures errors.new) }
+    ensures silent { result ≢ 2 → (taken E.contents E.failures errors.new ≡ taken E.contents E.failures errors.old)
+        ⊎ AsksToServe (map S.text words.now) }
+    ensures spares { line_faults (map S.text words.now) ≡ []
+        → (taken E.contents E.failures errors.new ≡ taken E.contents E.failures errors.old)
+        ⊎ AsksToServe (map S.text words.now) }
 {
     match lines.read(words) {
-        Ok(request) => report(&request.answer(alloc, folder), output),
+        Ok(request) => request.fulfil(alloc, folder, input, output, errors),
         Err(fault) => explain(&fault, output, errors),
     }
 }
@@ -70,11 +81,14 @@ where
 // there is no memory.
 fn explain<O: Output, E: Output>(fault: &LineFault, output: &mut O, errors: &mut E) -> u8
     requires { HasText fault.now }
-    ensures explains { Explains fault.now (O.taken output.old) (O.taken output.new) result }
-    ensures refuses { result ≡ 2
-        → RefusesLine (O.taken output.old) (O.taken output.new) (E.taken errors.old) (E.taken errors.new) }
-    ensures silent { result ≢ 2 → E.taken errors.new ≡ E.taken errors.old }
-    ensures spares { fault.now ≡ LineFault.OutOfMemory → E.taken errors.new ≡ E.taken errors.old }
+    ensures explains { Explains fault.now (taken O.contents O.failures output.old)
+        (taken O.contents O.failures output.new) result }
+    ensures refuses { result ≡ 2 → RefusesLine (taken O.contents O.failures output.old)
+        (taken O.contents O.failures output.new)
+        (taken E.contents E.failures errors.old) (taken E.contents E.failures errors.new) }
+    ensures silent { result ≢ 2 → taken E.contents E.failures errors.new ≡ taken E.contents E.failures errors.old }
+    ensures spares { fault.now ≡ LineFault.OutOfMemory
+        → taken E.contents E.failures errors.new ≡ taken E.contents E.failures errors.old }
 {
     match fault {
         LineFault::Help(text) => print(text.as_str(), output),
@@ -89,7 +103,8 @@ fn explain<O: Output, E: Output>(fault: &LineFault, output: &mut O, errors: &mut
 
 // Prints a text that was requested.
 fn print<O: Output>(text: &str, output: &mut O) -> u8
-    ensures { Helps text.now (O.taken output.old) (O.taken output.new) result }
+    ensures { Helps text.now (taken O.contents O.failures output.old)
+        (taken O.contents O.failures output.new) result }
 {
     match output.print(&[Part::Text(text)]) {
         Ok(()) => 0,

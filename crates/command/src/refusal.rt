@@ -5,11 +5,11 @@ ghost use Rattle.std.specs.IoError.{error_kind};
 ghost use Rattle.command.specs.Output.{text_of};
 ghost use Rattle.command.specs.Refusal.{detail_of, fault_name_of, name_of, number_of, refusal_line, refusal_of};
 ghost use Rattle.command.specs.Refusal.{format_name_of, format_number_of, open_name_of, open_number_of};
-ghost use Rattle.command.specs.Refusal.{audit_name_of, given_name_of, signer_name_of};
+ghost use Rattle.command.specs.Refusal.{audit_name_of, given_name_of, serve_name_of, signer_name_of};
 
 use crate::output::Part;
 use key_audit::{AuditFault, GivenFault};
-use sign_core::{KeyFault, SignFault};
+use sign_core::{KeyFault, ServeFault, SignFault};
 use state_file::{FormatFault, OpenFault};
 use std::io;
 use std::io::ErrorKind;
@@ -32,6 +32,8 @@ pub enum Refusal {
     Audit(AuditFault),
     /// 46, 60 and 61: signatures that were given out aren't those of a key whose leaves sign once.
     Given(GivenFault),
+    /// 27, 35 and 36: the serving of requests breaks off.
+    Serving(ServeFault),
     /// 46: there is no memory.
     OutOfMemory,
     /// 53: a file can't be opened, or the key's or the signature's can't be read.
@@ -58,6 +60,7 @@ impl Refusal {
             Refusal::Preparing(fault) => format_number(*fault),
             Refusal::Audit(fault) => fault.number(),
             Refusal::Given(fault) => fault.number(),
+            Refusal::Serving(fault) => fault.number(),
             Refusal::OutOfMemory => 46,
             Refusal::FileFailed => 53,
             Refusal::Locked => 54,
@@ -83,6 +86,7 @@ impl Refusal {
             Refusal::Preparing(fault) => format_name(*fault),
             Refusal::Audit(fault) => audit_name(*fault),
             Refusal::Given(fault) => given_name(*fault),
+            Refusal::Serving(fault) => serve_name(*fault),
             Refusal::OutOfMemory => "OutOfMemory",
             Refusal::FileFailed => "FileFailed",
             Refusal::Locked => "Locked",
@@ -247,6 +251,17 @@ fn given_name(fault: GivenFault) -> &'static str
         GivenFault::NotValid(_) => "NotValid",
         GivenFault::LeafTwice(_, _) => "LeafTwice",
         GivenFault::OutOfMemory => "OutOfMemory",
+    }
+}
+
+// The name of what breaks off a serving of requests.
+fn serve_name(fault: ServeFault) -> &'static str
+    ensures { result.now ≡ serve_name_of fault }
+{
+    match fault {
+        ServeFault::MessageRead => "MessageRead",
+        ServeFault::FrameCut => "FrameCut",
+        ServeFault::WriteFailed => "WriteFailed",
     }
 }
 

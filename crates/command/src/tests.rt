@@ -10,6 +10,7 @@ mod place;
 mod randoms;
 mod retiring;
 mod sample;
+mod serving;
 mod shelf;
 mod signing;
 mod states;

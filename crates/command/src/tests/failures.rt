@@ -1,5 +1,6 @@
 //! Files, readers and outputs that fail.
 
+use super::key_lines::{folder_with_files, run_line};
 use super::place::{Place, run_words};
 use super::sample::Sample;
 use super::shelf::{After, Content, verify, verify_to};
@@ -138,6 +139,35 @@ fn ends_with_3_where_an_output_fails(rt: HostRuntime) -> Result<(), Fail> {
         assert_eq!(rt; ended, status, "{words:?}");
     }
     Ok(())
+}
+
+// A reply that can't be written ends a serving, which is reported where errors are. What was bound stays bound.
+#[test]
+fn serve_ends_where_its_output_fails(rt: HostRuntime) -> Result<(), Fail> {
+    let folder = folder_with_files(&rt, "serve-output")?;
+    let made = run_line(&rt, &folder, "make @k @p lms:H5/W8 --random @r")?;
+    assert_eq!(rt; made.status, 0);
+    let path = folder.path.join(rt.alloc(), "k")?;
+    let mut output = Printer::new(Broken { is_full: false });
+    let mut errors = Printer::new(Vec::new(rt.alloc()));
+    let mut input: &[u8] = b"\x04fw-1\0\0\0\x01\x01\0\0\0\0\0";
+    let status = run(
+        rt.alloc(),
+        &mut ClapReader::new(rt.alloc()),
+        &mut Machine::new(&rt),
+        &["serve", path.as_str()],
+        &mut input,
+        &mut output,
+        &mut errors,
+    );
+    assert_eq!(rt;
+        errors.writer.as_slice(),
+        b"refused 36 WriteFailed\n".as_slice()
+    );
+    assert_eq!(rt; status, 3);
+    let other = run_line(&rt, &folder, "sign @k fw-1 @m2 @s")?;
+    assert!(rt; other.is("refused 21 Changed", 1));
+    folder.remove(&rt)
 }
 
 // Takes every text, and can't pass it on.

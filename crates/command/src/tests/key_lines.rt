@@ -1,6 +1,7 @@
 //! Lines that make a key, sign with it and retire its leaves, on files of the machine.
 
-use super::place::{Outcome, Place, run_words};
+use super::place::{Outcome, Place, run_on};
+use crate::machine::Machine;
 use std::fs;
 use std::test::Fail;
 
@@ -19,6 +20,16 @@ fn word_in(rt: &HostRuntime, folder: &Place, word: &str) -> Result<String, Fail>
 
 // Runs a line in a folder.
 pub fn run_line(rt: &HostRuntime, folder: &Place, line: &str) -> Result<Outcome, Fail> {
+    run_line_on(rt, folder, line, &[])
+}
+
+// The same, with these bytes on the input.
+pub fn run_line_on(
+    rt: &HostRuntime,
+    folder: &Place,
+    line: &str,
+    input: &[u8],
+) -> Result<Outcome, Fail> {
     let mut words = Vec::new(rt.alloc());
     for word in line.split_whitespace() {
         words.push(word_in(rt, folder, word)?)?;
@@ -27,7 +38,7 @@ pub fn run_line(rt: &HostRuntime, folder: &Place, line: &str) -> Result<Outcome,
     for word in &words {
         line.push(word.as_str())?;
     }
-    Ok(run_words(rt, &line))
+    Ok(run_on(rt, &mut Machine::new(rt), &line, input))
 }
 
 // What a file of the folder has.

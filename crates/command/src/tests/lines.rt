@@ -87,10 +87,21 @@ const AUDIT: &[u8] =
 const AUDIT_GIVEN: &[u8] =
     b"Says whether signatures of a key are valid, and no leaf signed two digests\n\nUsage: hbsign audit-given";
 
+const SERVE: &[u8] =
+    b"Signs messages that come as requests on standard input, and replies on standard output\n\nUsage: hbsign serve";
+
 // The help of each command has an example of it.
 #[test]
 fn help_shows_an_example(rt: HostRuntime) -> Result<(), Fail> {
-    for name in ["make", "sign", "verify", "retire", "audit", "audit-given"] {
+    for name in [
+        "make",
+        "sign",
+        "verify",
+        "retire",
+        "audit",
+        "audit-given",
+        "serve",
+    ] {
         let outcome = run_words(&rt, &[name, "--help"]);
         let example = format!(in rt.alloc(); "\nExample:\n  $ hbsign {name} firmware.")?;
         assert!(rt; has(&outcome.output, example.as_bytes()), "{name}");
@@ -114,6 +125,7 @@ fn helps(rt: HostRuntime) -> Result<(), Fail> {
         ("help retire", RETIRE),
         ("audit --help", AUDIT),
         ("audit-given -h", AUDIT_GIVEN),
+        ("help serve", SERVE),
     ] {
         let words: Vec<&str> = line.split_whitespace().collect(rt.alloc())?;
         let outcome = run_words(&rt, &words);

@@ -85,9 +85,19 @@ pub fn run_words(rt: &HostRuntime, words: &[&str]) -> Outcome {
 }
 
 pub fn run_in<D: SignerFolder>(rt: &HostRuntime, folder: &mut D, words: &[&str]) -> Outcome {
+    run_on(rt, folder, words, &[])
+}
+
+// The same, with these bytes on the input.
+pub fn run_on<D: SignerFolder>(
+    rt: &HostRuntime,
+    folder: &mut D,
+    words: &[&str],
+    bytes: &[u8],
+) -> Outcome {
     let mut output = Printer::new(Vec::new(rt.alloc()));
     let mut errors = Printer::new(Vec::new(rt.alloc()));
-    let mut input: &[u8] = &[];
+    let mut input = bytes;
     let status = run(
         rt.alloc(),
         &mut ClapReader::new(rt.alloc()),

@@ -2,7 +2,7 @@ use Rattle.std.proofs.Common.{◌≡◌, ◌∙◌, Err, Ok, IsSome, Some, None,
 use Rattle.clap.specs.Words.{first_of, found_of, rows_of}
 use Rattle.clap.proofs.WalkLemmas.{first_value-rows}
 use Rattle.command.specs.Line.{fixed_task_named, retire_task}
-use Rattle.command.proofs.Finding.{all_files, is_audit_task, is_make_task, is_retire_task, is_sign_task, no_audit_task, no_make_task, no_retire_task, no_sign_task, not_all_files, same_audit, same_make, same_sign}
+use Rattle.command.proofs.Finding.{all_files, is_audit_task, is_make_task, is_retire_task, is_serve_task, is_sign_task, no_audit_task, no_make_task, no_retire_task, no_serve_task, no_sign_task, not_all_files, same_audit, same_make, same_serve, same_sign}
 use Rattle.command.proofs.line.find_fixed_request.Goals as goal
 
 pub returns-in-Some : goal.returns-in-Some
@@ -82,4 +82,18 @@ returns-in-Err-of c =
     let is : c.args.name.now ≡ codes "audit" = c.in-audit.is in
     let found = found_of c.args.words.now in
     no_audit_task _ _ _ c.in-Err-of.lack (same_audit (Err c.in-Err-of.lack) (first_value-rows found (codes "STATE")) (first_value-rows found (codes "count")) (first_value-rows found (codes "tag")) c.in-Err-of.ensures)
+    ∙ sym (ap (λ n. fixed_task_named n (rows_of found)) is)
+
+pub returns-in-Some-of-3 : goal.returns-in-Some-of-3
+returns-in-Some-of-3 c =
+    let is : c.args.name.now ≡ codes "serve" = c.in-serve.is in
+    let found = found_of c.args.words.now in
+    is_serve_task _ _ c.in-Some-of-3.words (same_serve (Some c.in-Some-of-3.words) (first_value-rows found (codes "STATE")) (first_value-rows found (codes "random")) c.in-Some-of-3.ensures)
+    ∙ sym (ap (λ n. fixed_task_named n (rows_of found)) is)
+
+pub returns-in-None-of-3 : goal.returns-in-None-of-3
+returns-in-None-of-3 c =
+    let is : c.args.name.now ≡ codes "serve" = c.in-serve.is in
+    let found = found_of c.args.words.now in
+    no_serve_task _ _ (same_serve None (first_value-rows found (codes "STATE")) (first_value-rows found (codes "random")) c.in-None-of-3.ensures)
     ∙ sym (ap (λ n. fixed_task_named n (rows_of found)) is)

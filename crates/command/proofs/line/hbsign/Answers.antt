@@ -5,6 +5,7 @@ use Rattle.command.specs.Audit.{audit_app}
 use Rattle.command.specs.AuditGiven.{audit_given_app}
 use Rattle.command.specs.Make.{make_app}
 use Rattle.command.specs.Retire.{retire_app}
+use Rattle.command.specs.Serve.{serve_app}
 use Rattle.command.specs.Sign.{sign_app}
 use Rattle.command.specs.Verify.{verify_app}
 use Rattle.command.proofs.line.hbsign.Goals as goal
@@ -21,5 +22,7 @@ returns c =
     ∙ ap (λ a. with_subcommand a retire_app.top) verify_is in
     let audit_is = c.in_ok-command-5.ensures c.in_ok-subcommand-4.field-0 c.in_ok-subcommand-5.field-0 c.in_ok-subcommand-5.ensures
     ∙ ap (λ a. with_subcommand a audit_app.top) retire_is in
-    IfOk-weaker c.subcommand-6.result _ _ (λ command adds.
-    c.in_ok-command-6.ensures c.in_ok-subcommand-5.field-0 command adds ∙ ap (λ a. with_subcommand a audit_given_app.top) audit_is) c.subcommand-6.ensures
+    let given_is = c.in_ok-command-6.ensures c.in_ok-subcommand-5.field-0 c.in_ok-subcommand-6.field-0 c.in_ok-subcommand-6.ensures
+    ∙ ap (λ a. with_subcommand a audit_given_app.top) audit_is in
+    IfOk-weaker c.subcommand-7.result _ _ (λ command adds.
+    c.in_ok-command-7.ensures c.in_ok-subcommand-6.field-0 command adds ∙ ap (λ a. with_subcommand a serve_app.top) given_is) c.subcommand-7.ensures
