@@ -12,13 +12,13 @@
 //! `program::run` is the whole program, over a reader of lines, a folder of files, an input and two outputs. It reads
 //! the line (`line`; `number` reads its numbers, `line_fault` is why one gives no request, and `texts` makes the text
 //! that says so), does what is requested (a module for each command: `make`, `sign`, `verify`, `retire`, `audit`,
-//! `audit_given` and `serve`, whose arguments `argument` has) and reports what came of it (`answer`, `refusal`). `files` has the
-//! traits by which it meets files, `machine` those of a machine (which they are: `file_id`), `output` is where it
-//! writes, and `trace` is what contracts see of what it does to files. `key_file` is what the commands do with a signer
-//! on the disk of a state file, `signing` what they write once it has answered Ok, `file_disk` the disk over a file of
-//! the machine, and `random_file` random bytes of one. The contract of `run`: which files are opened, read and written,
-//! in which order, which step a signer makes on the disk of the state file, and that the line printed and the exit
-//! status are those of the right answer.
+//! `audit_given` and `serve`, whose arguments `argument` has) and reports what came of it (`answer`, `refusal`).
+//! `files` has the traits by which it meets files, `machine` those of a machine (which they are: `file_id`), `output`
+//! is where it writes, and `trace` is what contracts see of what it does to files. `key_file` is what the commands do
+//! with a signer on the disk of a state file, `signing` what they write once it has answered Ok, `file_disk` the disk
+//! over a file of the machine, and `random_file` random bytes of one. The contract of `run`: which files are opened,
+//! read and written, in which order, which step a signer makes on the disk of the state file, that the line printed and
+//! the exit status are those of the right answer, and that the output of `serve` has the replies to its input.
 #![tactic(auto)]
 
 mod answer;
