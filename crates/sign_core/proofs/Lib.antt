@@ -68,3 +68,4 @@ pub mod Told
 pub mod InputReading
 pub mod Exchanges
 pub mod Replying
+pub mod AfterRefusal

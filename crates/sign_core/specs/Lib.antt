@@ -21,3 +21,4 @@ pub mod Request
 pub mod Writing
 pub mod Lives
 pub mod RefusalOrder
+pub mod AfterRefusal

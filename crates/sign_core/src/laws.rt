@@ -14,6 +14,7 @@ ghost use Rattle.sign_core.specs.declared.key.AnyPublic.{AnyPublic};
 ghost use Rattle.sign_core.specs.Records.{IsNext, binding_in, current, deepest, first_illegal, free_at};
 ghost use Rattle.sign_core.specs.Records.{has_identifier, key_in, next_in};
 ghost use Rattle.sign_core.specs.Once.{CutLaw, IsBoundTo, LastingLaw, OnceLaw, SoundLaw, StopLaw, Verifies};
+ghost use Rattle.sign_core.specs.AfterRefusal.{AfterRefusalLaw};
 ghost use Rattle.sign_core.specs.Calls.{CallsLaw, StoppedLaw};
 ghost use Rattle.sign_core.specs.Lives.{LivesLaw};
 ghost use Rattle.sign_core.specs.Opened.{OpenedLaw};
@@ -142,6 +143,17 @@ pub fn opened_law()
 /// there. No two refusals fit one event so.
 pub fn refusal_law()
     ensures refusals { RefusalLaw }
+{}
+
+/// What stands after a refusal.
+///
+/// A request that is refused leaves the old records, or these and after them Extends alone, and binds no name. Only
+/// after 25 one more record may stand, the one whose append failed: an Extend, or the binding of this name. A retiring,
+/// a create or an opening that is refused leaves the old records; after 25 of an append the Retire or the Key may stand.
+///
+/// The clauses stand in `specs/AfterRefusal.antt`.
+pub fn after_refusal_law()
+    ensures refused { AfterRefusalLaw }
 {}
 
 /// No event takes a record or a signature away, or puts another in its place.

@@ -234,14 +234,16 @@ impl Ledger {
     pub fn len(&self) -> u32
         ensures { result ≡ length self.now.records }
     {
-        self.count
+        let Ledger { count, .. } = self;
+        *count
     }
 
     /// Whether the last record is a Moved: the records go on in another file.
     pub fn has_moved(&self) -> bool
         ensures { result ≡ has_moved self.now.records }
     {
-        self.moved
+        let Ledger { moved, .. } = self;
+        *moved
     }
 
     /// The tree of the Extend at a place.

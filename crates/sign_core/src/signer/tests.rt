@@ -14,6 +14,7 @@ mod memory;
 mod messages;
 mod moved;
 mod opening;
+mod scarce;
 mod sources;
 mod turning;
 

@@ -1,6 +1,7 @@
 //! Appends that are cut, and what stands then.
 
 use super::*;
+use state_file::Disk;
 
 // A create whose append is cut gives back its store: its fault, that of a new create and of an opening as long as
 // the store has stopped, and whether no record stands where it is open again.
@@ -111,4 +112,102 @@ fn goes_on_with_the_tree(alloc: Global) -> Option<([usize; 2], bool)> {
 #[test]
 fn a_source_that_ends_leaves_the_tree(rt: HostRuntime) {
     assert_eq!(rt; goes_on_with_the_tree(rt.alloc()), Some(([2, 1], true)));
+}
+
+// The disk of a key in a file after its first name, where the disk's n-th call from the opening on fails and the name is
+// answered 25 for that.
+fn cut_file(alloc: Global, n: u32) -> Option<Option<MemoryDisk>> {
+    let tape = counting::<80>(0);
+    let mut disk = in_file(alloc, LMS, &tape)?.into_store().into_disk();
+    disk.fail_at(n);
+    let Ok(store) = FileStore::open(disk) else {
+        return Some(None);
+    };
+    let Ok(mut signer) = Signer::open(alloc, store, TapeSource::new(&tape)) else {
+        return Some(None);
+    };
+    if fault_of(alloc, &mut signer, &name_of(1), &[1])? != Some(SignFault::StoreFailed) {
+        return Some(None);
+    }
+    Some(Some(signer.into_store().into_disk()))
+}
+
+// How many leaves a file opens with, and its length then and after one more name.
+fn goes_on_from(alloc: Global, disk: MemoryDisk) -> Option<(u32, u64, u64)> {
+    let tape = counting::<32>(0x60);
+    let store = FileStore::open(disk).ok()?;
+    let signer = Signer::open(alloc, store, TapeSource::new(&tape)).ok()?;
+    let left = *signer.left().as_slice().first()?;
+    let mut disk = signer.into_store().into_disk();
+    let opened = disk.len().ok()?;
+    let store = FileStore::open(disk).ok()?;
+    let mut signer = Signer::open(alloc, store, TapeSource::new(&tape)).ok()?;
+    if fault_of(alloc, &mut signer, &name_of(2), &[2])?.is_some() {
+        return None;
+    }
+    Some((left, opened, signer.into_store().into_disk().len().ok()?))
+}
+
+// What a cut append leaves: the length of the file, and what it opens with where the disk goes on, and where the power
+// goes right then and the last sync alone stands.
+#[derive(Clone, Copy, Debug, PartialEq, Eq)]
+struct Left {
+    len: u64,
+    going_on: (u32, u64, u64),
+    stopped: (u32, u64, u64),
+}
+
+fn left_by(alloc: Global, disk: MemoryDisk) -> Option<Left> {
+    let mut disk = disk;
+    let len = disk.len().ok()?;
+    let synced = MemoryDisk::of(alloc, &disk.stop(Pick::Old).ok()?).ok()?;
+    Some(Left {
+        len,
+        going_on: goes_on_from(alloc, disk)?,
+        stopped: goes_on_from(alloc, synced)?,
+    })
+}
+
+// The four calls of an append: the slot with a closed gate after it, of which a failed write has written half; a sync;
+// the gate; and a sync. The record stands once its gate is open.
+const CUTS: [Left; 4] = [
+    Left {
+        len: 385,
+        going_on: (32, 385, 513),
+        stopped: (32, 257, 513),
+    },
+    Left {
+        len: 513,
+        going_on: (32, 513, 513),
+        stopped: (32, 257, 513),
+    },
+    Left {
+        len: 513,
+        going_on: (32, 513, 513),
+        stopped: (32, 513, 513),
+    },
+    Left {
+        len: 513,
+        going_on: (31, 513, 769),
+        stopped: (32, 513, 513),
+    },
+];
+
+// The first call of an append that leaves something else where it fails, and how many there are.
+fn first_other_cut(alloc: Global) -> Option<usize> {
+    let mut count = 0;
+    for n in 1..40u32 {
+        if let Some(disk) = cut_file(alloc, n)? {
+            if CUTS.get(count) != Some(&left_by(alloc, disk)?) {
+                return Some(count);
+            }
+            count = count.saturating_add(1);
+        }
+    }
+    Some(count)
+}
+
+#[test]
+fn each_cut_of_an_append_leaves_a_file_that_goes_on(rt: HostRuntime) {
+    assert_eq!(rt; first_other_cut(rt.alloc()), Some(CUTS.len()));
 }

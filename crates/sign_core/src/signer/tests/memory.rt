@@ -3,6 +3,7 @@
 
 use super::lists::{Entry, add_all, listed};
 use super::*;
+use lmots::LmOts;
 use state_file::{Disk, FormatFault, OpenFault};
 
 // A source that gives one number in each byte of a draw, and the next one at the next draw.
@@ -459,4 +460,56 @@ fn a_changed_root_is_found_at_last(rt: HostRuntime) {
 fn a_changed_root_is_found_at_first(rt: HostRuntime) {
     let found = (SignFault::Damaged(0), None);
     assert_eq!(rt; of_other_root_twice(rt.alloc()), Some(found));
+}
+
+// A store of a key whose root isn't that of its tree, and a name that is bound to the digest of the byte 1.
+fn bound_under_other_root(alloc: Global) -> Option<MemoryStore> {
+    let one_time = LmOts {
+        identifier: [1; 16],
+        leaf: 0,
+    };
+    let bound = Record::Bound(Bound {
+        name: Name::new(&name_of(1)).ok()?,
+        leaf: 0,
+        randomizer: [4; 32],
+        digest: one_time.message_digest(&[4; 32], &[1]),
+    });
+    let mut store = other_root(alloc)?;
+    match store.load(0) {
+        Ok(Some(_)) => match store.append(&bound) {
+            Ok(()) => Some(store),
+            Err(_) => {
+                store.append(&bound).ok()?;
+                Some(store)
+            }
+        },
+        _ => None,
+    }
+}
+
+// What the first request of a bound name answers under such a key, and where memory is refused for it, the second.
+fn of_bound_name_twice(alloc: Global) -> Option<(SignFault, Option<SignFault>)> {
+    let store = bound_under_other_root(alloc)?;
+    let mut signer = opened_on(alloc, store, 0)?;
+    let first = fault_of(alloc, &mut signer, &name_of(1), &[1])??;
+    if first != SignFault::OutOfMemory {
+        return Some((first, None));
+    }
+    Some((first, fault_of(alloc, &mut signer, &name_of(1), &[1])?))
+}
+
+// Under a bound name, too, want of memory comes before what is wrong in the records.
+#[test]
+fn a_changed_root_of_a_bound_name_is_found_at_last(rt: HostRuntime) {
+    let found = SignFault::Damaged(0);
+    let answers = of_bound_name_twice(rt.alloc());
+    let is_second = answers == Some((SignFault::OutOfMemory, Some(found)));
+    assert!(rt; is_second || answers == Some((found, None)));
+}
+
+// This one passes only where no growth of the first request is refused.
+#[test]
+fn a_changed_root_of_a_bound_name_is_found_at_first(rt: HostRuntime) {
+    let found = (SignFault::Damaged(0), None);
+    assert_eq!(rt; of_bound_name_twice(rt.alloc()), Some(found));
 }
