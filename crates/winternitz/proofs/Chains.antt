@@ -1,5 +1,5 @@
 -- How many digits the digests have that a type signs.
-use Rattle.std.proofs.Common.{◌≡◌, refl}
+use Rattle.std.proofs.Common.{◌≡◌, ◌≤◌, refl, arith}
 use Rattle.typecodes.specs.declared.types.OtsType.{OtsType}
 use Rattle.typecodes.specs.declared.types.OtsType.TheVariants.{W1, W2, W4, W8}
 use Rattle.typecodes.specs.Types.{chains_of, width_of}
@@ -11,3 +11,10 @@ digits_are_chains W1 = refl
 digits_are_chains W2 = refl
 digits_are_chains W4 = refl
 digits_are_chains W8 = refl
+
+-- at most 265 of them
+pub chains_at_most : (ots : OtsType) → chains_of ots ≤ 265
+chains_at_most W1 = omega arith
+chains_at_most W2 = omega arith
+chains_at_most W4 = omega arith
+chains_at_most W8 = omega arith

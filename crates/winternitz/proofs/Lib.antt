@@ -8,3 +8,5 @@ pub mod Ends
 pub mod Concatenated
 pub mod Signing
 pub mod Chains
+mod Vectors
+mod Orders

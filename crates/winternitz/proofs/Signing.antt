@@ -1,13 +1,14 @@
 -- What a signature carries of a key's chains climbs to the ends of these chains, for any step and any
 -- private values.
-use Rattle.std.proofs.Common.{◌≡◌, ◌∙◌, sym, ap, ap₂, subst, ℕ, zero, suc, ◌+◌, ◌-◌, ◌*◌, ◌<◌, ◌^◌, List, [], map, length, get_or, take, arith}
+use Rattle.std.proofs.Common.{◌≡◌, ◌∙◌, sym, ap, ap₂, subst, ℕ, zero, suc, ◌+◌, ◌-◌, ◌*◌, ◌<◌, ◌≤◌, ◌^◌, List, [], map, length, get_or, take, arith}
 use Rattle.std.specs.List.{concat, range_with_len}
 use Rattle.std.proofs.lemmas.List.FromFn.{fill_by_all, get_or-map-range_with_len, length-map-range_with_len}
-use Rattle.std.proofs.lemmas.List.{take_all}
+use Rattle.std.proofs.lemmas.List.{length-take-le, take_all}
 use Rattle.typecodes.specs.Fields.{values_in}
 use Rattle.winternitz.specs.Chain.{Steps, walk, walk_on, AreEnds, end_of, ends_of}
 use Rattle.winternitz.specs.Digest.{digit_count, digits_of}
 use Rattle.winternitz.proofs.Concatenated.{chunks_of_concat}
+use Rattle.winternitz.proofs.Ends.{first_are, first_at}
 use Rattle.winternitz.proofs.Walks.{walk-walk}
 use Rattle.winternitz.proofs.Coefs.{digit_most}
 
@@ -81,3 +82,28 @@ bytes_climb step start w n digest bytes all steps starts are =
     let contained : values_in n bytes ≡ values =
     ap (values_in n) are ∙ chunks_of_concat n values (length-map-range_with_len value 0 n) sizes in
     subst (λ vs. AreEnds step w digits vs (ends step start w n)) (sym contained) (signed_climbs step start w n digest all)
+
+-- ---- what climbing all chains gives
+
+-- values that climbed from their starts, each to its own place
+pub climbed_are : (step : Steps) (start : ℕ → List ℕ) (last read : ℕ → ℕ) (n all : ℕ) (starts values : List (List ℕ))
+    → n ≡ all → n ≤ length starts → n ≤ length values → ((i : ℕ) → i < n → get_or starts i [] ≡ start i) → ((i : ℕ) → i < n → read i ≡ last i)
+    → ((i : ℕ) → i < length (take n starts) → get_or values i [] ≡ walk step i 0 (read i) (get_or (take n starts) i []))
+    → take n values ≡ map (λ i. walk step i 0 (last i) (start i)) (range_with_len 0 all)
+climbed_are step start last read n all starts values count starts_room room begun places climbed =
+    let value : ℕ → List ℕ = λ i. walk step i 0 (last i) (start i) in
+    first_are value n values room (λ i within.
+    climbed i (omega (arith, length-take-le n starts starts_room))
+    ∙ ap₂ (walk step i 0) (places i within) (first_at n i starts within ∙ begun i within))
+    ∙ ap (λ n. map value (range_with_len 0 n)) count
+
+-- values that climbed from their digits to the ends of their chains
+pub ends_are : (step : Steps) (w last : ℕ) (read digits : List ℕ) (values ends : List (List ℕ))
+    → length values ≡ length read → length values ≤ length ends → read ≡ digits → last ≡ 2 ^ w - 1
+    → ((i : ℕ) → i < length values → get_or ends i [] ≡ walk step i (get_or read i 0) last (get_or values i []))
+    → take (length values) ends ≡ ends_of step w digits values
+ends_are step w last read digits values ends count room digits_are last_is climbed =
+    first_are (end_of step w read values) (length values) ends room
+    (λ i within. climbed i within ∙ ap (λ last. walk step i (get_or read i 0) last (get_or values i [])) last_is)
+    ∙ ap (λ n. map (end_of step w read values) (range_with_len 0 n)) count
+    ∙ ap (λ digits. ends_of step w digits values) digits_are

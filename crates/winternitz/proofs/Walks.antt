@@ -36,3 +36,26 @@ walk-walk step c a b d v first second =
     ap (λ p. walk_on step c p (d - b) (walk_on step c a (b - a) v)) at
     ∙ walk_on-walk_on step c a (b - a) (d - b) v
     ∙ ap (λ k. walk_on step c a k v) all
+
+-- ---- counted from where the walk begins
+
+pub walk_begun : (step : Steps) (c a : ℕ) (v : List ℕ) → v ≡ walk step c a (a + 0) v
+unfolding walk_on
+walk_begun step c a v = let none : 0 ≡ a + 0 - a = omega arith in ap (λ n. walk_on step c a n v) none
+
+-- one step further
+pub walk_further : (step : Steps) (c a n at : ℕ) (u v w : List ℕ)
+    → v ≡ walk step c a (a + n) u → at ≡ a + n → w ≡ step c at v → w ≡ walk step c a (a + (n + 1)) u
+walk_further step c a n at u v w before here last =
+    let more : a + n + 1 ≡ a + (n + 1) = omega arith in
+    walk_more step c a (a + n) u v w (omega arith) before (last ∙ ap (λ p. step c p v) here)
+    ∙ ap (λ b. walk step c a b u) more
+
+-- and on to the end
+pub walk_finished : (step : Steps) (c a n at d : ℕ) (u v w : List ℕ)
+    → v ≡ walk step c a (a + n) u → at ≡ a + n → at ≤ d → w ≡ walk step c at d v → w ≡ walk step c a d u
+walk_finished step c a n at d u v w before here within last =
+    last
+    ∙ ap (λ p. walk step c p d v) here
+    ∙ ap (walk step c (a + n) d) before
+    ∙ walk-walk step c a (a + n) d u (omega arith) (omega arith)

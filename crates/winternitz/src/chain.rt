@@ -1,7 +1,10 @@
 //! Chains of any step.
 
-ghost use Rattle.std.specs.Prelude.{◌≡◌, ◌≤◌, ℕ, List};
+ghost use Rattle.std.specs.Prelude.{◌≡◌, ◌≤◌, ◌<◌, ◌+◌, ℕ, List, [], slice_index, slice_index_or};
 ghost use Rattle.winternitz.specs.Chain.{walk};
+ghost use Rattle.winternitz.specs.Lanes.{lanes};
+
+use crate::lanes::LANES;
 
 /// One step along a chain, as a standard's hash takes it.
 pub trait Step {
@@ -11,6 +14,23 @@ pub trait Step {
     /// The value after step `at` of a chain, from the value before it (RFC 8554 4.3, RFC 8391 3.1.2).
     fn step(&self, chain: u16, at: u8, value: &[u8; 32]) -> [u8; 32]
         ensures { result ≡ step_of self.now chain at value.now };
+
+    /// A step of each of four chains, each at its own place. A hash with lanes takes them together.
+    fn step_four(
+        &self,
+        chains: &[u16; LANES],
+        at: &[u8; LANES],
+        values: &[[u8; 32]; LANES],
+    ) -> [[u8; 32]; LANES]
+        ensures { (j : ℕ) → j < lanes → slice_index_or result j []
+            ≡ step_of self.now (slice_index chains.now j) (slice_index at.now j) (slice_index_or values.now j []) }
+    {
+        let mut after = [[0; 32]; LANES];
+        for lane in 0..LANES {
+            after[lane] = self.step(chains[lane], at[lane], &values[lane]);
+        }
+        after
+    }
 }
 
 /// The value after the steps from, .., to - 1 of a chain (RFC 8554 4.3, RFC 8391 3.1.2). The caller keeps `from` at
@@ -24,6 +44,73 @@ pub fn climb<S: Step>(step: &S, chain: u16, from: u8, to: u8, value: &[u8; 32]) 
         value = step.step(chain, at, &value);
     }
     value
+}
+
+/// The values of four chains, each after the steps from, .., to - 1 of its own. They climb together until one of them
+/// is at its end; what is then left of the others is climbed by itself.
+pub fn climb_four<S: Step>(
+    step: &S,
+    chains: &[u16; LANES],
+    from: &[u8; LANES],
+    to: &[u8; LANES],
+    values: &[[u8; 32]; LANES],
+) -> [[u8; 32]; LANES]
+    requires { (j : ℕ) → j < lanes → slice_index from.now j ≤ slice_index to.now j }
+    ensures { (j : ℕ) → j < lanes → slice_index_or result j [] ≡ walk (S.step_of step.now)
+        (slice_index chains.now j) (slice_index from.now j) (slice_index to.now j) (slice_index_or values.now j []) }
+{
+    let shortest = shortest(from, to);
+    let mut values = *values;
+    for taken in 0..shortest {
+        values = step.step_four(chains, &added(from, taken), &values);
+    }
+    climb_rest(step, chains, &added(from, shortest), to, &values)
+}
+
+// How many steps the shortest of four ways has.
+fn shortest(from: &[u8; LANES], to: &[u8; LANES]) -> u8
+    requires { (j : ℕ) → j < lanes → slice_index from.now j ≤ slice_index to.now j }
+    ensures all { (j : ℕ) → j < lanes → slice_index from.now j + result ≤ slice_index to.now j }
+    ensures one { (j : ℕ) × (j < lanes) × (slice_index from.now j + result ≡ slice_index to.now j) }
+{
+    let mut shortest = to[0] - from[0];
+    for lane in 1..LANES {
+        if to[lane] - from[lane] < shortest {
+            shortest = to[lane] - from[lane];
+        }
+    }
+    shortest
+}
+
+// The places of four chains after as many steps of each.
+fn added(from: &[u8; LANES], taken: u8) -> [u8; LANES]
+    requires { (j : ℕ) → j < lanes → slice_index from.now j + taken < 256 }
+    ensures { (j : ℕ) → j < lanes → slice_index result j ≡ slice_index from.now j + taken }
+{
+    let mut places = [0; LANES];
+    for lane in 0..LANES {
+        places[lane] = from[lane] + taken;
+    }
+    places
+}
+
+// Climbs four chains, each by itself.
+fn climb_rest<S: Step>(
+    step: &S,
+    chains: &[u16; LANES],
+    from: &[u8; LANES],
+    to: &[u8; LANES],
+    values: &[[u8; 32]; LANES],
+) -> [[u8; 32]; LANES]
+    requires { (j : ℕ) → j < lanes → slice_index from.now j ≤ slice_index to.now j }
+    ensures { (j : ℕ) → j < lanes → slice_index_or result j [] ≡ walk (S.step_of step.now)
+        (slice_index chains.now j) (slice_index from.now j) (slice_index to.now j) (slice_index_or values.now j []) }
+{
+    let mut ends = [[0; 32]; LANES];
+    for lane in 0..LANES {
+        ends[lane] = climb(step, chains[lane], from[lane], to[lane], &values[lane]);
+    }
+    ends
 }
 
 #[cfg(test)]

@@ -7,20 +7,25 @@
 //! as great: to come from one digest's values to another's, some chain would have to be climbed
 //! down. `chain_law`: a type of the tables has a chain for each digit.
 //!
+//! Chains climb in fours: `climb_whole`, `climb_to` and `climb_from` are the walks of all chains of a
+//! key, and `lanes` is SHA-256 of four blocks side by side (`specs/Lanes.antt`), by which a `Step` can
+//! take four steps at once.
+//!
 //! ```rust
-//! use winternitz::{climb, digits};
+//! use winternitz::{climb_from, digits};
 //!
 //! // each value of a signature climbs from its digit to the end of its chain, by the hash `step`
-//! for (chain, digit) in digits(4, &digest).iter().enumerate() {
-//!     ends[chain] = climb(&step, chain as u16, *digit, 15, &values[chain]);
-//! }
+//! let ends = climb_from(&step, &digits(4, &digest), 15, &values);
 //! ```
 #![tactic(auto)]
 
 mod chain;
 mod digest;
+mod groups;
+pub mod lanes;
 mod laws;
 
-pub use crate::chain::{Step, climb};
+pub use crate::chain::{Step, climb, climb_four};
 pub use crate::digest::{Digits, digits};
+pub use crate::groups::{MOST_CHAINS, Values, climb_from, climb_to, climb_whole};
 pub use crate::laws::chain_law;

@@ -1,8 +1,10 @@
 //! Walks of a step that counts.
 
-ghost use Rattle.std.specs.Prelude.{ℕ, ◌+◌, ◌%◌, List, slice_index, slice_set};
+ghost use Rattle.std.specs.Prelude.{ℕ, ◌≤◌, ◌+◌, ◌%◌, List, length, slice_index, slice_set};
 
-use crate::{Step, climb};
+use crate::lanes::LANES;
+use crate::{Step, climb, climb_four, climb_from, climb_to, climb_whole};
+use std::process::Abort;
 
 // A step that counts itself in the first byte, and leaves its number and its chain in the next ones.
 struct Counting;
@@ -35,4 +37,62 @@ fn climbs_take_a_step_for_each_number(rt: HostRuntime) {
     }
     assert_eq!(rt; climb(&Counting, 264, 9, 9, &start), start);
     assert_eq!(rt; climb(&Counting, 264, 0, 255, &start)[2], 8);
+}
+
+// Where four chains begin and end: each of 0, 1, 2, 15 and 255 steps in each lane.
+const WAYS: [([u8; LANES], [u8; LANES]); 7] = [
+    ([0, 0, 0, 0], [255, 255, 255, 255]),
+    ([0, 3, 240, 254], [255, 4, 255, 254]),
+    ([9, 0, 0, 240], [9, 2, 255, 255]),
+    ([0, 7, 13, 0], [1, 7, 15, 255]),
+    ([1, 0, 100, 200], [3, 15, 101, 200]),
+    ([0, 1, 2, 3], [15, 15, 2, 5]),
+    ([5, 5, 0, 5], [5, 5, 255, 5]),
+];
+
+#[test]
+fn four_chains_climb_as_each_by_itself(rt: HostRuntime) {
+    let chains = [0, 264, 7, 65535];
+    let values = [[1; 32], [2; 32], [3; 32], [4; 32]];
+    for (from, to) in WAYS {
+        let ends = climb_four(&Counting, &chains, &from, &to, &values);
+        for lane in 0..LANES {
+            let end = climb(&Counting, chains[lane], from[lane], to[lane], &values[lane]);
+            assert_eq!(rt; ends[lane], end, "lane {lane} from {from:?} to {to:?}");
+        }
+    }
+}
+
+// Each chain's end is that of the chain by itself.
+fn expect_climbs(rt: &impl Abort, digits: &[u8], values: &[[u8; 32]])
+    requires few { length values.now ≤ 265 }
+    requires digits { length values.now ≤ length digits.now }
+{
+    let to = climb_to(&Counting, digits, values);
+    let from = climb_from(&Counting, digits, 255, values);
+    let whole = climb_whole(&Counting, 15, values);
+    for i in 0..values.len() {
+        let up_to = climb(&Counting, i as u16, 0, digits[i], &values[i]);
+        let up_from = climb(&Counting, i as u16, digits[i], 255, &values[i]);
+        let all = climb(&Counting, i as u16, 0, 15, &values[i]);
+        assert_eq!(rt;
+            (to[i], from[i], whole[i]),
+            (up_to, up_from, all),
+            "chain {i}"
+        );
+    }
+}
+
+// Numbers of chains that are whole groups and that aren't, with digits of all sizes.
+#[test]
+fn all_chains_climb_as_each_by_itself(rt: HostRuntime) {
+    let mut digits = [0; 265];
+    let mut values = [[0; 32]; 265];
+    for i in 0..265 {
+        digits[i] = (i * 37 % 256) as u8;
+        values[i] = [(i % 256) as u8; 32];
+    }
+    for count in [0, 1, 3, 4, 34, 67, 265usize] {
+        expect_climbs(&rt, &digits, &values[..count]);
+    }
 }

@@ -1,0 +1,197 @@
+//! SHA-256 of blocks side by side, one in each lane of a vector. In each lane it is the SHA-256 of the library `sha2`.
+
+ghost use Rattle.std.specs.Prelude.{◌≡◌, ℕ, ◌+◌, ◌*◌, ◌<◌, ◌≤◌, List, [], ◌∷◌, ◌++◌, length};
+ghost use Rattle.std.specs.Prelude.{slice_index, slice_index_or};
+ghost use Rattle.std.specs.Int.{w64, to_be_bytes};
+ghost use Rattle.sha2.specs.Sha256 as spec;
+ghost use Rattle.sha2.specs.Sha256.{digest_bytes, initial_hash_256, padding, sha256, word_at};
+ghost use Rattle.winternitz.specs.Lanes.{lanes, lane_state};
+
+use crate::lanes::constants::INITIAL;
+use crate::lanes::rounds::compress_words;
+use std::simd::u32x4;
+
+mod constants;
+mod rounds;
+#[cfg(test)]
+mod tests;
+
+/// How many blocks stand side by side. This, the type of the vectors and `lanes` in `specs/Lanes.antt` are all that
+/// another width would change.
+pub const LANES: usize = 4;
+
+/// A word of each block.
+pub type Words = u32x4;
+
+/// A hash value in each lane.
+pub type States = [Words; 8];
+
+/// A hash value, the same in each lane.
+pub fn in_each(state: &[u32; 8]) -> States
+    ensures { (j : ℕ) → j < lanes → lane_state result j ≡ state.now }
+{
+    [
+        Words::splat(state[0]),
+        Words::splat(state[1]),
+        Words::splat(state[2]),
+        Words::splat(state[3]),
+        Words::splat(state[4]),
+        Words::splat(state[5]),
+        Words::splat(state[6]),
+        Words::splat(state[7]),
+    ]
+}
+
+/// The hash value of a lane.
+pub fn in_lane(states: &States, lane: usize) -> [u32; 8]
+    requires { lane < lanes }
+    ensures { result ≡ lane_state states.now lane }
+{
+    let mut state = [0; 8];
+    for i in 0..8 {
+        state[i] = states[i].to_array()[lane];
+    }
+    state
+}
+
+/// The initial hash value, in each lane (FIPS 180-4 5.3.3).
+pub fn initial() -> States
+    ensures { (j : ℕ) → j < lanes → lane_state result j ≡ initial_hash_256 }
+{
+    in_each(&INITIAL)
+}
+
+/// The hash values after a block more in each lane (FIPS 180-4 6.2.2).
+pub fn compress(states: &States, blocks: &[[u8; 64]; LANES]) -> States
+    ensures { (j : ℕ) → j < lanes
+        → lane_state result j ≡ spec.compress (lane_state states.now j) (slice_index_or blocks.now j []) }
+{
+    let mut words = [Words::splat(0); 16];
+    for k in 0..16 {
+        words[k] = load(blocks, k);
+    }
+    compress_words(states, &words)
+}
+
+// Word k of the blocks.
+fn load(blocks: &[[u8; 64]; LANES], k: usize) -> Words
+    requires { k < 16 }
+    ensures { (j : ℕ) → j < lanes → slice_index result j ≡ word_at (slice_index_or blocks.now j []) (4 * k) }
+{
+    let mut words = [0; LANES];
+    for lane in 0..LANES {
+        words[lane] = word(&blocks[lane], 4 * k);
+    }
+    Words::from_array(words)
+}
+
+// The word at byte i of a block (FIPS 180-4 5.2.1).
+fn word(block: &[u8; 64], i: usize) -> u32
+    requires { i + 4 ≤ 64 }
+    ensures { result ≡ word_at block.now i }
+{
+    u32::from_be_bytes([block[i], block[i + 1], block[i + 2], block[i + 3]])
+}
+
+/// The bytes of the hash values.
+pub fn digests(states: &States) -> [[u8; 32]; LANES]
+    ensures { (j : ℕ) → j < lanes → slice_index_or result j [] ≡ digest_bytes (lane_state states.now j) 8 }
+{
+    let mut digests = [[0; 32]; LANES];
+    for lane in 0..LANES {
+        digests[lane] = digest(&in_lane(states, lane));
+    }
+    digests
+}
+
+// The bytes of a hash value.
+fn digest(state: &[u32; 8]) -> [u8; 32]
+    ensures { result ≡ digest_bytes state.now 8 }
+{
+    let mut bytes = [0; 32];
+    for i in 0..8 {
+        bytes[4 * i..4 * i + 4].copy_from_slice(&state[i].to_be_bytes());
+    }
+    bytes
+}
+
+/// SHA-256 of messages of 55 bytes, which fill a block with their padding.
+pub fn sha256_of_55(messages: &[[u8; 55]; LANES]) -> [[u8; 32]; LANES]
+    ensures { (j : ℕ) → j < lanes → slice_index_or result j [] ≡ sha256 (slice_index_or messages.now j []) }
+{
+    let mut blocks = [[0; 64]; LANES];
+    for lane in 0..LANES {
+        blocks[lane] = block_of_55(&messages[lane]);
+    }
+    digests(&compress(&initial(), &blocks))
+}
+
+// The block of a message of 55 bytes.
+fn block_of_55(message: &[u8; 55]) -> [u8; 64]
+    ensures { digest_bytes (spec.compress initial_hash_256 result) 8 ≡ sha256 message.now }
+{
+    padded_55(message)
+}
+
+// A message of 55 bytes and its padding (FIPS 180-4 5.1.1).
+fn padded_55(message: &[u8; 55]) -> [u8; 64]
+    ensures { result ≡ message.now ++ 0x80 ∷ to_be_bytes w64 440 }
+{
+    let mut block = [0; 64];
+    block[..55].copy_from_slice(message);
+    block[55] = 0x80;
+    block[62] = 1;
+    block[63] = 0xb8;
+    block
+}
+
+/// SHA-256 of messages of 96 bytes, by the hash values after the first blocks and the last 32 bytes.
+pub fn sha256_of_96(first: &States, last: &[[u8; 32]; LANES]) -> [[u8; 32]; LANES]
+    ensures { (j : ℕ) → j < lanes → (block : List ℕ) → length block ≡ 64
+        → lane_state first.now j ≡ spec.compress initial_hash_256 block
+        → slice_index_or result j [] ≡ sha256 (block ++ slice_index_or last.now j []) }
+{
+    let mut blocks = [[0; 64]; LANES];
+    for lane in 0..LANES {
+        blocks[lane] = last_of_96(&last[lane]);
+    }
+    digests(&compress(first, &blocks))
+}
+
+// The second block of a message of 96 bytes.
+fn last_of_96(last: &[u8; 32]) -> [u8; 64]
+    ensures { (block : List ℕ) → length block ≡ 64
+        → digest_bytes (spec.compress (spec.compress initial_hash_256 block) result) 8 ≡ sha256 (block ++ last.now) }
+{
+    padded_96(last)
+}
+
+// The last 32 bytes of a message of 96, and its padding (FIPS 180-4 5.1.1).
+fn padded_96(last: &[u8; 32]) -> [u8; 64]
+    ensures { result ≡ last.now ++ padding 96 }
+{
+    let mut block = [0; 64];
+    block[..32].copy_from_slice(last);
+    block[32] = 0x80;
+    block[62] = 3;
+    block
+}
+
+/// SHA-256 of messages of 128 bytes, by the hash values after the first blocks and the second ones.
+pub fn sha256_of_128(first: &States, second: &[[u8; 64]; LANES]) -> [[u8; 32]; LANES]
+    ensures { (j : ℕ) → j < lanes → (block : List ℕ) → length block ≡ 64 → length (slice_index_or second.now j []) ≡ 64
+        → lane_state first.now j ≡ spec.compress initial_hash_256 block
+        → slice_index_or result j [] ≡ sha256 (block ++ slice_index_or second.now j []) }
+{
+    digests(&compress(&compress(first, second), &[padding_of_128(); LANES]))
+}
+
+// The padding of a message of 128 bytes, which is a block (FIPS 180-4 5.1.1).
+fn padding_of_128() -> [u8; 64]
+    ensures { result ≡ padding 128 }
+{
+    let mut block = [0; 64];
+    block[0] = 0x80;
+    block[62] = 4;
+    block
+}
