@@ -1,20 +1,23 @@
 //! The one-time key of a leaf.
 
-ghost use Rattle.std.specs.Prelude.{◌≡◌, ℕ, ◌-◌, ◌*◌, ◌^◌, ◌++◌, List, length};
+ghost use Rattle.std.specs.Prelude.{◌≡◌, ◌<◌, ◌≤◌, ℕ, ◌+◌, ◌-◌, ◌*◌, ◌^◌, ◌++◌, List, [], length};
+ghost use Rattle.std.specs.Prelude.{slice_index, slice_index_or};
 ghost use Rattle.std.specs.List.{concat};
 ghost use Rattle.sha2.specs.Hashers.{Holds256};
-ghost use Rattle.lmots.specs.Hashes.{message_separator, u16str, u32str};
+ghost use Rattle.lmots.specs.Hashes.{message_separator, u8str, u16str, u32str};
 ghost use Rattle.lmots.specs.Key as spec;
 ghost use Rattle.lmots.specs.Key.{ClimbTo, ends_of_seed, ends_of_signature, message_digest_of, signed_values, step_of};
 ghost use Rattle.typecodes.specs.Fields.{values_in};
 ghost use Rattle.typecodes.specs.Message.{Digests};
 ghost use Rattle.typecodes.specs.Types.{chains_of, width_of};
+ghost use Rattle.winternitz.specs.Lanes.{lanes};
 
 use crate::hashes::{MESSAGE, PUBLIC};
 use crate::message::feed;
 use sha2::{Digest, Sha256};
-use typecodes::{Message, MessageFailed, OtsType};
-use winternitz::{Step, climb, digits};
+use typecodes::{Message, MessageFailed, OtsType, put};
+use winternitz::lanes::{LANES, sha256_of_55};
+use winternitz::{MOST_CHAINS, Step, Values, climb_from, climb_to, climb_whole, digits};
 
 /// A leaf's one-time key, by the identifier I of its tree and its number q: what each hash of the
 /// key begins with (RFC 8554 4.2).
@@ -35,9 +38,35 @@ impl Step for LmOts {
         hasher.update(value);
         hasher.finalize()
     }
+
+    fn step_four(
+        &self,
+        chains: &[u16; LANES],
+        at: &[u8; LANES],
+        values: &[[u8; 32]; LANES],
+    ) -> [[u8; 32]; LANES] {
+        let mut messages = [[0; 55]; LANES];
+        for lane in 0..LANES {
+            messages[lane] = self.step_message(chains[lane], at[lane], &values[lane]);
+        }
+        sha256_of_55(&messages)
+    }
 }
 
 impl LmOts {
+    // What a step hashes.
+    fn step_message(&self, chain: u16, at: u8, value: &[u8; 32]) -> [u8; 55]
+        ensures { result ≡ self.now.identifier ++ u32str self.now.leaf ++ u16str chain ++ u8str at ++ value.now }
+    {
+        let mut message = [0; 55];
+        let offset = put(&mut message, 0, &self.identifier);
+        let offset = put(&mut message, offset, &self.leaf.to_be_bytes());
+        let offset = put(&mut message, offset, &chain.to_be_bytes());
+        let offset = put(&mut message, offset, &[at]);
+        put(&mut message, offset, value);
+        message
+    }
+
     /// Q, the digest of a message that a signature with the randomizer C signs (RFC 8554 4.5).
     pub fn message_digest(&self, randomizer: &[u8; 32], message: &[u8]) -> [u8; 32]
         ensures { result ≡ message_digest_of self.now.identifier self.now.leaf randomizer.now message.now }
@@ -82,18 +111,55 @@ impl LmOts {
         hasher.finalize()
     }
 
+    // The private values of the first chains, four at a time.
+    fn private_values(&self, seed: &[u8; 32], count: usize) -> Values
+        requires { count ≤ 265 }
+        ensures { (i : ℕ) → i < count
+            → slice_index_or result i [] ≡ spec.private_value self.now.identifier self.now.leaf seed.now i }
+    {
+        let mut values = [[0; 32]; MOST_CHAINS];
+        let groups = count / LANES;
+        for group in 0..groups {
+            self.four_private_values(seed, LANES * group, &mut values);
+        }
+        for chain in LANES * groups..count {
+            values[chain] = self.private_value(seed, chain as u16);
+        }
+        values
+    }
+
+    // Four private values, from that of a chain on: a private value is made as step 0xff of its chain would be.
+    fn four_private_values(&self, seed: &[u8; 32], chain: usize, values: &mut Values)
+        requires { chain + lanes ≤ 265 }
+        ensures before { (i : ℕ) → i < chain → slice_index_or values.new i [] ≡ slice_index_or values.old i [] }
+        ensures made { (j : ℕ) → j < lanes → slice_index_or values.new (chain + j) []
+            ≡ spec.private_value self.now.identifier self.now.leaf seed.now (chain + j) }
+    {
+        let chains = numbers_from(chain as u16);
+        let made = self.step_four(&chains, &[0xff; LANES], &[*seed; LANES]);
+        for lane in 0..LANES {
+            values[chain + lane] = made[lane];
+        }
+    }
+
     /// The public hash of the key whose private values are made of a seed: each chain climbed from
     /// its private value to its end (RFC 8554 4.3).
     pub fn public_hash(&self, ots: OtsType, seed: &[u8; 32]) -> [u8; 32]
         ensures { result ≡ spec.public_hash self.now.identifier self.now.leaf
             (ends_of_seed self.now.identifier self.now.leaf ots seed.now) }
     {
-        let greatest = greatest_digit(ots);
+        let chains = usize::from(ots.chains());
+        let starts = self.private_values(seed, chains);
+        let ends = climb_whole(self, greatest_digit(ots), &starts[..chains]);
+        self.hash_of_ends(&ends[..chains])
+    }
+
+    // The public hash of the ends of all chains.
+    fn hash_of_ends(&self, ends: &[[u8; 32]]) -> [u8; 32]
+        ensures { result ≡ spec.public_hash self.now.identifier self.now.leaf ends.now }
+    {
         let mut hasher = self.hasher(PUBLIC);
-        for chain in 0..ots.chains() {
-            let start = self.private_value(seed, chain);
-            hasher.update(climb(self, chain, 0, greatest, &start));
-        }
+        hasher.update(ends.as_flattened());
         hasher.finalize()
     }
 
@@ -107,12 +173,10 @@ impl LmOts {
         ensures climbs { ClimbTo self.now.identifier self.now.leaf ots digest.now
             (values_in (chains_of ots) into.new) (ends_of_seed self.now.identifier self.now.leaf ots seed.now) }
     {
-        let digits = digits(ots.width(), digest);
-        for (chain, digit) in digits.iter().enumerate() {
-            let start = self.private_value(seed, chain as u16);
-            let value = climb(self, chain as u16, 0, *digit, &start);
-            into[32 * chain..32 * chain + 32].copy_from_slice(&value);
-        }
+        let chains = usize::from(ots.chains());
+        let starts = self.private_values(seed, chains);
+        let values = climb_to(self, &digits(ots.width(), digest), &starts[..chains]);
+        into.copy_from_slice(values[..chains].as_flattened());
     }
 
     /// The public hash to which the values of a signature lead: each chain climbed from its digit of
@@ -135,13 +199,22 @@ impl LmOts {
             ClimbTo self.now.identifier self.now.leaf ots digest.now values.now ends ×
             (result ≡ spec.public_hash self.now.identifier self.now.leaf ends) }
     {
-        let greatest = greatest_digit(ots);
-        let mut hasher = self.hasher(PUBLIC);
-        for (chain, digit) in digits(ots.width(), digest).iter().enumerate() {
-            hasher.update(climb(self, chain as u16, *digit, greatest, &values[chain]));
-        }
-        hasher.finalize()
+        let digits = digits(ots.width(), digest);
+        let ends = climb_from(self, &digits, greatest_digit(ots), values);
+        self.hash_of_ends(&ends[..values.len()])
     }
+}
+
+// Four numbers in a row.
+fn numbers_from(first: u16) -> [u16; LANES]
+    requires { first + lanes < 65536 }
+    ensures { (j : ℕ) → j < lanes → slice_index result j ≡ first + j }
+{
+    let mut numbers = [first; LANES];
+    for lane in 0..LANES {
+        numbers[lane] = first + lane as u16;
+    }
+    numbers
 }
 
 // The greatest digit of a type, which is also how many steps each of its chains has.

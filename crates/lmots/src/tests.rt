@@ -6,6 +6,7 @@ use sha2::{Digest, Sha256};
 use std::process::Abort;
 use typecodes::OtsType;
 use winternitz::Step;
+use winternitz::lanes::LANES;
 
 // 00, 01, .., 1f
 const RISING: [u8; 32] = [
@@ -49,6 +50,19 @@ fn step_hashes_its_place(rt: HostRuntime) {
         0x7a, 0x5a,
     ];
     assert_eq!(rt; KEY.step(0x0102, 254, &RISING), high);
+}
+
+// Four steps side by side, each with a chain, a place and a value of its own.
+#[test]
+fn four_steps_are_steps(rt: HostRuntime) {
+    let chains = [3, 0x0102, 0, 264];
+    let at = [7, 254, 0, 255];
+    let values = [RISING, [0; 32], [0xff; 32], [7; 32]];
+    let after = KEY.step_four(&chains, &at, &values);
+    for lane in 0..LANES {
+        let plain = KEY.step(chains[lane], at[lane], &values[lane]);
+        assert_eq!(rt; after[lane], plain, "lane {lane}");
+    }
 }
 
 #[test]

@@ -1,43 +1,31 @@
-use Rattle.std.proofs.Common.{◌≡◌, ◌∙◌, refl, sym, ap, subst, arith, length, get_or, ◌<◌, ◌^◌}
-use Rattle.sha2.specs.Hashers.{Holds256}
-use Rattle.sha2.specs.Sha256.{sha256}
+use Rattle.std.proofs.Common.{◌≡◌, ◌∙◌, sym, ap, arith, length, get_or, ◌<◌, ◌^◌}
+use Rattle.typecodes.specs.Types.{width_of}
 use Rattle.winternitz.specs.Digest.{digit_count, digits_of}
-use Rattle.lmots.specs.Key.{ends_of_signature, public_hash}
+use Rattle.lmots.specs.Key.{ends_of_signature, public_hash, step_of}
+use Rattle.winternitz.proofs.Chains.{chains_at_most, digits_are_chains}
 use Rattle.winternitz.proofs.Ends.{are_ends, same_ends}
-use Rattle.lmots.proofs.Ends.{fed_none, fed_more, fed_all_ends}
-use Rattle.winternitz.proofs.Chains.{digits_are_chains}
+use Rattle.winternitz.proofs.Signing as chains
 use Rattle.lmots.proofs.key.LmOts.hash_from_signature.Goals as goal
 
-pub loop-chain-init : goal.loop-chain-init
-loop-chain-init c = subst (Holds256 c.hasher-hasher.result) (fed_none _ _) c.hasher-hasher.ensures
-
--- there is a value for each digit
-pub bounds-values-chain : goal.bounds-values-chain
-bounds-values-chain c =
-    let chains = c.digits.ensures.count ∙ ap digit_count c.width.ensures.value ∙ digits_are_chains c.args.ots in
-    omega (arith, chains, ap length c.deref-digit-items.ensures.0, c.requires)
-
 -- each digit stands on its chain
-pub climb-requires : goal.climb-requires
-climb-requires c =
-    let read = c.deref-digit-items.ensures.0 in
-    let below : get_or c.digits.result.items c.loop-chain.chain 0 < 2 ^ c.width.result =
-    c.digits.ensures.below c.loop-chain.chain (omega (arith, ap length read)) in
-    omega (arith, ap (λ digits. get_or digits c.loop-chain.chain 0) read, ap (λ w. 2 ^ w) c.width.ensures.value)
-
-pub loop-chain-preserved : goal.loop-chain-preserved
-loop-chain-preserved c =
-    subst (Holds256 c.update.new.self) (fed_more _ _ c.loop-chain.chain c.climb.result (cc))
-    (c.update.ensures _ c.loop-chain.invariant)
+pub climb_from-ends-requires-clause-order : goal.climb_from-ends-requires-clause-order
+climb_from-ends-requires-clause-order c = λ i within.
+    let read = c.deref.ensures.0 in
+    let count = c.digits-digits.ensures.count ∙ ap digit_count c.width.ensures.value ∙ digits_are_chains c.args.ots in
+    let below : get_or c.digits-digits.result.items i 0 < 2 ^ c.width.result = c.digits-digits.ensures.below i (omega (arith, count, c.requires)) in
+    omega (arith, ap (λ digits. get_or digits i 0) read, ap (λ w. 2 ^ w) c.width.ensures.value, c.greatest_digit.ensures)
 
 -- what the hasher gives is the public hash of the ends
-value : (c : goal.After-finalize) → c.finalize.result ≡ public_hash c.args.self.now.identifier c.args.self.now.leaf
+value : (c : goal.After-hash_of_ends) → c.hash_of_ends.result ≡ public_hash c.args.self.now.identifier c.args.self.now.leaf
     (ends_of_signature c.args.self.now.identifier c.args.self.now.leaf c.args.ots c.args.digest.now c.args.values.now)
 value c =
-    let count : c.loop-chain.chain ≡ length c.deref-digit-items.result.now = omega arith in
-    let read = c.deref-digit-items.ensures.0 ∙ c.digits.ensures.computed
-    ∙ ap (λ w. digits_of w c.args.digest.now) c.width.ensures.value in
-    c.finalize.ensures _ c.loop-chain.invariant ∙ ap sha256 (fed_all_ends _ _ _ _ _ _ _ _ count read refl)
+    let key = c.args.self.now in
+    let count = c.digits-digits.ensures.count ∙ ap digit_count c.width.ensures.value ∙ digits_are_chains c.args.ots in
+    let read = c.deref.ensures.0 ∙ c.digits-digits.ensures.computed ∙ ap (λ w. digits_of w c.args.digest.now) c.width.ensures.value in
+    c.hash_of_ends.ensures
+    ∙ ap (public_hash key.identifier key.leaf)
+    (chains.ends_are (step_of key.identifier key.leaf) (width_of c.args.ots) _ _ _ c.args.values.now _
+    (omega (arith, count, c.requires, ap length c.deref.ensures.0)) (omega (arith, c.requires, chains_at_most c.args.ots)) read c.greatest_digit.ensures c.climb_from-ends.ensures)
 
 pub returns : goal.returns
 returns c = record {

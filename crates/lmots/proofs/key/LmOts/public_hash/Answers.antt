@@ -1,19 +1,14 @@
-use Rattle.std.proofs.Common.{◌≡◌, ◌∙◌, ap, subst, arith}
-use Rattle.sha2.specs.Hashers.{Holds256}
-use Rattle.sha2.specs.Sha256.{sha256}
-use Rattle.typecodes.specs.Types.{chains_of}
-use Rattle.lmots.proofs.Ends.{fed_none, fed_more, fed_all}
+use Rattle.std.proofs.Common.{◌∙◌, ◌-◌, ◌^◌, ap, arith}
+use Rattle.typecodes.specs.Types.{chains_of, width_of}
+use Rattle.winternitz.proofs.Signing.{climbed_are}
+use Rattle.lmots.specs.Key.{private_value, public_hash, step_of}
 use Rattle.lmots.proofs.key.LmOts.public_hash.Goals as goal
-
-pub loop-chain-init : goal.loop-chain-init
-loop-chain-init c = subst (Holds256 c.hasher-hasher.result) (fed_none _ _) c.hasher-hasher.ensures
-
-pub loop-chain-preserved : goal.loop-chain-preserved
-loop-chain-preserved c =
-    subst (Holds256 c.update.new.self) (fed_more _ _ c.loop-chain.chain c.climb.result (cc))
-    (c.update.ensures _ c.loop-chain.invariant)
 
 pub returns : goal.returns
 returns c =
-    let all : c.loop-chain.chain ≡ chains_of c.args.ots = omega arith in
-    c.finalize.ensures _ c.loop-chain.invariant ∙ ap sha256 (fed_all _ _ _ _ all)
+    let key = c.args.self.now in
+    c.hash_of_ends.ensures
+    ∙ ap (public_hash key.identifier key.leaf)
+    (climbed_are (step_of key.identifier key.leaf) (private_value key.identifier key.leaf c.args.seed.now)
+    (λ i. 2 ^ width_of c.args.ots - 1) (λ i. c.greatest_digit.result) _ (chains_of c.args.ots) _ _
+    (omega arith) (omega arith) (omega arith) c.private_values-starts.ensures (λ i within. c.greatest_digit.ensures) c.climb_whole-ends.ensures)
