@@ -1,9 +1,9 @@
 -- What a signature carries of a key's chains climbs to the ends of these chains, for any step and any
 -- private values.
-use Rattle.std.proofs.Common.{◌≡◌, ◌∙◌, sym, ap, ap₂, subst, ℕ, zero, suc, ◌+◌, ◌-◌, ◌*◌, ◌<◌, ◌≤◌, ◌^◌, List, [], map, length, get_or, take, arith}
+use Rattle.std.proofs.Common.{◌≡◌, ◌∙◌, sym, ap, ap₂, subst, ℕ, zero, suc, ◌+◌, ◌-◌, ◌<◌, ◌≤◌, ◌^◌, List, [], map, length, get_or, take, arith}
 use Rattle.std.specs.List.{concat, range_with_len}
-use Rattle.std.proofs.lemmas.List.FromFn.{fill_by_all, get_or-map-range_with_len, length-map-range_with_len}
-use Rattle.std.proofs.lemmas.List.{length-take-le, take_all}
+use Rattle.std.proofs.lemmas.List.FromFn.{get_or-map-range_with_len, length-map-range_with_len}
+use Rattle.std.proofs.lemmas.List.{length-take-le}
 use Rattle.typecodes.specs.Fields.{values_in}
 use Rattle.winternitz.specs.Chain.{Steps, walk, walk_on, AreEnds, end_of, ends_of}
 use Rattle.winternitz.specs.Digest.{digit_count, digits_of}
@@ -52,22 +52,6 @@ signed_sizes step start digits n steps starts i within =
     let value = λ (i : ℕ). walk step i 0 (get_or digits i 0) (start i) in
     ap length (get_or-map-range_with_len value 0 n i i [] within (omega arith))
     ∙ walked_size step i 0 (get_or digits i 0 - 0) (start i) steps (starts i)
-
--- once the values of all n chains are written, the bytes are those
-pub written_all : (step : Steps) (start : ℕ → List ℕ) (read digits bytes : List ℕ) (chain n : ℕ)
-    → take (32 * chain) bytes ≡ concat (signed step start read chain) → chain ≡ n → length bytes ≡ 32 * n → read ≡ digits
-    → bytes ≡ concat (signed step start digits n)
-written_all step start read digits bytes chain n written all size digits_are =
-    sym (take_all (32 * chain) bytes (omega arith))
-    ∙ written
-    ∙ ap₂ (λ digits n. concat (signed step start digits n)) digits_are all
-
--- values that are the ends of all chains are the ends
-pub ends_written : (step : Steps) (w n : ℕ) (read digits : List ℕ) (values written : List (List ℕ)) → length written ≡ n → length read ≡ n
-    → read ≡ digits → ((k : ℕ) → k < n → get_or written k [] ≡ end_of step w read values k) → written ≡ ends_of step w digits values
-ends_written step w n read digits values written long all digits_are each =
-    fill_by_all (end_of step w read values) written (length read) [] (long ∙ sym all) (λ k within. each k (omega arith))
-    ∙ ap (λ digits. ends_of step w digits values) digits_are
 
 -- what bytes that contain the values of a signature climb to
 pub bytes_climb : (step : Steps) (start : ℕ → List ℕ) (w n : ℕ) (digest bytes : List ℕ) → n ≡ digit_count w

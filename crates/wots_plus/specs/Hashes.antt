@@ -1,5 +1,5 @@
 -- The hashes of WOTS+ and of hash trees (RFC 8391, sections 3.1, 4.1 and 5.1), for SHA-256 with n = 32.
-use Rattle.std.specs.Prelude.{ℕ, List, ◌++◌, map, bit_xor}
+use Rattle.std.specs.Prelude.{◌≡◌, ℕ, List, ◌++◌, map, bit_xor}
 use Rattle.std.specs.List.{zip}
 use Rattle.std.specs.Coded.{Coded-set, coded_list, coded_ℕ, ×_prop}
 use Rattle.byteorder.specs.Endian.{big_bytes}
@@ -53,3 +53,10 @@ pub Holds256-prop : (hasher : Sha256) (message : List ℕ) → IsProp (Holds256 
 unfolding Holds
 Holds256-prop hasher message =
     ×_prop (Coded-set coded_ℕ _ _) (×_prop (Coded-set (coded_list coded_ℕ) _ _) (Coded-set (coded_list coded_ℕ) _ _))
+
+-- So is which words a state has, and how long a list is.
+pub state-prop : (state other : List ℕ) → IsProp (state ≡ other)
+state-prop state other = Coded-set (coded_list coded_ℕ) state other
+
+pub length-prop : (n m : ℕ) → IsProp (n ≡ m)
+length-prop n m = Coded-set coded_ℕ n m

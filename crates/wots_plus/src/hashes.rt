@@ -1,16 +1,19 @@
 //! The keyed hashes (RFC 8391 5.1) and the join of two nodes (4.1.4).
 
-ghost use Rattle.std.specs.Prelude.{◌≡◌, ◌≤◌, ◌++◌};
+ghost use Rattle.std.specs.Prelude.{◌≡◌, ◌≤◌, ◌<◌, ◌++◌, ℕ, [], length, slice_index_or};
 ghost use Rattle.sha2.specs.Hashers.{Holds256};
 ghost use Rattle.wots_plus.specs.Address.{address_of};
-ghost use Rattle.wots_plus.specs.Hashes.{Holds256-prop, prf, to_byte};
+ghost use Rattle.wots_plus.specs.Hashes.{Holds256-prop, length-prop, prf, state-prop, to_byte};
 ghost use Rattle.wots_plus.specs.Hashes as spec;
+ghost use Rattle.sha2.specs.Sha256.{compress, initial_hash_256};
 ghost use Rattle.typecodes.specs.Message.{Digests};
+ghost use Rattle.winternitz.specs.Lanes.{lanes};
 
 use crate::address::Address;
 use crate::message::feed;
 use sha2::{Digest, Sha256};
 use typecodes::{Message, MessageFailed};
+use winternitz::lanes::{LANES, compress, in_each, in_lane, initial, sha256_of_96};
 
 /// F(KEY, M), the hash of a chain's step.
 pub fn hash_f(key: &[u8; 32], message: &[u8; 32]) -> [u8; 32]
@@ -19,6 +22,42 @@ pub fn hash_f(key: &[u8; 32], message: &[u8; 32]) -> [u8; 32]
     let mut hasher = keyed(0, key);
     hasher.update(message);
     hasher.finalize()
+}
+
+// F of four keys and messages, side by side.
+pub(crate) fn hash_f_four(
+    keys: &[[u8; 32]; LANES],
+    messages: &[[u8; 32]; LANES],
+) -> [[u8; 32]; LANES]
+    ensures { (j : ℕ) → j < lanes → slice_index_or result j []
+        ≡ spec.hash_f (slice_index_or keys.now j []) (slice_index_or messages.now j []) }
+{
+    let mut blocks = [[0; 64]; LANES];
+    for lane in 0..LANES {
+        blocks[lane] = first_block(0, &keys[lane]);
+    }
+    sha256_of_96(&compress(&initial(), &blocks), messages)
+}
+
+// The first block of a hash's messages: its number in 32 bytes and the key.
+fn first_block(number: u8, key: &[u8; 32]) -> [u8; 64]
+    requires { number ≤ 4 }
+    ensures bytes { result ≡ to_byte number 32 ++ key.now }
+    ensures long { length (to_byte number 32 ++ key.now) ≡ 64 }
+{
+    let mut block = [0; 64];
+    block[31] = number;
+    block[32..].copy_from_slice(key);
+    block
+}
+
+// The hash value after that block.
+pub(crate) fn first_state(number: u8, key: &[u8; 32]) -> [u32; 8]
+    requires { number ≤ 4 }
+    ensures state { result ≡ compress initial_hash_256 (to_byte number 32 ++ key.now) }
+    ensures long { length (to_byte number 32 ++ key.now) ≡ 64 }
+{
+    in_lane(&compress(&initial(), &[first_block(number, key); LANES]), 0)
 }
 
 /// H(KEY, M), the hash of two nodes, M being `left` and then `right`.
@@ -79,7 +118,10 @@ pub struct Prf {
     /// KEY
     pub key: [u8; 32],
     begun: Sha256,
+    state: [u32; 8],
     ghost holds: { Holds256 begun (to_byte 3 32 ++ key) } by { Holds256-prop begun (to_byte 3 32 ++ key) },
+    ghost kept: { state ≡ compress initial_hash_256 (to_byte 3 32 ++ key) } by { state-prop _ _ },
+    ghost long: { length (to_byte 3 32 ++ key) ≡ 64 } by { length-prop _ _ },
 }
 
 impl Prf {
@@ -88,7 +130,8 @@ impl Prf {
         ensures { result.key ≡ key }
     {
         let begun = keyed(3, &key);
-        Prf { key, begun }
+        let state = first_state(3, &key);
+        Prf { key, begun, state }
     }
 
     /// PRF(KEY, M)
@@ -98,6 +141,14 @@ impl Prf {
         let mut hasher = self.begun();
         hasher.update(message);
         hasher.finalize()
+    }
+
+    // PRF(KEY, M) of four messages, side by side.
+    pub(crate) fn hash_four(&self, messages: &[[u8; 32]; LANES]) -> [[u8; 32]; LANES]
+        ensures { (j : ℕ) → j < lanes
+            → slice_index_or result j [] ≡ prf self.now.key (slice_index_or messages.now j []) }
+    {
+        sha256_of_96(&in_each(&self.state), messages)
     }
 
     // A hasher that holds what all messages begin with.
@@ -128,6 +179,18 @@ pub(crate) fn xor(bytes: &[u8; 32], mask: &[u8; 32]) -> [u8; 32]
     let mut out = [0; 32];
     for i in 0..32 {
         out[i] = bytes[i] ^ mask[i];
+    }
+    out
+}
+
+// The same of four.
+pub(crate) fn xor_four(bytes: &[[u8; 32]; LANES], masks: &[[u8; 32]; LANES]) -> [[u8; 32]; LANES]
+    ensures { (j : ℕ) → j < lanes → slice_index_or result j []
+        ≡ spec.xor (slice_index_or bytes.now j []) (slice_index_or masks.now j []) }
+{
+    let mut out = [[0; 32]; LANES];
+    for lane in 0..LANES {
+        out[lane] = xor(&bytes[lane], &masks[lane]);
     }
     out
 }

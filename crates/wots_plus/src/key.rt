@@ -1,18 +1,23 @@
 //! The one-time key of a leaf.
 
-ghost use Rattle.std.specs.Prelude.{◌≡◌, ℕ, ◌*◌, List, length};
+ghost use Rattle.std.specs.Prelude.{◌≡◌, ◌<◌, ◌≤◌, ℕ, ◌+◌, ◌*◌, ◌++◌, List, [], length};
+ghost use Rattle.std.specs.Prelude.{slice_index, slice_index_or, take};
 ghost use Rattle.std.specs.List.{concat};
+ghost use Rattle.sha2.specs.Sha256.{compress, initial_hash_256};
 ghost use Rattle.typecodes.specs.Fields.{values_in};
 ghost use Rattle.typecodes.specs.Types.{wots_chains};
+ghost use Rattle.winternitz.specs.Lanes.{lanes, lane_state};
 ghost use Rattle.wots_plus.specs.Address.{one_time};
+ghost use Rattle.wots_plus.specs.Hashes.{to_byte};
 ghost use Rattle.wots_plus.specs.Key as spec;
 ghost use Rattle.wots_plus.specs.Key.{ClimbTo, ends_of_secret, ends_of_signature, signed_values, step_of};
 
 use crate::address::Address;
-use crate::hashes::{Prf, hash_f, keyed, xor};
+use crate::hashes::{Prf, first_state, hash_f, hash_f_four, keyed, xor, xor_four};
 use sha2::{Digest, Sha256};
-use typecodes::WOTS_CHAINS;
-use winternitz::{Step, climb, digits};
+use typecodes::{WOTS_CHAINS, put};
+use winternitz::lanes::{LANES, States, in_each, sha256_of_128};
+use winternitz::{MOST_CHAINS, Step, Values, climb_from, climb_to, climb_whole, digits};
 
 /// A leaf's one-time key, by the public SEED of its tree and its number.
 #[derive(Clone, Copy)]
@@ -31,6 +36,17 @@ impl Step for Wots<'_> {
         let mask = self.seed.hash(&self.step_address(chain, at, 1));
         hash_f(&key, &xor(value, &mask))
     }
+
+    fn step_four(
+        &self,
+        chains: &[u16; LANES],
+        at: &[u8; LANES],
+        values: &[[u8; 32]; LANES],
+    ) -> [[u8; 32]; LANES] {
+        let keys = self.seed.hash_four(&self.step_addresses(chains, at, 0));
+        let masks = self.seed.hash_four(&self.step_addresses(chains, at, 1));
+        hash_f_four(&keys, &xor_four(values, &masks))
+    }
 }
 
 impl Wots<'_> {
@@ -44,6 +60,23 @@ impl Wots<'_> {
             hash: at.into(),
         };
         address.bytes(key_and_mask)
+    }
+
+    // Those of four steps.
+    fn step_addresses(
+        &self,
+        chains: &[u16; LANES],
+        at: &[u8; LANES],
+        key_and_mask: u32,
+    ) -> [[u8; 32]; LANES]
+        ensures { (j : ℕ) → j < lanes → slice_index_or result j []
+            ≡ one_time self.now.leaf (slice_index chains.now j) (slice_index at.now j) key_and_mask }
+    {
+        let mut addresses = [[0; 32]; LANES];
+        for lane in 0..LANES {
+            addresses[lane] = self.step_address(chains[lane], at[lane], key_and_mask);
+        }
+        addresses
     }
 
     /// The private value of a chain, made of a secret.
@@ -63,7 +96,7 @@ impl Wots<'_> {
             (ends_of_secret self.now.seed.now.key self.now.leaf secret.now) }
     {
         let mut ends = self.ends_from_secret(secret);
-        self.l_tree(&mut ends)
+        self.l_tree(&mut ends[..WOTS_CHAINS])
     }
 
     /// Writes the values of a digest's signature, one after the other: each chain climbed from its
@@ -76,12 +109,9 @@ impl Wots<'_> {
         ensures climbs { ClimbTo self.now.seed.now.key self.now.leaf digest.now
             (values_in wots_chains into.new) (ends_of_secret self.now.seed.now.key self.now.leaf secret.now) }
     {
-        let digits = digits(WIDTH, digest);
-        for (chain, digit) in digits.iter().enumerate() {
-            let start = self.private_value(secret, chain as u16);
-            let value = climb(self, chain as u16, 0, *digit, &start);
-            into[32 * chain..32 * chain + 32].copy_from_slice(&value);
-        }
+        let starts = self.private_values(secret);
+        let values = climb_to(self, &digits(WIDTH, digest), &starts[..WOTS_CHAINS]);
+        into.copy_from_slice(values[..WOTS_CHAINS].as_flattened());
     }
 
     /// The public hash to which the values of a signature lead: the root of the L-tree over the ends
@@ -100,31 +130,77 @@ impl Wots<'_> {
             (result ≡ spec.public_hash self.now.seed.now.key self.now.leaf ends) }
     {
         let mut ends = self.ends_from_signature(digest, values);
-        self.l_tree(&mut ends)
+        self.l_tree(&mut ends[..WOTS_CHAINS])
     }
 
     // The ends of the chains that a signature's values are climbed to.
-    fn ends_from_signature(&self, digest: &[u8; 32], values: &[[u8; 32]]) -> [[u8; 32]; WOTS_CHAINS]
+    fn ends_from_signature(&self, digest: &[u8; 32], values: &[[u8; 32]]) -> Values
         requires { length values.now ≡ wots_chains }
-        ensures { result ≡ ends_of_signature self.now.seed.now.key self.now.leaf digest.now values.now }
+        ensures { take wots_chains result
+            ≡ ends_of_signature self.now.seed.now.key self.now.leaf digest.now values.now }
     {
-        let mut ends = [[0; 32]; WOTS_CHAINS];
-        for (chain, digit) in digits(WIDTH, digest).iter().enumerate() {
-            ends[chain] = climb(self, chain as u16, *digit, STEPS, &values[chain]);
-        }
-        ends
+        climb_from(self, &digits(WIDTH, digest), STEPS, values)
     }
 
     // The ends of the chains of a secret's key.
-    fn ends_from_secret(&self, secret: &[u8; 32]) -> [[u8; 32]; WOTS_CHAINS]
-        ensures { result ≡ ends_of_secret self.now.seed.now.key self.now.leaf secret.now }
+    fn ends_from_secret(&self, secret: &[u8; 32]) -> Values
+        ensures { take wots_chains result ≡ ends_of_secret self.now.seed.now.key self.now.leaf secret.now }
     {
-        let mut ends = [[0; 32]; WOTS_CHAINS];
-        for chain in 0..WOTS_CHAINS as u16 {
-            let start = self.private_value(secret, chain);
-            ends[usize::from(chain)] = climb(self, chain, 0, STEPS, &start);
+        let starts = self.private_values(secret);
+        climb_whole(self, STEPS, &starts[..WOTS_CHAINS])
+    }
+
+    // The private values of all chains, four at a time.
+    fn private_values(&self, secret: &[u8; 32]) -> Values
+        ensures { (i : ℕ) → i < wots_chains → slice_index_or result i []
+            ≡ spec.private_value self.now.seed.now.key self.now.leaf secret.now i }
+    {
+        let first = in_each(&first_state(4, secret));
+        let mut values = [[0; 32]; MOST_CHAINS];
+        for group in 0..WOTS_CHAINS / LANES {
+            self.four_private_values(secret, &first, LANES * group, &mut values);
         }
-        ends
+        for chain in WOTS_CHAINS / LANES * LANES..WOTS_CHAINS {
+            values[chain] = self.private_value(secret, chain as u16);
+        }
+        values
+    }
+
+    // Four private values, from that of a chain on, by the hash value after the first block of all.
+    fn four_private_values(
+        &self,
+        secret: &[u8; 32],
+        first: &States,
+        chain: usize,
+        values: &mut Values,
+    )
+        requires room { chain + lanes ≤ 265 }
+        requires first { (j : ℕ) → j < lanes
+            → lane_state first.now j ≡ compress initial_hash_256 (to_byte 4 32 ++ secret.now) }
+        requires long { length (to_byte 4 32 ++ secret.now) ≡ 64 }
+        ensures before { (i : ℕ) → i < chain → slice_index_or values.new i [] ≡ slice_index_or values.old i [] }
+        ensures made { (j : ℕ) → j < lanes → slice_index_or values.new (chain + j) []
+            ≡ spec.private_value self.now.seed.now.key self.now.leaf secret.now (chain + j) }
+    {
+        let mut blocks = [[0; 64]; LANES];
+        for lane in 0..LANES {
+            blocks[lane] = self.private_block((chain + lane) as u16);
+        }
+        let made = sha256_of_128(first, &blocks);
+        for lane in 0..LANES {
+            values[chain + lane] = made[lane];
+        }
+    }
+
+    // The second block of what a private value is made of.
+    fn private_block(&self, chain: u16) -> [u8; 64]
+        ensures bytes { result ≡ self.now.seed.now.key ++ one_time self.now.leaf chain 0 0 }
+        ensures long { length result ≡ 64 }
+    {
+        let mut block = [0; 64];
+        let offset = put(&mut block, 0, &self.seed.key);
+        put(&mut block, offset, &self.step_address(chain, 0, 0));
+        block
     }
 }
 

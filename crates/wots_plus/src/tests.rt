@@ -6,6 +6,7 @@ ghost use Rattle.std.specs.Prelude.{◌<◌, ◌≤◌};
 use crate::{Address, Prf, Wots, hash_f, hash_h, hash_message, hash_message_from, rand_hash};
 use sha2::{Digest, Sha256};
 use std::process::Abort;
+use winternitz::lanes::LANES;
 use winternitz::{Step, digits};
 
 // SEED: 00, 01, .., 1f
@@ -122,6 +123,26 @@ fn step_hashes_what_its_mask_leaves(rt: HostRuntime) {
         0x45, 0x9a,
     ];
     assert_eq!(rt; key.step(2, 3, &VALUE), expected);
+}
+
+// Four steps side by side, each with a chain, a place and a value of its own, under two keys in turn.
+#[test]
+fn four_steps_are_steps(rt: HostRuntime) {
+    let chains = [3, 0, 66, 5];
+    let at = [7, 0, 14, 1];
+    let values = [VALUE, OTHER, [0; 32], [0xff; 32]];
+    for seed in [SEED, OTHER] {
+        let seed = Prf::new(seed);
+        let key = Wots {
+            seed: &seed,
+            leaf: 0x01020304,
+        };
+        let after = key.step_four(&chains, &at, &values);
+        for lane in 0..LANES {
+            let plain = key.step(chains[lane], at[lane], &values[lane]);
+            assert_eq!(rt; after[lane], plain, "lane {lane}");
+        }
+    }
 }
 
 #[test]

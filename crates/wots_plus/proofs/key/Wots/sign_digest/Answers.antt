@@ -1,28 +1,40 @@
-use Rattle.std.proofs.Common.{◌≡◌, ◌∙◌, ap, arith, length}
+use Rattle.std.proofs.Common.{◌≡◌, ◌∙◌, sym, refl, ap, arith, get_or, length, take}
 use Rattle.std.specs.List.{concat}
+use Rattle.std.proofs.lemmas.List.Concat.{concat_is}
+use Rattle.std.proofs.lemmas.List.{length-take-le}
 use Rattle.winternitz.specs.Digest.{digits_of}
+use Rattle.winternitz.proofs.Signing.{climbed_are}
 use Rattle.wots_plus.specs.Key.{private_value, signed_values, step_of}
-use Rattle.winternitz.proofs.Signing.{written_all}
 use Rattle.wots_plus.proofs.Signing.{bytes_climb}
-use Rattle.winternitz.proofs.Concatenated.{written_more}
 use Rattle.wots_plus.proofs.key.Wots.sign_digest.Goals as goal
-use Rattle.wots_plus.proofs.key.Wots.sign_digest.Goals.{After-loop-chain}
 
-pub loop-chain-preserved : goal.loop-chain-preserved
-loop-chain-preserved c =
-    written_more _ c.loop-chain.chain _ _ _ (omega arith)
-    (omega (arith, c.digits-digits.ensures.count, ap length c.deref-digit-items.ensures.0)) c.loop-chain.invariant (cc)
+pub slice_bounds-climb_to-end : goal.slice_bounds-climb_to-end
+slice_bounds-climb_to-end c = omega (arith, length-take-le 67 c.private_values-starts.result (omega arith))
 
--- all values are written
-written : (c : After-loop-chain) → c.loop-chain.into ≡ concat (signed_values c.args.self.now.seed.now.key c.args.self.now.leaf c.args.secret.now c.args.digest.now)
-written c =
-    let read = c.deref-digit-items.ensures.0 in
-    let all : c.loop-chain.chain ≡ 67 = omega (arith, c.digits-digits.ensures.count, ap length read) in
-    written_all (step_of c.args.self.now.seed.now.key c.args.self.now.leaf) (private_value c.args.self.now.seed.now.key c.args.self.now.leaf c.args.secret.now)
-    _ (digits_of 4 c.args.digest.now) c.loop-chain.into c.loop-chain.chain 67 c.loop-chain.invariant all (omega arith) (read ∙ c.digits-digits.ensures.computed)
+pub climb_to-values-requires-clause-few : goal.climb_to-values-requires-clause-few
+climb_to-values-requires-clause-few c = omega (arith, length-take-le 67 c.private_values-starts.result (omega arith))
 
-pub returns-clause-value : goal.returns-clause-value
-returns-clause-value c = written c
+pub climb_to-values-requires-clause-digits : goal.climb_to-values-requires-clause-digits
+climb_to-values-requires-clause-digits c =
+    omega (arith, length-take-le 67 c.private_values-starts.result (omega arith), c.digits.ensures.count, ap length c.deref.ensures.0)
 
-pub returns-clause-climbs : goal.returns-clause-climbs
-returns-clause-climbs c = bytes_climb _ _ _ c.args.digest.now _ (written c)
+pub slice_bounds-as_flattened-end : goal.slice_bounds-as_flattened-end
+slice_bounds-as_flattened-end c = omega (arith, length-take-le 67 c.climb_to-values.result (omega arith))
+
+pub copy_from_slice-requires : goal.copy_from_slice-requires
+copy_from_slice-requires c = omega (arith, length-take-le 67 c.climb_to-values.result (omega arith))
+
+pub returns : goal.returns
+returns c =
+    let key = c.args.self.now in
+    let read = c.deref.ensures.0 ∙ c.digits.ensures.computed in
+    let written : c.copy_from_slice.new.self ≡ concat (signed_values key.seed.now.key key.leaf c.args.secret.now c.args.digest.now) =
+    c.copy_from_slice.ensures.after ∙ c.as_flattened.ensures.value ∙ sym (concat_is (take 67 c.climb_to-values.result))
+    ∙ ap concat
+    (climbed_are (step_of key.seed.now.key key.leaf) (private_value key.seed.now.key key.leaf c.args.secret.now)
+    (λ i. get_or (digits_of 4 c.args.digest.now) i 0) (λ i. get_or c.deref.result.now i 0) 67 67 _ _
+    refl (omega arith) (omega arith) c.private_values-starts.ensures (λ i within. ap (λ digits. get_or digits i 0) read) c.climb_to-values.ensures) in
+    record {
+      value = written;
+      climbs = bytes_climb _ _ _ c.args.digest.now _ written;
+    }
