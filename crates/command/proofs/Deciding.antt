@@ -1,5 +1,5 @@
 -- The first bytes of a signature decide, one more than the greatest has.
-use Rattle.std.proofs.Common.{◌≡◌, ℕ, ◌+◌, ◌*◌, ◌^◌, ◌<◌, ◌≤◌, zero, suc, Bool, true, false, cond, nat_lt, nat_le, List, [], ◌∷◌, take, Result, Ok, Err, refl, subst, arith, leb-true, inl, inr}
+use Rattle.std.proofs.Common.{◌≡◌, ℕ, ◌+◌, ◌*◌, ◌^◌, ◌<◌, ◌≤◌, zero, suc, Bool, true, false, cond, nat_lt, nat_le, List, [], ◌∷◌, length, take, Result, Ok, Err, refl, subst, arith, leb-true, inl, inr}
 use Rattle.std.specs.Prelude.{◌&&◌}
 use Rattle.std.specs.Prelude.{⊤}
 use Rattle.typecodes.specs.declared.fault.Cause.TheVariants.{LeafOutOfRange, LevelCount}
@@ -34,7 +34,7 @@ use Rattle.command.specs.Verify.{Judgement}
 use Rattle.command.specs.declared.refusal.Refusal.{Refusal}
 use Rattle.command.specs.declared.refusal.Refusal.TheVariants.{Key, Signature, OutOfMemory, FileFailed}
 use Rattle.command.specs.declared.refusal.Refusal.TheVariants.{Signer, Opening, Preparing, Audit, Given, Serving, Locked, BadName, BadSpec}
-use Rattle.command.proofs.Taking.{TakesAtMost, Any, most-greater, most-bind, most-if, most-done, most-refuse, most-number, most-block, most-typed, most-values, spells-first, fault-first}
+use Rattle.command.proofs.Taking.{TakesAtMost, Any, most-greater, most-bind, most-if, most-done, most-refuse, most-number, most-block, most-typed, most-values, spells-at_most, spells-first, fault-first}
 
 -- ---- LMS: 4 + 4 + 32 + 265 * 32 + 4 + 25 * 32 bytes
 
@@ -207,11 +207,19 @@ xmss_decided count key message bytes (Err (RootMismatch level)) less (top, (s, s
 
 -- ---- every scheme
 
-verdict_decided : {A : Type 0} (count : ℕ) (key : AnyPublic) (message bytes : List ℕ) (r : Result A SignatureRefusal) → 74988 < count
+pub verdict_decided : {A : Type 0} (count : ℕ) (key : AnyPublic) (message bytes : List ℕ) (r : Result A SignatureRefusal) → 74988 < count
     → KeyVerdict key message (take count bytes) r → KeyVerdict key message bytes r
 verdict_decided count (Lms key) message bytes r less = lms_decided count key message bytes r (omega (arith, less))
 verdict_decided count (Hss key) message bytes r less = hss_decided count key message bytes r less
 verdict_decided count (Xmss key) message bytes r less = xmss_decided count key message bytes r (omega (arith, less))
+
+-- a valid signature has no more bytes than the greatest
+pub verified_short : (key : AnyPublic) (message bytes : List ℕ) → KeyVerdict {A = ⊤} key message bytes (Ok tt) → length bytes ≤ 74988
+verified_short (Lms key) message bytes (s, spelled, valid) =
+    omega (arith, spells-at_most lms_signature 9324 Any s bytes most-lms_signature spelled)
+verified_short (Hss key) message bytes (s, spelled, valid) = spells-at_most hss_signature 74988 Any s bytes most-hss_signature spelled
+verified_short (Xmss key) message bytes (s, spelled, valid) =
+    omega (arith, spells-at_most (xmss_signature key.tree) 2820 Any s bytes (most-xmss_signature key.tree) spelled)
 
 decided_by : {A : Type 0} (count : ℕ) (public message signature : List ℕ) (r : Result A Refusal) → 74988 < count
     → Judgement public message (take count signature) r → Judgement public message signature r
@@ -235,7 +243,7 @@ pub decisive_is : 74989 ≡ decisive
 unfolding decisive
 decisive_is = refl
 
-more_than_the_greatest : 74988 < decisive
+pub more_than_the_greatest : 74988 < decisive
 unfolding decisive
 more_than_the_greatest = omega arith
 

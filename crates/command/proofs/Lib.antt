@@ -5,6 +5,7 @@ pub mod Deciding
 pub mod HexText
 pub mod FileReading
 pub mod Finding
+pub mod GivenDeciding
 pub mod Judging
 pub mod KeyLines
 pub mod LevelText

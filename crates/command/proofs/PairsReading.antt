@@ -115,7 +115,7 @@ pub same_judgement : {X : Type 0} (content other : List ℕ → Option (List ℕ
 same_judgement content other view key items all answer old new is same judges =
     elim (subst (λ l. JudgesPairs other key (map view l) answer old new) is judges) [
       | inl (refusal, answers, fails) ↦ inl (refusal, answers, same_failures content other (map view all) refusal old new same fails)
-      | inr (given, reads, answers) ↦ inr (given, same_pairs content other (map view all) given old new same reads, answers)
+      | inr (given, reads, answers, whole) ↦ inr (given, same_pairs content other (map view all) given old new same reads, answers, whole)
     ]
 
 -- the public key couldn't be read

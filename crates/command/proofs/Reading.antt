@@ -128,9 +128,9 @@ reads_part role of room a b old before new first same (inr (short, more)) = inr 
 
 -- memory for it was refused
 pub keeps_no_more : (role of : Role) (room : ℕ) (a b : List ℕ) (refusal : Refusal) (old before new : List Happening) → refusal ≡ refused.OutOfMemory
-    → ReadsOn role a old before → of ≡ role → FillsRoom of room b before new → CantHold role refusal old new
-keeps_no_more role of room a b refusal old before new memory first same fills =
-    inr (memory, (a ++ b, reads_part role of room a b old before new first same fills))
+    → 1 ≤ length b → ReadsOn role a old before → of ≡ role → FillsRoom of room b before new → CantHold role refusal old new
+keeps_no_more role of room a b refusal old before new memory some first same fills =
+    inr (memory, (a ++ b, omega (arith, length-append a b, some), reads_part role of room a b old before new first same fills))
 
 -- a failed read, which is reported
 pub cant_read : {A : Type 0} (role : Role) (kind : ErrorKind) (Good : A → Type 0) (result : Result A Refusal) (old new : List Happening)
@@ -141,6 +141,6 @@ cant_read role kind Good (Err refusal) old new is fails = inl (kind, is, fails)
 
 -- .. and a first piece
 pub keeps_none : (role : Role) (room : ℕ) (b : List ℕ) (refusal : Refusal) (old new : List Happening) → refusal ≡ refused.OutOfMemory
-    → FillsRoom role room b old new → CantHold role refusal old new
-keeps_none role room b refusal old new memory (inl (full, reads)) = inr (memory, (b, inl reads))
-keeps_none role room b refusal old new memory (inr (short, reads)) = inr (memory, (b, inr reads))
+    → 1 ≤ length b → FillsRoom role room b old new → CantHold role refusal old new
+keeps_none role room b refusal old new memory some (inl (full, reads)) = inr (memory, (b, some, inl reads))
+keeps_none role room b refusal old new memory some (inr (short, reads)) = inr (memory, (b, some, inr reads))

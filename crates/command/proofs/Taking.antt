@@ -74,7 +74,7 @@ most-values (suc n) =
     (λ first any. most-bind (values n) (λ rest. done (first ∷ rest)) (32 * n) 0 Any Any (most-values n) (λ rest all. most-done (first ∷ rest) 0 Any tt)))
 
 -- what it spells is no longer
-spells-at_most : {V : Type 0} (layout : Layout V) (n : ℕ) (P : V → Type 0) (v : V) (bytes : List ℕ)
+pub spells-at_most : {V : Type 0} (layout : Layout V) (n : ℕ) (P : V → Type 0) (v : V) (bytes : List ℕ)
     → TakesAtMost layout n P → Spells layout v bytes → length bytes ≤ n
 unfolding TakesAtMost
 spells-at_most (done w) n P v bytes most (same, none) = omega (arith, ap length none)

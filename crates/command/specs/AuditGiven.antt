@@ -1,6 +1,6 @@
 -- `audit-given PUBLIC FILES..`: its words, and what it does.
 use Rattle.std.specs.Prelude.{◌≡◌, ◌⊎◌, ◌<◌, ◌∷◌, [], ℕ, List, codes, length, map, take, slice_get, Option, Some, None}
-use Rattle.std.specs.Prelude.{Result, Ok, Err}
+use Rattle.std.specs.Prelude.{Result, Ok, Err, ⊤}
 use Rattle.std.specs.Option.{option_map}
 use Rattle.clap.specs.Words.{App, Text, new_app, with_rule}
 use Rattle.key_audit.specs.declared.given.Given.{Given}
@@ -18,7 +18,7 @@ use Rattle.command.specs.declared.refusal.Refusal.{Refusal}
 use Rattle.command.specs.declared.refusal.Refusal.TheVariants as refused
 use Rattle.command.specs.declared.trace.Role.TheVariants as role
 use Rattle.command.specs.Argument.{required_rule, several_rule}
-use Rattle.command.specs.Files.{FailsFile, FailsToHold, ReadsFile, ReadsKey, ReadsStart}
+use Rattle.command.specs.Files.{FailsFile, FailsToHold, ReadsFile, ReadsKey, ReadsStart, decisive}
 use Rattle.command.specs.Trace.{Happening}
 
 -- the command
@@ -102,12 +102,30 @@ AnswersGiven (Err fault) given answer = answer ≡ Err (refused.Key fault)
 AnswersGiven (Ok key) given answer = (checked : Result Unit GivenFault) × Checks key given checked
     × (answer ≡ given_answer (length given) checked)
 
--- All pairs were read, and then they were judged; or one couldn't be read, which is reported.
+-- These are the bytes of a message, and the first ones of its signature, as many as decide.
+abbrev pub BeginsGiven : (whole first : Given) → Type 0
+BeginsGiven whole first = (first.message.items ≡ whole.message.items)
+    × (first.signature.items ≡ take decisive whole.signature.items)
+
+-- .. one after the other
+abbrev pub BeginAll : (wholes firsts : List Given) → Type 0
+BeginAll [] [] = ⊤
+BeginAll [] (first ∷ firsts) = ⊥
+BeginAll (whole ∷ wholes) [] = ⊥
+BeginAll (whole ∷ wholes) (first ∷ firsts) = BeginsGiven whole first × BeginAll wholes firsts
+
+-- The first bytes of signatures decide: the answer is that of the check of all their bytes, whichever follow.
+abbrev pub AnswersWhole : Result AnyPublic KeyFault → (firsts : List Given) → Result Done Refusal → Type 0
+AnswersWhole key firsts answer = (wholes : List Given) → BeginAll wholes firsts → AnswersGiven key wholes answer
+
+-- All pairs were read, and then they were judged; or one couldn't be read, which is reported. What was read of the
+-- signatures decides.
 abbrev pub JudgesPairs : (content : List ℕ → Option (List ℕ)) → Result AnyPublic KeyFault → List Pair
     → Result Done Refusal → (old new : List Happening) → Type 0
 JudgesPairs content key pairs answer old new =
     ((refusal : Refusal) × (answer ≡ Err refusal) × FailsPairs content pairs refusal old new)
-    ⊎ ((given : List Given) × ReadsPairs content pairs given old new × AnswersGiven key given answer)
+    ⊎ ((given : List Given) × ReadsPairs content pairs given old new × AnswersGiven key given answer
+    × AnswersWhole key given answer)
 
 -- The public key's file was read, and then the pairs; all that was read was then judged. Or it couldn't be read, which
 -- is reported, and no other file was opened.

@@ -1,6 +1,6 @@
 -- What is read of files, and how reading them fails.
 use Rattle.std.specs.Prelude.{length, ℕ, List, [], ◌∷◌, ◌++◌, Result, Ok, Err, ◌≡◌, Option, Some, IfSome, ◌≢◌}
-use Rattle.std.specs.Prelude.{◌⊎◌, ◌<◌, take}
+use Rattle.std.specs.Prelude.{◌⊎◌, ◌<◌, ◌≤◌, take}
 use Rattle.sign_core.specs.declared.key.AnyPublic.{AnyPublic}
 use Rattle.sign_core.specs.declared.key.KeyFault.{KeyFault}
 use Rattle.sign_core.specs.Key.{KeyHasFault, SpellsKey}
@@ -76,10 +76,11 @@ ReadsStart content role path first old new =
 abbrev pub ReportsRead : Role → Refusal → (old new : List Happening) → Type 0
 ReportsRead role refusal old new = (kind : ErrorKind) × (refusal ≡ refusal_of kind) × FailsToRead role kind old new
 
--- A file was read, and memory for its bytes was refused, which is reported.
+-- A file was read, which gave a byte at least, and memory for its bytes was refused, which is reported.
 abbrev pub ReportsMemory : Role → Refusal → (old new : List Happening) → Type 0
 ReportsMemory role refusal old new =
-    (refusal ≡ refused.OutOfMemory) × ((bytes : List ℕ) × (ReadsOn role bytes old new ⊎ ReadsToEnd role bytes old new))
+    (refusal ≡ refused.OutOfMemory)
+    × ((bytes : List ℕ) × (1 ≤ length bytes) × (ReadsOn role bytes old new ⊎ ReadsToEnd role bytes old new))
 
 -- One of the two.
 abbrev pub CantHold : Role → Refusal → (old new : List Happening) → Type 0

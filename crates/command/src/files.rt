@@ -16,7 +16,7 @@ use crate::refusal::Refusal;
 use crate::trace::{Role, Traced};
 use sign_core::{AnyPublic, KeyFault, Source};
 use state_file::Disk;
-use std::alloc::Global;
+use std::alloc::{AllocError, Global};
 use std::io;
 use std::io::ErrorKind;
 use typecodes::Message;
@@ -231,7 +231,7 @@ fn read_all<D: Folder>(
     let mut bytes = Vec::new(alloc);
     for turn in 0..u64::MAX {
         let n = fill(folder, file, &mut piece)?;
-        if bytes.extend_from_slice(&piece[..n]).is_err() {
+        if keep(&mut bytes, &piece[..n]).is_err() {
             return Err(Refusal::OutOfMemory);
         }
         if n < piece.len() {
@@ -256,10 +256,21 @@ fn read_start<D: Folder>(
     let mut first = [0; DECISIVE];
     let n = fill(folder, file, &mut first)?;
     let mut bytes = Vec::new(alloc);
-    if bytes.extend_from_slice(&first[..n]).is_err() {
+    if keep(&mut bytes, &first[..n]).is_err() {
         return Err(Refusal::OutOfMemory);
     }
     Ok(bytes)
+}
+
+// Keeps bytes after those that are kept already. Where there are none, no memory is wanted.
+fn keep(bytes: &mut Vec<u8>, more: &[u8]) -> Result<(), AllocError>
+    ensures kept { IfOk result (λ _. bytes.new.items ≡ bytes.old.items ++ more.now) }
+    ensures lacks { IfErr result (λ _. 1 ≤ length more.now) }
+{
+    if more.is_empty() {
+        return Ok(());
+    }
+    bytes.extend_from_slice(more)
 }
 
 // Counts the bytes that are left, in pieces that it doesn't keep.

@@ -1,6 +1,7 @@
 //! The files of a machine: how they are opened, read and written.
 
 ghost use Rattle.std.specs.Prelude.{◌≡◌, ◌++◌, ◌∷◌, [], List, None, IfErr, ⊤};
+ghost use Rattle.command.specs.FileDisk.{file_of};
 ghost use Rattle.command.specs.Trace.{Happening, opening};
 
 use crate::file_disk::{FileDisk, StateFile, folder_of};
@@ -171,8 +172,8 @@ impl<R: Files<File = File>> SignerFolder for Machine<R> {
 
     type Random = RngSource<RandomFile<File>>;
 
-    // nothing is known of a disk over a file of the machine
-    ghost is_opened = { λ _. ⊤ };
+    // nothing happened to it yet; what else holds of a disk over a file of the machine isn't known
+    ghost is_opened = { λ disk. file_of disk ≡ [] };
 
     ghost is_closed = { λ _ _. ⊤ };
 

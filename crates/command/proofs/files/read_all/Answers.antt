@@ -1,4 +1,4 @@
-use Rattle.std.proofs.Common.{rules, ◌≡◌, ◌∙◌, ◌++◌, take, arith, length-append, length-take-le, refl}
+use Rattle.std.proofs.Common.{rules, ◌≡◌, ◌∙◌, ◌++◌, ◌≤◌, length, take, arith, length-append, length-take-le, refl}
 use Rattle.std.specs.IoError.{error_kind}
 use Rattle.std.proofs.KnownBytes.{Consumes-trans}
 use Rattle.typecodes.proofs.Messages.{content_at_end}
@@ -15,13 +15,14 @@ returns-in_err-n-clause-content g c = λ path. c.fill.ensures.content path ∙ c
 
 pub returns-then-is_err-clause-reads : goal.returns-then-is_err-clause-reads
 returns-then-is_err-clause-reads g c =
-    keeps_no_more _ _ _ c.loop-turn.bytes.items _ _ _ _ _ refl c.loop-turn.invariant.3 c.loop-turn.invariant.1 c.in_ok-n.ensures.trace
+    let some : 1 ≤ length (take c.in_ok-n.n c.fill.new.buffer) = search rules in
+    keeps_no_more _ _ _ c.loop-turn.bytes.items _ _ _ _ _ refl some c.loop-turn.invariant.3 c.loop-turn.invariant.1 c.in_ok-n.ensures.trace
 
 pub returns-then-n-lt4096-clause-reads : goal.returns-then-n-lt4096-clause-reads
 returns-then-n-lt4096-clause-reads g c =
     let piece = take c.in_ok-n.n c.fill.new.buffer in
     let size = length-take-le c.in_ok-n.n c.fill.new.buffer c.in_ok-n.ensures.within in
-    let whole : c.extend_from_slice.new.self.items ≡ c.loop-turn.bytes.items ++ piece = search rules in
+    let whole : c.keep.new.bytes.items ≡ c.loop-turn.bytes.items ++ piece = search rules in
     let all = Consumes-trans _ _ _ c.loop-turn.bytes.items piece c.loop-turn.invariant.2 c.in_ok-n.ensures.bytes in
     let fits = content_at_end _ _ _ all (c.in_ok-n.ensures.end (search rules)) in
     let ends = fills_to_end _ _ piece _ _ c.in_ok-n.ensures.trace (omega (arith, size)) in
@@ -32,7 +33,7 @@ pub loop-turn-preserved : goal.loop-turn-preserved
 loop-turn-preserved g c =
     let piece = take c.in_ok-n.n c.fill.new.buffer in
     let size = length-take-le c.in_ok-n.n c.fill.new.buffer c.in_ok-n.ensures.within in
-    let whole : c.extend_from_slice.new.self.items ≡ c.loop-turn.bytes.items ++ piece = search rules in
+    let whole : c.keep.new.bytes.items ≡ c.loop-turn.bytes.items ++ piece = search rules in
     let all = Consumes-trans _ _ _ c.loop-turn.bytes.items piece c.loop-turn.invariant.2 c.in_ok-n.ensures.bytes in
     let fills = fills_whole _ _ piece _ _ c.in_ok-n.ensures.trace (omega (arith, size)) in
     let reads = reads_more _ _ c.loop-turn.bytes.items piece _ _ _ c.loop-turn.invariant.3 c.loop-turn.invariant.1 fills in
