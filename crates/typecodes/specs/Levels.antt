@@ -2,9 +2,13 @@
 use Rattle.std.specs.Prelude.{ℕ, ◌≤◌, List, length}
 use Rattle.typecodes.specs.declared.types.LmsPair.{LmsPair}
 
+-- the greatest number of levels
+abbrev pub most_levels : ℕ
+most_levels = 8
+
 -- L: a key has 1 to 8 levels
 abbrev pub IsLevelCount : ℕ → Type 0
-IsLevelCount n = (1 ≤ n) × (n ≤ 8)
+IsLevelCount n = (1 ≤ n) × (n ≤ most_levels)
 
 -- the pairs of so many levels, from the top down
 abbrev pub AreLevels : List LmsPair → Type 0
