@@ -1,9 +1,10 @@
 //! Laws of spellings, of verdicts and of textbook signatures. The functions do nothing: what their
 //! contracts say is proved of every key and every signature.
 
-ghost use Rattle.std.specs.Prelude.{◌≡◌, ◌⊎◌, ◌≢◌, List, [], ◌∷◌, ◌++◌, ℕ, ◌+◌, ◌≤◌, length, Result, Err, IsOk};
+ghost use Rattle.std.specs.Prelude.{◌≡◌, List, [], ◌∷◌, ◌++◌, ℕ, ◌+◌, ◌≤◌, length};
 ghost use Rattle.typecodes.specs.declared.refusal.Refusal.{Refusal};
 ghost use Rattle.typecodes.specs.Layout.{IsUnambiguous, Spells};
+ghost use Rattle.typecodes.specs.Verdict.{VerdictLaws};
 ghost use Rattle.hss.specs.declared.key.HssPublic.{HssPublic};
 ghost use Rattle.lmots.specs.Hashes.{u32str};
 ghost use Rattle.lms.specs.Signature.{signature as lms_signature};
@@ -26,18 +27,8 @@ pub fn spelling_laws()
 /// message can't be read (`accepted`); no bytes have two other refusals (`one_refusal`); and where this one may come,
 /// none comes that stands before it (`read_in_turn`).
 pub fn verdict_laws()
-    ensures accepted { (key : HssPublic) (message bytes : List ℕ) (result : Result (Unit {0}) Refusal)
-        → Verdict key message bytes result → result ≢ Err Refusal.MessageRead
-        → (s : Signature) → Spells signature s bytes → IsValid key message s → IsOk result }
-    ensures one_refusal { (key : HssPublic) (message bytes : List ℕ) (first second : Refusal)
-        → Verdict {A = Unit {0}} key message bytes (Err first)
-        → Verdict {A = Unit {0}} key message bytes (Err second)
-        → first ≢ Refusal.MessageRead → second ≢ Refusal.MessageRead → first ≡ second }
-    ensures read_in_turn { (key : HssPublic) (message bytes : List ℕ) (first : Refusal)
-        → Verdict {A = Unit {0}} key message bytes (Err Refusal.MessageRead)
-        → Verdict {A = Unit {0}} key message bytes (Err first)
-        → (first ≡ Refusal.MessageRead)
-        ⊎ ((bottom : ℕ) × (bottom + 1 ≡ key.levels) × (first ≡ Refusal.RootMismatch bottom)) }
+    ensures { VerdictLaws Verdict (λ key. signature) IsValid (λ key refusal.
+        (bottom : ℕ) × (bottom + 1 ≡ key.levels) × (refusal ≡ Refusal.RootMismatch bottom)) }
 {}
 
 /// What holds of the textbook signatures of any levels.

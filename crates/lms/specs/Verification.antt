@@ -1,11 +1,11 @@
 -- Which signatures are valid (RFC 8554 5.4.2 and 4.6), and what verification answers, with the refusal that comes
 -- first.
-use Rattle.std.specs.Prelude.{◌≡◌, ◌≢◌, ℕ, ◌<◌, ◌^◌, List, Option, length, Result, Ok, Err}
+use Rattle.std.specs.Prelude.{◌≡◌, ◌≢◌, ℕ, ◌<◌, ◌^◌, List, length, Result, Ok, Err}
 use Rattle.typecodes.specs.declared.refusal.Refusal.{Refusal}
 use Rattle.typecodes.specs.declared.refusal.Refusal.TheVariants.{Unreadable, TypeMismatch, LevelMismatch}
 use Rattle.typecodes.specs.declared.refusal.Refusal.TheVariants.{RootMismatch, MessageRead}
 use Rattle.typecodes.specs.Layout.{Spells, HasFault}
-use Rattle.typecodes.specs.Message.{CantBeRead, ReadWhole, Transition}
+pub use Rattle.typecodes.specs.Verdict.{LeavesMessage}
 use Rattle.typecodes.specs.Types.{chains_of, height_of}
 use Rattle.merkle.specs.Ascent.{IsAscent, at}
 use Rattle.lmots.specs.Key.{ClimbTo, message_digest_of, public_hash}
@@ -71,14 +71,3 @@ abbrev pub DigestVerdict : {A : Type 0} → LmsPublic → List ℕ → Signature
 DigestVerdict key digest s i (Ok _) = IsValidFor key digest s
 DigestVerdict key digest s i (Err (RootMismatch level)) = (level ≡ i) × (IsValidFor key digest s → ⊥)
 DigestVerdict key digest s i (Err other) = ⊥
-
--- What becomes of the message: it was read whole, and gave this text, where the root was compared; it can't be read;
--- and it is as it was where a refusal came before it was read.
-abbrev pub LeavesMessage : {M A : Type 0} → Transition M → (M → Option (List ℕ)) → List ℕ → M → M → Result A Refusal
-    → Type 0
-LeavesMessage transition remaining text old new (Ok _) = ReadWhole transition remaining text old new
-LeavesMessage transition remaining text old new (Err (Unreadable fault)) = new ≡ old
-LeavesMessage transition remaining text old new (Err (TypeMismatch level)) = new ≡ old
-LeavesMessage transition remaining text old new (Err LevelMismatch) = ⊥
-LeavesMessage transition remaining text old new (Err MessageRead) = CantBeRead transition old new
-LeavesMessage transition remaining text old new (Err (RootMismatch level)) = ReadWhole transition remaining text old new

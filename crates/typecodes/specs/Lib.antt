@@ -9,3 +9,4 @@ pub mod Name
 pub mod Levels
 pub mod Spec
 pub mod Message
+pub mod Verdict

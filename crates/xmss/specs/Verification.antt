@@ -5,7 +5,8 @@ use Rattle.typecodes.specs.declared.refusal.Refusal.{Refusal}
 use Rattle.typecodes.specs.declared.refusal.Refusal.TheVariants.{Unreadable, TypeMismatch, LevelMismatch}
 use Rattle.typecodes.specs.declared.refusal.Refusal.TheVariants.{RootMismatch, MessageRead}
 use Rattle.typecodes.specs.Layout.{Spells, HasFault}
-use Rattle.typecodes.specs.Message.{CantBeRead, ReadWhole, Transition}
+use Rattle.typecodes.specs.Message.{Transition}
+use Rattle.typecodes.specs.Verdict.{LeavesMessage as TreeLeavesMessage}
 use Rattle.typecodes.specs.Types.{wots_chains, xmss_height_of}
 use Rattle.merkle.specs.Ascent.{IsAscent, at}
 use Rattle.wots_plus.specs.Key.{ClimbTo}
@@ -57,13 +58,8 @@ DigestVerdict key digest s (Ok _) = IsValidFor key digest s
 DigestVerdict key digest s (Err (RootMismatch level)) = (level ≡ 0) × (IsValidFor key digest s → ⊥)
 DigestVerdict key digest s (Err other) = ⊥
 
--- What becomes of the message: it was read whole, and gave this text, where the root was compared; it can't be read;
--- and it is as it was where a refusal came before it was read.
+-- What becomes of the message: as of that of any tree, where no refusal says that types differ.
 abbrev pub LeavesMessage : {M A : Type 0} → Transition M → (M → Option (List ℕ)) → List ℕ → M → M → Result A Refusal
     → Type 0
-LeavesMessage transition remaining text old new (Ok _) = ReadWhole transition remaining text old new
-LeavesMessage transition remaining text old new (Err (Unreadable fault)) = new ≡ old
 LeavesMessage transition remaining text old new (Err (TypeMismatch level)) = ⊥
-LeavesMessage transition remaining text old new (Err LevelMismatch) = ⊥
-LeavesMessage transition remaining text old new (Err MessageRead) = CantBeRead transition old new
-LeavesMessage transition remaining text old new (Err (RootMismatch level)) = ReadWhole transition remaining text old new
+LeavesMessage transition remaining text old new result = TreeLeavesMessage transition remaining text old new result

@@ -1,13 +1,14 @@
 //! Laws of spellings and of verdicts. The functions do nothing: what their contracts say is proved of
 //! every key and every signature.
 
-ghost use Rattle.std.specs.Prelude.{◌≡◌, ◌≢◌, ◌⊎◌, List, ℕ, Result, Err, IsOk};
-ghost use Rattle.typecodes.specs.Layout.{IsUnambiguous, Spells};
+ghost use Rattle.std.specs.Prelude.{◌≡◌};
+ghost use Rattle.typecodes.specs.Layout.{IsUnambiguous};
+ghost use Rattle.typecodes.specs.Verdict.{VerdictLaws};
 ghost use Rattle.typecodes.specs.declared.refusal.Refusal.{Refusal};
 ghost use Rattle.typecodes.specs.declared.types.XmssType.{XmssType};
 ghost use Rattle.xmss.specs.declared.key.XmssPublic.{XmssPublic};
 ghost use Rattle.xmss.specs.Key.{public_key};
-ghost use Rattle.xmss.specs.Signature.{Signature, signature};
+ghost use Rattle.xmss.specs.Signature.{signature};
 ghost use Rattle.xmss.specs.Verification.{IsValid, Verdict};
 
 /// What holds of the spellings of public keys and of each type's signatures: no value has two, no
@@ -21,15 +22,6 @@ pub fn spelling_laws()
 /// unless the message can't be read (`accepted`); no bytes have two other refusals (`one_refusal`); and where this one
 /// may come, none comes that stands before it (`read_in_turn`).
 pub fn verdict_laws()
-    ensures accepted { (key : XmssPublic) (message bytes : List ℕ) (result : Result (Unit {0}) Refusal)
-        → Verdict key message bytes result → result ≢ Err Refusal.MessageRead
-        → (s : Signature) → Spells (signature key.tree) s bytes → IsValid key message s → IsOk result }
-    ensures one_refusal { (key : XmssPublic) (message bytes : List ℕ) (first second : Refusal)
-        → Verdict {A = Unit {0}} key message bytes (Err first)
-        → Verdict {A = Unit {0}} key message bytes (Err second)
-        → first ≢ Refusal.MessageRead → second ≢ Refusal.MessageRead → first ≡ second }
-    ensures read_in_turn { (key : XmssPublic) (message bytes : List ℕ) (first : Refusal)
-        → Verdict {A = Unit {0}} key message bytes (Err Refusal.MessageRead)
-        → Verdict {A = Unit {0}} key message bytes (Err first)
-        → (first ≡ Refusal.MessageRead) ⊎ (first ≡ Refusal.RootMismatch 0) }
+    ensures { VerdictLaws Verdict (λ key. signature key.tree) IsValid
+        (λ key refusal. refusal ≡ Refusal.RootMismatch 0) }
 {}
