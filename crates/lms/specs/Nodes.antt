@@ -16,8 +16,8 @@ abbrev pub node_number : ℕ → ℕ → ℕ → ℕ
 node_number h k j = 2 ^ (h - k) + j
 
 -- T[r] = H(I || u32str(r) || u16str(D_LEAF) || K): leaf q, of its key's public hash K
-abbrev pub leaf_hash : List ℕ → ℕ → ℕ → List ℕ → List ℕ
-leaf_hash identifier h q key = sha256 (identifier ++ u32str (node_number h 0 q) ++ u16str leaf_separator ++ key)
+abbrev pub leaf_of : List ℕ → ℕ → ℕ → List ℕ → List ℕ
+leaf_of identifier h q key = sha256 (identifier ++ u32str (node_number h 0 q) ++ u16str leaf_separator ++ key)
 
 -- T[r] = H(I || u32str(r) || u16str(D_INTR) || T[2r] || T[2r+1]): node j of height k + 1, of its children
 abbrev pub join_of : List ℕ → ℕ → Joins

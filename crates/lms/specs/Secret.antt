@@ -7,11 +7,11 @@ use Rattle.lmots.specs.Key.{ends_of_seed, message_digest_of, public_hash}
 use Rattle.lms.specs.declared.key.LmsPublic.{LmsPublic}
 use Rattle.lms.specs.declared.secret.LmsSecret.{LmsSecret}
 use Rattle.lms.specs.declared.secret.LmsTree.{LmsTree}
-use Rattle.lms.specs.Nodes.{join_of, leaf_hash}
+use Rattle.lms.specs.Nodes.{join_of, leaf_of}
 
 -- the leaves of a secret's tree: each of the ends of all chains, walked from their private values
 abbrev pub leaves_of : LmsSecret → Leaves
-leaves_of secret q = leaf_hash secret.identifier (height_of secret.pair.tree) q
+leaves_of secret q = leaf_of secret.identifier (height_of secret.pair.tree) q
     (public_hash secret.identifier q (ends_of_seed secret.identifier q secret.pair.ots secret.seed))
 
 -- and the nodes above them

@@ -10,7 +10,7 @@ use Rattle.typecodes.specs.Types.{chains_of, height_of}
 use Rattle.merkle.specs.Ascent.{IsAscent, at}
 use Rattle.lmots.specs.Key.{ClimbTo, message_digest_of, public_hash}
 use Rattle.lms.specs.declared.key.LmsPublic.{LmsPublic}
-use Rattle.lms.specs.Nodes.{join_of, leaf_hash}
+use Rattle.lms.specs.Nodes.{join_of, leaf_of}
 use Rattle.lms.specs.Signature.{Signature, signature}
 
 -- The node to which a signature of a digest Q leads, in a tree with the identifier I: from the digits of Q the
@@ -21,7 +21,7 @@ pub record LeadsTo (identifier digest : List ℕ) (s : Signature) (node : List �
   pub climbed : ClimbTo identifier s.q s.pair.ots digest s.chains ends
   pub nodes : List (List ℕ)
   pub ascent : IsAscent (join_of identifier (height_of s.pair.tree)) s.q
-      (leaf_hash identifier (height_of s.pair.tree) s.q (public_hash identifier s.q ends)) s.path nodes
+      (leaf_of identifier (height_of s.pair.tree) s.q (public_hash identifier s.q ends)) s.path nodes
   pub last : at nodes (length s.path) ≡ node
 
 -- The signature's types are the key's; it has a value for each chain of the one-time type; its index q

@@ -2,7 +2,7 @@
 
 ghost use Rattle.std.specs.Prelude.{◌≡◌, ◌++◌};
 ghost use Rattle.sha2.specs.Hashers.{Holds256};
-ghost use Rattle.lms.specs.Nodes.{join_of, leaf_hash, node_number};
+ghost use Rattle.lms.specs.Nodes.{join_of, leaf_of, node_number};
 ghost use Rattle.lmots.specs.Hashes.{u16str, u32str};
 
 use merkle::NodeHash;
@@ -23,7 +23,7 @@ pub struct Nodes {
 impl Nodes {
     /// The node of a leaf, of its one-time key's public hash.
     pub fn leaf(&self, leaf: u32, public_hash: &[u8; 32]) -> [u8; 32]
-        ensures { result ≡ leaf_hash self.now.identifier self.now.height leaf public_hash.now }
+        ensures { result ≡ leaf_of self.now.identifier self.now.height leaf public_hash.now }
     {
         let mut hasher = self.hasher(self.number(0, leaf), LEAF);
         hasher.update(public_hash);

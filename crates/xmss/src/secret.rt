@@ -8,7 +8,7 @@ use merkle::{NodeHash, TreeHash};
 use typecodes::{Count, XmssType};
 use wots_plus::{Prf, Wots};
 
-/// What an XMSS key is made from (RFC 8391 4.1.3). It isn't printed, since it is secret.
+/// What an XMSS key is made from (RFC 8391 4.1.3). It has no `Debug`, since S_XMSS and SK_PRF are secret.
 #[derive(Clone, Copy)]
 pub struct XmssSecret {
     /// The tree's type.
@@ -40,7 +40,8 @@ impl XmssSecret {
     }
 }
 
-/// The tree of a secret (RFC 8391 4.1.6), each leaf made of the ends of its one-time key's chains.
+/// The tree of a secret (RFC 8391 4.1.6), each leaf made of the ends of its one-time key's chains. As the
+/// secret it has no `Debug`.
 #[derive(Drop)]
 pub struct XmssTree {
     secret: XmssSecret,

@@ -4,7 +4,7 @@ use Rattle.lms.proofs.verification.candidate.Goals as goal
 
 steps : (c : goal.After-root_from_path) → Steps c.args.identifier.now (signature_of c.args.view.now) c.hash_from_signature-public_hash.result c.leaf-leaf.result c.height.result
 steps c = record {
-  leaf_of = c.leaf-leaf.ensures;
+  leaf_is = c.leaf-leaf.ensures;
   height = c.height.ensures.value;
 }
 
