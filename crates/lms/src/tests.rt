@@ -365,8 +365,8 @@ fn signatures_are_verified(rt: HostRuntime) {
     }
 }
 
-// The fields of a signature of H5 and W8, by where a run of fields of one size begins, and that size: q and the one-time
-// type, C and 34 values, the tree's type, and five nodes (5.4).
+// The fields of a signature of H5 and W8, by where a run of fields of one size begins, and that size: q and the
+// one-time type, C and 34 values, the tree's type, and five nodes (5.4).
 const FIELDS: [(u32, u32); 4] = [(0, 4), (8, 32), (1128, 4), (1132, 32)];
 
 // Where the field begins that is cut by an end at this offset.

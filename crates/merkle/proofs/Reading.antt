@@ -84,7 +84,7 @@ odd_first i depth over above is odd =
     let is_odd : over % 2 ≡ 1 = omega arith in
     ap (λ n. 2 * n) halved ∙ sym (sibling-odd over is_odd)
 
--- the path up to a height, and the root of the other half behind it
+-- the path up to a height, and the root of the other half after it
 pub path_more : (leaf : Leaves) (join : Joins) (base depth i n : ℕ) (other lower into : List (List ℕ))
     → 0 < depth → length into ≡ depth → n + 2 ≡ 2 ^ depth
     → other ≡ nodes_under leaf join base (depth - 1) (sibling (i / 2 ^ (depth - 1)))

@@ -65,8 +65,8 @@ impl<D: Disk + Drop> Disk for TurningDisk<D> {
     }
 }
 
-// What is answered to a file, twice, where a read from this offset on gives other bytes as soon as its store can be opened
-// all the same.
+// What is answered to a file, twice, where a read from this offset on gives other bytes as soon as its store can be
+// opened all the same.
 fn audited_turned(alloc: Global, entries: &[Entry], offset: u64) -> Option<(Audited, Audited)> {
     for reads in 0..40u32 {
         let disk = TurningDisk {
@@ -85,8 +85,8 @@ fn audited_turned(alloc: Global, entries: &[Entry], offset: u64) -> Option<(Audi
     None
 }
 
-// A slot that can't be read is reported, though the record before it is illegal, and however often it is asked. The fields
-// of slot k begin at 256 * k + 1, and its tag at 256 * k + 224.
+// A slot that can't be read is reported, though the record before it is illegal, and however often it is asked. The
+// fields of slot k begin at 256 * k + 1, and its tag at 256 * k + 224.
 #[test]
 fn unreadable_slots_are_reported(rt: HostRuntime) {
     let entries = [

@@ -280,8 +280,8 @@ fn changed_at(offset: usize, value: u8) -> Option<Result<u32, OpenFault>> {
     }
 }
 
-// The first byte of the file of three records which, set to one of these values or with bits turned, opens otherwise than
-// it has to.
+// The first byte of the file of three records which, set to one of these values or with bits turned, opens otherwise
+// than it has to.
 fn first_that_opens_otherwise(alloc: Global) -> Option<Option<usize>> {
     let file = file_of(alloc, 3)?;
     for (offset, byte) in file.iter().enumerate() {
