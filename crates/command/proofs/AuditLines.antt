@@ -12,7 +12,8 @@ use Rattle.clap.specs.Words.{Rule, Text, fault_of, subcommand_of}
 use Rattle.clap.specs.declared.builder.value_parser.ValueParser.{ValueParser}
 use Rattle.clap.specs.declared.builder.value_parser.ValueParser.TheVariants.{String as TextParser}
 use Rattle.clap.proofs.OnLiterals.{clap_on_literals}
-use Rattle.command.specs.Audit.{anchor_with, most_records, tag_in}
+use Rattle.state_file.specs.File.{most_records}
+use Rattle.command.specs.Audit.{anchor_with, tag_in}
 use Rattle.command.specs.AuditGiven.{Pair, pairs_in, paths_of}
 use Rattle.command.specs.Line.{FindsTask, GivesValues, IsAuditLine, IsCommandLine, IsLineOf, IsPlainWord, IsShownLineOf, Task, audit, audit_anchored, audit_given, audit_given_pairs, audit_given_task, hbsign_app, make, retire, serve, sign, task_found, verify}
 use Rattle.command.specs.Number.{number_in}

@@ -1,10 +1,10 @@
 -- The first bytes of signatures that were given decide what a check of all their bytes answers.
-use Rattle.std.proofs.Common.{◌≡◌, ◌≢◌, ◌∙◌, ℕ, zero, suc, ◌<◌, ◌^◌, List, [], ◌∷◌, length, take, Option, Some, None, Result, Ok, Err, refl, sym, ap, subst, arith, take_all}
+use Rattle.std.proofs.Common.{◌≡◌, ◌∙◌, ℕ, zero, suc, ◌<◌, ◌^◌, List, [], ◌∷◌, length, take, Option, Some, Result, Ok, Err, refl, sym, ap, subst, arith, take_all}
 use Rattle.std.specs.Prelude.{⊤, slice_get}
 use Rattle.key_audit.specs.declared.given.Given.{Given}
 use Rattle.key_audit.specs.declared.given.GivenFault.{GivenFault}
 use Rattle.key_audit.specs.declared.given.GivenFault.TheVariants.{LeafTwice, NotValid, OutOfMemory}
-use Rattle.key_audit.specs.Given.{AreValid, Checks, IsFirstNotValid, IsFirstTwice, IsTwice, IsValidGiven, NoneTwice, UseLeafTwice, Uses}
+use Rattle.key_audit.specs.Given.{AreValid, Checks, IsTwice, IsValidGiven, UseLeafTwice, Uses}
 use Rattle.sign_core.specs.declared.key.AnyPublic.{AnyPublic}
 use Rattle.sign_core.specs.declared.key.KeyFault.{KeyFault}
 use Rattle.sign_core.specs.Once.{Verifies}

@@ -17,6 +17,7 @@ use Rattle.command.specs.declared.trace.Role.TheVariants as role
 use Rattle.command.specs.Argument.{option_rule, required_rule}
 use Rattle.command.specs.FileDisk.{IsStateRefusal}
 use Rattle.command.specs.Files.{FilesSeen}
+use Rattle.state_file.specs.File.{most_records}
 use Rattle.command.specs.KeyFile.{AuditsOn}
 use Rattle.command.specs.Number.{number_in}
 use Rattle.command.specs.Signing.{PublicBytes}
@@ -28,10 +29,6 @@ audit_app = with_rule (with_rule (with_rule (new_app (codes "audit")) (required_
     (option_rule (codes "count"))) (option_rule (codes "tag"))
 
 -- ---- the words of an anchor
-
--- the records that a file has at most, 2^31
-abbrev pub most_records : ℕ
-most_records = 2147483648
 
 -- what was decoded
 abbrev pub decoded : Result (List ℕ) FromHexError → Option (List ℕ)

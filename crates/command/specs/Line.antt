@@ -10,6 +10,7 @@ use Rattle.sign_core.specs.declared.source.Source as source
 use Rattle.state_file.specs.declared.disk.Disk as disk
 use Rattle.state_file.specs.declared.store.Store as store
 use Rattle.state_file.specs.declared.store.file_store.FileStore.{FileStore}
+use Rattle.state_file.specs.File.{most_records}
 use Rattle.command.specs.declared.line.Lack.{Lack}
 use Rattle.command.specs.declared.line.Lack.TheVariants as lack
 use Rattle.command.specs.declared.line.Lack.TheVariants.{Command, Number}
@@ -18,7 +19,7 @@ use Rattle.command.specs.declared.line.Request.TheVariants.{Make, Sign, Verify, 
 use Rattle.command.specs.declared.answer.Done.{Done}
 use Rattle.command.specs.declared.refusal.Refusal.{Refusal}
 use Rattle.command.specs.Argument.{default_random}
-use Rattle.command.specs.Audit.{AuditsIn, anchor_in, audit_app, most_records, tag_in}
+use Rattle.command.specs.Audit.{AuditsIn, anchor_in, audit_app, tag_in}
 use Rattle.command.specs.AuditGiven.{ChecksIn, Pair, audit_given_app, pairs_in, pairs_of, paths_of}
 use Rattle.command.specs.Files.{FilesSeen}
 use Rattle.command.specs.Make.{MakesIn, make_app}

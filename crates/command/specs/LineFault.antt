@@ -7,9 +7,14 @@ use Rattle.clap.specs.Words.{IsAmong, Kinds, fault_of, subcommand_of}
 use Rattle.clap.specs.declared.error.kind.ErrorKind.{ErrorKind}
 use Rattle.clap.specs.declared.error.kind.ErrorKind.TheVariants as kind
 use Rattle.command.specs.Line.{Task, hbsign_app, lack_kind, task_found}
+use Rattle.command.specs.declared.line.ClapReader.{ClapReader}
 use Rattle.command.specs.declared.line.Lack.{Lack}
 use Rattle.command.specs.declared.line_fault.LineFault.{LineFault}
 use Rattle.command.specs.declared.line_fault.LineFault.TheVariants.{Help, Version, Refused, OutOfMemory}
+
+-- how often a reader of lines was refused memory: for `clap`, and for the texts that it makes
+abbrev pub refusals_of : ClapReader → ℕ
+refusals_of reader = reader.refusals + reader.texts.refusals
 
 -- A text begins with a letter from A to Z.
 abbrev pub BeginsWithCapital : List ℕ → Type 0

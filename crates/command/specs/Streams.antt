@@ -1,6 +1,11 @@
 -- What a run of the program reads and writes beside files: its input, its output and the output for errors.
 use Rattle.std.specs.Prelude.{ℕ, List, Option}
+use Rattle.command.specs.declared.output.Printer.{Printer}
 use Rattle.command.specs.Output.{Taken, taken_of}
+
+-- how many texts a writer of the program couldn't write
+abbrev pub failures_of : {W : Type 0} → Printer W → ℕ
+failures_of printer = printer.failures
 
 -- what an output has taken, by what is seen of it
 abbrev pub taken : {O : Type 0} → (contents : O → Option (List ℕ)) → (failures : O → ℕ) → O → Taken

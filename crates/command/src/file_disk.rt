@@ -253,11 +253,13 @@ pub struct FileDisk<F> {
 }
 
 impl<F: OffsetFile> FileDisk<F> {
-    ghost use Rattle.command.specs.FileDisk.{file_of};
+    ghost use Rattle.command.specs.FileDisk.{failures_of, file_of, past_ends_of};
 
     /// The disk over this file, which has refused nothing yet.
     pub fn new(file: F) -> Self
-        ensures { file_of result ≡ file }
+        ensures file { file_of result ≡ file }
+        ensures failures { failures_of result ≡ 0 }
+        ensures past_ends { past_ends_of result ≡ 0 }
     {
         FileDisk {
             file,

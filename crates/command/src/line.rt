@@ -162,8 +162,12 @@ pub struct ClapReader {
 }
 
 impl ClapReader {
+    ghost use Rattle.command.specs.LineFault.{refusals_of};
+
     /// A reader that was refused no memory yet.
-    pub fn new(alloc: Global) -> Self {
+    pub fn new(alloc: Global) -> Self
+        ensures { refusals_of result ≡ 0 }
+    {
         ClapReader {
             alloc,
             texts: Texts::new(alloc),
@@ -173,8 +177,9 @@ impl ClapReader {
 }
 
 impl LineReader for ClapReader {
-    // to `clap`, and for its texts
-    ghost refusals = { λ reader. reader.refusals + reader.texts.refusals };
+    ghost use Rattle.command.specs.LineFault.{refusals_of};
+
+    ghost refusals = { refusals_of };
 
     fn read<'a, S: AsStr>(&mut self, words: &'a [S]) -> Result<Request<'a>, LineFault> {
         // Only the proof needs this use: it tells how many words there are at most.

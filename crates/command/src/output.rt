@@ -45,9 +45,12 @@ pub struct Printer<W> {
 }
 
 impl<W: Write> Printer<W> {
+    ghost use Rattle.command.specs.Streams.{failures_of};
+
     /// Over a writer, of which nothing failed yet.
     pub fn new(writer: W) -> Self
-        ensures { result.writer ≡ writer }
+        ensures writer { result.writer ≡ writer }
+        ensures failures { failures_of result ≡ 0 }
     {
         Printer {
             writer,

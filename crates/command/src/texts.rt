@@ -32,7 +32,9 @@ pub struct Texts {
 
 impl Texts {
     /// A maker that was refused no memory yet.
-    pub fn new(alloc: Global) -> Self {
+    pub fn new(alloc: Global) -> Self
+        ensures { result.refusals ≡ 0 }
+    {
         Texts {
             alloc,
             refusals: Count::new(),
