@@ -7,7 +7,8 @@ use Rattle.sign_core.specs.declared.key.AnyPublic.{AnyPublic}
 use Rattle.sign_core.specs.Key.{KeyHasFault, KeyLeavesMessage, KeyVerdict, SpellsKey}
 use Rattle.command.specs.declared.refusal.Refusal.{Refusal}
 use Rattle.command.specs.declared.refusal.Refusal.TheVariants.{Key, Signature, OutOfMemory, FileFailed}
-use Rattle.command.specs.declared.refusal.Refusal.TheVariants.{Signer, Opening, Preparing, Audit, Given, Locked, Serving}
+use Rattle.command.specs.declared.refusal.Refusal.TheVariants.{Signer, Opening, Preparing, Audit, Given, Locked}
+use Rattle.command.specs.declared.refusal.Refusal.TheVariants.{Serving}
 use Rattle.command.specs.declared.refusal.Refusal.TheVariants.{BadName, BadSpec}
 use Rattle.std.specs.declared.io.ErrorKind.{ErrorKind}
 use Rattle.command.specs.declared.trace.Role.{Role}
