@@ -17,6 +17,7 @@ use Rattle.sign_core.specs.declared.fault.SignFault.TheVariants.{Changed, Exhaus
 use Rattle.sign_core.specs.declared.fault.SignFault.TheVariants.{Unreadable, KeyThere}
 use Rattle.sign_core.specs.Fault.{closes}
 use Rattle.sign_core.specs.Once.{IsBeginning}
+use Rattle.sign_core.specs.Caches.{Cached}
 use Rattle.sign_core.specs.Signer.{IsSigner, view_of, Adds, IsAppended, IsTied, LeavesEither, LeavesOld, UsesMemory, View}
 use Rattle.sign_core.specs.Records.{can_follow, key_in}
 use Rattle.sign_core.specs.Ledger.{Grows, Table, TakesMemory}
@@ -184,22 +185,22 @@ adds_err g old new entry (Unreadable k) was tied is records is_open random memor
 adds_err g old new entry (Illegal k) was tied is records is_open random memory untaken = absurd is.stored
 
 -- the same of a signer's parts
-pub adds_in_ok : {S R : Type 0} (g : store.Ghosts S) (old new : S) (random : R) (before after : Table) (is_open : Bool) (entry : Record) (v : View S R)
-    → view_of old random before is_open ≡ v → IsSigner g (view_of old random before is_open) → v.is_open ≡ true
-    → IsAppended {A = Unit {0}} g old new entry (Ok tt) → Grows entry before after → Adds g v (view_of new random after is_open) entry (Ok tt)
-adds_in_ok {S = S} {R = R} g old new random before after is_open entry v is signer opened appended grows =
-    subst (λ (w : View S R). w.is_open ≡ true → Adds g w (view_of new random after is_open) entry (Ok tt)) is
-    (λ was. adds_ok g (view_of old random before is_open) (view_of new random after is_open) entry was (signer.tied was) appended grows.records was refl
+pub adds_in_ok : {S R : Type 0} {caches : Cached} (g : store.Ghosts S) (old new : S) (random : R) (before after : Table) (is_open : Bool) (entry : Record) (v : View S R)
+    → view_of old random before caches is_open ≡ v → IsSigner g (view_of old random before caches is_open) → v.is_open ≡ true
+    → IsAppended {A = Unit {0}} g old new entry (Ok tt) → Grows entry before after → Adds g v (view_of new random after caches is_open) entry (Ok tt)
+adds_in_ok {S = S} {R = R} {caches = caches} g old new random before after is_open entry v is signer opened appended grows =
+    subst (λ (w : View S R). w.is_open ≡ true → Adds g w (view_of new random after caches is_open) entry (Ok tt)) is
+    (λ was. adds_ok g (view_of old random before caches is_open) (view_of new random after caches is_open) entry was (signer.tied was) appended grows.records was refl
     (omega (arith, grows.spare, ap length grows.records, length_one_more before.records entry)) grows.untaken)
     opened
 
-pub adds_in_err : {S R : Type 0} (g : store.Ghosts S) (old new : S) (random : R) (before : Table) (is_open stays : Bool) (entry : Record) (fault : SignFault)
+pub adds_in_err : {S R : Type 0} {caches : Cached} (g : store.Ghosts S) (old new : S) (random : R) (before : Table) (is_open stays : Bool) (entry : Record) (fault : SignFault)
     (v : View S R)
-    → view_of old random before is_open ≡ v → IsSigner g (view_of old random before is_open) → v.is_open ≡ true → stays ≡ not (closes fault)
-    → IsAppended {A = Unit {0}} g old new entry (Err fault) → Adds g v (view_of new random before stays) entry (Err fault)
-adds_in_err {S = S} {R = R} g old new random before is_open stays entry fault v is signer opened shut appended =
-    subst (λ (w : View S R). w.is_open ≡ true → Adds g w (view_of new random before stays) entry (Err fault)) is
-    (λ was. adds_err g (view_of old random before is_open) (view_of new random before stays) entry fault was (signer.tied was) appended refl shut refl (omega
+    → view_of old random before caches is_open ≡ v → IsSigner g (view_of old random before caches is_open) → v.is_open ≡ true → stays ≡ not (closes fault)
+    → IsAppended {A = Unit {0}} g old new entry (Err fault) → Adds g v (view_of new random before caches stays) entry (Err fault)
+adds_in_err {S = S} {R = R} {caches = caches} g old new random before is_open stays entry fault v is signer opened shut appended =
+    subst (λ (w : View S R). w.is_open ≡ true → Adds g w (view_of new random before caches stays) entry (Err fault)) is
+    (λ was. adds_err g (view_of old random before caches is_open) (view_of new random before caches stays) entry fault was (signer.tied was) appended refl shut refl (omega
     arith) (λ _. refl))
     opened
 
@@ -213,11 +214,11 @@ pub some_records : (records : List Record) (key : Key) → key_in records ≡ So
 some_records [] key is = absurd (cc)
 some_records (first ∷ rest) key is = omega arith
 
-pub signer_grown : {S R : Type 0} (g : store.Ghosts S) (old new : S) (random : R) (before after : Table) (is_open : Bool) (entry : Record) (v : View S R)
-    → view_of old random before is_open ≡ v → IsSigner g (view_of old random before is_open) → key_in before.records ≡ Some before.key → v.is_open ≡ true
+pub signer_grown : {S R : Type 0} {caches : Cached} (g : store.Ghosts S) (old new : S) (random : R) (before after : Table) (is_open : Bool) (entry : Record) (v : View S R)
+    → view_of old random before caches is_open ≡ v → IsSigner g (view_of old random before caches is_open) → key_in before.records ≡ Some before.key → v.is_open ≡ true
     → can_follow (key_in v.records) v.records entry ≡ true → HasSizes entry
     → IsAppended {A = Unit {0}} g old new entry (Ok tt) → Grows entry before after
-    → IsSigner g (view_of new random after is_open) × (key_in after.records ≡ Some after.key)
+    → IsSigner g (view_of new random after caches is_open) × (key_in after.records ≡ Some after.key)
 signer_grown g old new random before after is_open entry v is signer keyed opened follows sized appended grows =
     let was : is_open ≡ true = ap (λ w. w.is_open) is ∙ opened in
     let can : can_follow (key_in before.records) before.records entry ≡ true = ap (λ w. can_follow (key_in w.records) w.records entry) is ∙ follows in

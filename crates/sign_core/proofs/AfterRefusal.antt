@@ -1,13 +1,12 @@
 -- What stands after a refusal.
 use Rattle.std.proofs.Common.{◌≡◌, ◌∙◌, refl, sym, ap, subst, ◌⊎◌, inl, inr, ℕ, zero, suc, ◌+◌, ◌-◌, Bool, true, false, List, [], ◌∷◌, ◌++◌}
-use Rattle.std.proofs.Common.{length, Option, Some, None, Err, append_assoc, append-nil}
+use Rattle.std.proofs.Common.{length, Option, Some, None, append_assoc, append-nil}
 use Rattle.std.specs.Prelude.{if◌then◌else◌, nat_le, nat_lt, not, slice_get, slice_index_or}
 use Rattle.std.specs.List.{concat}
 use Rattle.std.proofs.lemmas.Option.{none-some, same_Some}
 use Rattle.typecodes.specs.declared.spec.Spec.{Spec}
 use Rattle.typecodes.specs.Spec.{IsSpec}
 use Rattle.state_file.specs.Laws.{bottom_of}
-use Rattle.state_file.specs.declared.record.Bound.{Bound}
 use Rattle.state_file.specs.declared.record.Extend.{Extend}
 use Rattle.state_file.specs.declared.record.Key.{Key}
 use Rattle.state_file.specs.declared.record.Record.{Record}
@@ -15,7 +14,7 @@ use Rattle.state_file.specs.declared.record.Record.TheVariants.{Bound as BoundRe
 use Rattle.state_file.specs.declared.record.Secret.{Secret}
 use Rattle.sign_core.specs.declared.key.AnyPublic.{AnyPublic}
 use Rattle.sign_core.specs.declared.fault.SignFault.{SignFault}
-use Rattle.sign_core.specs.declared.fault.SignFault.TheVariants.{Illegal, LedgerFull, Moved, NoKey, OutOfMemory, RandomRepeated, RetireRange, Stopped}
+use Rattle.sign_core.specs.declared.fault.SignFault.TheVariants.{LedgerFull, Moved, OutOfMemory, RandomRepeated, RetireRange, Stopped}
 use Rattle.sign_core.specs.AfterRefusal.{AfterRefusalLaw, IsBoundOf, IsExtend, IsRefusal, Leaves, LeavesExtends}
 use Rattle.sign_core.specs.Once.{AreFields, key_sizes}
 use Rattle.sign_core.specs.Records.{binding_in, first_illegal, has_identifier, has_moved, key_in, leaves_of_current, next_at}
@@ -23,7 +22,7 @@ use Rattle.sign_core.specs.Textbook.{Trees, lms_secret, public_in, signature_at,
 use Rattle.sign_core.specs.World.{Chance, Creation, Draw, Fate, Opening, Outcome, State, acked, answered, appended, begun, bound_with}
 use Rattle.sign_core.specs.World.{created_after, cut_new, cut_old, extend_record, extended, extended_by, extended_with, first_draw, fulfilled}
 use Rattle.sign_core.specs.World.{drawing, later_draws, new_bound, new_key, no_memory, open_on, opened_by, opened_on, published, randomizer_from, reading, refused}
-use Rattle.sign_core.specs.World.{requested, retired, retired_under, secret_from}
+use Rattle.sign_core.specs.World.{requested, retired_under, secret_from}
 use Rattle.sign_core.proofs.Bindings.{binding_other}
 use Rattle.sign_core.proofs.DrawnAgain.{IsSettled, settled_repeated, settled_under}
 use Rattle.sign_core.proofs.OnceKept.{kept_choice}

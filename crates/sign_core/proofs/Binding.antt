@@ -1,5 +1,5 @@
 -- What each end of a binding is: what was drawn, then what became of the message, and of the append of its record.
-use Rattle.std.proofs.Common.{◌≡◌, ◌∙◌, refl, sym, ap, ap₂, subst, ℕ, ◌+◌, ◌-◌, ◌<◌, ◌^◌, Bool, true, false, List, [], ◌∷◌, ◌++◌, length, map}
+use Rattle.std.proofs.Common.{◌≡◌, ◌∙◌, refl, sym, ap, ap₂, subst, inl, ℕ, ◌+◌, ◌-◌, ◌<◌, ◌^◌, Bool, true, false, List, [], ◌∷◌, ◌++◌, length, map}
 use Rattle.std.proofs.Common.{Option, Some, None, Result, Ok, Err, MatchResult, IfErr, OnOk, IsErrAnd, append-nil, arith, IsTrue}
 use Rattle.std.specs.Prelude.{not, is_some, replicate, unwrap_or, ◌&&◌}
 use Rattle.std.specs.List.{concat}
@@ -25,7 +25,7 @@ use Rattle.state_file.specs.declared.record.Secret.{Secret}
 use Rattle.state_file.specs.declared.record.Secret.TheVariants.{Lms, Hss, Xmss}
 use Rattle.state_file.specs.declared.store.Store as store
 use Rattle.state_file.specs.Disk.{Counts}
-use Rattle.state_file.specs.Laws.{bottom_of, leaves_at}
+use Rattle.state_file.specs.Laws.{bottom_of, leaves_at, levels_of}
 use Rattle.state_file.proofs.Moments.{started}
 use Rattle.sign_core.specs.declared.fault.SignFault.{SignFault}
 use Rattle.sign_core.specs.declared.fault.SignFault.TheVariants.{Damaged, MessageRead, RandomFailed}
@@ -38,6 +38,7 @@ use Rattle.sign_core.specs.Source.{DrawsBytes}
 use Rattle.sign_core.specs.Source.{Provides}
 use Rattle.sign_core.specs.Records.{binding_in, can_follow, current, free_at, has_moved, has_randomizer, is_free, key_in, next_at, next_in, next_of}
 use Rattle.sign_core.specs.Links.{AreMade, IsMade, signing_of_link, signings_of}
+use Rattle.sign_core.specs.Caches.{Cached}
 use Rattle.sign_core.specs.Signer.{Adds, Ends, IsRead, IsTied, View, added, is_before_draws, is_of_append, is_out_of_memory, is_random_failed, is_store_failed, signature_size, state_of, view_of}
 use Rattle.sign_core.specs.Signing.{Binds, Does, Fulfils, IsXmssKey, Stands, StandsIn, WritesChain, pairs_of}
 use Rattle.sign_core.specs.Ledger.{Table}
@@ -50,7 +51,7 @@ use Rattle.sign_core.proofs.Append.{tree_within}
 use Rattle.sign_core.proofs.ChainParts.{all_pairs, leaf_digest, key_chain, xmss_leaf_digest}
 use Rattle.sign_core.proofs.Follow.{tell_free}
 use Rattle.sign_core.proofs.LinkParts.{more_made}
-use Rattle.sign_core.proofs.Refusals.{keeps_at_all, keeps_late, same_view}
+use Rattle.sign_core.proofs.Refusals.{counted, keeps_at_all, keeps_late, same_view}
 use Rattle.sign_core.proofs.Repeats.{fault_of, linked_ok}
 use Rattle.sign_core.proofs.Retiring.{beginning_kept}
 use Rattle.sign_core.proofs.Stays.{before_stays, key_stays, secret_stays, signings_stay, some_keyed}
@@ -71,13 +72,13 @@ module _ {S R M : Type 0} (g : store.Ghosts S) (r : source.Ghosts R) (m : messag
   }
 
   -- a call that draws, reads the message or not, and is refused: the store is as it was
-  pub does_kept : {A : Type 0} (state_open : Bool) (fault : SignFault) (drawn : List ℕ) (read : Bool) (given : Option (List ℕ))
+  pub does_kept : {A : Type 0} {caches : Cached} (state_open : Bool) (fault : SignFault) (drawn : List ℕ) (read : Bool) (given : Option (List ℕ))
       → is_open ≡ state_open → IsTied g kept_in ledger.records
       → ((left : List Record) → IsTrue (g.honest kept_in) → g.stopped kept_in ≡ false → g.left_since kept_in (g.moment kept_in) left → left ≡ g.list kept_in)
       → ((n : ℕ) → Counts {A = A} is_store_failed n n (Err fault)) → ((n : ℕ) → Counts {A = A} is_out_of_memory n n (Err fault))
       → Provides (r.upcoming random) drawn (r.upcoming mid) → Counts {A = A} is_random_failed (r.failures random) (r.failures mid) (Err fault)
       → IsRead m read given before after
-      → Does {A = A} g r m (view_of kept_in random ledger is_open) (view_of kept_in mid ledger is_open) before after given
+      → Does {A = A} g r m (view_of kept_in random ledger caches is_open) (view_of kept_in mid ledger caches is_open) before after given
       (left_so state_open fault drawn read) (Err fault)
   does_kept state_open fault drawn read given opened tied only store_counts memory_counts gives counts message = record {
     ends = record {
@@ -99,7 +100,7 @@ module _ {S R M : Type 0} (g : store.Ghosts S) (r : source.Ghosts R) (m : messag
     source = gives;
     failures = counts;
     message = message;
-    refusals = memory_counts _;
+    refusals = inl (memory_counts _);
     memory = omega arith;
     stays = λ _ _. refl;
   }
@@ -137,45 +138,45 @@ module _ {S R M : Type 0} (g : store.Ghosts S) (r : source.Ghosts R) (m : messag
   read_by entry sign drawn no_memory = refl
 
   -- and its end
-  ends_added : (new : View S R) (entry : Record) (sign : List Record → List ℕ) (drawn : List ℕ) (a : Result (Unit {0}) SignFault) (fate : Fate) → is_open ≡ true
-      → Ends g (view_of kept_in mid ledger is_open) new (added (state_of (view_of kept_in mid ledger is_open)) entry fate) a
-      → Ends g (view_of kept_in random ledger is_open) new (append_so entry sign drawn fate) (answered_with a (sign (ledger.records ++ entry ∷ [])))
-  ends_added new entry sign drawn a fate opened ends = by_fate fate ends
+  ends_added : {caches : Cached} (new : View S R) (entry : Record) (sign : List Record → List ℕ) (drawn : List ℕ) (a : Result (Unit {0}) SignFault) (fate : Fate) → is_open ≡ true
+      → Ends g (view_of kept_in mid ledger caches is_open) new (added (state_of (view_of kept_in mid ledger caches is_open)) entry fate) a
+      → Ends g (view_of kept_in random ledger caches is_open) new (append_so entry sign drawn fate) (answered_with a (sign (ledger.records ++ entry ∷ [])))
+  ends_added {caches = caches} new entry sign drawn a fate opened ends = by_fate fate ends
     where
       answers : {x : Result (Unit {0}) SignFault} → x ≡ a
           → answered_with x (sign (ledger.records ++ entry ∷ [])) ≡ answered_with a (sign (ledger.records ++ entry ∷ []))
       answers is = ap (λ x. answered_with x (sign (ledger.records ++ entry ∷ []))) is
 
-      by_fate : (fate : Fate) → Ends g (view_of kept_in mid ledger is_open) new (added (state_of (view_of kept_in mid ledger is_open)) entry fate) a
-          → Ends g (view_of kept_in random ledger is_open) new (append_so entry sign drawn fate) (answered_with a (sign (ledger.records ++ entry ∷ [])))
+      by_fate : (fate : Fate) → Ends g (view_of kept_in mid ledger caches is_open) new (added (state_of (view_of kept_in mid ledger caches is_open)) entry fate) a
+          → Ends g (view_of kept_in random ledger caches is_open) new (append_so entry sign drawn fate) (answered_with a (sign (ledger.records ++ entry ∷ [])))
       by_fate acked ends =
-          ends_alike g (view_of kept_in random ledger is_open) new mid _ _ a _ refl refl refl (answers ends.answer_is) (λ _ _ c. c) ends
+          ends_alike g (view_of kept_in random ledger caches is_open) new mid _ _ a _ refl refl refl (answers ends.answer_is) (λ _ _ c. c) ends
       by_fate cut_old ends =
-          ends_alike g (view_of kept_in random ledger is_open) new mid _ _ a _ refl refl refl (answers ends.answer_is) (λ _ _ c. c) ends
+          ends_alike g (view_of kept_in random ledger caches is_open) new mid _ _ a _ refl refl refl (answers ends.answer_is) (λ _ _ c. c) ends
       by_fate cut_new ends =
-          ends_alike g (view_of kept_in random ledger is_open) new mid _ _ a _ refl refl refl (answers ends.answer_is) (λ _ _ c. c) ends
+          ends_alike g (view_of kept_in random ledger caches is_open) new mid _ _ a _ refl refl refl (answers ends.answer_is) (λ _ _ c. c) ends
       by_fate no_memory ends =
-          ends_alike g (view_of kept_in random ledger is_open) new mid _ _ a _ (λ i. record { records = ledger.records; is_open = sym opened i }) refl refl
+          ends_alike g (view_of kept_in random ledger caches is_open) new mid _ _ a _ (λ i. record { records = ledger.records; is_open = sym opened i }) refl refl
           (answers ends.answer_is) (λ _ _ c. c) ends
 
   -- a call that draws, reads the message and appends a record
-  pub does_added : (new : View S R) (entry : Record) (sign : List Record → List ℕ) (drawn text : List ℕ) (a : Result (Unit {0}) SignFault) → is_open ≡ true
-      → (adds : Adds g (view_of kept_in mid ledger is_open) new entry a) → Provides (r.upcoming random) (drawn ++ []) (r.upcoming mid)
+  pub does_added : {caches : Cached} (new : View S R) (entry : Record) (sign : List Record → List ℕ) (drawn text : List ℕ) (a : Result (Unit {0}) SignFault) → is_open ≡ true
+      → (adds : Adds g (view_of kept_in mid ledger caches is_open) new entry a) → Provides (r.upcoming random) (drawn ++ []) (r.upcoming mid)
       → r.failures mid ≡ r.failures random → ReadWhole m.transition m.remaining text before after
-      → Does g r m (view_of kept_in random ledger is_open) new before after (Some text) (append_so entry sign drawn adds.fate)
+      → Does g r m (view_of kept_in random ledger caches is_open) new before after (Some text) (append_so entry sign drawn adds.fate)
       (answered_with a (sign (ledger.records ++ entry ∷ [])))
-  does_added new entry sign drawn text a opened adds gives counted whole = record {
+  does_added {caches = caches} new entry sign drawn text a opened adds gives counted whole = record {
     ends = ends_added new entry sign drawn a adds.fate opened adds.ends;
     more = more_by entry adds.fate;
     grown = grown_by entry sign drawn adds.fate;
     source = subst (λ (x : R). Provides (r.upcoming random) (append_so entry sign drawn adds.fate).drawn (r.upcoming x)) (sym adds.random)
         (subst (λ bytes. Provides (r.upcoming random) bytes (r.upcoming mid)) (sym (drawn_by entry sign drawn adds.fate)) gives);
     failures = counts_answered is_random_failed _ _ a _
-        (no_draw_fails g (view_of kept_in mid ledger is_open) new entry a adds _ _ (ap r.failures adds.random ∙ counted));
+        (no_draw_fails g (view_of kept_in mid ledger caches is_open) new entry a adds _ _ (ap r.failures adds.random ∙ counted));
     message = subst (λ is_read. IsRead m is_read (Some text) before after) (sym (read_by entry sign drawn adds.fate)) whole;
-    refusals = counts_answered is_out_of_memory _ _ a _ adds.refusals;
+    refusals = inl (counts_answered is_out_of_memory _ _ a _ adds.refusals);
     memory = adds.memory;
-    stays = λ same none. is_tried g (view_of kept_in mid ledger is_open) new entry a adds (new.store ≡ kept_in) same (sym (same_fault is_of_append a _) ∙ none);
+    stays = λ same none. is_tried g (view_of kept_in mid ledger caches is_open) new entry a adds (new.store ≡ kept_in) same (sym (same_fault is_of_append a _) ∙ none);
   }
 
 -- and the key stays
@@ -275,13 +276,13 @@ chain_sizes (Xmss tree secret_seed prf_key public_seed) trees randomizer these s
 module _ {S R M : Type 0} (g : store.Ghosts S) (r : source.Ghosts R) (m : message.Ghosts M) (name : List ℕ) (kept_in : S) (random mid : R) (ledger : Table)
     (is_open : Bool) (before after : M) (key : Key) (trees : Trees) (these : trees_of key.secret ≡ Some trees) where
   -- the source fails
-  pub undrawn : (fault : SignFault) → is_open ≡ true → IsTied g kept_in ledger.records → after ≡ before
+  pub undrawn : {caches : Cached} (fault : SignFault) → is_open ≡ true → IsTied g kept_in ledger.records → after ≡ before
       → ((left : List Record) → IsTrue (g.honest kept_in) → g.stopped kept_in ≡ false → g.left_since kept_in (g.moment kept_in) left → left ≡ g.list kept_in)
       → DrawsBytes (r.failures random) (r.failures mid) (r.upcoming random) (r.upcoming mid) (Err fault)
-      → Fulfils g r m name 0 (view_of kept_in random ledger is_open) (view_of kept_in mid ledger is_open) before after (Err fault) key
-  undrawn fault opened tied unread only draws =
+      → Fulfils g r m name 0 (view_of kept_in random ledger caches is_open) (view_of kept_in mid ledger caches is_open) before after (Err fault) key
+  undrawn {caches = caches} fault opened tied unread only draws =
       let (of_source, once, nothing) = failed_draw (r.failures random) (r.failures mid) (r.upcoming random) (r.upcoming mid) fault draws in
-      subst (λ (f : SignFault). Fulfils g r m name 0 (view_of kept_in random ledger is_open) (view_of kept_in mid ledger is_open) before after (Err f) key)
+      subst (λ (f : SignFault). Fulfils g r m name 0 (view_of kept_in random ledger caches is_open) (view_of kept_in mid ledger caches is_open) before after (Err f) key)
       (sym of_source) (record {
         trees = [];
         bound = record { fields = []; fate = acked };
@@ -293,14 +294,15 @@ module _ {S R M : Type 0} (g : store.Ghosts S) (r : source.Ghosts R) (m : messag
         does = does_kept g r m kept_in random mid ledger is_open before after {A = List ℕ} true RandomFailed [] false None opened tied only (λ n. refl) (λ n. refl)
             nothing once unread;
         late = refl;
+        lacks_tree = λ is same. absurd (cc (is));
       })
 
   -- the message can't be read
-  pub unread_bound : (randomizer : List ℕ) → is_open ≡ true → IsTied g kept_in ledger.records
+  pub unread_bound : {caches : Cached} (randomizer : List ℕ) → is_open ≡ true → IsTied g kept_in ledger.records
       → ((left : List Record) → IsTrue (g.honest kept_in) → g.stopped kept_in ≡ false → g.left_since kept_in (g.moment kept_in) left → left ≡ g.list kept_in)
       → DrawsBytes (r.failures random) (r.failures mid) (r.upcoming random) (r.upcoming mid) (Ok randomizer) → length randomizer ≡ 32 → AreBytes randomizer
       → CantBeRead m.transition before after
-      → Fulfils g r m name 0 (view_of kept_in random ledger is_open) (view_of kept_in mid ledger is_open) before after (Err MessageRead) key
+      → Fulfils g r m name 0 (view_of kept_in random ledger caches is_open) (view_of kept_in mid ledger caches is_open) before after (Err MessageRead) key
   unread_bound randomizer opened tied only draws sized bytes fails = record {
     trees = [];
     bound = record { fields = randomizer ∷ []; fate = acked };
@@ -313,20 +315,21 @@ module _ {S R M : Type 0} (g : store.Ghosts S) (r : source.Ghosts R) (m : messag
     does = does_kept g r m kept_in random mid ledger is_open before after {A = List ℕ} true MessageRead (concat (randomizer ∷ []) ++ []) true None opened tied only
         (λ n. refl) (λ n. refl) (one_field (r.upcoming random) (r.upcoming mid) randomizer draws.1) draws.0 fails;
     late = refl;
+    lacks_tree = λ is same. absurd (cc (is));
   }
 
   -- the record is appended, or its append fails
-  pub bound_added : (new : View S R) (bound : Bound) (text : List ℕ) (a : Result (Unit {0}) SignFault) (answer : Result (List ℕ) SignFault) → is_open ≡ true
+  pub bound_added : {caches : Cached} (new : View S R) (bound : Bound) (text : List ℕ) (a : Result (Unit {0}) SignFault) (answer : Result (List ℕ) SignFault) → is_open ≡ true
       → DrawsBytes (r.failures random) (r.failures mid) (r.upcoming random) (r.upcoming mid) (Ok bound.randomizer) → length bound.randomizer ≡ 32
       → AreBytes bound.randomizer → ReadWhole m.transition m.remaining text before after
       → bound ≡ new_bound key ledger.records name (next_at key.secret ledger.records (bottom_of key.secret)) bound.randomizer text
-      → Adds g (view_of kept_in mid ledger is_open) new (BoundRecord bound) a
+      → Adds g (view_of kept_in mid ledger caches is_open) new (BoundRecord bound) a
       → answer ≡ answered_with a (signature_at key (ledger.records ++ BoundRecord bound ∷ []) (length ledger.records) bound)
-      → Fulfils g r m name 0 (view_of kept_in random ledger is_open) new before after answer key
-  bound_added new bound text a answer opened draws sized bytes whole is adds answers =
+      → Fulfils g r m name 0 (view_of kept_in random ledger caches is_open) new before after answer key
+  bound_added {caches = caches} new bound text a answer opened draws sized bytes whole is adds answers =
       let randomizer = bound.randomizer in
       let sign : Bound → List Record → List ℕ = λ b records. signature_at key records (length ledger.records) b in
-      subst (λ (x : Result (List ℕ) SignFault). Fulfils g r m name 0 (view_of kept_in random ledger is_open) new before after x key) (sym answers) (record {
+      subst (λ (x : Result (List ℕ) SignFault). Fulfils g r m name 0 (view_of kept_in random ledger caches is_open) new before after x key) (sym answers) (record {
         trees = [];
         bound = record { fields = randomizer ∷ []; fate = adds.fate };
         given = Some text;
@@ -339,17 +342,18 @@ module _ {S R M : Type 0} (g : store.Ghosts S) (r : source.Ghosts R) (m : messag
         bound_possible = chain_sizes key.secret trees randomizer these sized bytes;
         does = does_added g r m kept_in random mid ledger is_open before after new (BoundRecord bound) (sign bound) (concat (randomizer ∷ [])) text a opened adds
             (one_field (r.upcoming random) (r.upcoming mid) randomizer draws.1) draws.0 whole;
-        late = same_fault is_before_draws a _ ∙ is_late g (view_of kept_in mid ledger is_open) new (BoundRecord bound) a adds;
+        late = same_fault is_before_draws a _ ∙ is_late g (view_of kept_in mid ledger caches is_open) new (BoundRecord bound) a adds;
+        lacks_tree = counted g 1 (view_of kept_in random ledger caches is_open) new _ (counts_answered is_out_of_memory _ _ a _ adds.refusals);
       })
 
 -- The record that binds a name to the next leaf of a standing chain is the world's, and is appended, or its append fails.
-pub bound_below : {S R M : Type 0} (g : store.Ghosts S) (r : source.Ghosts R) (m : message.Ghosts M) (name : List ℕ) (kept_in : S) (random mid : R)
+pub bound_below : {S R M : Type 0} {caches : Cached} (g : store.Ghosts S) (r : source.Ghosts R) (m : message.Ghosts M) (name : List ℕ) (kept_in : S) (random mid : R)
     (ledger : Table) (is_open : Bool) (before after : M) (key : Key) (trees : Trees) (v new : View S R) (above : List Link) (last : Link) (bound : Bound)
-    (text : List ℕ) (a : Result (Unit {0}) SignFault) (answer : Result (List ℕ) SignFault) → view_of kept_in random ledger is_open ≡ v → v.is_open ≡ true
+    (text : List ℕ) (a : Result (Unit {0}) SignFault) (answer : Result (List ℕ) SignFault) → view_of kept_in random ledger caches is_open ≡ v → v.is_open ≡ true
     → key_in v.records ≡ Some key → StandsIn trees v.records above last key → length above ≡ bottom_of key.secret → bound.name ≡ name
     → bound.leaf ≡ last.signed.leaf → bound.digest ≡ message_digest_of last.secret.identifier last.signed.leaf bound.randomizer text
     → DrawsBytes (r.failures random) (r.failures mid) (r.upcoming random) (r.upcoming mid) (Ok bound.randomizer) → length bound.randomizer ≡ 32
-    → AreBytes bound.randomizer → ReadWhole m.transition m.remaining text before after → Adds g (view_of kept_in mid ledger is_open) new (BoundRecord bound) a
+    → AreBytes bound.randomizer → ReadWhole m.transition m.remaining text before after → Adds g (view_of kept_in mid ledger caches is_open) new (BoundRecord bound) a
     → answer ≡ answered_with a (signature_at key (ledger.records ++ BoundRecord bound ∷ []) (length ledger.records) bound)
     → Fulfils g r m name 0 v new before after answer key
 bound_below {S = S} {R = R} {M = M} g r m name kept_in random mid ledger is_open before after key trees v new above last bound text a answer is opened keyed
@@ -483,7 +487,7 @@ module _ {S R M : Type 0} (g : store.Ghosts S) (r : source.Ghosts R) (m : messag
         room = refl;
         does = does_kept g r m v.store v.random v.random shown v.is_open before after {A = List ℕ} v.is_open (Damaged k) [] false None refl tied only
             (λ n. refl) (λ n. refl) (gives_nothing (r.upcoming v.random)) refl unread;
-        keeps = keeps_at_all g v v (Err (Damaged k)) (same_view v);
+        keeps = keeps_at_all g true (levels_of key.secret - 0) v v (Err (Damaged k)) (same_view v) (λ _ is. cc (is));
       })
 
   -- the message can't be read
@@ -501,7 +505,7 @@ module _ {S R M : Type 0} (g : store.Ghosts S) (r : source.Ghosts R) (m : messag
         room = refl;
         does = does_kept g r m v.store v.random v.random shown v.is_open before after {A = List ℕ} true MessageRead [] true None opened tied only
             (λ n. refl) (λ n. refl) (gives_nothing (r.upcoming v.random)) refl fails;
-        keeps = keeps_at_all g v v (Err MessageRead) (same_view v);
+        keeps = keeps_at_all g true (levels_of key.secret - 0) v v (Err MessageRead) (same_view v) (λ _ is. cc (is));
       }
 
   -- the record is appended, or its append fails
@@ -527,5 +531,6 @@ module _ {S R M : Type 0} (g : store.Ghosts S) (r : source.Ghosts R) (m : messag
         possible = record { trees = tt; bound = tt };
         room = refl;
         does = does;
-        keeps = keeps_late g r m v new before after _ _ _ (same_fault is_before_draws a _ ∙ is_late g v new (BoundRecord bound) a adds) does;
+        keeps = keeps_late g r m (levels_of key.secret - 0) v new before after _ _ _ (same_fault is_before_draws a _ ∙ is_late g v new (BoundRecord bound) a adds)
+            (counted g (levels_of key.secret - 0) v new _ (counts_answered is_out_of_memory _ _ a _ adds.refusals)) does;
       })

@@ -1,5 +1,5 @@
 -- What each end of an extend is: one new tree, by some draw.
-use Rattle.std.proofs.Common.{◌≡◌, ◌∙◌, ℕ, ◌+◌, ◌<◌, true, false, List, [], ◌∷◌, ◌++◌, length, take, Some, Result, Ok, Err, refl, sym, ap, subst, append-nil, arith, IsTrue}
+use Rattle.std.proofs.Common.{◌≡◌, ◌∙◌, ℕ, ◌+◌, ◌<◌, true, false, List, [], ◌∷◌, ◌++◌, length, take, Some, Result, Ok, Err, refl, sym, ap, subst, append-nil, arith, IsTrue, inl, inr}
 use Rattle.std.specs.Prelude.{Bool, if◌then◌else◌, slice_index_or}
 use Rattle.std.specs.List.{concat}
 use Rattle.std.proofs.Math.Seq.{take-length}
@@ -27,7 +27,8 @@ use Rattle.sign_core.specs.Signing.{answered_with}
 use Rattle.sign_core.specs.Source.{Provides}
 use Rattle.sign_core.specs.Records.{has_identifier}
 use Rattle.sign_core.specs.Once.{IsBeginning}
-use Rattle.sign_core.specs.Signer.{Adds, Ends, IsTied, View, added, is_before_draws, is_fault, is_of_append, is_out_of_memory, is_random_failed}
+use Rattle.sign_core.specs.Caches.{Cached}
+use Rattle.sign_core.specs.Signer.{Adds, Ends, IsTied, View, added, caching, is_before_draws, is_fault, is_of_append, is_out_of_memory, is_random_failed}
 use Rattle.sign_core.specs.Signer.{is_store_failed, state_of, view_of}
 use Rattle.sign_core.specs.Signing.{DrawsTree, Extends, StandsIn}
 use Rattle.sign_core.specs.World.{Fate, Outcome, acked, answered, appended, cut_new, cut_old, drawing, extended, no_memory}
@@ -114,7 +115,7 @@ module _ {S R : Type 0} (g : store.Ghosts S) (r : source.Ghosts R) (level : ℕ)
     ends = rests_ends view random (concat fields) RandomFailed answer rests refl is;
     source = subst (λ (bytes : List ℕ). Provides (r.upcoming view.random) bytes (r.upcoming random)) (sym (append-nil (concat fields))) gave;
     failures = fails_along (r.failures view.random) (r.failures random) RandomFailed answer is failed;
-    refusals = subst (λ (a : Result (List ℕ) SignFault). Counts is_out_of_memory (g.refusals view.store) (g.refusals view.store) a) is refl;
+    refusals = inl (subst (λ (a : Result (List ℕ) SignFault). Counts is_out_of_memory (g.refusals view.store) (g.refusals view.store) a) is refl);
     memory = omega arith;
     stays = λ _ _. refl;
     late = ap (is_fault is_before_draws) (sym is);
@@ -129,7 +130,7 @@ module _ {S R : Type 0} (g : store.Ghosts S) (r : source.Ghosts R) (level : ℕ)
     ends = rests_ends view random identifier RandomRepeated answer rests refl is;
     source = subst (λ (bytes : List ℕ). Provides (r.upcoming view.random) bytes (r.upcoming random)) (sym (append-nil identifier)) gave;
     failures = fails_along (r.failures view.random) (r.failures random) RandomRepeated answer is kept;
-    refusals = subst (λ (a : Result (List ℕ) SignFault). Counts is_out_of_memory (g.refusals view.store) (g.refusals view.store) a) is refl;
+    refusals = inl (subst (λ (a : Result (List ℕ) SignFault). Counts is_out_of_memory (g.refusals view.store) (g.refusals view.store) a) is refl);
     memory = omega arith;
     stays = λ _ _. refl;
     late = ap (is_fault is_before_draws) (sym is);
@@ -203,22 +204,62 @@ drawn {S = S} {R = R} g r level key trees view new random seeds entry answer is_
       source = subst (λ (b : List ℕ). Provides (r.upcoming view.random) b (r.upcoming new.random))
           (sym (nothing_more view.records entry bytes adds.fate)) gives;
       failures = counts_answered is_random_failed _ _ answer [] (no_draw_fails g (after_draw view random) new entry answer adds _ _ none);
-      refusals = counts_answered is_out_of_memory _ _ answer [] adds.refusals;
+      refusals = inl (counts_answered is_out_of_memory _ _ answer [] adds.refusals);
       memory = adds.memory;
       stays = λ same none. is_tried g (after_draw view random) new entry answer adds (new.store ≡ view.store) same
           (sym (same_fault is_of_append answer []) ∙ none);
       late = same_fault is_before_draws answer [] ∙ is_late g (after_draw view random) new entry answer adds;
     }
 
+module _ {S R : Type 0} (g : store.Ghosts S) (r : source.Ghosts R) (level : ℕ) (key : Key) (trees : Trees) (is_trees : trees_of key.secret ≡ Some trees) where
+  -- The cache of the tree that was drawn is refused memory: nothing is recorded, and all but the source is as it was.
+  pub ungrown : (view : View S R) (random : R) (seeds : TreeSeeds) (answer : Result (List ℕ) SignFault) → Rests g view → Err OutOfMemory ≡ answer
+      → DrawsTree view.records (r.failures view.random) (r.failures random) (r.upcoming view.random) (r.upcoming random) (Ok seeds)
+      → Extends g r level view (after_draw view random) answer key
+  ungrown view random seeds answer rests is (kept, gave, sized, fresh) =
+      let bytes : List ℕ = seeds.identifier ++ (seeds.seed ++ seeds.randomizer) in record {
+        draw = whole_draw seeds.identifier seeds.seed seeds.randomizer no_memory;
+        outcome = drawing bytes (refused (open_on view.records) OutOfMemory);
+        step = extends_by key level (trees_of key.secret) trees is_trees view.records seeds.identifier seeds.seed seeds.randomizer no_memory fresh
+            (λ records. answered (open_on records) [])
+            ∙ drawing_twice seeds.identifier (seeds.seed ++ seeds.randomizer) _;
+        possible = sized;
+        ends = rests_ends g r level key trees is_trees view random bytes OutOfMemory answer rests refl is;
+        source = subst (λ (b : List ℕ). Provides (r.upcoming view.random) b (r.upcoming random)) (sym (append-nil bytes)) gave;
+        failures = fails_along g r level key trees is_trees (r.failures view.random) (r.failures random) OutOfMemory answer is kept;
+        refusals = inr (sym is, refl);
+        memory = omega arith;
+        stays = λ _ _. refl;
+        late = ap (is_fault is_before_draws) (sym is);
+      }
+
+-- a record that is added by a signer with other caches
+adds_caching : {S R : Type 0} (g : store.Ghosts S) (old new : View S R) (caches : Cached) (entry : Record) (answer : Result (Unit {0}) SignFault)
+    → Adds g (caching old caches) new entry answer → Adds g old new entry answer
+adds_caching g old new caches entry answer adds = record {
+  fate = adds.fate;
+  ends = record {
+    answer_is = adds.ends.answer_is;
+    records = adds.ends.records;
+    is_open = adds.ends.is_open;
+    store = adds.ends.store;
+    unreadable = adds.ends.unreadable;
+  };
+  random = adds.random;
+  refusals = adds.refusals;
+  memory = adds.memory;
+  untaken = adds.untaken;
+}
+
 -- The tree that was drawn below a standing chain: its record is the world's, and is appended.
-pub drawn_below : {S R : Type 0} (g : store.Ghosts S) (r : source.Ghosts R) (key : Key) (trees : Trees) (kept_in : S) (random after : R) (ledger : Table)
+pub drawn_below : {S R : Type 0} {caches others : Cached} (g : store.Ghosts S) (r : source.Ghosts R) (key : Key) (trees : Trees) (kept_in : S) (random after : R) (ledger : Table)
     (is_open : Bool) (v new : View S R) (above : List Link) (last : Link) (seeds : TreeSeeds) (pair : LmsPair) (public : LmsPublic) (level : ℕ)
-    (digest root : List ℕ) (answer : Result (Unit {0}) SignFault) → view_of kept_in random ledger is_open ≡ v → v.is_open ≡ true
+    (digest root : List ℕ) (answer : Result (Unit {0}) SignFault) → view_of kept_in random ledger caches is_open ≡ v → v.is_open ≡ true
     → StandsIn trees v.records above last key → level ≡ length above + 1 → pair ≡ slice_index_or trees.pairs level trees.top.pair
     → public ≡ public_of (record { pair = pair; identifier = seeds.identifier; seed = seeds.seed })
     → digest ≡ message_digest_of last.secret.identifier last.signed.leaf seeds.randomizer (public_bytes public) → root ≡ public.root
     → DrawsTree ledger.records (r.failures random) (r.failures after) (r.upcoming random) (r.upcoming after) (Ok seeds)
-    → Adds g (view_of kept_in after ledger is_open) new (ExtendRecord (record {
+    → Adds g (view_of kept_in after ledger others is_open) new (ExtendRecord (record {
       level = level;
       parent_leaf = last.signed.leaf;
       identifier = seeds.identifier;
@@ -227,11 +268,12 @@ pub drawn_below : {S R : Type 0} (g : store.Ghosts S) (r : source.Ghosts R) (key
       digest = digest;
       root = root;
     })) answer → Extends g r (length above + 1) v new (answered_with answer []) key
-drawn_below {S = S} {R = R} g r key trees kept_in random after ledger is_open v new above last seeds pair public level digest root answer is opened standing
+drawn_below {S = S} {R = R} {caches = caches} {others = others} g r key trees kept_in random after ledger is_open v new above last seeds pair public level digest root answer is opened standing
     count paired made digested rooted draws adds =
-    let view = view_of kept_in random ledger is_open in
+    let view = view_of kept_in random ledger caches is_open in
     let (these, stands) = subst (λ (w : View S R). StandsIn trees w.records above last key) (sym is) standing in
     let entry = entry_is key trees ledger.records above last (record { pair = pair; identifier = seeds.identifier; seed = seeds.seed }) public _ stands count
     refl refl refl made digested rooted (paired ∙ ap (λ n. slice_index_or trees.pairs n trees.top.pair) count) in
     subst (λ (w : View S R). Extends g r (length above + 1) w new (answered_with answer []) key) is
-    (drawn g r (length above + 1) key trees view new after seeds _ answer these (ap (λ w. w.is_open) is ∙ opened) draws entry adds)
+    (drawn g r (length above + 1) key trees view new after seeds _ answer these (ap (λ w. w.is_open) is ∙ opened) draws entry
+    (adds_caching g (view_of kept_in after ledger caches is_open) new others _ answer adds))

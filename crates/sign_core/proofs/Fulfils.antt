@@ -19,7 +19,7 @@ use Rattle.sign_core.specs.declared.fault.SignFault.TheVariants.{OutOfMemory, Ra
 use Rattle.sign_core.specs.Source.{Provides}
 use Rattle.sign_core.specs.Records.{binding_in, has_identifier, has_moved, key_in, next_at}
 use Rattle.sign_core.specs.Once.{IsBeginning, reached}
-use Rattle.sign_core.specs.Signer.{Ends, GrowsAlike, IsRead, KeepsStore, UsesMemory, View, is_out_of_memory, is_random_failed, is_store_failed}
+use Rattle.sign_core.specs.Signer.{Ends, GrowsAlike, IsRead, KeepsStore, RefusesLate, UsesMemory, View, is_out_of_memory, is_random_failed, is_store_failed}
 use Rattle.sign_core.specs.Signing.{Does, Extends, Fulfils, IsReady}
 use Rattle.sign_core.specs.Textbook.{Trees, trees_of}
 use Rattle.sign_core.specs.World.{Chance, Draw, Fate, Outcome, acked, answered, appended, cut_new, cut_old, drawing, no_memory}
@@ -174,7 +174,10 @@ does_after g r m old mid new before after given extend bytes outcome answer runn
       source = gives_both (r.upcoming old.random) bytes (r.upcoming mid.random) outcome.drawn (r.upcoming new.random) drawn second.source;
       failures = counts_on is_random_failed (r.failures old.random) (r.failures mid.random) (r.failures new.random) answer failures second.failures;
       message = second.message;
-      refusals = counts_on is_out_of_memory (g.refusals old.store) (g.refusals mid.store) (g.refusals new.store) answer refusals second.refusals;
+      refusals = elim second.refusals [
+        | inl counts ↦ inl (counts_on is_out_of_memory (g.refusals old.store) (g.refusals mid.store) (g.refusals new.store) answer refusals counts)
+        | inr (is, same) ↦ inr (is, same ∙ refusals)
+      ];
       memory = omega (arith, memory, second.memory);
       stays = λ same none. absurd (omega (
         arith,
@@ -185,6 +188,12 @@ does_after g r m old mid new before after given extend bytes outcome answer runn
         length_front mid.records second.more,
       ));
     }
+
+-- an answer is Ok only where the store was refused no memory
+once : {S R : Type 0} (g : store.Ghosts S) (old mid : View S R) → RefusesLate {A = List ℕ} (Ok []) (g.refusals old.store) (g.refusals mid.store)
+    → g.refusals mid.store ≡ g.refusals old.store
+once g old mid (inl counts) = counts
+once g old mid (inr (is, same)) = same
 
 -- ---- one level more
 
@@ -236,9 +245,12 @@ fulfils_after {S = S} {R = R} {M = M} g r m name key below level old mid new bef
               second.trees old.records mid.records extend bytes second.outcome at ends.records comes (second.step all);
           trees_possible = (first.possible, second.trees_possible);
           bound_possible = second.bound_possible;
-          does = does_after g r m old mid new before after second.given extend bytes second.outcome answer running ends gave first.failures first.refusals
+          does = does_after g r m old mid new before after second.given extend bytes second.outcome answer running ends gave first.failures (once g old mid first.refusals)
               first.memory second.does;
           late = second.late;
+          lacks_tree = λ is same.
+              let few = second.lacks_tree is (same ∙ sym (once g old mid first.refusals)) in
+              omega (arith, few, ap length ends.records, length_push old.records (ExtendRecord extend));
         }
 
 -- What an Extend that is recorded leaves: a signer that is open on the records with one more, over the same store.
@@ -320,4 +332,5 @@ fulfils_refused {S = S} {R = R} {M = M} g r m name key below level old new unrea
             stays = first.stays;
           };
           late = first.late;
+          lacks_tree = λ _ _. omega (arith, ap length (first.ends.records ∙ ap (λ o. o.acknowledged) (sym is) ∙ kept));
         }

@@ -1,5 +1,5 @@
 -- What each end of a repeat is: a step of the world, on a name that is bound.
-use Rattle.std.proofs.Common.{◌≡◌, ◌∙◌, refl, sym, ap, ap₂, subst, ℕ, ◌<◌, Bool, true, false, List, [], ◌∷◌, ◌++◌}
+use Rattle.std.proofs.Common.{◌≡◌, ◌∙◌, refl, sym, ap, ap₂, subst, inl, inr, ℕ, ◌<◌, Bool, true, false, List, [], ◌∷◌, ◌++◌}
 use Rattle.std.proofs.Common.{Option, Some, None, Result, Ok, Err, MatchResult, IfErr, OnOk, IsErrAnd, true≢false, ◌^◌}
 use Rattle.std.specs.Prelude.{not, option_map, slice_get, if◌then◌else◌}
 use Rattle.std.specs.Cmp.Lexicographic.{bytes_decides}
@@ -24,6 +24,7 @@ use Rattle.sign_core.specs.declared.ledger.Binding.{Binding}
 use Rattle.sign_core.specs.declared.links.Link.{Link}
 use Rattle.sign_core.specs.Links.{AreMade, IsTreeAt, signing_with, signings_of}
 use Rattle.sign_core.specs.Records.{are_same, binding_in, key_in}
+use Rattle.sign_core.specs.Caches.{Cached, LacksCache}
 use Rattle.sign_core.specs.Signer.{View, signature_size, state_of}
 use Rattle.sign_core.specs.Signing.{IsBindingOf, IsXmssKey, Repeats, WritesChain, repeat_chance}
 use Rattle.sign_core.specs.Ledger.{kept_of}
@@ -63,13 +64,13 @@ judged state key k bound same has_room damaged =
 module _ {S R M : Type 0} (m : message.Ghosts M) (view : View S R) (before after : M) (capacity : ℕ) (key : Key) (name : List ℕ) (binding : Binding)
     (found : IsFound key view.records name binding) where
   -- the message can't be read
-  pub unread : CantBeRead m.transition before after → Repeats m view before after capacity (Err MessageRead) key name
+  pub unread : {cached : Cached} → CantBeRead m.transition before after → Repeats m (state_of view) cached before after capacity (Err MessageRead) key name
   unread fails = record {
     has_room = true;
     given = None;
     step = λ limit. ap (λ f. (requested_of limit (state_of view) key name (repeat_chance true None) f).answer) found.found;
     message = fails;
-    room = λ lacking. absurd (true≢false lacking);
+    room = λ k bound at lacking. absurd (true≢false lacking);
   }
 
   -- the message was read, and the leaf signs this digest for it
@@ -95,53 +96,69 @@ module _ {S R M : Type 0} (m : message.Ghosts M) (view : View S R) (before after
   is_same false is = absurd (true≢false is)
 
   -- it has another digest than the recorded one
-  pub changed : (text digest : List ℕ) → ReadWhole m.transition m.remaining text before after → IsDigest text digest
-      → not (are_same digest binding.digest) ≡ true → Repeats m view before after capacity (Err Changed) key name
+  pub changed : {cached : Cached} (text digest : List ℕ) → ReadWhole m.transition m.remaining text before after → IsDigest text digest
+      → not (are_same digest binding.digest) ≡ true → Repeats m (state_of view) cached before after capacity (Err Changed) key name
   changed text digest whole is differs = record {
     has_room = true;
     given = Some text;
     step = λ limit. step_judged limit true text digest false _ is (not_same _ differs) refl;
     message = whole;
-    room = λ lacking. absurd (true≢false lacking);
+    room = λ k bound at lacking. absurd (true≢false lacking);
   }
 
   -- there is no memory for the signature
-  pub lacks_room : (text digest : List ℕ) → ReadWhole m.transition m.remaining text before after → IsDigest text digest
+  pub lacks_room : {cached : Cached} (text digest : List ℕ) → ReadWhole m.transition m.remaining text before after → IsDigest text digest
       → not (are_same digest binding.digest) ≡ false → capacity < signature_size key.secret
-      → Repeats m view before after capacity (Err OutOfMemory) key name
+      → Repeats m (state_of view) cached before after capacity (Err OutOfMemory) key name
   lacks_room text digest whole is same lacking = record {
     has_room = false;
     given = Some text;
     step = λ limit. step_judged limit false text digest true _ is (is_same _ same) refl;
     message = whole;
-    room = λ _. lacking;
+    room = λ k bound at none. inl lacking;
+  }
+
+  -- the cache of a current tree isn't there that stood before the name
+  pub lacks_cache : {cached : Cached} (text digest : List ℕ) → ReadWhole m.transition m.remaining text before after → IsDigest text digest
+      → not (are_same digest binding.digest) ≡ false
+      → LacksCache key view.records (Some (bottom_of key.secret)) binding.place cached
+      → Repeats m (state_of view) cached before after capacity (Err OutOfMemory) key name
+  lacks_cache {cached = cached} text digest whole is same lacking = record {
+    has_room = false;
+    given = Some text;
+    step = λ limit. step_judged limit false text digest true _ is (is_same _ same) refl;
+    message = whole;
+    room = λ k bound at none.
+        let here : found.place ≡ k = ap (λ (p : ℕ × Bound). p.0) (same_Some _ _ (sym found.found ∙ at)) in
+        inr (subst (λ n. LacksCache key view.records (Some (bottom_of key.secret)) n cached)
+        (sym (ap (λ (kept : Binding). kept.place) found.is) ∙ here) lacking);
   }
 
   -- a record of the chain isn't sound
-  pub damaged : (text digest : List ℕ) (slot : ℕ) → ReadWhole m.transition m.remaining text before after → IsDigest text digest
+  pub damaged : {cached : Cached} (text digest : List ℕ) (slot : ℕ) → ReadWhole m.transition m.remaining text before after → IsDigest text digest
       → not (are_same digest binding.digest) ≡ false
       → damaged_in key (bottom_of key.secret) view.records (tree_before (bottom_of key.secret) view.records found.place) ≡ Some slot
-      → Repeats m view before after capacity (Err (Damaged slot)) key name
+      → Repeats m (state_of view) cached before after capacity (Err (Damaged slot)) key name
   damaged text digest slot whole is same chain = record {
     has_room = true;
     given = Some text;
     step = λ limit. step_judged limit true text digest true _ is (is_same _ same) chain;
     message = whole;
-    room = λ lacking. absurd (true≢false lacking);
+    room = λ k bound at lacking. absurd (true≢false lacking);
   }
 
   -- the recorded signature
-  pub signed : (text digest bytes : List ℕ) → ReadWhole m.transition m.remaining text before after → IsDigest text digest
+  pub signed : {cached : Cached} (text digest bytes : List ℕ) → ReadWhole m.transition m.remaining text before after → IsDigest text digest
       → not (are_same digest binding.digest) ≡ false
       → damaged_in key (bottom_of key.secret) view.records (tree_before (bottom_of key.secret) view.records found.place) ≡ None
       → bytes ≡ signature_at key view.records found.place found.bound
-      → Repeats m view before after capacity (Ok bytes) key name
+      → Repeats m (state_of view) cached before after capacity (Ok bytes) key name
   signed text digest bytes whole is same chain made = record {
     has_room = true;
     given = Some text;
     step = λ limit. step_judged limit true text digest true _ is (is_same _ same) chain ∙ ap Ok (sym made);
     message = whole;
-    room = λ lacking. absurd (true≢false lacking);
+    room = λ k bound at lacking. absurd (true≢false lacking);
   }
 
 -- bytes that compare as the recorded digest are the binding's
@@ -200,29 +217,29 @@ xmss_chain records key secret k P keyed of_key each =
 module _ {S R M : Type 0} (m : message.Ghosts M) (view : View S R) (before after : M) (capacity : ℕ) (key : Key) (name : List ℕ) (binding : Binding)
     (found : IsFound key view.records name binding) (secret : XmssSecret) where
   -- the key's record isn't sound
-  pub damaged_xmss : {A : Type 0} (text digest : List ℕ) (linked : Result A ℕ) (mapped : Result A SignFault) (fault : SignFault)
+  pub damaged_xmss : {A : Type 0} {cached : Cached} (text digest : List ℕ) (linked : Result A ℕ) (mapped : Result A SignFault) (fault : SignFault)
       → ReadWhole m.transition m.remaining text before after → key_in view.records ≡ Some key → IsXmssKey secret key
       → digest_at key view.records found.place found.bound.leaf found.bound.randomizer text ≡ digest
       → not (are_same digest binding.digest) ≡ false
       → MatchResult linked (λ x. mapped ≡ Ok x) (λ k. IsErrAnd mapped (λ e. e ≡ Damaged k)) → mapped ≡ Err fault
       → ((rest : List Record) → IfErr linked (λ k. damaged_in key 0 (KeyRecord key ∷ rest) 0 ≡ Some k))
-      → Repeats m view before after capacity (Err fault) key name
-  damaged_xmss text digest linked mapped fault whole keyed of_key is same cases was chain =
+      → Repeats m (state_of view) cached before after capacity (Err fault) key name
+  damaged_xmss {cached = cached} text digest linked mapped fault whole keyed of_key is same cases was chain =
       let chain_of : Option ℕ → ℕ → Type 0 = λ d k. d ≡ Some k in
       let (k, of_place, at) = fault_of linked mapped fault _ cases was
       (xmss_chain view.records key secret found.place (λ d. IfErr linked (chain_of d)) keyed of_key chain) in
-      subst (λ f. Repeats m view before after capacity (Err f) key name) (sym of_place)
+      subst (λ f. Repeats m (state_of view) cached before after capacity (Err f) key name) (sym of_place)
       (damaged m view before after capacity key name binding found text digest k whole is same at)
 
   -- the recorded signature, in the room that was made for it
-  pub signed_xmss : {A : Type 0} (text digest bytes into : List ℕ) (linked : Result A ℕ) (mapped : Result A SignFault) (x : A)
+  pub signed_xmss : {A : Type 0} {cached : Cached} (text digest bytes into : List ℕ) (linked : Result A ℕ) (mapped : Result A SignFault) (x : A)
       → ReadWhole m.transition m.remaining text before after → key_in view.records ≡ Some key → IsXmssKey secret key
       → digest_at key view.records found.place found.bound.leaf found.bound.randomizer text ≡ digest
       → not (are_same digest binding.digest) ≡ false
       → MatchResult linked (λ y. mapped ≡ Ok y) (λ k. IsErrAnd mapped (λ e. e ≡ Damaged k)) → mapped ≡ Ok x
       → ((rest : List Record) → OnOk linked (damaged_in key 0 (KeyRecord key ∷ rest) 0 ≡ None))
       → into ≡ xmss_signature_bytes (xmss_textbook secret binding.leaf digest) → bytes ≡ into
-      → Repeats m view before after capacity (Ok bytes) key name
+      → Repeats m (state_of view) cached before after capacity (Ok bytes) key name
   signed_xmss text digest bytes into linked mapped x whole keyed of_key is same cases was chain made placed =
       let sound = linked_ok linked mapped x _ cases was
       (xmss_chain view.records key secret found.place (λ d. OnOk linked (d ≡ None)) keyed of_key chain) in
@@ -278,20 +295,20 @@ module _ {S R M : Type 0} (m : message.Ghosts M) (view : View S R) (before after
       ∙ ap (damaged_in key (bottom_of key.secret) view.records) (sym (ap (λ (kept : Binding). kept.tree) found.is))
 
   -- a record of the chain isn't sound
-  pub damaged_chain : {A : Type 0} (text digest : List ℕ) (linked : Result A ℕ) (mapped : Result A SignFault) (fault : SignFault)
+  pub damaged_chain : {A : Type 0} {cached : Cached} (text digest : List ℕ) (linked : Result A ℕ) (mapped : Result A SignFault) (fault : SignFault)
       → ReadWhole m.transition m.remaining text before after
       → digest_at key view.records found.place found.bound.leaf found.bound.randomizer text ≡ digest
       → not (are_same digest binding.digest) ≡ false
       → MatchResult linked (λ x. mapped ≡ Ok x) (λ k. IsErrAnd mapped (λ e. e ≡ Damaged k)) → mapped ≡ Err fault
       → IfErr linked (λ k. damaged_in own level ledger binding.tree ≡ Some k)
-      → Repeats m view before after capacity (Err fault) key name
-  damaged_chain text digest linked mapped fault whole is same cases was chain =
+      → Repeats m (state_of view) cached before after capacity (Err fault) key name
+  damaged_chain {cached = cached} text digest linked mapped fault whole is same cases was chain =
       let (k, of_place, at) = fault_of linked mapped fault _ cases was chain in
-      subst (λ f. Repeats m view before after capacity (Err f) key name) (sym of_place)
+      subst (λ f. Repeats m (state_of view) cached before after capacity (Err f) key name) (sym of_place)
       (damaged m view before after capacity key name binding found text digest k whole is same (sym chain_same ∙ at))
 
   -- the recorded signature, in the room that was made for it
-  pub signed_chain : {A : Type 0} (trees : Trees) (text digest bytes into : List ℕ) (linked : Result A ℕ) (mapped : Result A SignFault) (x : A) (links : List Link)
+  pub signed_chain : {A : Type 0} {cached : Cached} (trees : Trees) (text digest bytes into : List ℕ) (linked : Result A ℕ) (mapped : Result A SignFault) (x : A) (links : List Link)
       → ReadWhole m.transition m.remaining text before after
       → digest_at key view.records found.place found.bound.leaf found.bound.randomizer text ≡ digest
       → not (are_same digest binding.digest) ≡ false
@@ -300,7 +317,7 @@ module _ {S R M : Type 0} (m : message.Ghosts M) (view : View S R) (before after
       → signings_of links ≡ signings_above trees level ledger binding.tree
       ++ signing_with (secret_at trees ledger binding.tree) (record { leaf = binding.leaf; randomizer = binding.randomizer; digest = digest }) ∷ []
       → WritesChain own.secret links into → bytes ≡ into → (k : Key) × (key_in view.records ≡ Some k)
-      → Repeats m view before after capacity (Ok bytes) key name
+      → Repeats m (state_of view) cached before after capacity (Ok bytes) key name
   signed_chain trees text digest bytes into linked mapped x links whole is same cases was chain these signs writes placed first =
       let k = found.place in
       let bound = found.bound in

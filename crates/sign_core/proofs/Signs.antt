@@ -1,6 +1,6 @@
 -- What each end of a call of sign is: a step of the world.
-use Rattle.std.proofs.Common.{◌≡◌, ◌∙◌, ℕ, ◌+◌, ◌-◌, ◌≤◌, Bool, true, false, not, List, [], ◌++◌, length, Option, Some, None, Result, Ok, Err, refl}
-use Rattle.std.proofs.Common.{sym, ap, subst, arith, IsTrue, true≢false, append-nil}
+use Rattle.std.proofs.Common.{◌≡◌, ◌∙◌, ℕ, ◌+◌, ◌-◌, ◌<◌, ◌≤◌, Bool, true, false, not, List, [], ◌++◌, length, Option, Some, None, Result, Ok, Err, refl}
+use Rattle.std.proofs.Common.{sym, ap, subst, inl, arith, IsTrue, true≢false, append-nil}
 use Rattle.std.specs.Prelude.{take, nat_lt, if◌then◌else◌, option_map, MatchResult, IsErrAnd}
 use Rattle.std.specs.Option.{ok_or}
 use Rattle.std.proofs.Math.Seq.{take-length}
@@ -24,8 +24,9 @@ use Rattle.sign_core.specs.Source.{Provides}
 use Rattle.sign_core.specs.Records.{are_same, binding_in, deepest, has_moved, key_in, wanted_count}
 use Rattle.sign_core.specs.Once.{IsBeginning}
 use Rattle.sign_core.specs.Request.{HasPrepared}
-use Rattle.sign_core.specs.Signer.{Hinders, IsRead, IsSigner, IsTied, KeepsAll, KeepsStore, LacksMemory, RefusesMemory, Signs, View, is_out_of_memory}
-use Rattle.sign_core.specs.Signer.{is_random_failed, is_store_failed, signature_size, state_of, wanted_by}
+use Rattle.sign_core.specs.Caches.{Cached}
+use Rattle.sign_core.specs.Signer.{Hinders, IsRead, IsSigner, IsTied, KeepsAll, KeepsStore, LacksMemory, LacksTree, RefusesMemory, wanted_by, Signs, View, is_out_of_memory}
+use Rattle.sign_core.specs.Signer.{is_random_failed, is_store_failed, state_of}
 use Rattle.sign_core.specs.Signing.{Binds, Fulfils, IsBindingOf, IsReady, Repeats, repeat_chance}
 use Rattle.sign_core.specs.Ledger.{kept_of}
 use Rattle.sign_core.specs.World.{Chance, Outcome, State, bound_anew, bound_sound, reading, refused, repeated, repeated_sound, requested, requested_of, requested_under}
@@ -71,11 +72,26 @@ abbrev pub kept : State → Result (List ℕ) SignFault → (is_read : Bool) →
 kept state answer is_read =
     record { state = state; answer = answer; acknowledged = state.records; failed = None; drawn = []; is_read = is_read }
 
+-- a refusal for want of memory before draws is the signer's own, or its store's
+abbrev pub CountsEarly : (has_room : Bool) → Result (List ℕ) SignFault → (before after : ℕ) → Type 0
+CountsEarly true answer before after = Counts is_out_of_memory before after answer
+CountsEarly false answer before after = after ≡ before
+
+refuses_early : (has_room : Bool) (answer : Result (List ℕ) SignFault) (n : ℕ) → CountsEarly has_room answer n n → RefusesMemory has_room answer n n
+refuses_early true answer n counts = inl counts
+refuses_early false answer n same = same
+
+calm_refuses : (has_room : Bool) (answer : Result (List ℕ) SignFault) → CountsEarly has_room answer 0 0 → has_room ≡ true → answer ≡ Err OutOfMemory → ⊥
+calm_refuses true answer counts room is =
+    let more = subst (λ (a : Result (List ℕ) SignFault). Counts is_out_of_memory 0 0 a) is counts in
+    omega (arith, more)
+calm_refuses false answer counts room is = absurd (true≢false (sym room))
+
 -- no failure and no refusal of others is counted with the answer
 pub record IsCalm (has_room : Bool) (answer : Result (List ℕ) SignFault) : Type 0 where
   pub store : (n : ℕ) → Counts is_store_failed n n answer
   pub random : (n : ℕ) → Counts is_random_failed n n answer
-  pub memory : (n : ℕ) → RefusesMemory has_room answer n n
+  pub memory : (n : ℕ) → CountsEarly has_room answer n n
 
 -- what a stop leaves of a store between two calls
 abbrev pub LeavesItsList : {S : Type 0} → store.Ghosts S → S → Type 0
@@ -150,7 +166,7 @@ module _ {S R M : Type 0} (g : store.Ghosts S) (r : source.Ghosts R) (m : messag
       (has_room is_read : Bool) (given : Option (List ℕ)) → KeepsAll old new → old.spare ≤ new.spare → IsSigner g old → LeavesItsList g old.store → key_in old.records ≡ Some key
       → requested (g.most old.store) (state_of old) name (repeat_chance has_room given) ≡ kept (state_of old) answer is_read
       → IsRead m is_read given before after
-      → (has_room ≡ false → LacksMemory key.secret (wanted_by key.secret (deepest key.secret old.records)) (binding_in old.records name) capacity old.spare)
+      → (has_room ≡ false → LacksMemory key old (deepest key.secret old.records) (binding_in old.records name) capacity)
       → IsCalm has_room answer → Signs g r m old new name before after capacity answer
   left_signs old new name before after capacity key answer has_room is_read given keeps spare signer only keyed step read room calm = record {
     key = key;
@@ -171,9 +187,10 @@ module _ {S R M : Type 0} (g : store.Ghosts S) (r : source.Ghosts R) (m : messag
     failures = subst (λ s. Counts is_random_failed (r.failures old.random) (r.failures s) answer) (sym keeps.random) (calm.random (r.failures old.random));
     message = read;
     room = room;
-    refusals = subst (λ s. RefusesMemory has_room answer (g.refusals old.store) (g.refusals s)) (sym keeps.store) (calm.memory (g.refusals old.store));
+    refusals = subst (λ s. RefusesMemory has_room answer (g.refusals old.store) (g.refusals s)) (sym keeps.store)
+        (refuses_early has_room answer (g.refusals old.store) (calm.memory (g.refusals old.store)));
     memory = omega (arith, spare, ap length keeps.records);
-    keeps = keeps_at_all g old new answer keeps;
+    keeps = keeps_at_all g has_room (wanted_by key.secret (deepest key.secret old.records)) old new answer keeps (calm_refuses has_room answer (calm.memory 0));
   }
 
   -- a call that is hindered at once
@@ -220,7 +237,7 @@ module _ {S R M : Type 0} (g : store.Ghosts S) (r : source.Ghosts R) (m : messag
   pub unprepared_signs : (old new : View S R) (name : List ℕ) (before : M) (capacity room level : ℕ) (key : Key) (fault : SignFault) → IsSigner g old
       → LeavesItsList g old.store → key_in old.records ≡ Some key → old.is_open ≡ true → has_moved old.records ≡ false → binding_in old.records name ≡ None
       → deepest key.secret old.records ≡ Some level → KeepsAll old new → old.spare ≤ new.spare
-      → HasPrepared {A = Unit {0}} (g.most old.store) (levels_of key.secret - level) (signature_size key.secret) old new capacity room (Err fault)
+      → HasPrepared {A = Unit {0}} (g.most old.store) level key old new capacity room (Err fault)
       → Signs g r m old new name before before capacity (Err fault)
   unfolding anew
   unprepared_signs old new name before capacity room level key LedgerFull signer only keyed opened stays unbound at keeps spare why =
@@ -234,8 +251,8 @@ module _ {S R M : Type 0} (g : store.Ghosts S) (r : source.Ghosts R) (m : messag
       left_signs old new name before before capacity key (Err OutOfMemory) false false None keeps spare signer only keyed
       (anew_is (g.most old.store) (state_of old) key name (repeat_chance false None) level false true keyed opened stays unbound at full refl)
       refl
-      (λ _. subst (λ found. LacksMemory key.secret (wanted_by key.secret (deepest key.secret old.records)) found capacity old.spare) (sym unbound)
-      (subst (λ l. LacksMemory key.secret (wanted_by key.secret l) None capacity old.spare) (sym at) why.1))
+      (λ _. subst (λ found. LacksMemory key old (deepest key.secret old.records) found capacity) (sym unbound)
+      (subst (λ l. LacksMemory key old l None capacity) (sym at) why.1))
       (record { store = λ n. refl; random = λ n. refl; memory = λ n. refl })
   unprepared_signs old new name before capacity room level key Changed signer only keyed opened stays unbound at keeps spare why = absurd why
   unprepared_signs old new name before capacity room level key Exhausted signer only keyed opened stays unbound at keeps spare why = absurd why
@@ -256,41 +273,42 @@ module _ {S R M : Type 0} (g : store.Ghosts S) (r : source.Ghosts R) (m : messag
 
   -- ---- a name that is bound
 
-  pub repeats_signs : (v : View S R) (name : List ℕ) (before after : M) (capacity : ℕ) (key : Key) (binding : Binding)
+  pub repeats_signs : (v new : View S R) (name : List ℕ) (before after : M) (capacity : ℕ) (key : Key) (binding : Binding)
       (answer : Result (List ℕ) SignFault) → IsSigner g v → LeavesItsList g v.store → key_in v.records ≡ Some key → v.is_open ≡ true
-      → has_moved v.records ≡ false → IsBindingOf v.records binding key name → Repeats m v before after capacity answer key name
-      → Signs g r m v v name before after capacity answer
+      → has_moved v.records ≡ false → IsBindingOf v.records binding key name → Repeats m (state_of v) v.cached before after capacity answer key name
+      → KeepsAll v new → v.spare ≤ new.spare → Signs g r m v new name before after capacity answer
   unfolding request_by
-  repeats_signs v name before after capacity key binding answer signer only keyed opened stays is repeats =
+  repeats_signs v new name before after capacity key binding answer signer only keyed opened stays is repeats keeps spare =
       let ((k, bound), found) = some_mapped (kept_of key.secret v.records) (binding_in v.records name) binding is in
       let chance = repeat_chance repeats.has_room repeats.given in
       let whole = repeated_kept (state_of v) key k bound repeats.has_room repeats.given in
       let limit = g.most v.store in
       let answer_is : (repeated (state_of v) key k bound chance repeats.given).answer ≡ answer =
       sym (ap (λ f. (requested_of limit (state_of v) key name chance f).answer) found) ∙ repeats.step limit in
-      left_signs v v name before after capacity key answer repeats.has_room true repeats.given (same_view v) (omega arith) signer only keyed
+      left_signs v new name before after capacity key answer repeats.has_room true repeats.given keeps spare signer only keyed
       (request_by_is limit (state_of v) key name chance false false (Some (k, bound)) keyed (ap not opened) stays found
       ∙ whole.0 ∙ ap (λ a. kept (state_of v) a true) answer_is)
       repeats.message
-      (λ lacking. subst (λ f. LacksMemory key.secret (wanted_by key.secret (deepest key.secret v.records)) f capacity v.spare) (sym found) (repeats.room lacking))
+      (λ lacking. subst (λ f. LacksMemory key v (deepest key.secret v.records) f capacity) (sym found) (repeats.room k bound found lacking))
       (subst (IsCalm repeats.has_room) answer_is whole.1)
 
   -- ---- a new name
 
   same_but : (old mid : View S R) → KeepsAll old mid
-      → mid ≡ record { store = old.store; random = old.random; records = old.records; is_open = old.is_open; spare = mid.spare }
+      → mid ≡ record { store = old.store; random = old.random; records = old.records; is_open = old.is_open; spare = mid.spare; cached = mid.cached }
   same_but old mid keeps = λ i. record {
     store = keeps.store i;
     random = keeps.random i;
     records = keeps.records i;
     is_open = keeps.is_open i;
     spare = mid.spare;
+    cached = mid.cached;
   }
 
   -- what is kept of a signer with other memory is kept of it
-  kept_of_other : (old new : View S R) (spare : ℕ)
-      → KeepsAll (record { store = old.store; random = old.random; records = old.records; is_open = old.is_open; spare = spare }) new → KeepsAll old new
-  kept_of_other old new spare keeps =
+  kept_of_other : (old new : View S R) (spare : ℕ) (cached : Cached)
+      → KeepsAll (record { store = old.store; random = old.random; records = old.records; is_open = old.is_open; spare = spare; cached = cached }) new → KeepsAll old new
+  kept_of_other old new spare cached keeps =
       record { store = keeps.store; random = keeps.random; records = keeps.records; is_open = keeps.is_open }
 
   pub binds_signs : (old mid new : View S R) (name : List ℕ) (before after : M) (capacity level : ℕ) (key : Key) (answer : Result (List ℕ) SignFault)
@@ -324,8 +342,9 @@ module _ {S R M : Type 0} (g : store.Ghosts S) (r : source.Ghosts R) (m : messag
         refusals = subst (λ h. RefusesMemory h answer (g.refusals old.store) (g.refusals new.store)) (sym b.room) b.does.refusals;
         memory = omega (arith, spare, b.does.memory);
         keeps = record {
-          at_once = λ early. kept_of_other old new mid.spare (b.keeps.at_once early);
-          uncounted = λ is same. kept_of_other old new mid.spare (b.keeps.uncounted is same);
+          at_once = λ early. kept_of_other old new mid.spare mid.cached (b.keeps.at_once early);
+          unprepared = λ lacking. absurd (true≢false (sym b.room ∙ lacking));
+          lacks_tree = λ room. subst (λ l. LacksTree g (wanted_by key.secret l) old new answer) (sym at) (b.keeps.lacks_tree refl);
           store = b.keeps.store;
         };
       }
@@ -353,19 +372,19 @@ module _ {S R M : Type 0} (g : store.Ghosts S) (r : source.Ghosts R) (m : messag
       source = provides_nothing (r.upcoming v.random);
       failures = refl;
       message = refl;
-      refusals = refl;
+      refusals = inl refl;
       memory = omega arith;
       stays = λ _ _. refl;
     };
-    keeps = keeps_at_all g v v (Err (Damaged slot)) (same_view v);
+    keeps = keeps_at_all g true (levels_of key.secret - level) v v (Err (Damaged slot)) (same_view v) (λ _ is. cc (is));
   }
 
   -- the standing chain is sound, and what is wanted from there is made
   pub fulfils_binds : (old new : View S R) (name : List ℕ) (before after : M) (level : ℕ) (key : Key) (answer : Result (List ℕ) SignFault)
       → damaged_in key level old.records (tree_before level old.records (length old.records)) ≡ None
-      → Fulfils g r m name (bottom_of key.secret - level) old new before after answer key → old.is_open ≡ true
+      → Fulfils g r m name (bottom_of key.secret - level) old new before after answer key → old.is_open ≡ true → level < levels_of key.secret
       → Binds g r m name level old new before after answer key
-  fulfils_binds old new name before after level key answer sound fulfils opened = record {
+  fulfils_binds old new name before after level key answer sound fulfils opened within = record {
     chance = record { has_room = true; trees = fulfils.trees; bound = fulfils.bound; given = fulfils.given };
     outcome = fulfils.outcome;
     step = ap (bound_sound (state_of old) key name (record { has_room = true; trees = fulfils.trees; bound = fulfils.bound; given = fulfils.given }) level)
@@ -373,7 +392,8 @@ module _ {S R M : Type 0} (g : store.Ghosts S) (r : source.Ghosts R) (m : messag
     possible = record { trees = fulfils.trees_possible; bound = fulfils.bound_possible };
     room = refl;
     does = fulfils.does;
-    keeps = keeps_late g r m old new before after _ _ _ fulfils.late fulfils.does;
+    keeps = keeps_late g r m (levels_of key.secret - level) old new before after _ _ _ fulfils.late
+        (λ is same. let few = fulfils.lacks_tree is same in omega (arith, few, within)) fulfils.does;
   }
 
 -- ---- what a call answered

@@ -22,3 +22,4 @@ pub mod Writing
 pub mod Lives
 pub mod RefusalOrder
 pub mod AfterRefusal
+pub mod Caches

@@ -37,7 +37,7 @@ Of named Cause fault = (fault ≡ named) × Cause
 abbrev pub IsUnsound : (damaged : Option ℕ) → SignFault → Type 0
 IsUnsound damaged fault = (slot : ℕ) × (damaged ≡ Some slot) × (fault ≡ Damaged slot)
 
--- an append is cut off (25), or its store finds no memory (29)
+-- an append is cut off (25), or there is no memory for its record (29)
 abbrev pub AfterAppend : {A : Type 0} → Fate → (Rest : Result A SignFault → Type 0) → Result A SignFault → Type 0
 AfterAppend fate Rest =
     Unless (Of StoreFailed ((fate ≡ cut_old) ⊎ (fate ≡ cut_new)))

@@ -8,6 +8,7 @@ use Rattle.sign_core.specs.declared.fault.SignFault.{SignFault}
 use Rattle.sign_core.specs.declared.fault.SignFault.TheVariants.{LedgerFull, OutOfMemory}
 use Rattle.sign_core.specs.declared.signer.request.Scheme.{Scheme}
 use Rattle.sign_core.specs.declared.signer.request.Scheme.TheVariants as scheme
+use Rattle.sign_core.specs.Caches.{LacksCache}
 use Rattle.sign_core.specs.Links.{trees_in}
 use Rattle.sign_core.specs.Signer.{KeepsAll, View, signature_size}
 use Rattle.sign_core.specs.Signing.{IsReady}
@@ -19,17 +20,22 @@ IsScheme secret (scheme.Chain trees) = trees_of secret ≡ Some (trees_in trees)
 IsScheme secret (scheme.Xmss tree) = secret ≡ Xmss tree.tree tree.secret_seed tree.prf_key tree.public_seed
 
 -- Room is made for the records that a new name wants, of which this level is the deepest with a free leaf, and for its
--- signature; or the store doesn't take as many records, or memory lacks.
-abbrev pub HasPrepared : {S R A : Type 0} (most : ℕ) (wanted size : ℕ) (old new : View S R) (capacity room : ℕ)
+-- signature, and the caches of the trees that it needs are there; or the store doesn't take as many records, or memory
+-- lacks.
+abbrev pub HasPrepared : {S R A : Type 0} (most level : ℕ) (key : Key) (old new : View S R) (capacity room : ℕ)
     → Result A SignFault → Type 0
-HasPrepared most wanted size old new capacity room (Ok _) = IsReady most wanted new × (room ≡ size)
-HasPrepared most wanted size old new capacity room (Err LedgerFull) = most < length old.records + wanted
-HasPrepared most wanted size old new capacity room (Err OutOfMemory) =
-    (length old.records + wanted ≤ most) × ((capacity < size) ⊎ (old.spare < wanted))
-HasPrepared most wanted size old new capacity room (Err _) = ⊥
+HasPrepared most level key old new capacity room (Ok _) =
+    IsReady most (levels_of key.secret - level) new × (room ≡ signature_size key.secret)
+HasPrepared most level key old new capacity room (Err LedgerFull) =
+    most < length old.records + (levels_of key.secret - level)
+HasPrepared most level key old new capacity room (Err OutOfMemory) =
+    (length old.records + (levels_of key.secret - level) ≤ most)
+    × ((capacity < signature_size key.secret) ⊎ (old.spare < levels_of key.secret - level)
+    ⊎ LacksCache key old.records (Some level) (length old.records) old.cached)
+HasPrepared most level key old new capacity room (Err _) = ⊥
 
 pub record Prepares {S R A : Type 0} (most level : ℕ) (old new : View S R) (capacity room : ℕ)
     (result : Result A SignFault) (key : Key) : Type 0 where
   pub keeps : KeepsAll old new
   pub spare : old.spare ≤ new.spare
-  pub does : HasPrepared most (levels_of key.secret - level) (signature_size key.secret) old new capacity room result
+  pub does : HasPrepared most level key old new capacity room result

@@ -23,7 +23,7 @@ use Rattle.sign_core.specs.Frames.{CutsField, Ending, IsCut, IsFrame, IsWholeMes
 use Rattle.sign_core.specs.Frames.{ended, given_by, going, head}
 use Rattle.sign_core.specs.Once.{AreDrawsOf}
 use Rattle.sign_core.specs.Records.{binding_in, deepest, key_in}
-use Rattle.sign_core.specs.Signer.{Ends, KeepsAtRefusal, LacksMemory, RefusesMemory, Signs, UsesMemory, View}
+use Rattle.sign_core.specs.Signer.{Ends, KeepsAtRefusal, LacksMemory, RefusesMemory, Signs, UsesMemory, View, caching}
 use Rattle.sign_core.specs.Signer.{is_random_failed, state_of, wanted_by}
 use Rattle.sign_core.specs.Source.{Provides}
 use Rattle.sign_core.specs.World.{Chance, Outcome, requested}
@@ -70,12 +70,12 @@ pub record SignsGiven {S R : Type 0} (g : store.Ghosts S) (r : source.Ghosts R) 
   pub source : Provides (r.upcoming old.random) outcome.drawn (r.upcoming new.random)
   pub failures : Counts is_random_failed (r.failures old.random) (r.failures new.random) answer
   pub message : outcome.is_read ≡ true → chance.given ≡ given
-  pub room : chance.has_room ≡ false → LacksMemory key.secret (wanted_by key.secret (deepest key.secret old.records))
-      (binding_in old.records name) capacity old.spare
+  pub room : chance.has_room ≡ false
+      → LacksMemory key old (deepest key.secret old.records) (binding_in old.records name) capacity
   pub refusals : RefusesMemory chance.has_room answer (g.refusals old.store) (g.refusals new.store)
   pub memory : UsesMemory old new
-  pub keeps : KeepsAtRefusal g old new answer
-  pub repeat : IsSome (binding_in old.records name) → new ≡ old
+  pub keeps : KeepsAtRefusal g chance.has_room (wanted_by key.secret (deepest key.secret old.records)) old new answer
+  pub repeat : IsSome (binding_in old.records name) → new ≡ caching old new.cached
 
 -- What is replied to a request is the signer's answer, whose output had this capacity; or the name's bytes are no name,
 -- and the signer isn't asked.
@@ -221,10 +221,10 @@ abbrev pub Asks : {S R M : Type 0} → store.Ghosts S → source.Ghosts R → me
     → (old new : View S R) → (before after : M) → (capacity : ℕ) → (signature : List ℕ) → Reply → Type 0
 Asks g r m name old new before after capacity signature Signed = IsName name
     × Signs g r m old new name before after capacity (Ok signature)
-    × (IsSome (binding_in old.records name) → new ≡ old)
+    × (IsSome (binding_in old.records name) → new ≡ caching old new.cached)
 Asks g r m name old new before after capacity signature (Refused fault) = IsName name
     × Signs g r m old new name before after capacity (Err fault)
-    × (IsSome (binding_in old.records name) → new ≡ old)
+    × (IsSome (binding_in old.records name) → new ≡ caching old new.cached)
 Asks g r m name old new before after capacity signature BadName =
     (IsName name → ⊥) × (new ≡ old) × (after ≡ before)
 

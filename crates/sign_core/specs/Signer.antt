@@ -34,29 +34,36 @@ use Rattle.sign_core.specs.Once.{public_of_key, reached}
 use Rattle.sign_core.specs.World.{Chance, Creation, Fate, Opening, Outcome, State}
 use Rattle.sign_core.specs.World.{answered, appended, closed_on, created, open_on, opened, requested}
 use Rattle.sign_core.specs.World.{retired, secret_from}
+use Rattle.sign_core.specs.Caches.{Cached, LacksCache}
 use Rattle.sign_core.specs.Ledger.{LacksRoom, RunsOutOfMemory, Table, TakesMemory}
 use Rattle.sign_core.specs.Textbook.{AllHaveSizes, public_in}
 
 -- ---- a signer
 
--- What a signer is, to its callers: its store, its source, its records, whether it is open, and for how many more
--- records it has memory.
+-- What a signer is, to its callers: its store, its source, its records, whether it is open, for how many more records
+-- it has memory, and of which trees it has the caches.
 pub record View (S R : Type 0) : Type 0 where
   pub store : S
   pub random : R
   pub records : List Record
   pub is_open : Bool
   pub spare : ℕ
+  pub cached : Cached
 
 -- one with these parts, and the ledger's records and memory
-abbrev pub view_of : {S R : Type 0} → S → R → Table → (is_open : Bool) → View S R
-view_of store random ledger is_open = record {
+abbrev pub view_of : {S R : Type 0} → S → R → Table → (caches : Cached) → (is_open : Bool) → View S R
+view_of store random ledger caches is_open = record {
   store = store;
   random = random;
   records = ledger.records;
   is_open = is_open;
   spare = ledger.spare;
+  cached = caches;
 }
+
+-- the same signer with other caches
+abbrev pub caching : {S R : Type 0} → View S R → Cached → View S R
+caching view caches = record view { cached = caches }
 
 -- its state in the world
 abbrev pub state_of : {S R : Type 0} → View S R → State
@@ -224,11 +231,15 @@ abbrev pub wanted_by : Secret → Option ℕ → ℕ
 wanted_by secret None = 0
 wanted_by secret (Some level) = wanted_count secret level
 
--- The memory that a request lacks: the output, of this capacity, can't take the signature; or, under a name that isn't
--- bound, there is none for as many more records as it wants.
-abbrev pub LacksMemory : Secret → (wanted : ℕ) → Option (ℕ × Bound) → (capacity spare : ℕ) → Type 0
-LacksMemory secret wanted (Some found) capacity spare = capacity < signature_size secret
-LacksMemory secret wanted None capacity spare = (capacity < signature_size secret) ⊎ (spare < wanted)
+-- What a request lacks memory for. The output, of this capacity, can't take the signature; or there is no memory for as
+-- many more records as a name wants that isn't bound; or the cache of a tree isn't there: one that is current, down to
+-- the deepest level with a free leaf, or for a name that is bound one that was current before its record, too.
+abbrev pub LacksMemory : {S R : Type 0} → Key → View S R → (level : Option ℕ) → Option (ℕ × Bound) → (capacity : ℕ)
+    → Type 0
+LacksMemory key view level (Some (k, bound)) capacity = (capacity < signature_size key.secret)
+    ⊎ LacksCache key view.records (Some (bottom_of key.secret)) k view.cached
+LacksMemory key view level None capacity = (capacity < signature_size key.secret)
+    ⊎ (view.spare < wanted_by key.secret level) ⊎ LacksCache key view.records level (length view.records) view.cached
 
 -- What becomes of the message: it was read whole and gave this text, or can't be read; or it is as it was.
 abbrev pub IsRead : {M : Type 0} → message.Ghosts M → (is_read : Bool) → (given : Option (List ℕ)) → M → M → Type 0
@@ -236,10 +247,23 @@ IsRead m true (Some text) old new = ReadWhole m.transition m.remaining text old 
 IsRead m true None old new = CantBeRead m.transition old new
 IsRead m false given old new = new ≡ old
 
--- A refusal for want of memory is the signer's own, before anything is drawn, or one of its store.
+-- A refusal for want of memory that comes after draws is one of the store, which counts it, or of the cache of a new
+-- tree.
+abbrev pub RefusesLate : {A : Type 0} → Result A SignFault → (before after : ℕ) → Type 0
+RefusesLate answer before after =
+    Counts is_out_of_memory before after answer ⊎ ((answer ≡ Err OutOfMemory) × (after ≡ before))
+
+-- A refusal for want of memory is the signer's own, before anything is drawn, or such a one.
 abbrev pub RefusesMemory : {A : Type 0} → (has_room : Bool) → Result A SignFault → (before after : ℕ) → Type 0
-RefusesMemory true answer before after = Counts is_out_of_memory before after answer
+RefusesMemory true answer before after = RefusesLate answer before after
 RefusesMemory false answer before after = after ≡ before
+
+-- A refusal for want of memory after draws that the store doesn't count comes where not all new trees are recorded that
+-- are wanted: more records than one are, of so many, the binding and the next tree, whose cache isn't there.
+abbrev pub LacksTree : {S R A : Type 0} → store.Ghosts S → (wanted : ℕ) → (old new : View S R) → Result A SignFault
+    → Type 0
+LacksTree g wanted old new answer = answer ≡ Err OutOfMemory → g.refusals new.store ≡ g.refusals old.store
+    → length new.records + 1 < length old.records + wanted
 
 -- 22, 26, 28, 30 and 31 come to a new name before anything is drawn.
 abbrev pub is_before_draws : SignFault → Bool
@@ -250,12 +274,14 @@ is_before_draws LedgerFull = true
 is_before_draws Moved = true
 is_before_draws _ = false
 
--- What an answer keeps as it was: 22, 26, 28, 30 and 31 keep all but the memory, and so does 29 where the store
--- counts no refusal; and each answer keeps the store, unless a record was added or its append failed.
-pub record KeepsAtRefusal {S R A : Type 0} (g : store.Ghosts S) (old new : View S R) (answer : Result A SignFault)
-    : Type 0 where
+-- What an answer keeps as it was, where so many records are wanted: 22, 26, 28, 30 and 31 keep all but the memory, and
+-- so does 29 before anything is drawn; later it comes of the store, or of a new tree; and each answer keeps the store,
+-- unless a record was added or its append failed.
+pub record KeepsAtRefusal {S R A : Type 0} (g : store.Ghosts S) (has_room : Bool) (wanted : ℕ) (old new : View S R)
+    (answer : Result A SignFault) : Type 0 where
   pub at_once : is_fault is_before_draws answer ≡ true → KeepsAll old new
-  pub uncounted : answer ≡ Err OutOfMemory → g.refusals new.store ≡ g.refusals old.store → KeepsAll old new
+  pub unprepared : has_room ≡ false → KeepsAll old new
+  pub lacks_tree : has_room ≡ true → LacksTree g wanted old new answer
   pub store : UnlessAppended old new answer (new.store ≡ old.store)
 
 -- A call of sign is a step of the world, by some chance, whose draws are those of the key's scheme: the bytes that are
@@ -274,11 +300,11 @@ pub record Signs {S R M : Type 0} (g : store.Ghosts S) (r : source.Ghosts R) (m 
   pub source : Provides (r.upcoming old.random) outcome.drawn (r.upcoming new.random)
   pub failures : Counts is_random_failed (r.failures old.random) (r.failures new.random) answer
   pub message : IsRead m outcome.is_read chance.given before after
-  pub room : chance.has_room ≡ false → LacksMemory key.secret (wanted_by key.secret (deepest key.secret old.records))
-      (binding_in old.records name) capacity old.spare
+  pub room : chance.has_room ≡ false
+      → LacksMemory key old (deepest key.secret old.records) (binding_in old.records name) capacity
   pub refusals : RefusesMemory chance.has_room answer (g.refusals old.store) (g.refusals new.store)
   pub memory : UsesMemory old new
-  pub keeps : KeepsAtRefusal g old new answer
+  pub keeps : KeepsAtRefusal g chance.has_room (wanted_by key.secret (deepest key.secret old.records)) old new answer
 
 -- ---- retire
 

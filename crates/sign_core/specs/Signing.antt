@@ -1,6 +1,6 @@
 -- What the parts of a call of sign come to: a chain of trees that stands, one Extend more, and what is wanted from
 -- there.
-use Rattle.std.specs.Prelude.{◌≡◌, ℕ, ◌+◌, ◌<◌, Bool, true, false, List, [], ◌∷◌, ◌++◌, length, Option, None, Some}
+use Rattle.std.specs.Prelude.{◌≡◌, ◌⊎◌, ℕ, ◌+◌, ◌-◌, ◌<◌, Bool, true, false, List, [], ◌∷◌, ◌++◌, length, Option, None, Some}
 use Rattle.std.specs.Prelude.{Result, Ok, Err, Vec, map, take, vec_capacity, ◌≤◌, ◌^◌}
 use Rattle.std.specs.List.{AllByRecursion, concat}
 use Rattle.typecodes.specs.declared.message.Message as message
@@ -9,7 +9,7 @@ use Rattle.state_file.specs.declared.record.Key.{Key}
 use Rattle.state_file.specs.declared.record.Record.{Record}
 use Rattle.state_file.specs.declared.store.Store as store
 use Rattle.state_file.specs.Disk.{Counts}
-use Rattle.state_file.specs.Laws.{bottom_of, leaves_at}
+use Rattle.state_file.specs.Laws.{bottom_of, leaves_at, levels_of}
 use Rattle.state_file.specs.declared.record.Secret.{Secret}
 use Rattle.sign_core.specs.declared.fault.SignFault.{SignFault}
 use Rattle.sign_core.specs.declared.fault.SignFault.TheVariants.{RandomFailed, RandomRepeated}
@@ -20,16 +20,17 @@ use Rattle.sign_core.specs.Source.{Provides}
 use Rattle.sign_core.specs.Records.{binding_in, current, has_identifier, has_moved, key_in, next_at}
 use Rattle.sign_core.specs.Links.{AreMade, IsMade, signings_of}
 use Rattle.sign_core.specs.Once.{AreDrawsOf, AreFields, IsTreeDraw, randomizer_sizes, tree_sizes}
-use Rattle.sign_core.specs.Signer.{Ends, IsRead, KeepsAtRefusal, UnlessAppended, UsesMemory, View}
-use Rattle.sign_core.specs.Signer.{is_before_draws, is_fault, is_out_of_memory, is_random_failed, signature_size}
+use Rattle.sign_core.specs.Signer.{Ends, IsRead, KeepsAtRefusal, LacksTree, RefusesLate, UnlessAppended, UsesMemory, View}
+use Rattle.sign_core.specs.Signer.{is_before_draws, is_fault, is_random_failed, signature_size}
 use Rattle.sign_core.specs.Signer.{state_of}
-use Rattle.sign_core.specs.World.{Chance, Draw, Outcome, acked, answered, bound_sound, extended, fulfilled}
+use Rattle.sign_core.specs.World.{Chance, Draw, Outcome, State, acked, answered, bound_sound, extended, fulfilled}
 use Rattle.sign_core.specs.World.{open_on, requested_of}
 use Rattle.sign_core.specs.Textbook.{Trees, damaged_in, secret_at, signature_by, signing_of_bound, signings_above}
 use Rattle.sign_core.specs.Textbook.{tree_before, trees_of}
 use Rattle.typecodes.specs.declared.types.LmsPair.{LmsPair}
 use Rattle.state_file.specs.declared.record.Secret.TheVariants.{Xmss}
 use Rattle.sign_core.specs.declared.ledger.Binding.{Binding}
+use Rattle.sign_core.specs.Caches.{Cached, LacksCache}
 use Rattle.sign_core.specs.Ledger.{binding_kept}
 use Rattle.xmss.specs.declared.secret.XmssSecret.{XmssSecret}
 
@@ -126,7 +127,7 @@ pub record Does {S R M A : Type 0} (g : store.Ghosts S) (r : source.Ghosts R) (m
   pub source : Provides (r.upcoming old.random) outcome.drawn (r.upcoming new.random)
   pub failures : Counts is_random_failed (r.failures old.random) (r.failures new.random) answer
   pub message : IsRead m outcome.is_read given before after
-  pub refusals : Counts is_out_of_memory (g.refusals old.store) (g.refusals new.store) answer
+  pub refusals : RefusesLate answer (g.refusals old.store) (g.refusals new.store)
   pub memory : UsesMemory old new
   pub stays : UnlessAppended old new answer (new.store ≡ old.store)
 
@@ -141,7 +142,7 @@ pub record Extends {S R : Type 0} (g : store.Ghosts S) (r : source.Ghosts R) (le
   pub ends : Ends g old new outcome answer
   pub source : Provides (r.upcoming old.random) outcome.drawn (r.upcoming new.random)
   pub failures : Counts is_random_failed (r.failures old.random) (r.failures new.random) answer
-  pub refusals : Counts is_out_of_memory (g.refusals old.store) (g.refusals new.store) answer
+  pub refusals : RefusesLate answer (g.refusals old.store) (g.refusals new.store)
   pub memory : UsesMemory old new
   pub stays : UnlessAppended old new answer (new.store ≡ old.store)
   pub late : is_fault is_before_draws answer ≡ false
@@ -160,6 +161,7 @@ pub record Fulfils {S R M : Type 0} (g : store.Ghosts S) (r : source.Ghosts R) (
   pub bound_possible : AreFields (randomizer_sizes key.secret) bound.fields
   pub does : Does g r m old new before after given outcome answer
   pub late : is_fault is_before_draws answer ≡ false
+  pub lacks_tree : LacksTree g (below + 1) old new answer
 
 -- A name that isn't bound, where there is room, and this level is the deepest with a free leaf.
 pub record Binds {S R M : Type 0} (g : store.Ghosts S) (r : source.Ghosts R) (m : message.Ghosts M) (name : List ℕ)
@@ -171,7 +173,7 @@ pub record Binds {S R M : Type 0} (g : store.Ghosts S) (r : source.Ghosts R) (m 
   pub possible : AreDrawsOf key.secret chance
   pub room : chance.has_room ≡ true
   pub does : Does g r m old new before after chance.given outcome answer
-  pub keeps : KeepsAtRefusal g old new answer
+  pub keeps : KeepsAtRefusal g true (levels_of key.secret - level) old new answer
 
 -- ---- a name that is bound
 
@@ -184,16 +186,17 @@ repeat_chance has_room given = record {
   given = given;
 }
 
--- A name that is bound has its recorded signature again, where the message has the recorded digest; nothing changes,
--- and memory is lacking only for the output.
-pub record Repeats {S R M : Type 0} (m : message.Ghosts M) (view : View S R) (before after : M) (capacity : ℕ)
-    (answer : Result (List ℕ) SignFault) (key : Key) (name : List ℕ) : Type 0 where
+-- A name that is bound has its recorded signature again, where the message has the recorded digest; nothing changes but
+-- caches. Memory is lacking for the output, or the cache of a current tree isn't there that stood before the name.
+pub record Repeats {M : Type 0} (m : message.Ghosts M) (state : State) (cached : Cached) (before after : M)
+    (capacity : ℕ) (answer : Result (List ℕ) SignFault) (key : Key) (name : List ℕ) : Type 0 where
   pub has_room : Bool
   pub given : Option (List ℕ)
-  pub step : (limit : ℕ) → (requested_of limit (state_of view) key name (repeat_chance has_room given)
-      (binding_in view.records name)).answer ≡ answer
+  pub step : (limit : ℕ) → (requested_of limit state key name (repeat_chance has_room given)
+      (binding_in state.records name)).answer ≡ answer
   pub message : IsRead m true given before after
-  pub room : has_room ≡ false → capacity < signature_size key.secret
+  pub room : (k : ℕ) (bound : Bound) → binding_in state.records name ≡ Some (k, bound) → has_room ≡ false
+      → (capacity < signature_size key.secret) ⊎ LacksCache key state.records (Some (bottom_of key.secret)) k cached
 
 -- The binding is that of a name.
 abbrev pub IsBindingOf : List Record → Binding → Key → (name : List ℕ) → Type 0
@@ -204,10 +207,10 @@ abbrev pub IsSomeBinding : List Record → Binding → Type 0
 IsSomeBinding records binding = UnderKey records (λ key. (name : List ℕ) × IsBindingOf records binding key name)
 
 -- Each name that a binding is of is repeated so.
-abbrev pub RepeatsBinding : {S R M : Type 0} → message.Ghosts M → View S R → Binding → (before after : M)
+abbrev pub RepeatsBinding : {M : Type 0} → message.Ghosts M → State → Cached → Binding → (before after : M)
     → (capacity : ℕ) → Result (List ℕ) SignFault → Type 0
-RepeatsBinding m view binding before after capacity answer = UnderKey view.records (λ key. (name : List ℕ)
-    → IsBindingOf view.records binding key name → Repeats m view before after capacity answer key name)
+RepeatsBinding m state cached binding before after capacity answer = UnderKey state.records (λ key. (name : List ℕ)
+    → IsBindingOf state.records binding key name → Repeats m state cached before after capacity answer key name)
 
 -- ---- an XMSS key
 

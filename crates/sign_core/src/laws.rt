@@ -149,7 +149,7 @@ pub fn refusal_law()
 ///
 /// A request that is refused leaves the old records, or these and after them Extends alone, and binds no name. Only
 /// after 25 one more record may stand, the one whose append failed: an Extend, or the binding of this name. A retiring,
-/// a create or an opening that is refused leaves the old records; after 25 of an append the Retire or the Key may stand.
+/// a create or an opening that is refused leaves the old records; after 25 of an append its Retire or Key may stand.
 ///
 /// The clauses stand in `specs/AfterRefusal.antt`.
 pub fn after_refusal_law()

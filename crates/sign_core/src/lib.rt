@@ -30,6 +30,7 @@
 //! the three schemes by their lengths (`specs/Key.antt`).
 #![tactic(auto)]
 
+mod caches;
 mod fault;
 mod frames;
 mod key;

@@ -7,6 +7,7 @@ ghost use Rattle.typecodes.specs.Types.{height_of};
 ghost use Rattle.lmots.specs.Key.{message_digest_of};
 ghost use Rattle.lms.specs.Writing.{public_bytes};
 
+use crate::caches::Caches;
 use crate::ledger::Ledger;
 use crate::roots::lms_root;
 use crate::writing::write_lms;
@@ -82,6 +83,7 @@ impl<'a> KeyTrees<'a> {
     fn push_tree(
         &self,
         ledger: &Ledger,
+        caches: &mut Caches,
         level: u8,
         place: u32,
         signed: Signed,
@@ -92,6 +94,7 @@ impl<'a> KeyTrees<'a> {
         requires inside { let secret = secret_at (trees_in self.now) ledger.now.records place in
             signed.leaf < 2 ^ height_of secret.pair.tree }
         requires room { array_vec_len links.old < 8 }
+        requires few { level < 8 }
         ensures sound { OnOk result (is_sound_at ledger.now.key ledger.now.records place ≡ true) }
         ensures damaged { IfErr result (λ k. (k ≡ place)
             × (is_sound_at ledger.now.key ledger.now.records place ≡ false)) }
@@ -99,8 +102,9 @@ impl<'a> KeyTrees<'a> {
             ++ signing_with (secret_at (trees_in self.now) ledger.now.records place) signed ∷ []) }
         ensures len { OnOk result (array_vec_len links.new ≡ array_vec_len links.old + 1) }
         ensures made { AreMade links.old.items → OnOk result (AreMade links.new.items) }
+        ensures caches { caches.new ≡ caches.old }
     {
-        let link = Link::new(self.secret_at(ledger, place), signed);
+        let link = caches.link(level, self.secret_at(ledger, place), signed);
         if !self.is_sound(ledger, level, place, &link) {
             return Err(place);
         }
@@ -113,6 +117,7 @@ impl<'a> KeyTrees<'a> {
     pub(crate) fn push_chain(
         &self,
         ledger: &Ledger,
+        caches: &mut Caches,
         level: u8,
         place: u32,
         signed: Signed,
@@ -133,9 +138,10 @@ impl<'a> KeyTrees<'a> {
             ++ signing_with (secret_at trees ledger.now.records place) signed ∷ [])) }
         ensures len { OnOk result (array_vec_len links.new ≡ array_vec_len links.old + level + 1) }
         ensures made { AreMade links.old.items → OnOk result (AreMade links.new.items) }
+        ensures caches { caches.new ≡ caches.old }
     {
         let Some(made) = ledger.made(place) else {
-            return self.push_tree(ledger, level, place, signed, links);
+            return self.push_tree(ledger, caches, level, place, signed, links);
         };
         let extend = made.extend;
         let randomizer = extend.randomizer;
@@ -145,8 +151,8 @@ impl<'a> KeyTrees<'a> {
             randomizer,
             digest,
         };
-        self.push_chain(ledger, level - 1, made.parent, parent, links)?;
-        self.push_tree(ledger, level, place, signed, links)
+        self.push_chain(ledger, caches, level - 1, made.parent, parent, links)?;
+        self.push_tree(ledger, caches, level, place, signed, links)
     }
 }
 

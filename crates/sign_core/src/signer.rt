@@ -18,6 +18,7 @@ mod signing;
 #[cfg(test)]
 pub(crate) mod tests;
 
+use crate::caches::Caches;
 use crate::fault::SignFault;
 use crate::key::AnyPublic;
 use crate::ledger::{Ledger, LedgerFault};
@@ -38,6 +39,7 @@ pub struct Signer<S: Store, R: Source> {
     store: S,
     random: R,
     ledger: Ledger,
+    caches: Caches,
     is_open: bool,
 }
 
@@ -48,9 +50,9 @@ impl<S: Store, R: Source> Model for Signer<S, R> {
 
     ghost Value = { View S R };
 
-    ghost view = { λ s. view_of s.store s.random s.ledger s.is_open };
+    ghost view = { λ s. view_of s.store s.random s.ledger s.caches s.is_open };
 
-    ghost invariant = { λ s. IsSigner S.Store (view_of s.store s.random s.ledger s.is_open)
+    ghost invariant = { λ s. IsSigner S.Store (view_of s.store s.random s.ledger s.caches s.is_open)
         × (key_in s.ledger.records ≡ Some s.ledger.key) };
 }
 
@@ -295,6 +297,7 @@ impl<S: Store, R: Source> Signer<S, R> {
                 store,
                 random,
                 ledger: Ledger::new(alloc, key),
+                caches: Caches::new(alloc),
                 is_open: true,
             }),
             Err(fault) => Err(Refused {
@@ -315,6 +318,7 @@ impl<S: Store, R: Source> Signer<S, R> {
                 store,
                 random,
                 ledger,
+                caches: Caches::new(alloc),
                 is_open: true,
             }),
             Err(fault) => Err(Refused {
@@ -416,6 +420,7 @@ impl<S: Store, R: Source + Drop> Signer<S, R> {
             store,
             random: _,
             ledger: _,
+            caches: _,
             is_open: _,
         } = self;
         store

@@ -7,6 +7,7 @@ ghost use Rattle.sign_core.specs.Links.{AreTreesOf, trees_in};
 ghost use Rattle.sign_core.specs.Signing.{StandsIn};
 ghost use Rattle.sign_core.specs.Textbook.{damaged_in, tree_before};
 
+use crate::caches::Caches;
 use crate::ledger::Ledger;
 use crate::links::{KeyTrees, Link, Signed};
 use arrayvec::ArrayVec;
@@ -17,6 +18,7 @@ impl KeyTrees<'_> {
     pub(crate) fn standing(
         &self,
         ledger: &Ledger,
+        caches: &mut Caches,
         level: u8,
     ) -> Result<(ArrayVec<Link, 8>, Link), u32>
         requires legal { IsLegal ledger.now.records }
@@ -32,13 +34,21 @@ impl KeyTrees<'_> {
         ensures stands { IfOk result (λ chain.
             StandsIn (trees_in self.now) ledger.now.records chain.0.items chain.1 ledger.now.key) }
         ensures count { IfOk result (λ chain. length chain.0.items ≡ level) }
+        ensures caches { caches.new ≡ caches.old }
     {
         let (place, leaf) = match ledger.current(level) {
             Some(tree) => (tree.place, tree.next),
             None => (0, 0),
         };
         let mut links = ArrayVec::new();
-        self.push_chain(ledger, level, place, Signed::unset(leaf), &mut links)?;
+        self.push_chain(
+            ledger,
+            caches,
+            level,
+            place,
+            Signed::unset(leaf),
+            &mut links,
+        )?;
         let last = links.as_slice()[usize::from(level)];
         links.truncate(usize::from(level));
         Ok((links, last))

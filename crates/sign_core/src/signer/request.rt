@@ -1,17 +1,22 @@
 //! Requests: what hinders one, and which way it goes.
 
 ghost use Rattle.std.specs.Prelude.{◌≡◌, ◌<◌, ◌-◌, [], None, Some, true, false, length, vec_capacity};
-ghost use Rattle.std.specs.Prelude.{IsSome, OnErr};
+ghost use Rattle.std.specs.Prelude.{IfErr, IsSome, OnErr, ◌≤◌, ◌↔◌};
+ghost use Rattle.xmss.specs.declared.secret.XmssSecret.{XmssSecret as X};
+ghost use Rattle.sign_core.specs.Caches.{HasCurrent, LacksCache};
+ghost use Rattle.sign_core.specs.Textbook.{Trees, trees_of};
 ghost use Rattle.state_file.specs.Laws.{levels_of};
 ghost use Rattle.sign_core.specs.Records.{binding_in, deepest, has_moved};
 ghost use Rattle.sign_core.specs.Request.{IsScheme, Prepares};
-ghost use Rattle.sign_core.specs.Signer.{Signs};
-ghost use Rattle.sign_core.specs.Signing.{Binds, CanBind, IsSomeBinding, KeepsCapacity, RepeatsBinding, UnderKey};
+ghost use Rattle.sign_core.specs.Signer.{KeepsAll, Signs, caching, state_of};
+ghost use Rattle.sign_core.specs.Signing.{Binds, CanBind, IsSomeBinding, IsXmssKey, KeepsCapacity, RepeatsBinding};
+ghost use Rattle.sign_core.specs.Signing.{UnderKey};
 ghost use Rattle.sign_core.specs.Signing.{answered_with};
 ghost use Rattle.sign_core.specs.Links.{AreTreesOf};
 
 use super::Signer;
 use super::signing::make_room;
+use crate::caches::Caches;
 use crate::fault::SignFault;
 use crate::ledger::Binding;
 use crate::links::KeyTrees;
@@ -68,13 +73,36 @@ impl<'a> Scheme<'a> {
 }
 
 impl<S: Store, R: Source> Signer<S, R> {
+    /// How many leaves the cache of a level's current tree has made, as far as a u64 goes; None where the level has no
+    /// cache of its current tree.
+    pub fn cache_leaves(&self, level: u8) -> Option<u64>
+        ensures few { UnderKey self.now.records (λ key. levels_of key.secret ≤ level → result ≡ None) }
+        ensures chain { UnderKey self.now.records (λ key. (trees : Trees) → trees_of key.secret ≡ Some trees →
+            level < levels_of key.secret → IsSome result ↔ HasCurrent trees self.now.records level self.now.cached) }
+        ensures xmss { UnderKey self.now.records (λ key. (secret : X) → IsXmssKey secret key → level ≡ 0 →
+            IsSome result ↔ (self.now.cached.xmss ≡ Some secret)) }
+    {
+        let secret = &self.ledger.key().secret;
+        if level >= secret.levels() {
+            return None;
+        }
+        match Scheme::of(secret) {
+            Scheme::Chain(trees) => {
+                let tree = self.ledger.current(level)?;
+                let secret = trees.secret_at(&self.ledger, tree.place);
+                self.caches.leaves(level, &secret)
+            }
+            Scheme::Xmss(secret) => self.caches.xmss_leaves(&secret),
+        }
+    }
+
     /// Signs a message under a name: writes the signature's bytes over `out`. A name that is bound has one digest and
     /// one signature (21 for another message); a new one takes the next leaf, and is bound in the store before it
     /// signs.
     ///
-    /// Refusals in their order: 26, 31; under a bound name 27, 21, 29, 28; under a new one 22, 30, 29, 28, then 23, 24
-    /// and 25 for each tree that is wanted, 23 for C, 27, 25; 29 also where the store answers 46 to an append. After a
-    /// refusal `out` is empty.
+    /// Refusals in their order: 26, 31; under a bound name 27, 21, 29, 28; under a new one 22, 30, 29, 28, then 23, 24,
+    /// 29 for its cache and 25 for each tree that is wanted, 23 for C, 27, 25; 29 also where the store answers 46 to an
+    /// append. After a refusal `out` is empty.
     pub fn sign<M: Message>(
         &mut self,
         name: &Name,
@@ -85,8 +113,8 @@ impl<S: Store, R: Source> Signer<S, R> {
             (vec_capacity out.old) (answered_with result out.new.items) }
         ensures empty { OnErr result (out.new.items ≡ []) }
         ensures capacity { KeepsCapacity out.old out.new }
-        // A name that is bound changes nothing, whatever the answer.
-        ensures repeat { IsSome (binding_in self.old.records name.now) → self.new ≡ self.old }
+        // A name that is bound changes nothing but caches, whatever the answer.
+        ensures repeat { IsSome (binding_in self.old.records name.now) → self.new ≡ caching self.old self.new.cached }
     {
         if let Err(fault) = self.answer(name, message, out) {
             out.clear();
@@ -105,7 +133,7 @@ impl<S: Store, R: Source> Signer<S, R> {
         ensures step { Signs S.Store R.Source M.Message self.old self.new name.now message.old message.new
             (vec_capacity out.old) (answered_with result out.new.items) }
         ensures capacity { KeepsCapacity out.old out.new }
-        ensures repeat { IsSome (binding_in self.old.records name.now) → self.new ≡ self.old }
+        ensures repeat { IsSome (binding_in self.old.records name.now) → self.new ≡ caching self.old self.new.cached }
     {
         self.check_open()?;
         match self.ledger.find(name) {
@@ -114,21 +142,41 @@ impl<S: Store, R: Source> Signer<S, R> {
         }
     }
 
-    // The signature of a name that is bound, where the message has the recorded digest.
+    // The signature of a name that is bound, where the message has the recorded digest. Nothing changes but caches.
     fn repeat<M: Message>(
+        &mut self,
+        binding: &Binding,
+        message: &mut M,
+        out: &mut Vec<u8>,
+    ) -> Result<(), SignFault>
+        requires kept { IsSomeBinding self.old.records binding.now }
+        ensures step { RepeatsBinding M.Message (state_of self.old) self.old.cached binding.now message.old message.new
+            (vec_capacity out.old) (answered_with result out.new.items) }
+        ensures capacity { KeepsCapacity out.old out.new }
+        ensures same { self.new ≡ caching self.old self.new.cached }
+    {
+        let mut caches = self.caches.take();
+        let answer = self.repeat_by(&mut caches, binding, message, out);
+        self.caches = caches;
+        answer
+    }
+
+    // The same by caches that were taken out.
+    fn repeat_by<M: Message>(
         &self,
+        caches: &mut Caches,
         binding: &Binding,
         message: &mut M,
         out: &mut Vec<u8>,
     ) -> Result<(), SignFault>
         requires kept { IsSomeBinding self.now.records binding.now }
-        ensures step { RepeatsBinding M.Message self.now binding.now message.old message.new
+        ensures step { RepeatsBinding M.Message (state_of self.now) caches.old binding.now message.old message.new
             (vec_capacity out.old) (answered_with result out.new.items) }
         ensures capacity { KeepsCapacity out.old out.new }
     {
         match Scheme::of(&self.ledger.key().secret) {
-            Scheme::Chain(trees) => self.repeat_chain(&trees, binding, message, out),
-            Scheme::Xmss(secret) => self.repeat_xmss(&secret, binding, message, out),
+            Scheme::Chain(trees) => self.repeat_chain(caches, &trees, binding, message, out),
+            Scheme::Xmss(secret) => self.repeat_xmss(caches, &secret, binding, message, out),
         }
     }
 
@@ -172,7 +220,26 @@ impl<S: Store, R: Source> Signer<S, R> {
         make_room(&self.ledger.key().secret, out)?;
         self.ledger
             .reserve(usize::from(wanted))
-            .map_err(|_| SignFault::OutOfMemory)
+            .map_err(|_| SignFault::OutOfMemory)?;
+        self.cache(level)
+    }
+
+    // Makes the caches of the trees that a new name needs, of which this level is the deepest with a free leaf: each
+    // once for a signer, as long as the tree is the current one.
+    fn cache(&mut self, level: u8) -> Result<(), SignFault>
+        requires level { UnderKey self.old.records (λ key. level < levels_of key.secret) }
+        ensures keeps { KeepsAll self.old self.new }
+        ensures spare { self.new.spare ≡ self.old.spare }
+        ensures fault { IfErr result (λ fault. fault ≡ SignFault.OutOfMemory) }
+        ensures lacking { OnErr result (UnderKey self.old.records (λ key.
+            LacksCache key self.old.records (Some level) (length self.old.records) self.old.cached)) }
+    {
+        let count = self.ledger.len();
+        let cached = match Scheme::of(&self.ledger.key().secret) {
+            Scheme::Chain(trees) => self.caches.keep_chain(&trees, &self.ledger, level, count),
+            Scheme::Xmss(secret) => self.caches.keep_xmss(&secret),
+        };
+        cached.map_err(|_| SignFault::OutOfMemory)
     }
 
     // Signs under a new name with LMS trees, of which this level is the deepest with a free leaf.
@@ -192,7 +259,7 @@ impl<S: Store, R: Source> Signer<S, R> {
             message.old message.new (answered_with result out.new)) }
     {
         let (mut above, last) = trees
-            .standing(&self.ledger, level)
+            .standing(&self.ledger, &mut self.caches, level)
             .map_err(SignFault::Damaged)?;
         self.fulfil(trees, name, message, &mut above, last, out)
     }

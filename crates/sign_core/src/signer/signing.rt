@@ -1,21 +1,22 @@
 //! Signing over a store: a name that is bound has its signature again, and a new one has the wanted records made.
 
-ghost use Rattle.std.specs.Prelude.{◌≡◌, ◌<◌, ◌+◌, ◌-◌, [], length, vec_capacity, IfErr, IfOk, OnErr, OnOk};
+ghost use Rattle.std.specs.Prelude.{◌≡◌, ◌≢◌, ◌<◌, ◌+◌, ◌-◌, [], Some, length, vec_capacity, IfErr, IfOk, OnErr, OnOk};
 ghost use Rattle.typecodes.specs.Message.{Digests};
 ghost use Rattle.lmots.specs.Key.{message_digest_of};
 ghost use Rattle.xmss.specs.Digest.{message_digest_of as xmss_digest_of};
 ghost use Rattle.state_file.specs.Laws.{bottom_of, levels_of};
+ghost use Rattle.sign_core.specs.Caches.{LacksCache};
 ghost use Rattle.sign_core.specs.Records.{free_at};
 ghost use Rattle.sign_core.specs.Links.{AreTreesOf, trees_in};
 ghost use Rattle.sign_core.specs.Signing.{Binds, CanBind, ChainStands, DrawsTree, Extends, Fulfils, IsReady};
 ghost use Rattle.sign_core.specs.Signing.{IsSomeBinding, IsXmssKey, KeepsCapacity, RepeatsBinding, UnderKey};
 ghost use Rattle.sign_core.specs.Signing.{answered_with};
-ghost use Rattle.sign_core.specs.Signer.{signature_size};
+ghost use Rattle.sign_core.specs.Signer.{signature_size, state_of};
 
+use crate::caches::Caches;
 use crate::fault::SignFault;
 use crate::ledger::{Binding, Ledger};
 use crate::links::{KeyTrees, Link, Signed};
-use crate::roots::xmss_link;
 use crate::signer::Signer;
 use crate::source::{Source, draw};
 use crate::writing::{signature_len, write_chain, write_xmss};
@@ -93,6 +94,14 @@ pub(super) fn make_room(secret: &Secret, out: &mut Vec<u8>) -> Result<(), SignFa
         .map_err(|_| SignFault::OutOfMemory)
 }
 
+// Makes the cache of an XMSS key's tree, unless it is there.
+fn cache_xmss(caches: &mut Caches, secret: &XmssSecret) -> Result<(), SignFault>
+    ensures fault { IfErr result (λ fault. fault ≡ SignFault.OutOfMemory) }
+    ensures lacking { OnErr result (caches.old.xmss ≢ Some secret.now) }
+{
+    caches.keep_xmss(secret).map_err(|_| SignFault::OutOfMemory)
+}
+
 impl<S: Store, R: Source> Signer<S, R> {
     // Begins a tree of the next level below a standing chain, and records it: the chain's last tree signs it by its
     // next leaf. The answer is the new tree, which is to sign by its first leaf.
@@ -121,10 +130,11 @@ impl<S: Store, R: Source> Signer<S, R> {
             identifier,
             seed,
         };
-        let made = Link::new(secret, Signed::unset(0));
+        let (cache, made) = self.caches.begin(secret)?;
         let root = made.root;
         let leaf = last.signed.leaf;
         let digest = last.digest_of(&randomizer, &made.public());
+        self.caches.replace(level, cache);
         self.add(Record::Extend(Extend {
             level,
             parent_leaf: leaf,
@@ -223,7 +233,9 @@ impl<S: Store, R: Source> Signer<S, R> {
         let (leaf, _) = self.bottom();
         let mut nodes = [[0; 32]; 20];
         let path = &mut nodes[..usize::from(secret.tree.height())];
-        xmss_link(*secret, &root, leaf, path).map_err(SignFault::Damaged)?;
+        self.caches
+            .xmss_link(*secret, &root, leaf, path)
+            .map_err(SignFault::Damaged)?;
         let randomizer = secret.randomizer(leaf);
         let digest = read_xmss_digest(&randomizer, &root, leaf, message)?;
         self.add(Record::Bound(Bound {
@@ -236,9 +248,28 @@ impl<S: Store, R: Source> Signer<S, R> {
         Ok(())
     }
 
+    // Makes the caches that a bound name needs, each unless it is there: of the current trees that stood before it.
+    fn cache_bound(
+        &self,
+        caches: &mut Caches,
+        trees: &KeyTrees<'_>,
+        binding: &Binding,
+    ) -> Result<(), SignFault>
+        requires trees { UnderKey self.now.records (AreTreesOf trees.now) }
+        ensures fault { IfErr result (λ fault. fault ≡ SignFault.OutOfMemory) }
+        ensures lacking { OnErr result (UnderKey self.now.records (λ key.
+            LacksCache key self.now.records (Some (bottom_of key.secret)) binding.now.place caches.old)) }
+    {
+        let bottom = self.ledger.key().secret.levels() - 1;
+        caches
+            .keep_chain(trees, &self.ledger, bottom, binding.place)
+            .map_err(|_| SignFault::OutOfMemory)
+    }
+
     // The signature of a name that is bound under a key of LMS or HSS, where the message has the recorded digest.
     pub(super) fn repeat_chain<M: Message>(
         &self,
+        caches: &mut Caches,
         trees: &KeyTrees<'_>,
         binding: &Binding,
         message: &mut M,
@@ -246,7 +277,7 @@ impl<S: Store, R: Source> Signer<S, R> {
     ) -> Result<(), SignFault>
         requires trees { UnderKey self.now.records (AreTreesOf trees.now) }
         requires kept { IsSomeBinding self.now.records binding.now }
-        ensures step { RepeatsBinding M.Message self.now binding.now message.old message.new
+        ensures step { RepeatsBinding M.Message (state_of self.now) caches.old binding.now message.old message.new
             (vec_capacity out.old) (answered_with result out.new.items) }
         ensures capacity { KeepsCapacity out.old out.new }
     {
@@ -269,9 +300,17 @@ impl<S: Store, R: Source> Signer<S, R> {
             randomizer,
             digest,
         };
+        self.cache_bound(caches, trees, binding)?;
         let mut links = ArrayVec::new();
         trees
-            .push_chain(&self.ledger, secret.levels() - 1, tree, signed, &mut links)
+            .push_chain(
+                &self.ledger,
+                caches,
+                secret.levels() - 1,
+                tree,
+                signed,
+                &mut links,
+            )
             .map_err(SignFault::Damaged)?;
         write_chain(secret, &links, out);
         Ok(())
@@ -280,6 +319,7 @@ impl<S: Store, R: Source> Signer<S, R> {
     // The same under a key of XMSS.
     pub(super) fn repeat_xmss<M: Message>(
         &self,
+        caches: &mut Caches,
         secret: &XmssSecret,
         binding: &Binding,
         message: &mut M,
@@ -287,7 +327,7 @@ impl<S: Store, R: Source> Signer<S, R> {
     ) -> Result<(), SignFault>
         requires key { UnderKey self.now.records (IsXmssKey secret.now) }
         requires kept { IsSomeBinding self.now.records binding.now }
-        ensures step { RepeatsBinding M.Message self.now binding.now message.old message.new
+        ensures step { RepeatsBinding M.Message (state_of self.now) caches.old binding.now message.old message.new
             (vec_capacity out.old) (answered_with result out.new.items) }
         ensures capacity { KeepsCapacity out.old out.new }
     {
@@ -301,7 +341,10 @@ impl<S: Store, R: Source> Signer<S, R> {
         make_room(&self.ledger.key().secret, out)?;
         let mut nodes = [[0; 32]; 20];
         let path = &mut nodes[..usize::from(secret.tree.height())];
-        xmss_link(*secret, &root, leaf, path).map_err(SignFault::Damaged)?;
+        cache_xmss(caches, secret)?;
+        caches
+            .xmss_link(*secret, &root, leaf, path)
+            .map_err(SignFault::Damaged)?;
         write_xmss(secret, leaf, &randomizer, &digest, path, out);
         Ok(())
     }

@@ -7,6 +7,7 @@ use std::io::Read;
 use std::test::*;
 use typecodes::{LmsType, Name, OtsType};
 
+mod caches;
 mod cuts;
 mod known_answers;
 mod lists;

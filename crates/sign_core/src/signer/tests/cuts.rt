@@ -114,8 +114,8 @@ fn a_source_that_ends_leaves_the_tree(rt: HostRuntime) {
     assert_eq!(rt; goes_on_with_the_tree(rt.alloc()), Some(([2, 1], true)));
 }
 
-// The disk of a key in a file after its first name, where the disk's n-th call from the opening on fails and the name is
-// answered 25 for that.
+// The disk of a key in a file after its first name, where the disk's n-th call from the opening on fails and the name
+// is answered 25 for that.
 fn cut_file(alloc: Global, n: u32) -> Option<Option<MemoryDisk>> {
     let tape = counting::<80>(0);
     let mut disk = in_file(alloc, LMS, &tape)?.into_store().into_disk();

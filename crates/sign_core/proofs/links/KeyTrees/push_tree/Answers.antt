@@ -5,4 +5,4 @@ use Rattle.sign_core.proofs.links.KeyTrees.push_tree.Goals as goal
 
 pub returns-clause-made : goal.returns-clause-made
 returns-clause-made c =
-    λ before. subst AreMade (sym c.push.ensures.items) (more_made c.args.links.now.items c.new-link.result before c.new-link.ensures.made)
+    λ before. subst AreMade (sym c.push.ensures.items) (more_made c.args.links.now.items c.link-link.result before c.link-link.ensures.made)

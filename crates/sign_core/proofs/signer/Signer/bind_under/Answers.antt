@@ -20,10 +20,10 @@ returns-in_err-randomizer g c key keyed =
     let T = trees_in c.args.trees.now in
     let answer : c.from_residual.result ≡ Err c.in_err-randomizer.field-0.0 = search rules in
     let opened : i.is_open ≡ true = ap (λ w. w.is_open) c.self.view_is ∙ c.requires.can.ready.is_open in
-    subst (λ w. Fulfils g.S.Store g.R.Source g.M.Message c.args.name.now 0 w (view_of i.store c.draw.new.random i.ledger i.is_open) c.args.message.now
+    subst (λ w. Fulfils g.S.Store g.R.Source g.M.Message c.args.name.now 0 w (view_of i.store c.draw.new.random i.ledger i.caches i.is_open) c.args.message.now
     c.args.message.now (answered_with c.from_residual.result c.args.out.now) key) c.self.view_is
-    (subst (λ a. Fulfils g.S.Store g.R.Source g.M.Message c.args.name.now 0 (view_of i.store i.random i.ledger i.is_open)
-    (view_of i.store c.draw.new.random i.ledger i.is_open) c.args.message.now c.args.message.now (answered_with a c.args.out.now) key) (sym answer)
+    (subst (λ a. Fulfils g.S.Store g.R.Source g.M.Message c.args.name.now 0 (view_of i.store i.random i.ledger i.caches i.is_open)
+    (view_of i.store c.draw.new.random i.ledger i.caches i.is_open) c.args.message.now c.args.message.now (answered_with a c.args.out.now) key) (sym answer)
     (undrawn g.S.Store g.R.Source g.M.Message c.args.name.now i.store i.random c.draw.new.random i.ledger i.is_open c.args.message.now c.args.message.now key T
     (c.requires.stands key keyed).0 c.in_err-randomizer.field-0.0 opened (c.self.invariant.0.tied opened) refl
     (λ left honest running since. g.met.S.Store.leaves_nothing_else i.store left honest running since) c.in_err-randomizer.ensures.drawn))
@@ -35,10 +35,10 @@ returns-in_err-digest g c key keyed =
     let answer : c.from_residual-in_err-digest.result ≡ Err c.in_err-digest.field-0.0 = search rules in
     let bytes : AreBytes c.in_ok-randomizer.randomizer = search rules in
     let opened : i.is_open ≡ true = ap (λ w. w.is_open) c.self.view_is ∙ c.requires.can.ready.is_open in
-    subst (λ w. Fulfils g.S.Store g.R.Source g.M.Message c.args.name.now 0 w (view_of i.store c.draw.new.random i.ledger i.is_open) c.args.message.now
+    subst (λ w. Fulfils g.S.Store g.R.Source g.M.Message c.args.name.now 0 w (view_of i.store c.draw.new.random i.ledger i.caches i.is_open) c.args.message.now
     c.read_digest.new.message (answered_with c.from_residual-in_err-digest.result c.args.out.now) key) c.self.view_is
-    (subst (λ a. Fulfils g.S.Store g.R.Source g.M.Message c.args.name.now 0 (view_of i.store i.random i.ledger i.is_open)
-    (view_of i.store c.draw.new.random i.ledger i.is_open) c.args.message.now c.read_digest.new.message (answered_with a c.args.out.now) key)
+    (subst (λ a. Fulfils g.S.Store g.R.Source g.M.Message c.args.name.now 0 (view_of i.store i.random i.ledger i.caches i.is_open)
+    (view_of i.store c.draw.new.random i.ledger i.caches i.is_open) c.args.message.now c.read_digest.new.message (answered_with a c.args.out.now) key)
     (sym (answer ∙ ap Err c.in_err-digest.ensures.fault))
     (unread_bound g.S.Store g.R.Source g.M.Message c.args.name.now i.store i.random c.draw.new.random i.ledger i.is_open c.args.message.now
     c.read_digest.new.message key T (c.requires.stands key keyed).0 c.in_ok-randomizer.randomizer opened (c.self.invariant.0.tied opened)
@@ -110,7 +110,7 @@ write_chain-requires-clause-pairs g c other others =
     let bottom = subst (λ w. UnderKey w.records (λ key. length c.args.above.now.items ≡ bottom_of key.secret)) (sym c.self.view_is) c.requires.bottom
     i.ledger.key first in
     let stands = subst (λ n. Stands i.ledger.key T i.ledger.records n c.args.above.now.items c.args.last) bottom standing in
-    let own = key_of_added g.S.Store (view_of i.store c.draw.new.random i.ledger i.is_open) c.add.new.self _ c.add.result c.in_ok-add.field-0 i.ledger.key
+    let own = key_of_added g.S.Store (view_of i.store c.draw.new.random i.ledger i.caches i.is_open) c.add.new.self _ c.add.result c.in_ok-add.field-0 i.ledger.key
     c.key.result.now c.add.ensures c.in_ok-add.was first (ap (λ w. key_in w.records) (sym c.self-2.view_is) ∙ c.key.ensures.first) in
     standing_pairs i.ledger.records i.ledger.key T other c.args.above.now.items c.deref.result.now c.args.last c.signing.result these
     (ap (λ k. trees_of k.secret) (sym own) ∙ others) stands (c.deref.ensures.0 ∙ c.push.ensures.items) c.signing.ensures.secret
@@ -122,7 +122,7 @@ write_chain-requires-clause-trees g c =
     let first = c.self.invariant.1 in
     let (these, standing) = subst (λ w. UnderKey w.records (StandsIn T w.records c.args.above.now.items c.args.last)) (sym c.self.view_is) c.requires.stands
     i.ledger.key first in
-    let own = key_of_added g.S.Store (view_of i.store c.draw.new.random i.ledger i.is_open) c.add.new.self _ c.add.result c.in_ok-add.field-0 i.ledger.key
+    let own = key_of_added g.S.Store (view_of i.store c.draw.new.random i.ledger i.caches i.is_open) c.add.new.self _ c.add.result c.in_ok-add.field-0 i.ledger.key
     c.key.result.now c.add.ensures c.in_ok-add.was first (ap (λ w. key_in w.records) (sym c.self-2.view_is) ∙ c.key.ensures.first) in
     (T, ap (λ k. trees_of k.secret) own ∙ these)
 
@@ -143,7 +143,7 @@ returns g c key keyed =
       digest = c.in_ok-digest.digest;
     } in
     let sig = signature_at key (records ++ BoundRecord bound ∷ []) (length records) bound in
-    let own = key_of_added g.S.Store (view_of i.store c.draw.new.random i.ledger i.is_open) c.add.new.self _ c.add.result c.in_ok-add.field-0 key
+    let own = key_of_added g.S.Store (view_of i.store c.draw.new.random i.ledger i.caches i.is_open) c.add.new.self _ c.add.result c.in_ok-add.field-0 key
     c.key.result.now c.add.ensures c.in_ok-add.was first (ap (λ w. key_in w.records) (sym c.self-2.view_is) ∙ c.key.ensures.first) in
     let signs = standing_signs records key c.key.result.now T c.args.above.now.items c.deref.result.now c.args.last c.signing.result bound c.write_chain.new.into
     first own these stands (c.deref.ensures.0 ∙ c.push.ensures.items) c.signing.ensures.secret c.signing.ensures.signed c.write_chain.ensures in

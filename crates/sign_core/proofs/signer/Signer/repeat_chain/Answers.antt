@@ -4,12 +4,13 @@ use Rattle.std.proofs.lemmas.List.{take_at}
 use Rattle.lmots.specs.Key.{message_digest_of}
 use Rattle.state_file.specs.Laws.{bottom_of}
 use Rattle.sign_core.specs.Records.{key_in}
+use Rattle.sign_core.specs.Signer.{state_of}
 use Rattle.sign_core.specs.Links.{AreMade, IsTreeAt, trees_in}
 use Rattle.sign_core.specs.Signing.{IsBindingOf, Repeats, UnderKey, WritesChain}
 use Rattle.sign_core.specs.Signing.{answered_with}
 use Rattle.sign_core.specs.Textbook.{trees_of}
 use Rattle.sign_core.proofs.ChainParts.{links_pairs, same_key}
-use Rattle.sign_core.proofs.Repeats.{bound_chain, chain_read, changed, damaged_chain, is_found, lacks_room, linked_ok, links_signs, none_made, same_size, signed_chain}
+use Rattle.sign_core.proofs.Repeats.{bound_chain, chain_read, changed, damaged_chain, is_found, lacks_cache, lacks_room, linked_ok, links_signs, none_made, same_size, signed_chain}
 use Rattle.sign_core.proofs.LedgerReading.{key_levels}
 use Rattle.sign_core.proofs.signer.Signer.repeat_chain.Goals as goal
 
@@ -32,7 +33,7 @@ returns-in_err-make_room-clause-step g c key keyed name kept =
     let found = is_found key v.records name c.args.binding.now kept in
     let own : c.key.result.now ≡ key = same_key v.records c.key.result.now key (ap (λ w. key_in w.records) (sym c.self.view_is) ∙ c.key.ensures.first) keyed in
     let answer : c.from_residual-in_err-make_room.result ≡ Err c.in_err-make_room.field-0.0 = search rules in
-    subst (λ a. Repeats g.M.Message v c.args.message.now c.read_digest.new.message (vec_capacity c.args.out.now) (answered_with a c.make_room.new.out.items) key name)
+    subst (λ a. Repeats g.M.Message (state_of v) c.args.caches.now c.args.message.now c.read_digest.new.message (vec_capacity c.args.out.now) (answered_with a c.make_room.new.out.items) key name)
     (sym (answer ∙ ap Err c.in_err-make_room.ensures.refused))
     (lacks_room g.M.Message v c.args.message.now c.read_digest.new.message (vec_capacity c.args.out.now) key name c.args.binding.now found text
     c.in_ok-digest.digest whole
@@ -41,6 +42,23 @@ returns-in_err-make_room-clause-step g c key keyed name kept =
     (is ∙ ap (λ s. message_digest_of s.identifier c.args.binding.now.leaf c.args.binding.now.randomizer text) c.secret_at.ensures))
     (sym c.ne.ensures ∙ c.if-ne.false)
     (same_size c.key.result.now key _ own c.in_err-make_room.ensures.full))
+
+pub returns-in_err-cache_bound-clause-step : goal.returns-in_err-cache_bound-clause-step
+returns-in_err-cache_bound-clause-step g c key keyed name kept =
+    let v = c.args.self.now in
+    let (text, whole, is) = c.in_ok-digest.ensures.digest in
+    let found = is_found key v.records name c.args.binding.now kept in
+    let own : c.key.result.now ≡ key = same_key v.records c.key.result.now key (ap (λ w. key_in w.records) (sym c.self.view_is) ∙ c.key.ensures.first) keyed in
+    let answer : c.from_residual-in_err-cache_bound.result ≡ Err c.in_err-cache_bound.field-0.0 = search rules in
+    subst (λ a. Repeats g.M.Message (state_of v) c.args.caches.now c.args.message.now c.read_digest.new.message (vec_capacity c.args.out.now) (answered_with a c.make_room.new.out.items) key name)
+    (sym (answer ∙ ap Err c.in_err-cache_bound.ensures.fault))
+    (lacks_cache g.M.Message v c.args.message.now c.read_digest.new.message (vec_capacity c.args.out.now) key name c.args.binding.now found text
+    c.in_ok-digest.digest whole
+    (chain_read key v.records c.self.inside.ledger.records name c.args.binding.now found (trees_in c.args.trees.now) text c.in_ok-digest.digest keyed
+    (c.requires.trees key keyed) (ap (λ w. w.records) c.self.view_is)
+    (is ∙ ap (λ s. message_digest_of s.identifier c.args.binding.now.leaf c.args.binding.now.randomizer text) c.secret_at.ensures))
+    (sym c.ne.ensures ∙ c.if-ne.false)
+    (c.in_err-cache_bound.ensures.lacking key keyed))
 
 pub overflow_sub-levels : goal.overflow_sub-levels
 overflow_sub-levels g c =
@@ -78,7 +96,7 @@ returns-in_err-map_err-clause-step g c key keyed name kept =
     let found = is_found key v.records name c.args.binding.now kept in
     let own : c.key.result.now ≡ key = same_key v.records c.key.result.now key (ap (λ w. key_in w.records) (sym c.self.view_is) ∙ c.key.ensures.first) keyed in
     let answer : c.from_residual-in_err-map_err.result ≡ Err c.in_err-map_err.field-0.0 = search rules in
-    subst (λ a. Repeats g.M.Message v c.args.message.now c.read_digest.new.message (vec_capacity c.args.out.now) (answered_with a c.make_room.new.out.items) key name)
+    subst (λ a. Repeats g.M.Message (state_of v) c.args.caches.now c.args.message.now c.read_digest.new.message (vec_capacity c.args.out.now) (answered_with a c.make_room.new.out.items) key name)
     (sym answer)
     (damaged_chain g.M.Message v c.args.message.now c.read_digest.new.message (vec_capacity c.args.out.now) key name c.args.binding.now found
     c.self.inside.ledger.key c.self.inside.ledger.records (c.levels.result - 1) (sym c.key.ensures.key ∙ own) (ap (λ w. w.records) c.self.view_is)

@@ -1,13 +1,13 @@
-use Rattle.std.proofs.Common.{rules, ◌≡◌, ◌∙◌, Some, Err, sym, ap, subst}
+use Rattle.std.proofs.Common.{rules, ◌≡◌, ◌∙◌, Some, Err, inr, sym, ap, subst}
 use Rattle.std.specs.Prelude.{length, vec_capacity}
 use Rattle.std.proofs.lemmas.List.{take_at}
 use Rattle.xmss.specs.Digest.{message_digest_of}
 use Rattle.sign_core.specs.Records.{key_in}
-use Rattle.sign_core.specs.Signer.{IsSigner}
+use Rattle.sign_core.specs.Signer.{IsSigner, state_of}
 use Rattle.sign_core.specs.Signing.{Repeats}
 use Rattle.sign_core.specs.Signing.{answered_with}
 use Rattle.sign_core.proofs.ChainParts.{same_key}
-use Rattle.sign_core.proofs.Repeats.{bound_xmss_leaf, changed, damaged_xmss, is_found, lacks_room, same_size, signed_xmss, xmss_read}
+use Rattle.sign_core.proofs.Repeats.{bound_xmss_leaf, changed, damaged_xmss, is_found, lacks_cache, lacks_room, same_size, signed_xmss, xmss_read}
 use Rattle.sign_core.proofs.signer.Signer.repeat_xmss.Goals as goal
 
 pub returns-then-ne-clause-step : goal.returns-then-ne-clause-step
@@ -31,12 +31,29 @@ returns-in_err-make_room-clause-step g c key keyed name kept =
     let own : c.key.result.now ≡ key = same_key v.records c.key.result.now key first keyed in
     let other : c.key-2.result.now ≡ key = same_key v.records c.key-2.result.now key (ap (λ w. key_in w.records) (sym c.self.view_is) ∙ c.key-2.ensures.first) keyed in
     let answer : c.from_residual-in_err-make_room.result ≡ Err c.in_err-make_room.field-0.0 = search rules in
-    subst (λ a. Repeats g.M.Message v c.args.message.now c.read_xmss_digest.new.message (vec_capacity c.args.out.now) (answered_with a c.make_room.new.out.items) key name)
+    subst (λ a. Repeats g.M.Message (state_of v) c.args.caches.now c.args.message.now c.read_xmss_digest.new.message (vec_capacity c.args.out.now) (answered_with a c.make_room.new.out.items) key name)
     (sym (answer ∙ ap Err c.in_err-make_room.ensures.refused))
     (lacks_room g.M.Message v c.args.message.now c.read_xmss_digest.new.message _ key name c.args.binding.now found text c.in_ok-digest.digest whole
     (xmss_read key c.key.result.now v.records name c.args.binding.now found c.args.secret.now text c.in_ok-digest.digest (c.requires.key key keyed) own is)
     (sym c.ne.ensures ∙ c.if-ne.false)
     (same_size c.key-2.result.now key _ other c.in_err-make_room.ensures.full))
+
+pub returns-in_err-cache_xmss-clause-step : goal.returns-in_err-cache_xmss-clause-step
+returns-in_err-cache_xmss-clause-step g c key keyed name kept =
+    let v = c.args.self.now in
+    let (text, whole, read) = c.in_ok-digest.ensures.digest in
+    let is = read ∙ ap (λ r. message_digest_of r c.key.result.now.root c.args.binding.now.leaf text) c.randomizer-randomizer.ensures in
+    let found = is_found key v.records name c.args.binding.now kept in
+    let first : key_in v.records ≡ Some c.key.result.now = ap (λ w. key_in w.records) (sym c.self.view_is) ∙ c.key.ensures.first in
+    let own : c.key.result.now ≡ key = same_key v.records c.key.result.now key first keyed in
+    let other : c.key-2.result.now ≡ key = same_key v.records c.key-2.result.now key (ap (λ w. key_in w.records) (sym c.self.view_is) ∙ c.key-2.ensures.first) keyed in
+    let answer : c.from_residual-in_err-cache_xmss.result ≡ Err c.in_err-cache_xmss.field-0.0 = search rules in
+    subst (λ a. Repeats g.M.Message (state_of v) c.args.caches.now c.args.message.now c.read_xmss_digest.new.message (vec_capacity c.args.out.now) (answered_with a c.make_room.new.out.items) key name)
+    (sym (answer ∙ ap Err c.in_err-cache_xmss.ensures.fault))
+    (lacks_cache g.M.Message v c.args.message.now c.read_xmss_digest.new.message _ key name c.args.binding.now found text c.in_ok-digest.digest whole
+    (xmss_read key c.key.result.now v.records name c.args.binding.now found c.args.secret.now text c.in_ok-digest.digest (c.requires.key key keyed) own is)
+    (sym c.ne.ensures ∙ c.if-ne.false)
+    (inr (record { secret = c.args.secret.now; of_key = c.requires.key key keyed; lacks = c.in_err-cache_xmss.ensures.lacking })))
 
 pub xmss_link-requires-clause-inside : goal.xmss_link-requires-clause-inside
 xmss_link-requires-clause-inside g c =
@@ -61,7 +78,7 @@ returns-in_err-map_err-clause-step g c key keyed name kept =
     let first : key_in v.records ≡ Some c.key.result.now = ap (λ w. key_in w.records) (sym c.self.view_is) ∙ c.key.ensures.first in
     let own : c.key.result.now ≡ key = same_key v.records c.key.result.now key first keyed in
     let answer : c.from_residual-in_err-map_err.result ≡ Err c.in_err-map_err.field-0.0 = search rules in
-    subst (λ a. Repeats g.M.Message v c.args.message.now c.read_xmss_digest.new.message (vec_capacity c.args.out.now) (answered_with a c.make_room.new.out.items) key name) (sym answer)
+    subst (λ a. Repeats g.M.Message (state_of v) c.args.caches.now c.args.message.now c.read_xmss_digest.new.message (vec_capacity c.args.out.now) (answered_with a c.make_room.new.out.items) key name) (sym answer)
     (damaged_xmss g.M.Message v c.args.message.now c.read_xmss_digest.new.message _ key name c.args.binding.now found c.args.secret.now text
     c.in_ok-digest.digest c.xmss_link.result c.map_err.result c.in_err-map_err.field-0.0 whole keyed (c.requires.key key keyed)
     (xmss_read key c.key.result.now v.records name c.args.binding.now found c.args.secret.now text c.in_ok-digest.digest (c.requires.key key keyed) own is)

@@ -1,0 +1,363 @@
+//! The caches of current trees. Each tree is made once, and then its root and a path cost few leaves or none.
+
+ghost use Rattle.std.specs.Prelude.{◌≡◌, ◌≢◌, ◌↔◌, ◌<◌, ◌^◌, ◌∷◌, List, Some, None, true, length, slice_get, ℕ};
+ghost use Rattle.std.specs.Prelude.{IfErr, IfOk, IsSome, OnErr, OnOk, replicate};
+ghost use Rattle.typecodes.specs.Types.{height_of, xmss_height_of};
+ghost use Rattle.state_file.specs.Laws.{IsLegal, levels_of};
+ghost use Rattle.state_file.specs.declared.record.Record.{Record as R};
+ghost use Rattle.state_file.specs.declared.record.Key.{Key as K};
+ghost use Rattle.state_file.specs.declared.record.Record.TheVariants.{Key as KeyRecord};
+ghost use Rattle.sign_core.specs.Signing.{IsXmssKey};
+ghost use Rattle.sign_core.specs.Textbook.{damaged_in};
+
+use crate::fault::SignFault;
+use crate::ledger::Ledger;
+use crate::links::{KeyTrees, Link, Signed};
+use crate::roots::xmss_root;
+use lms::{LmsSecret, LmsTree};
+use merkle::{OutOfMemory, PathCache};
+use std::alloc::Global;
+use std::marker::Model;
+use std::mem;
+use xmss::{XmssSecret, XmssTree};
+
+// Whether two secrets of LMS trees are the same.
+fn is_same(one: &LmsSecret, other: &LmsSecret) -> bool
+    ensures { (result ≡ true) ↔ (one.now ≡ other.now) }
+{
+    one.pair == other.pair && one.identifier == other.identifier && one.seed == other.seed
+}
+
+// The cache of the tree of an LMS secret.
+#[derive(Drop)]
+pub(crate) struct LmsCache {
+    secret: LmsSecret,
+    cache: PathCache<LmsTree>,
+}
+
+impl Model for LmsCache {
+    ghost use Rattle.lms.specs.declared.secret.LmsSecret.{LmsSecret as Secret};
+    ghost use Rattle.sign_core.specs.Caches.{IsLmsCache};
+
+    ghost Value = { Secret };
+
+    ghost view = { λ s. s.secret };
+
+    ghost invariant = { λ s. IsLmsCache s.secret s.cache };
+}
+
+impl LmsCache {
+    ghost use Rattle.sign_core.specs.Links.{IsMade};
+
+    // Makes each leaf of the tree, once.
+    fn new(alloc: Global, secret: LmsSecret) -> Result<Self, OutOfMemory>
+        ensures { IfOk result (λ cache. cache ≡ secret) }
+    {
+        let cache = PathCache::new(alloc, LmsTree::new(secret), secret.pair.tree.height())?;
+        Ok(LmsCache { secret, cache })
+    }
+
+    // The tree, of which a leaf signs.
+    fn link(&mut self, signed: Signed) -> Link
+        requires { signed.leaf < 2 ^ height_of self.old.pair.tree }
+        ensures secret { result.secret ≡ self.old }
+        ensures signed { result.signed ≡ signed }
+        ensures made { IsMade result }
+        ensures same { self.new ≡ self.old }
+    {
+        let secret = self.secret;
+        let mut path = [[0; 32]; 25];
+        let height = usize::from(secret.pair.tree.height());
+        self.cache.path_at(signed.leaf, &mut path[..height]);
+        let root = self.cache.root();
+        Link {
+            secret,
+            root,
+            signed,
+            path,
+        }
+    }
+}
+
+// The cache of the tree of an XMSS secret.
+#[derive(Drop)]
+pub(crate) struct XmssCache {
+    secret: XmssSecret,
+    cache: PathCache<XmssTree>,
+}
+
+impl Model for XmssCache {
+    ghost use Rattle.xmss.specs.declared.secret.XmssSecret.{XmssSecret as Secret};
+    ghost use Rattle.sign_core.specs.Caches.{IsXmssCache};
+
+    ghost Value = { Secret };
+
+    ghost view = { λ s. s.secret };
+
+    ghost invariant = { λ s. IsXmssCache s.secret s.cache };
+}
+
+impl XmssCache {
+    ghost use Rattle.xmss.specs.Secret.{path_in, root_in};
+
+    // Makes each leaf of the tree, once.
+    fn new(alloc: Global, secret: XmssSecret) -> Result<Self, OutOfMemory>
+        ensures { IfOk result (λ cache. cache ≡ secret) }
+    {
+        let cache = PathCache::new(alloc, XmssTree::new(secret), secret.tree.height())?;
+        Ok(XmssCache { secret, cache })
+    }
+
+    // Writes the authentication path of a leaf, and answers the root.
+    fn root(&mut self, leaf: u32, into: &mut [[u8; 32]]) -> [u8; 32]
+        requires inside { leaf < 2 ^ xmss_height_of self.old.tree }
+        requires room { length into.old ≡ xmss_height_of self.old.tree }
+        ensures path { into.new ≡ path_in self.old leaf }
+        ensures length { length into.new ≡ xmss_height_of self.old.tree }
+        ensures root { result ≡ root_in self.old }
+        ensures same { self.new ≡ self.old }
+    {
+        self.cache.path_at(leaf, into);
+        self.cache.root()
+    }
+}
+
+// Whether two secrets of XMSS trees are the same.
+fn is_same_xmss(one: &XmssSecret, other: &XmssSecret) -> bool
+    ensures { (result ≡ true) ↔ (one.now ≡ other.now) }
+{
+    one.tree == other.tree
+        && one.secret_seed == other.secret_seed
+        && one.prf_key == other.prf_key
+        && one.public_seed == other.public_seed
+}
+
+/// The caches of a signer: of each level's current LMS tree, or of the one tree of an XMSS key, once a request has
+/// needed it.
+#[derive(Drop)]
+pub(crate) struct Caches {
+    alloc: Global,
+    levels: [Option<LmsCache>; 8],
+    xmss: Option<XmssCache>,
+}
+
+impl Model for Caches {
+    ghost use Rattle.std.specs.Prelude.{◌≡◌, length};
+    ghost use Rattle.sign_core.specs.Caches.{Cached};
+
+    ghost Value = { Cached };
+
+    ghost view = { λ s. record { levels = s.levels; xmss = s.xmss } };
+
+    ghost invariant = { λ s. length s.levels ≡ 8 };
+}
+
+impl Caches {
+    ghost use Rattle.sign_core.specs.Caches.{HasLevel, LacksLevel, cache_at};
+    ghost use Rattle.sign_core.specs.Links.{AreTreesOf, IsMade};
+    ghost use Rattle.xmss.specs.Secret.{path_in as xmss_path_in, root_in as xmss_root_in};
+
+    /// None.
+    pub(crate) fn new(alloc: Global) -> Self
+        ensures levels { result.levels ≡ replicate 8 None }
+        ensures xmss { result.xmss ≡ None }
+    {
+        Caches {
+            alloc,
+            levels: [None, None, None, None, None, None, None, None],
+            xmss: None,
+        }
+    }
+
+    /// Takes all caches out, so that none is left.
+    pub(crate) fn take(&mut self) -> Self
+        ensures { result ≡ self.old }
+    {
+        let none = Caches::new(self.alloc);
+        mem::replace(self, none)
+    }
+
+    // Whether a level has the cache of a secret's tree.
+    fn has(&self, level: u8, secret: &LmsSecret) -> bool
+        requires { level < 8 }
+        ensures { (result ≡ true) ↔ HasLevel self.now level secret.now }
+    {
+        match &self.levels[usize::from(level)] {
+            Some(cache) => is_same(&cache.secret, secret),
+            None => false,
+        }
+    }
+
+    // Makes the cache of a secret's tree for a level, unless it is there.
+    fn keep(&mut self, level: u8, secret: &LmsSecret) -> Result<(), OutOfMemory>
+        requires { level < 8 }
+        ensures there { OnOk result (HasLevel self.new level secret.now) }
+        ensures lacking { OnErr result (HasLevel self.old level secret.now → ⊥) }
+        ensures others { (k : ℕ) → k ≢ level → cache_at self.new.levels k ≡ cache_at self.old.levels k }
+        ensures xmss { self.new.xmss ≡ self.old.xmss }
+    {
+        if self.has(level, secret) {
+            return Ok(());
+        }
+        self.levels[usize::from(level)] = None;
+        let cache = LmsCache::new(self.alloc, *secret)?;
+        self.levels[usize::from(level)] = Some(cache);
+        Ok(())
+    }
+
+    /// The cache of a new tree, which is to sign by its first leaf.
+    pub(crate) fn begin(&self, secret: LmsSecret) -> Result<(LmsCache, Link), SignFault>
+        ensures fault { IfErr result (λ fault. fault ≡ SignFault.OutOfMemory) }
+        ensures cache { IfOk result (λ begun. begun.0 ≡ secret) }
+        ensures secret { IfOk result (λ begun. begun.1.secret ≡ secret) }
+        ensures leaf { IfOk result (λ begun. begun.1.signed.leaf ≡ 0) }
+        ensures made { IfOk result (λ begun. IsMade begun.1) }
+    {
+        let mut cache = LmsCache::new(self.alloc, secret).map_err(|_| SignFault::OutOfMemory)?;
+        let made = cache.link(Signed::unset(0));
+        Ok((cache, made))
+    }
+
+    /// Keeps the cache of a level's new tree in the place of the one before.
+    pub(crate) fn replace(&mut self, level: u8, cache: LmsCache)
+        requires { level < 8 }
+        ensures there { HasLevel self.new level cache }
+        ensures others { (k : ℕ) → k ≢ level → cache_at self.new.levels k ≡ cache_at self.old.levels k }
+        ensures xmss { self.new.xmss ≡ self.old.xmss }
+    {
+        self.levels[usize::from(level)] = Some(cache);
+    }
+
+    /// The tree of a secret, of which a leaf signs: by the cache of a level, where that is the secret's.
+    pub(crate) fn link(&mut self, level: u8, secret: LmsSecret, signed: Signed) -> Link
+        requires few { level < 8 }
+        requires inside { signed.leaf < 2 ^ height_of secret.pair.tree }
+        ensures secret { result.secret ≡ secret }
+        ensures signed { result.signed ≡ signed }
+        ensures made { IsMade result }
+        ensures same { self.new ≡ self.old }
+    {
+        if !self.has(level, &secret) {
+            return Link::new(secret, signed);
+        }
+        match &mut self.levels[usize::from(level)] {
+            Some(cache) => cache.link(signed),
+            None => Link::new(secret, signed),
+        }
+    }
+
+    /// Makes the caches of the current LMS trees from the top down to a level whose records stand before a place, each
+    /// unless it is there.
+    pub(crate) fn keep_chain(
+        &mut self,
+        trees: &KeyTrees<'_>,
+        ledger: &Ledger,
+        lowest: u8,
+        before: u32,
+    ) -> Result<(), OutOfMemory>
+        requires trees { AreTreesOf trees.now ledger.now.key }
+        requires few { lowest < 8 }
+        ensures lacking { OnErr result (LacksLevel ledger.now.key ledger.now.records lowest before self.old) }
+    {
+        for level in 0..lowest + 1 {
+            if let Some(tree) = ledger.current(level) {
+                if tree.place < before {
+                    self.keep(level, &trees.secret_at(ledger, tree.place))?;
+                }
+            }
+        }
+        Ok(())
+    }
+
+    /// How many leaves the cache of a level has made, if it is that of a secret's tree.
+    pub(crate) fn leaves(&self, level: u8, secret: &LmsSecret) -> Option<u64>
+        requires { level < 8 }
+        ensures { IsSome result ↔ HasLevel self.now level secret.now }
+    {
+        if !self.has(level, secret) {
+            return None;
+        }
+        match &self.levels[usize::from(level)] {
+            Some(kept) => Some(kept.cache.leaves_made()),
+            None => None,
+        }
+    }
+
+    /// How many leaves the cache of a secret's XMSS tree has made, if there is one.
+    pub(crate) fn xmss_leaves(&self, secret: &XmssSecret) -> Option<u64>
+        ensures { IsSome result ↔ (self.now.xmss ≡ Some secret.now) }
+    {
+        if !self.has_xmss(secret) {
+            return None;
+        }
+        match &self.xmss {
+            Some(kept) => Some(kept.cache.leaves_made()),
+            None => None,
+        }
+    }
+
+    // Whether there is the cache of a secret's XMSS tree.
+    fn has_xmss(&self, secret: &XmssSecret) -> bool
+        ensures { (result ≡ true) ↔ (self.now.xmss ≡ Some secret.now) }
+    {
+        match &self.xmss {
+            Some(cache) => is_same_xmss(&cache.secret, secret),
+            None => false,
+        }
+    }
+
+    /// Makes the cache of a secret's XMSS tree, unless it is there.
+    pub(crate) fn keep_xmss(&mut self, secret: &XmssSecret) -> Result<(), OutOfMemory>
+        ensures there { OnOk result (self.new.xmss ≡ Some secret.now) }
+        ensures lacking { OnErr result (self.old.xmss ≢ Some secret.now) }
+        ensures levels { self.new.levels ≡ self.old.levels }
+    {
+        if self.has_xmss(secret) {
+            return Ok(());
+        }
+        self.xmss = Some(XmssCache::new(self.alloc, *secret)?);
+        Ok(())
+    }
+
+    // Writes the authentication path of a leaf of an XMSS tree, and answers its root: by the cache, where that is the
+    // secret's.
+    fn xmss_root(&mut self, secret: XmssSecret, leaf: u32, into: &mut [[u8; 32]]) -> [u8; 32]
+        requires inside { leaf < 2 ^ xmss_height_of secret.tree }
+        requires room { length into.old ≡ xmss_height_of secret.tree }
+        ensures path { into.new ≡ xmss_path_in secret leaf }
+        ensures length { length into.new ≡ xmss_height_of secret.tree }
+        ensures root { result ≡ xmss_root_in secret }
+        ensures same { self.new ≡ self.old }
+    {
+        if !self.has_xmss(&secret) {
+            return xmss_root(secret, leaf, into);
+        }
+        match &mut self.xmss {
+            Some(cache) => cache.root(leaf, into),
+            None => xmss_root(secret, leaf, into),
+        }
+    }
+
+    /// Writes the authentication path of a leaf of a key of XMSS, if its recorded root is its tree's; else its record,
+    /// the first, is damaged.
+    pub(crate) fn xmss_link(
+        &mut self,
+        secret: XmssSecret,
+        root: &[u8; 32],
+        leaf: u32,
+        into: &mut [[u8; 32]],
+    ) -> Result<(), u32>
+        requires inside { leaf < 2 ^ xmss_height_of secret.tree }
+        requires room { length into.old ≡ xmss_height_of secret.tree }
+        ensures path { into.new ≡ xmss_path_in secret leaf }
+        ensures length { length into.new ≡ xmss_height_of secret.tree }
+        ensures sound { (key : K) (rest : List R) → IsXmssKey secret key → key.root ≡ root.now
+            → OnOk result (damaged_in key 0 (KeyRecord key ∷ rest) 0 ≡ None) }
+        ensures damaged { (key : K) (rest : List R) → IsXmssKey secret key → key.root ≡ root.now
+            → IfErr result (λ place. damaged_in key 0 (KeyRecord key ∷ rest) 0 ≡ Some place) }
+        ensures same { self.new ≡ self.old }
+    {
+        let made = self.xmss_root(secret, leaf, into);
+        if *root == made { Ok(()) } else { Err(0) }
+    }
+}
