@@ -42,7 +42,7 @@ impl<'a> Audit<'a> {
     {
         Command::new(alloc, Audit::NAME)
             .about(
-                "Says what the records of a state file are, and whether it was put back to a time before an anchor",
+                "Says what the records of a state file are, and whether they fit an anchor",
             )
             .after_help(
                 "Example:\n  $ hbsign audit firmware.key --count 3 --tag 5e3b..\n  public 0000000500000004..\n  \

@@ -1,6 +1,7 @@
 -- What the parts of a call of sign come to: a chain of trees that stands, one Extend more, and what is wanted from
 -- there.
-use Rattle.std.specs.Prelude.{◌≡◌, ◌⊎◌, ℕ, ◌+◌, ◌-◌, ◌<◌, Bool, true, false, List, [], ◌∷◌, ◌++◌, length, Option, None, Some}
+use Rattle.std.specs.Prelude.{◌≡◌, ◌⊎◌, ℕ, ◌+◌, ◌-◌, ◌<◌, Bool, true, false, List, [], ◌∷◌, ◌++◌, length, Option}
+use Rattle.std.specs.Prelude.{None, Some}
 use Rattle.std.specs.Prelude.{Result, Ok, Err, Vec, map, take, vec_capacity, ◌≤◌, ◌^◌}
 use Rattle.std.specs.List.{AllByRecursion, concat}
 use Rattle.typecodes.specs.declared.message.Message as message
@@ -20,7 +21,8 @@ use Rattle.sign_core.specs.Source.{Provides}
 use Rattle.sign_core.specs.Records.{binding_in, current, has_identifier, has_moved, key_in, next_at}
 use Rattle.sign_core.specs.Links.{AreMade, IsMade, signings_of}
 use Rattle.sign_core.specs.Once.{AreDrawsOf, AreFields, IsTreeDraw, randomizer_sizes, tree_sizes}
-use Rattle.sign_core.specs.Signer.{Ends, IsRead, KeepsAtRefusal, LacksTree, RefusesLate, UnlessAppended, UsesMemory, View}
+use Rattle.sign_core.specs.Signer.{Ends, IsRead, KeepsAtRefusal, LacksTree, RefusesLate, UnlessAppended, UsesMemory}
+use Rattle.sign_core.specs.Signer.{View}
 use Rattle.sign_core.specs.Signer.{is_before_draws, is_fault, is_random_failed, signature_size}
 use Rattle.sign_core.specs.Signer.{state_of}
 use Rattle.sign_core.specs.World.{Chance, Draw, Outcome, State, acked, answered, bound_sound, extended, fulfilled}

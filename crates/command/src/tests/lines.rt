@@ -82,7 +82,7 @@ const RETIRE: &[u8] =
 const VERIFY: &[u8] = b"Verifies a signature of a message\n\nUsage: hbsign verify";
 
 const AUDIT: &[u8] =
-    b"Says what the records of a state file are, and whether it was put back to a time before an anchor\n\nUsage: hbsign audit";
+    b"Says what the records of a state file are, and whether they fit an anchor\n\nUsage: hbsign audit";
 
 const AUDIT_GIVEN: &[u8] =
     b"Says whether signatures of a key are valid, and no leaf signed two digests\n\nUsage: hbsign audit-given";

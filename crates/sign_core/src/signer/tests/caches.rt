@@ -42,9 +42,9 @@ fn names_in_order_make_each_block_once(rt: HostRuntime) {
     assert_eq!(rt; leaves_of_all(rt.alloc()), Some((60, 64)));
 }
 
-// The counts of the two levels' caches and of a third one: of a new key; after a first name, and after four more; after
-// all leaves of the lower tree are retired and another name makes the next one; after a repeat under the tree that is no
-// longer current, and one under the current tree.
+// The counts of the two levels' caches and of a third one: of a new key; after a first name, and after four more;
+// after all leaves of the lower tree are retired and another name makes the next one; after a repeat under the tree
+// that is no longer current, and one under the current tree.
 fn leaves_of_levels(alloc: Global) -> Option<[[Option<u64>; 3]; 6]> {
     let tape = in_blocks::<512>();
     let mut signer = in_file(alloc, TWO, &tape)?;
