@@ -135,30 +135,19 @@ fn disk_with(alloc: Global, file: &[u8], mishap: Mishap, call: u32) -> Option<Me
     Some(disk)
 }
 
-// The contents that a mishap may leave of a disk.
-fn left_by(alloc: Global, disk: &MemoryDisk, mishap: Mishap) -> Option<Vec<Vec<u8>>> {
-    let picks = match mishap {
-        Mishap::Fails => &PICKS[1..2],
-        Mishap::Stops => &PICKS[..],
-    };
+// The contents that a disk may have after a mishap: those that a stop then leaves, of which one is what a read gives.
+fn left_by(alloc: Global, disk: &MemoryDisk) -> Option<Vec<Vec<u8>>> {
     let mut files = Vec::new(alloc);
-    for pick in picks {
-        files.push(disk.stop(*pick).ok()?).ok()?;
+    for pick in PICKS {
+        files.push(disk.stop(pick).ok()?).ok()?;
     }
     Some(files)
 }
 
-// The steps of the script from one on, whose signatures are added to those that were given before. Each comes to its
-// end.
-fn go_on(
-    alloc: Global,
-    disk: MemoryDisk,
-    from: usize,
-    next: u8,
-    given: &mut Vec<Given>,
-) -> Option<MemoryDisk> {
+// The steps of the script, whose signatures are added to those that were given before. Each comes to its end.
+fn go_on(alloc: Global, disk: MemoryDisk, next: u8, given: &mut Vec<Given>) -> Option<MemoryDisk> {
     let mut disk = disk;
-    for (i, doing) in SCRIPT.iter().enumerate().skip(from) {
+    for (i, doing) in SCRIPT.iter().enumerate() {
         let (after, done) = live(alloc, disk, *doing, next.wrapping_add(8 * i as u8))?;
         if let Some(given_now) = done? {
             given.push(given_now).ok()?;
@@ -242,72 +231,51 @@ fn anchor_of(file: &[u8]) -> Option<Anchor> {
     })
 }
 
-// Whether an audit of each of these contents answers so.
-fn are_reported(
-    alloc: Global,
-    files: &[Vec<u8>],
-    anchor: Option<Anchor>,
-    wanted: &Result<Report, AuditFault>,
-) -> Option<bool> {
-    for file in files {
-        let report = report_on(alloc, MemoryDisk::of(alloc, file).ok()?, anchor)?;
-        if report != *wanted {
-            return Some(false);
-        }
-    }
-    Some(true)
+// Whether an audit accepts a file, or finds no key where none was before.
+fn is_audited(alloc: Global, file: &[u8], anchor: Option<Anchor>) -> Option<bool> {
+    let report = report_on(alloc, MemoryDisk::of(alloc, file).ok()?, anchor)?;
+    Some(match report {
+        Ok(_) => true,
+        Err(fault) => fault == AuditFault::NoKey && anchor.is_none(),
+    })
 }
 
-// Whether an audit of a file answers so after a mishap to each call of an opening of it.
-fn lasts(
+// The contents that a mishap at a call of a reopening may leave of a file; None where the opening comes to its end.
+fn files_after_opening(
     alloc: Global,
     file: &[u8],
     mishap: Mishap,
-    anchor: Option<Anchor>,
-    wanted: &Result<Report, AuditFault>,
-) -> Option<bool> {
-    for call in 1..100u32 {
-        match FileStore::open(disk_with(alloc, file, mishap, call)?) {
-            Ok(_) => return Some(true),
-            Err(refused) => {
-                if refused.fault != OpenFault::DeviceFailed {
-                    return Some(refused.fault == OpenFault::NoKey);
-                }
-                let left = left_by(alloc, &refused.given, mishap)?;
-                if !are_reported(alloc, &left, anchor, wanted)? {
-                    return Some(false);
+    call: u32,
+) -> Option<Option<Vec<Vec<u8>>>> {
+    match open_on(alloc, disk_with(alloc, file, mishap, call)?, 0) {
+        Ok(_) => Some(None),
+        Err((_, true)) => Some(None),
+        Err((disk, false)) => Some(Some(left_by(alloc, &disk)?)),
+    }
+}
+
+// Whether a mishap at any call of a reopening leaves the file as it is.
+fn lasts(alloc: Global, file: &Vec<u8>, mishap: Mishap) -> Option<bool> {
+    for call in 1..200u32 {
+        match files_after_opening(alloc, file, mishap, call)? {
+            Some(left) => {
+                for other in left {
+                    if other != *file {
+                        return Some(false);
+                    }
                 }
             }
+            None => return Some(true),
         }
     }
     None
 }
 
-// Whether an audit accepts a file, or finds no key where none was before, and answers the same after mishaps.
-fn is_audited(alloc: Global, file: &[u8], anchor: Option<Anchor>) -> Option<bool> {
-    let report = report_on(alloc, MemoryDisk::of(alloc, file).ok()?, anchor)?;
-    let is_accepted = match report {
-        Ok(_) => true,
-        Err(fault) => fault == AuditFault::NoKey && anchor.is_none(),
-    };
-    Some(
-        is_accepted
-            && lasts(alloc, file, Mishap::Fails, anchor, &report)?
-            && lasts(alloc, file, Mishap::Stops, anchor, &report)?,
-    )
-}
-
-// Whether the script comes to its end on a file from a step on, with the report that is wanted then, and all signatures
-// are those of a key whose leaves sign once.
-fn ends_well(alloc: Global, file: &[u8], from: usize, before: Vec<Given>) -> Option<bool> {
+// Whether the whole script comes to its end on a file, with the report that is wanted then, and all signatures, those
+// of before, too, are those of a key whose leaves sign once.
+fn ends_well(alloc: Global, file: &[u8], before: Vec<Given>) -> Option<bool> {
     let mut given = before;
-    let disk = go_on(
-        alloc,
-        MemoryDisk::of(alloc, file).ok()?,
-        from,
-        128,
-        &mut given,
-    )?;
+    let disk = go_on(alloc, MemoryDisk::of(alloc, file).ok()?, 128, &mut given)?;
     let report = report_on(alloc, disk, None)?.ok()?;
     let is_reported = report.records == 7 && report.left.as_slice() == [31, 21].as_slice();
     Some(is_reported && are_one_each(&given) && check_given(alloc, &report.public, &given).is_ok())
@@ -326,11 +294,11 @@ fn files_after(
     if done.is_some() {
         return Some(None);
     }
-    Some(Some(left_by(alloc, &disk, mishap)?))
+    Some(Some(left_by(alloc, &disk)?))
 }
 
-// Whether each of these contents is audited and goes on well, where that wasn't seen of it before. From the first one
-// the whole script is run again.
+// Whether each of these contents is audited, lasts where the reopening of it has a mishap, too, and goes on well, where
+// that wasn't seen of it before.
 fn go_on_well(
     alloc: Global,
     well: &Run,
@@ -341,9 +309,12 @@ fn go_on_well(
     let anchor = anchor_of(well.files.get(place)?);
     for file in files {
         if !seen.contains(&file) {
-            let from = if seen.is_empty() { 0 } else { place };
             let before = given_before(alloc, well, place)?;
-            if !is_audited(alloc, &file, anchor)? || !ends_well(alloc, &file, from, before)? {
+            if !is_audited(alloc, &file, anchor)?
+                || !lasts(alloc, &file, Mishap::Fails)?
+                || !lasts(alloc, &file, Mishap::Stops)?
+                || !ends_well(alloc, &file, before)?
+            {
                 return Some(false);
             }
             seen.push(file).ok()?;
