@@ -41,9 +41,7 @@ impl<'a> Audit<'a> {
             → app_of new ≡ with_subcommand (app_of old) audit_app.top) }
     {
         Command::new(alloc, Audit::NAME)
-            .about(
-                "Says what the records of a state file are, and whether they fit an anchor",
-            )
+            .about("Says what the records of a state file are, and whether they fit an anchor")
             .after_help(
                 "Example:\n  $ hbsign audit firmware.key --count 3 --tag 5e3b..\n  public 0000000500000004..\n  \
                  records 4\n  tag 91c0..\n  level 0 left 29",
