@@ -1,9 +1,8 @@
 //! Verification.
 
-ghost use Rattle.std.specs.Prelude.{List, ℕ};
 ghost use Rattle.hss.specs.Verification.{AboveVerdict, LeavesMessage, Verdict};
 ghost use Rattle.hss.specs.View.{signature_of};
-ghost use Rattle.typecodes.specs.Message.{IsContent};
+ghost use Rattle.typecodes.specs.Verdict.{Verifies};
 
 use crate::key::HssPublic;
 use crate::signature::HssSigView;
@@ -22,9 +21,8 @@ pub fn verify<M: Message>(
     message: &mut M,
     signature: &[u8],
 ) -> Result<(), Refusal>
-    ensures { (text : List ℕ) × IsContent (M.remaining message.old) text
-        × Verdict public.now text signature.now result
-        × LeavesMessage M.transition M.remaining public.now text message.old message.new result }
+    ensures { Verifies M.remaining (λ text. Verdict public.now text signature.now)
+        (LeavesMessage M.transition M.remaining public.now) message.old message.new result }
 {
     let view = HssSigView::read(signature).map_err(Refusal::Unreadable)?;
     if view.levels() != public.levels.get() {

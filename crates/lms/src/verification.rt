@@ -3,7 +3,7 @@
 ghost use Rattle.std.specs.Prelude.{◌≡◌, ◌≢◌, List, ℕ, Err, MatchResult};
 ghost use Rattle.lms.specs.View.{signature_of};
 ghost use Rattle.lms.specs.Verification.{DigestVerdict, LeadsTo, LeavesMessage, LevelVerdict, Verdict};
-ghost use Rattle.typecodes.specs.Message.{IsContent};
+ghost use Rattle.typecodes.specs.Verdict.{Verifies};
 
 use crate::key::LmsPublic;
 use crate::nodes::Nodes;
@@ -23,9 +23,8 @@ pub fn verify<M: Message>(
     message: &mut M,
     signature: &[u8],
 ) -> Result<(), Refusal>
-    ensures { (text : List ℕ) × IsContent (M.remaining message.old) text
-        × Verdict public.now text signature.now result
-        × LeavesMessage M.transition M.remaining text message.old message.new result }
+    ensures { Verifies M.remaining (λ text. Verdict public.now text signature.now)
+        (LeavesMessage M.transition M.remaining) message.old message.new result }
 {
     let view = LmsSigView::read(signature).map_err(Refusal::Unreadable)?;
     view.verify(public, message, 0)
@@ -44,9 +43,8 @@ impl LmsSigView<'_> {
         message: &mut M,
         level: u8,
     ) -> Result<(), Refusal>
-        ensures { (text : List ℕ) × IsContent (M.remaining message.old) text
-            × LevelVerdict public.now text (signature_of self.now) level result
-            × LeavesMessage M.transition M.remaining text message.old message.new result }
+        ensures { Verifies M.remaining (λ text. LevelVerdict public.now text (signature_of self.now) level)
+            (LeavesMessage M.transition M.remaining) message.old message.new result }
     {
         self.check_types(public, level)?;
         let key = self.one_time_key(public);

@@ -1,7 +1,7 @@
 -- What verification answers, and what becomes of the message, in the words that the schemes share.
 use Rattle.std.specs.Prelude.{◌≡◌, ◌≢◌, ◌⊎◌, List, ℕ, Option, Result, Ok, Err, IsOk}
 use Rattle.typecodes.specs.Layout.{Layout, Spells}
-use Rattle.typecodes.specs.Message.{CantBeRead, ReadWhole, Transition}
+use Rattle.typecodes.specs.Message.{CantBeRead, IsContent, ReadWhole, Transition}
 use Rattle.typecodes.specs.declared.refusal.Refusal.{Refusal}
 use Rattle.typecodes.specs.declared.refusal.Refusal.TheVariants.{Unreadable, TypeMismatch, LevelMismatch}
 use Rattle.typecodes.specs.declared.refusal.Refusal.TheVariants.{RootMismatch, MessageRead}
@@ -16,6 +16,13 @@ LeavesMessage transition remaining text old new (Err (TypeMismatch level)) = new
 LeavesMessage transition remaining text old new (Err LevelMismatch) = ⊥
 LeavesMessage transition remaining text old new (Err MessageRead) = CantBeRead transition old new
 LeavesMessage transition remaining text old new (Err (RootMismatch level)) = ReadWhole transition remaining text old new
+
+-- What a verification answers whose message a reader gives: some text is the reader's content, or any where nothing is
+-- known of it; the verdict is one on this text; and the reader is left as that verdict on this text leaves it.
+abbrev pub Verifies : {M A : Type 0} → (M → Option (List ℕ)) → (List ℕ → Result A Refusal → Type 0)
+    → (List ℕ → M → M → Result A Refusal → Type 0) → M → M → Result A Refusal → Type 0
+Verifies remaining verdict leaves old new result =
+    (text : List ℕ) × IsContent (remaining old) text × verdict text result × leaves text old new result
 
 -- What verification answers of bytes that are to sign a message, by the key, the message and the bytes.
 abbrev pub Verdicts : Type 0 → Type 1

@@ -3,7 +3,7 @@
 ghost use Rattle.std.specs.Prelude.{◌≡◌, List, ℕ};
 ghost use Rattle.xmss.specs.View.{signature_of};
 ghost use Rattle.xmss.specs.Verification.{DigestVerdict, LeadsTo, LeavesMessage, Verdict};
-ghost use Rattle.typecodes.specs.Message.{IsContent};
+ghost use Rattle.typecodes.specs.Verdict.{Verifies};
 
 use crate::digest::message_digest_from;
 use crate::key::XmssPublic;
@@ -23,9 +23,8 @@ pub fn verify<M: Message>(
     message: &mut M,
     signature: &[u8],
 ) -> Result<(), Refusal>
-    ensures { (text : List ℕ) × IsContent (M.remaining message.old) text
-        × Verdict public.now text signature.now result
-        × LeavesMessage M.transition M.remaining text message.old message.new result }
+    ensures { Verifies M.remaining (λ text. Verdict public.now text signature.now)
+        (LeavesMessage M.transition M.remaining) message.old message.new result }
 {
     let view = XmssSigView::read(public.tree, signature).map_err(Refusal::Unreadable)?;
     match message_digest_from(view.randomizer, &public.root, view.index, message) {
