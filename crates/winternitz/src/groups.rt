@@ -13,7 +13,7 @@ use arrayvec::ArrayVec;
 /// The greatest number of chains of a key, as many as width 1 has.
 pub const MOST_CHAINS: usize = 265;
 
-/// A value for each chain. Past the chains of a key stand zeros.
+/// A value for each chain of a key.
 pub type Values = [[u8; 32]; MOST_CHAINS];
 
 /// The values of chains after the steps 0, .., last - 1. The caller gives at most 265 values.

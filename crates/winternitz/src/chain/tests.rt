@@ -1,6 +1,7 @@
 //! Walks of a step that counts.
 
-ghost use Rattle.std.specs.Prelude.{ℕ, ◌≤◌, ◌+◌, ◌%◌, List, length, slice_index, slice_set};
+ghost use Rattle.std.specs.Prelude.{ℕ, ◌≤◌, ◌<◌, ◌+◌, ◌%◌, List, length, slice_index, slice_set};
+ghost use Rattle.winternitz.specs.Lanes.{lanes};
 
 use crate::lanes::LANES;
 use crate::{Step, climb, climb_four, climb_from, climb_to, climb_whole};
@@ -52,14 +53,35 @@ const WAYS: [([u8; LANES], [u8; LANES]); 7] = [
 
 #[test]
 fn four_chains_climb_as_each_by_itself(rt: HostRuntime) {
+    for (from, to) in WAYS {
+        expect_four(&rt, &from, &to);
+    }
+}
+
+// Each number of steps in each lane, with other numbers in the lanes beside it.
+#[test]
+fn each_length_climbs_in_each_lane(rt: HostRuntime) {
+    for steps in 0..=255u8 {
+        let to = [
+            steps,
+            steps.wrapping_add(64),
+            steps.wrapping_add(128),
+            steps.wrapping_add(192),
+        ];
+        expect_four(&rt, &[0; LANES], &to);
+    }
+}
+
+// Four chains that climb together end where each ends by itself.
+fn expect_four(rt: &impl Abort, from: &[u8; LANES], to: &[u8; LANES])
+    requires { (j : ℕ) → j < lanes → slice_index from.now j ≤ slice_index to.now j }
+{
     let chains = [0, 264, 7, 65535];
     let values = [[1; 32], [2; 32], [3; 32], [4; 32]];
-    for (from, to) in WAYS {
-        let ends = climb_four(&Counting, &chains, &from, &to, &values);
-        for lane in 0..LANES {
-            let end = climb(&Counting, chains[lane], from[lane], to[lane], &values[lane]);
-            assert_eq!(rt; ends[lane], end, "lane {lane} from {from:?} to {to:?}");
-        }
+    let ends = climb_four(&Counting, &chains, from, to, &values);
+    for lane in 0..LANES {
+        let end = climb(&Counting, chains[lane], from[lane], to[lane], &values[lane]);
+        assert_eq!(rt; ends[lane], end, "lane {lane} from {from:?} to {to:?}");
     }
 }
 
