@@ -51,7 +51,7 @@ use Rattle.sign_core.proofs.Append.{tree_within}
 use Rattle.sign_core.proofs.ChainParts.{all_pairs, leaf_digest, key_chain, xmss_leaf_digest}
 use Rattle.sign_core.proofs.Follow.{tell_free}
 use Rattle.sign_core.proofs.LinkParts.{more_made}
-use Rattle.sign_core.proofs.Refusals.{counted, keeps_at_all, keeps_late, same_view}
+use Rattle.sign_core.proofs.Refusals.{after_caches, counted, keeps_at_all, keeps_late, same_view}
 use Rattle.sign_core.proofs.Repeats.{fault_of, linked_ok}
 use Rattle.sign_core.proofs.Retiring.{beginning_kept}
 use Rattle.sign_core.proofs.Stays.{before_stays, key_stays, secret_stays, signings_stay, some_keyed}
@@ -487,7 +487,8 @@ module _ {S R M : Type 0} (g : store.Ghosts S) (r : source.Ghosts R) (m : messag
         room = refl;
         does = does_kept g r m v.store v.random v.random shown v.is_open before after {A = List ℕ} v.is_open (Damaged k) [] false None refl tied only
             (λ n. refl) (λ n. refl) (gives_nothing (r.upcoming v.random)) refl unread;
-        keeps = keeps_at_all g true (levels_of key.secret - 0) v v (Err (Damaged k)) (same_view v) (λ _ is. cc (is));
+        keeps = keeps_at_all g true (levels_of key.secret - 0) v v (Err (Damaged k)) (same_view v) (λ _. refl) (λ _ is. cc (is));
+        late = refl;
       })
 
   -- the message can't be read
@@ -505,7 +506,8 @@ module _ {S R M : Type 0} (g : store.Ghosts S) (r : source.Ghosts R) (m : messag
         room = refl;
         does = does_kept g r m v.store v.random v.random shown v.is_open before after {A = List ℕ} true MessageRead [] true None opened tied only
             (λ n. refl) (λ n. refl) (gives_nothing (r.upcoming v.random)) refl fails;
-        keeps = keeps_at_all g true (levels_of key.secret - 0) v v (Err MessageRead) (same_view v) (λ _ is. cc (is));
+        keeps = keeps_at_all g true (levels_of key.secret - 0) v v (Err MessageRead) (same_view v) (λ _. refl) (λ _ is. cc (is));
+        late = refl;
       }
 
   -- the record is appended, or its append fails
@@ -533,4 +535,5 @@ module _ {S R M : Type 0} (g : store.Ghosts S) (r : source.Ghosts R) (m : messag
         does = does;
         keeps = keeps_late g r m (levels_of key.secret - 0) v new before after _ _ _ (same_fault is_before_draws a _ ∙ is_late g v new (BoundRecord bound) a adds)
             (counted g (levels_of key.secret - 0) v new _ (counts_answered is_out_of_memory _ _ a _ adds.refusals)) does;
+        late = after_caches _ (same_fault is_before_draws a _ ∙ is_late g v new (BoundRecord bound) a adds);
       })

@@ -26,7 +26,7 @@ use Rattle.sign_core.specs.Frames.{CutsField, Ending, FillsBuffer, ReadsInput, R
 use Rattle.sign_core.specs.Records.{binding_in}
 use Rattle.sign_core.specs.Serving.{AnswersFrame, AnswersInTurn, AreFrames, Asks, Closes, ComesTo, Exchange, Finishes, Serves, SignsGiven, Turn}
 use Rattle.sign_core.specs.Serving.{Turns, WritesReply, is_unread, reply_bytes, reply_frame, reply_of}
-use Rattle.sign_core.specs.Signer.{IsRead, Signs, View, caching, state_of}
+use Rattle.sign_core.specs.Signer.{IsRead, KeepsForRepeat, Signs, View, is_before_repeat, is_fault, state_of}
 use Rattle.sign_core.specs.World.{Outcome}
 use Rattle.sign_core.proofs.InputReading.{IsPart, part_cut, part_done, reads_close, reads_none, reads_then}
 use Rattle.sign_core.proofs.Told.{IsTold, is_told}
@@ -263,7 +263,7 @@ module _ {P X : Type 0} (p : message.Ghosts P) (part : P → X)
 -- a call of sign, by what its message gave
 signs_given : {S R P : Type 0} (g : store.Ghosts S) (r : source.Ghosts R) (p : message.Ghosts P) (old new : View S R) (name : List ℕ) (before after : P)
     (capacity : ℕ) (answer : Result (List ℕ) SignFault) (given : Option (List ℕ)) (signs : Signs g r p old new name before after capacity answer)
-    → (IsSome (binding_in old.records name) → new ≡ caching old new.cached) → (signs.outcome.is_read ≡ true → signs.chance.given ≡ given)
+    → (IsSome (binding_in old.records name) → KeepsForRepeat old new (is_fault is_before_repeat answer)) → (signs.outcome.is_read ≡ true → signs.chance.given ≡ given)
     → SignsGiven g r old new name given capacity answer
 signs_given g r p old new name before after capacity answer given signs repeat tie = record {
   key = signs.key;

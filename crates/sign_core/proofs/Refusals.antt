@@ -1,13 +1,14 @@
 -- What a call keeps where it is refused.
-use Rattle.std.proofs.Common.{◌≡◌, ◌∙◌, ℕ, Bool, true, false, List, Option, Result, Err, refl, sym, subst, arith, true≢false}
+use Rattle.std.proofs.Common.{◌≡◌, ◌∙◌, ℕ, Bool, true, false, List, Option, Result, Ok, Err, refl, sym, ap, subst, arith, true≢false}
 use Rattle.typecodes.specs.declared.message.Message as message
 use Rattle.state_file.specs.declared.store.Store as store
 use Rattle.state_file.specs.Disk.{Counts}
 use Rattle.sign_core.specs.declared.fault.SignFault.{SignFault}
-use Rattle.sign_core.specs.declared.fault.SignFault.TheVariants.{OutOfMemory}
+use Rattle.sign_core.specs.declared.fault.SignFault.TheVariants.{Changed, Damaged, DeviceFailed, Exhausted, Illegal, KeyThere, LedgerFull, MessageRead, Moved, NoKey}
+use Rattle.sign_core.specs.declared.fault.SignFault.TheVariants.{NoMemoryToOpen, OutOfMemory, RandomFailed, RandomRepeated, RetireRange, Stopped, StoreFailed, Unreadable}
 use Rattle.sign_core.specs.declared.source.Source as source
-use Rattle.sign_core.specs.Signer.{KeepsAll, KeepsAtRefusal, LacksTree, View, is_before_draws, is_fault, is_out_of_memory}
-use Rattle.sign_core.specs.Signing.{Does}
+use Rattle.sign_core.specs.Signer.{KeepsAll, KeepsAtRefusal, LacksTree, View, is_before_caches, is_before_draws, is_before_repeat, is_fault, is_out_of_memory}
+use Rattle.sign_core.specs.Signing.{Does, answered_with}
 use Rattle.sign_core.specs.World.{Outcome}
 
 -- A refusal for want of memory that the store counts is none of a new tree.
@@ -17,11 +18,73 @@ counted {A = A} g wanted old new answer counts is same =
     let more = subst (λ (a : Result A SignFault). Counts is_out_of_memory (g.refusals old.store) (g.refusals new.store) a) is counts in
     absurd (omega (arith, same, more))
 
+-- What comes after draws comes after caches were made.
+is_after : (e : SignFault) → is_before_draws e ≡ false → is_before_caches e ≡ false
+is_after Exhausted late = absurd (true≢false late)
+is_after Stopped late = absurd (true≢false late)
+is_after LedgerFull late = absurd (true≢false late)
+is_after Moved late = absurd (true≢false late)
+is_after (Damaged k) late = refl
+is_after (Unreadable k) late = refl
+is_after (Illegal k) late = refl
+is_after Changed late = refl
+is_after RandomFailed late = refl
+is_after StoreFailed late = refl
+is_after OutOfMemory late = refl
+is_after KeyThere late = refl
+is_after RandomRepeated late = refl
+is_after MessageRead late = refl
+is_after RetireRange late = refl
+is_after NoKey late = refl
+is_after DeviceFailed late = refl
+is_after NoMemoryToOpen late = refl
+
+pub after_caches : {A : Type 0} (answer : Result A SignFault) → is_fault is_before_draws answer ≡ false → is_fault is_before_caches answer ≡ false
+after_caches (Ok value) late = refl
+after_caches (Err e) late = is_after e late
+
+-- What comes before caches of a new name does so of a bound one.
+is_bound_early : (e : SignFault) → is_before_caches e ≡ true → is_before_repeat e ≡ true
+is_bound_early Changed early = refl
+is_bound_early MessageRead early = refl
+is_bound_early Exhausted early = refl
+is_bound_early Stopped early = refl
+is_bound_early LedgerFull early = refl
+is_bound_early Moved early = refl
+is_bound_early (Damaged k) early = early
+is_bound_early (Unreadable k) early = early
+is_bound_early (Illegal k) early = early
+is_bound_early RandomFailed early = early
+is_bound_early StoreFailed early = early
+is_bound_early OutOfMemory early = early
+is_bound_early KeyThere early = early
+is_bound_early RandomRepeated early = early
+is_bound_early RetireRange early = early
+is_bound_early NoKey early = early
+is_bound_early DeviceFailed early = early
+is_bound_early NoMemoryToOpen early = early
+
+pub before_repeat : {A : Type 0} (answer : Result A SignFault) → is_fault is_before_caches answer ≡ true → is_fault is_before_repeat answer ≡ true
+before_repeat (Ok value) early = early
+before_repeat (Err e) early = is_bound_early e early
+
+-- the kind of a fault is that of an answer with a value
+pub same_kind : {A B : Type 0} (is_kind : SignFault → Bool) (answer : Result A SignFault) (value : B)
+    → is_fault is_kind (answered_with answer value) ≡ is_fault is_kind answer
+same_kind is_kind (Ok a) value = refl
+same_kind is_kind (Err e) value = refl
+
+-- An answer of no such kind isn't of it.
+pub never_such : {A : Type 0} {X : Type 0} (is_kind : SignFault → Bool) (answer : Result A SignFault) (e : SignFault) → answer ≡ Err e → is_kind e ≡ false
+    → is_fault is_kind answer ≡ true → X
+never_such is_kind answer e is no_such such = absurd (true≢false (sym such ∙ ap (is_fault is_kind) is ∙ no_such))
+
 -- A call that keeps all, whatever its answer, but for 29 after draws.
 pub keeps_at_all : {S R A : Type 0} (g : store.Ghosts S) (has_room : Bool) (wanted : ℕ) (old new : View S R) (answer : Result A SignFault) → KeepsAll old new
-    → (has_room ≡ true → answer ≡ Err OutOfMemory → ⊥) → KeepsAtRefusal g has_room wanted old new answer
-keeps_at_all g has_room wanted old new answer keeps other = record {
+    → (is_fault is_before_caches answer ≡ true → new.cached ≡ old.cached) → (has_room ≡ true → answer ≡ Err OutOfMemory → ⊥) → KeepsAtRefusal g has_room wanted old new answer
+keeps_at_all g has_room wanted old new answer keeps caches other = record {
   at_once = λ _. keeps;
+  caches = caches;
   unprepared = λ _. keeps;
   lacks_tree = λ room is same. absurd (other room is);
   store = λ _ _. keeps.store;
@@ -36,6 +99,7 @@ pub keeps_late : {S R M A : Type 0} (g : store.Ghosts S) (r : source.Ghosts R) (
     → LacksTree g wanted old new answer → Does g r m old new before after given outcome answer → KeepsAtRefusal g true wanted old new answer
 keeps_late g r m wanted old new before after given outcome answer late lacks does = record {
   at_once = λ early. absurd (true≢false (sym early ∙ late));
+  caches = λ early. absurd (true≢false (sym early ∙ after_caches answer late));
   unprepared = λ none. absurd (true≢false none);
   lacks_tree = λ room. lacks;
   store = does.stays;

@@ -25,12 +25,13 @@ use Rattle.sign_core.specs.declared.links.Link.{Link}
 use Rattle.sign_core.specs.Links.{AreMade, IsTreeAt, signing_with, signings_of}
 use Rattle.sign_core.specs.Records.{are_same, binding_in, key_in}
 use Rattle.sign_core.specs.Caches.{Cached, LacksCache}
-use Rattle.sign_core.specs.Signer.{View, signature_size, state_of}
+use Rattle.sign_core.specs.Signer.{View, is_before_repeat, is_fault, signature_size, state_of}
 use Rattle.sign_core.specs.Signing.{IsBindingOf, IsXmssKey, Repeats, WritesChain, repeat_chance}
 use Rattle.sign_core.specs.Ledger.{kept_of}
 use Rattle.sign_core.specs.World.{Outcome, State, refused, repeated_sound, requested_of}
 use Rattle.sign_core.specs.Textbook.{Trees, damaged_in, digest_at, secret_at, signature_at, signings_above, tree_before, trees_of}
 use Rattle.sign_core.proofs.Bindings.{binding_stands}
+use Rattle.sign_core.proofs.Refusals.{never_such}
 use Rattle.sign_core.proofs.ChainParts.{bound_tree, leaf_digest, key_chain, xmss_damaged, xmss_leaf_digest, xmss_leaf_inside, xmss_signed}
 
 -- ---- what is kept of a name
@@ -182,6 +183,15 @@ pub fault_of : {A : Type 0} (linked : Result A ℕ) (mapped : Result A SignFault
     → (k : ℕ) × (fault ≡ Damaged k) × P k
 fault_of (Ok x) mapped fault P cases was is = absurd (cc)
 fault_of (Err k) mapped fault P cases was is = (k, subst (λ r. IsErrAnd r (λ e. e ≡ Damaged k)) was cases, is)
+
+-- Such an answer comes after caches were made.
+pub placed_late : {A B X : Type 0} (linked : Result A ℕ) (mapped : Result A SignFault) (fault : SignFault) (answer : Result B SignFault)
+    → MatchResult linked (λ x. mapped ≡ Ok x) (λ k. IsErrAnd mapped (λ e. e ≡ Damaged k)) → mapped ≡ Err fault → answer ≡ Err fault
+    → is_fault is_before_repeat answer ≡ true → X
+placed_late (Ok x) mapped fault answer cases was is early = absurd (cc)
+placed_late (Err k) mapped fault answer cases was is early =
+    let of_place : fault ≡ Damaged k = subst (λ r. IsErrAnd r (λ e. e ≡ Damaged k)) was cases in
+    never_such is_before_repeat answer (Damaged k) (is ∙ ap Err of_place) refl early
 
 -- where none is answered, there was none
 pub linked_ok : {A : Type 0} (linked : Result A ℕ) (mapped : Result A SignFault) (x : A) (P : Type 0)

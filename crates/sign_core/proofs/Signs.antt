@@ -25,13 +25,13 @@ use Rattle.sign_core.specs.Records.{are_same, binding_in, deepest, has_moved, ke
 use Rattle.sign_core.specs.Once.{IsBeginning}
 use Rattle.sign_core.specs.Request.{HasPrepared}
 use Rattle.sign_core.specs.Caches.{Cached}
-use Rattle.sign_core.specs.Signer.{Hinders, IsRead, IsSigner, IsTied, KeepsAll, KeepsStore, LacksMemory, LacksTree, RefusesMemory, wanted_by, Signs, View, is_out_of_memory}
-use Rattle.sign_core.specs.Signer.{is_random_failed, is_store_failed, state_of}
+use Rattle.sign_core.specs.Signer.{Hinders, IsRead, IsSigner, IsTied, KeepsAll, KeepsForRepeat, KeepsStore, LacksMemory, LacksTree, RefusesMemory, wanted_by, Signs, View, is_out_of_memory}
+use Rattle.sign_core.specs.Signer.{is_before_caches, is_before_repeat, is_fault, is_random_failed, is_store_failed, state_of}
 use Rattle.sign_core.specs.Signing.{Binds, Fulfils, IsBindingOf, IsReady, Repeats, repeat_chance}
 use Rattle.sign_core.specs.Ledger.{kept_of}
 use Rattle.sign_core.specs.World.{Chance, Outcome, State, bound_anew, bound_sound, reading, refused, repeated, repeated_sound, requested, requested_of, requested_under}
 use Rattle.sign_core.specs.Textbook.{damaged_in, digest_at, tree_before}
-use Rattle.sign_core.proofs.Refusals.{keeps_at_all, keeps_late, same_view}
+use Rattle.sign_core.proofs.Refusals.{after_caches, before_repeat, keeps_at_all, keeps_late, same_view}
 
 -- ---- requests, by what hinders them
 
@@ -163,12 +163,13 @@ some_mapped f (Some a) b is = (a, refl)
 module _ {S R M : Type 0} (g : store.Ghosts S) (r : source.Ghosts R) (m : message.Ghosts M) where
   -- a call that leaves all but how much memory there is
   pub left_signs : (old new : View S R) (name : List ℕ) (before after : M) (capacity : ℕ) (key : Key) (answer : Result (List ℕ) SignFault)
-      (has_room is_read : Bool) (given : Option (List ℕ)) → KeepsAll old new → old.spare ≤ new.spare → IsSigner g old → LeavesItsList g old.store → key_in old.records ≡ Some key
+      (has_room is_read : Bool) (given : Option (List ℕ)) → KeepsAll old new
+      → (is_fault is_before_caches answer ≡ true → new.cached ≡ old.cached) → old.spare ≤ new.spare → IsSigner g old → LeavesItsList g old.store → key_in old.records ≡ Some key
       → requested (g.most old.store) (state_of old) name (repeat_chance has_room given) ≡ kept (state_of old) answer is_read
       → IsRead m is_read given before after
       → (has_room ≡ false → LacksMemory key old (deepest key.secret old.records) (binding_in old.records name) capacity)
       → IsCalm has_room answer → Signs g r m old new name before after capacity answer
-  left_signs old new name before after capacity key answer has_room is_read given keeps spare signer only keyed step read room calm = record {
+  left_signs old new name before after capacity key answer has_room is_read given keeps caches spare signer only keyed step read room calm = record {
     key = key;
     keyed = keyed;
     chance = repeat_chance has_room given;
@@ -190,7 +191,7 @@ module _ {S R M : Type 0} (g : store.Ghosts S) (r : source.Ghosts R) (m : messag
     refusals = subst (λ s. RefusesMemory has_room answer (g.refusals old.store) (g.refusals s)) (sym keeps.store)
         (refuses_early has_room answer (g.refusals old.store) (calm.memory (g.refusals old.store)));
     memory = omega (arith, spare, ap length keeps.records);
-    keeps = keeps_at_all g has_room (wanted_by key.secret (deepest key.secret old.records)) old new answer keeps (calm_refuses has_room answer (calm.memory 0));
+    keeps = keeps_at_all g has_room (wanted_by key.secret (deepest key.secret old.records)) old new answer keeps caches (calm_refuses has_room answer (calm.memory 0));
   }
 
   -- a call that is hindered at once
@@ -198,11 +199,11 @@ module _ {S R M : Type 0} (g : store.Ghosts S) (r : source.Ghosts R) (m : messag
       → key_in v.records ≡ Some key → Hinders v.is_open (has_moved v.records) fault → Signs g r m v v name before before capacity (Err fault)
   unfolding request_by
   hindered_signs v name before capacity key Stopped signer only keyed why =
-      left_signs v v name before before capacity key (Err Stopped) true false None (same_view v) (omega arith) signer only keyed
+      left_signs v v name before before capacity key (Err Stopped) true false None (same_view v) (λ _. refl) (omega arith) signer only keyed
       (request_by_is (g.most v.store) (state_of v) key name (repeat_chance true None) true (has_moved v.records) (binding_in v.records name) keyed (ap not why) refl refl)
       refl (λ lacking. absurd (true≢false lacking)) (record { store = λ n. refl; random = λ n. refl; memory = λ n. refl })
   hindered_signs v name before capacity key Moved signer only keyed why =
-      left_signs v v name before before capacity key (Err Moved) true false None (same_view v) (omega arith) signer only keyed
+      left_signs v v name before before capacity key (Err Moved) true false None (same_view v) (λ _. refl) (omega arith) signer only keyed
       (request_by_is (g.most v.store) (state_of v) key name (repeat_chance true None) false true (binding_in v.records name) keyed (ap not why.0) why.1 refl)
       refl (λ lacking. absurd (true≢false lacking)) (record { store = λ n. refl; random = λ n. refl; memory = λ n. refl })
   hindered_signs v name before capacity key Changed signer only keyed why = absurd why
@@ -228,7 +229,7 @@ module _ {S R M : Type 0} (g : store.Ghosts S) (r : source.Ghosts R) (m : messag
       → Signs g r m v v name before before capacity (Err Exhausted)
   unfolding request_by
   exhausted_signs v name before capacity key signer only keyed opened stays unbound none =
-      left_signs v v name before before capacity key (Err Exhausted) true false None (same_view v) (omega arith) signer only keyed
+      left_signs v v name before before capacity key (Err Exhausted) true false None (same_view v) (λ _. refl) (omega arith) signer only keyed
       (request_by_is (g.most v.store) (state_of v) key name (repeat_chance true None) false false None keyed (ap not opened) stays unbound
       ∙ ap (bound_anew (g.most v.store) (state_of v) key name (repeat_chance true None)) none)
       refl (λ lacking. absurd (true≢false lacking)) (record { store = λ n. refl; random = λ n. refl; memory = λ n. refl })
@@ -236,56 +237,65 @@ module _ {S R M : Type 0} (g : store.Ghosts S) (r : source.Ghosts R) (m : messag
   -- the store or memory has no room
   pub unprepared_signs : (old new : View S R) (name : List ℕ) (before : M) (capacity room level : ℕ) (key : Key) (fault : SignFault) → IsSigner g old
       → LeavesItsList g old.store → key_in old.records ≡ Some key → old.is_open ≡ true → has_moved old.records ≡ false → binding_in old.records name ≡ None
-      → deepest key.secret old.records ≡ Some level → KeepsAll old new → old.spare ≤ new.spare
+      → deepest key.secret old.records ≡ Some level → KeepsAll old new → (is_before_caches fault ≡ true → new.cached ≡ old.cached) → old.spare ≤ new.spare
       → HasPrepared {A = Unit {0}} (g.most old.store) level key old new capacity room (Err fault)
       → Signs g r m old new name before before capacity (Err fault)
   unfolding anew
-  unprepared_signs old new name before capacity room level key LedgerFull signer only keyed opened stays unbound at keeps spare why =
+  unprepared_signs old new name before capacity room level key LedgerFull signer only keyed opened stays unbound at keeps caches spare why =
       let full : nat_lt (g.most old.store) (length old.records + wanted_count key.secret level) ≡ true = grind (arith, nat_tests) in
-      left_signs old new name before before capacity key (Err LedgerFull) true false None keeps spare signer only keyed
+      left_signs old new name before before capacity key (Err LedgerFull) true false None keeps caches spare signer only keyed
       (anew_is (g.most old.store) (state_of old) key name (repeat_chance true None) level true false keyed opened stays unbound at full refl)
       refl (λ lacking. absurd (true≢false lacking)) (record { store = λ n. refl; random = λ n. refl; memory = λ n. refl })
-  unprepared_signs old new name before capacity room level key OutOfMemory signer only keyed opened stays unbound at keeps spare why =
+  unprepared_signs old new name before capacity room level key OutOfMemory signer only keyed opened stays unbound at keeps caches spare why =
       let fits : length old.records + wanted_count key.secret level ≤ g.most old.store = why.0 in
       let full : nat_lt (g.most old.store) (length old.records + wanted_count key.secret level) ≡ false = grind (arith, nat_tests) in
-      left_signs old new name before before capacity key (Err OutOfMemory) false false None keeps spare signer only keyed
+      left_signs old new name before before capacity key (Err OutOfMemory) false false None keeps caches spare signer only keyed
       (anew_is (g.most old.store) (state_of old) key name (repeat_chance false None) level false true keyed opened stays unbound at full refl)
       refl
       (λ _. subst (λ found. LacksMemory key old (deepest key.secret old.records) found capacity) (sym unbound)
       (subst (λ l. LacksMemory key old l None capacity) (sym at) why.1))
       (record { store = λ n. refl; random = λ n. refl; memory = λ n. refl })
-  unprepared_signs old new name before capacity room level key Changed signer only keyed opened stays unbound at keeps spare why = absurd why
-  unprepared_signs old new name before capacity room level key Exhausted signer only keyed opened stays unbound at keeps spare why = absurd why
-  unprepared_signs old new name before capacity room level key RandomFailed signer only keyed opened stays unbound at keeps spare why = absurd why
-  unprepared_signs old new name before capacity room level key StoreFailed signer only keyed opened stays unbound at keeps spare why = absurd why
-  unprepared_signs old new name before capacity room level key Stopped signer only keyed opened stays unbound at keeps spare why = absurd why
-  unprepared_signs old new name before capacity room level key Moved signer only keyed opened stays unbound at keeps spare why = absurd why
-  unprepared_signs old new name before capacity room level key KeyThere signer only keyed opened stays unbound at keeps spare why = absurd why
-  unprepared_signs old new name before capacity room level key RandomRepeated signer only keyed opened stays unbound at keeps spare why = absurd why
-  unprepared_signs old new name before capacity room level key MessageRead signer only keyed opened stays unbound at keeps spare why = absurd why
-  unprepared_signs old new name before capacity room level key RetireRange signer only keyed opened stays unbound at keeps spare why = absurd why
-  unprepared_signs old new name before capacity room level key NoKey signer only keyed opened stays unbound at keeps spare why = absurd why
-  unprepared_signs old new name before capacity room level key DeviceFailed signer only keyed opened stays unbound at keeps spare why = absurd why
-  unprepared_signs old new name before capacity room level key NoMemoryToOpen signer only keyed opened stays unbound at keeps spare why = absurd why
-  unprepared_signs old new name before capacity room level key (Damaged k) signer only keyed opened stays unbound at keeps spare why = absurd why
-  unprepared_signs old new name before capacity room level key (Unreadable k) signer only keyed opened stays unbound at keeps spare why = absurd why
-  unprepared_signs old new name before capacity room level key (Illegal k) signer only keyed opened stays unbound at keeps spare why = absurd why
+  unprepared_signs old new name before capacity room level key Changed signer only keyed opened stays unbound at keeps caches spare why = absurd why
+  unprepared_signs old new name before capacity room level key Exhausted signer only keyed opened stays unbound at keeps caches spare why = absurd why
+  unprepared_signs old new name before capacity room level key RandomFailed signer only keyed opened stays unbound at keeps caches spare why = absurd why
+  unprepared_signs old new name before capacity room level key StoreFailed signer only keyed opened stays unbound at keeps caches spare why = absurd why
+  unprepared_signs old new name before capacity room level key Stopped signer only keyed opened stays unbound at keeps caches spare why = absurd why
+  unprepared_signs old new name before capacity room level key Moved signer only keyed opened stays unbound at keeps caches spare why = absurd why
+  unprepared_signs old new name before capacity room level key KeyThere signer only keyed opened stays unbound at keeps caches spare why = absurd why
+  unprepared_signs old new name before capacity room level key RandomRepeated signer only keyed opened stays unbound at keeps caches spare why = absurd why
+  unprepared_signs old new name before capacity room level key MessageRead signer only keyed opened stays unbound at keeps caches spare why = absurd why
+  unprepared_signs old new name before capacity room level key RetireRange signer only keyed opened stays unbound at keeps caches spare why = absurd why
+  unprepared_signs old new name before capacity room level key NoKey signer only keyed opened stays unbound at keeps caches spare why = absurd why
+  unprepared_signs old new name before capacity room level key DeviceFailed signer only keyed opened stays unbound at keeps caches spare why = absurd why
+  unprepared_signs old new name before capacity room level key NoMemoryToOpen signer only keyed opened stays unbound at keeps caches spare why = absurd why
+  unprepared_signs old new name before capacity room level key (Damaged k) signer only keyed opened stays unbound at keeps caches spare why = absurd why
+  unprepared_signs old new name before capacity room level key (Unreadable k) signer only keyed opened stays unbound at keeps caches spare why = absurd why
+  unprepared_signs old new name before capacity room level key (Illegal k) signer only keyed opened stays unbound at keeps caches spare why = absurd why
 
   -- ---- a name that is bound
 
   pub repeats_signs : (v new : View S R) (name : List ℕ) (before after : M) (capacity : ℕ) (key : Key) (binding : Binding)
       (answer : Result (List ℕ) SignFault) → IsSigner g v → LeavesItsList g v.store → key_in v.records ≡ Some key → v.is_open ≡ true
       → has_moved v.records ≡ false → IsBindingOf v.records binding key name → Repeats m (state_of v) v.cached before after capacity answer key name
-      → KeepsAll v new → v.spare ≤ new.spare → Signs g r m v new name before after capacity answer
+      → KeepsForRepeat v new (is_fault is_before_repeat answer) → Signs g r m v new name before after capacity answer
   unfolding request_by
-  repeats_signs v new name before after capacity key binding answer signer only keyed opened stays is repeats keeps spare =
+  repeats_signs v new name before after capacity key binding answer signer only keyed opened stays is repeats kept_all =
       let ((k, bound), found) = some_mapped (kept_of key.secret v.records) (binding_in v.records name) binding is in
       let chance = repeat_chance repeats.has_room repeats.given in
       let whole = repeated_kept (state_of v) key k bound repeats.has_room repeats.given in
       let limit = g.most v.store in
       let answer_is : (repeated (state_of v) key k bound chance repeats.given).answer ≡ answer =
       sym (ap (λ f. (requested_of limit (state_of v) key name chance f).answer) found) ∙ repeats.step limit in
-      left_signs v new name before after capacity key answer repeats.has_room true repeats.given keeps spare signer only keyed
+      let same = kept_all.but_caches in
+      let keeps : KeepsAll v new = record {
+        store = ap (λ w. w.store) same;
+        random = ap (λ w. w.random) same;
+        records = ap (λ w. w.records) same;
+        is_open = ap (λ w. w.is_open) same;
+      } in
+      let spare : new.spare ≡ v.spare = ap (λ w. w.spare) same in
+      left_signs v new name before after capacity key answer repeats.has_room true repeats.given keeps
+      (λ early. ap (λ w. w.cached) (kept_all.early (before_repeat answer early))) (omega (arith, spare)) signer only keyed
       (request_by_is limit (state_of v) key name chance false false (Some (k, bound)) keyed (ap not opened) stays found
       ∙ whole.0 ∙ ap (λ a. kept (state_of v) a true) answer_is)
       repeats.message
@@ -343,6 +353,7 @@ module _ {S R M : Type 0} (g : store.Ghosts S) (r : source.Ghosts R) (m : messag
         memory = omega (arith, spare, b.does.memory);
         keeps = record {
           at_once = λ early. kept_of_other old new mid.spare mid.cached (b.keeps.at_once early);
+          caches = λ early. absurd (true≢false (sym early ∙ b.late));
           unprepared = λ lacking. absurd (true≢false (sym b.room ∙ lacking));
           lacks_tree = λ room. subst (λ l. LacksTree g (wanted_by key.secret l) old new answer) (sym at) (b.keeps.lacks_tree refl);
           store = b.keeps.store;
@@ -376,7 +387,8 @@ module _ {S R M : Type 0} (g : store.Ghosts S) (r : source.Ghosts R) (m : messag
       memory = omega arith;
       stays = λ _ _. refl;
     };
-    keeps = keeps_at_all g true (levels_of key.secret - level) v v (Err (Damaged slot)) (same_view v) (λ _ is. cc (is));
+    keeps = keeps_at_all g true (levels_of key.secret - level) v v (Err (Damaged slot)) (same_view v) (λ _. refl) (λ _ is. cc (is));
+    late = refl;
   }
 
   -- the standing chain is sound, and what is wanted from there is made
@@ -394,6 +406,7 @@ module _ {S R M : Type 0} (g : store.Ghosts S) (r : source.Ghosts R) (m : messag
     does = fulfils.does;
     keeps = keeps_late g r m (levels_of key.secret - level) old new before after _ _ _ fulfils.late
         (λ is same. let few = fulfils.lacks_tree is same in omega (arith, few, within)) fulfils.does;
+    late = after_caches answer fulfils.late;
   }
 
 -- ---- what a call answered

@@ -1,5 +1,5 @@
 -- What hinders a request, and what it makes room for.
-use Rattle.std.specs.Prelude.{◌≡◌, ◌⊎◌, ℕ, ◌+◌, ◌-◌, ◌<◌, ◌≤◌, length, Some, Result, Ok, Err}
+use Rattle.std.specs.Prelude.{◌≡◌, ◌⊎◌, ℕ, ◌+◌, ◌-◌, ◌<◌, ◌≤◌, length, true, Some, Result, Ok, Err}
 use Rattle.state_file.specs.declared.record.Key.{Key}
 use Rattle.state_file.specs.declared.record.Secret.{Secret}
 use Rattle.state_file.specs.declared.record.Secret.TheVariants.{Xmss}
@@ -10,7 +10,7 @@ use Rattle.sign_core.specs.declared.signer.request.Scheme.{Scheme}
 use Rattle.sign_core.specs.declared.signer.request.Scheme.TheVariants as scheme
 use Rattle.sign_core.specs.Caches.{LacksCache}
 use Rattle.sign_core.specs.Links.{trees_in}
-use Rattle.sign_core.specs.Signer.{KeepsAll, View, signature_size}
+use Rattle.sign_core.specs.Signer.{KeepsAll, View, is_before_caches, is_fault, signature_size}
 use Rattle.sign_core.specs.Signing.{IsReady}
 use Rattle.sign_core.specs.Textbook.{trees_of}
 
@@ -37,5 +37,6 @@ HasPrepared most level key old new capacity room (Err _) = ⊥
 pub record Prepares {S R A : Type 0} (most level : ℕ) (old new : View S R) (capacity room : ℕ)
     (result : Result A SignFault) (key : Key) : Type 0 where
   pub keeps : KeepsAll old new
+  pub caches : is_fault is_before_caches result ≡ true → new.cached ≡ old.cached
   pub spare : old.spare ≤ new.spare
   pub does : HasPrepared most level key old new capacity room result

@@ -23,8 +23,8 @@ use Rattle.sign_core.specs.Frames.{CutsField, Ending, IsCut, IsFrame, IsWholeMes
 use Rattle.sign_core.specs.Frames.{ended, given_by, going, head}
 use Rattle.sign_core.specs.Once.{AreDrawsOf}
 use Rattle.sign_core.specs.Records.{binding_in, deepest, key_in}
-use Rattle.sign_core.specs.Signer.{Ends, KeepsAtRefusal, LacksMemory, RefusesMemory, Signs, UsesMemory, View, caching}
-use Rattle.sign_core.specs.Signer.{is_random_failed, state_of, wanted_by}
+use Rattle.sign_core.specs.Signer.{Ends, KeepsAtRefusal, KeepsForRepeat, LacksMemory, RefusesMemory, Signs, UsesMemory}
+use Rattle.sign_core.specs.Signer.{View, is_before_repeat, is_fault, is_random_failed, state_of, wanted_by}
 use Rattle.sign_core.specs.Source.{Provides}
 use Rattle.sign_core.specs.World.{Chance, Outcome, requested}
 
@@ -75,7 +75,7 @@ pub record SignsGiven {S R : Type 0} (g : store.Ghosts S) (r : source.Ghosts R) 
   pub refusals : RefusesMemory chance.has_room answer (g.refusals old.store) (g.refusals new.store)
   pub memory : UsesMemory old new
   pub keeps : KeepsAtRefusal g chance.has_room (wanted_by key.secret (deepest key.secret old.records)) old new answer
-  pub repeat : IsSome (binding_in old.records name) → new ≡ caching old new.cached
+  pub repeat : IsSome (binding_in old.records name) → KeepsForRepeat old new (is_fault is_before_repeat answer)
 
 -- What is replied to a request is the signer's answer, whose output had this capacity; or the name's bytes are no name,
 -- and the signer isn't asked.
@@ -221,10 +221,10 @@ abbrev pub Asks : {S R M : Type 0} → store.Ghosts S → source.Ghosts R → me
     → (old new : View S R) → (before after : M) → (capacity : ℕ) → (signature : List ℕ) → Reply → Type 0
 Asks g r m name old new before after capacity signature Signed = IsName name
     × Signs g r m old new name before after capacity (Ok signature)
-    × (IsSome (binding_in old.records name) → new ≡ caching old new.cached)
+    × (IsSome (binding_in old.records name) → KeepsForRepeat old new false)
 Asks g r m name old new before after capacity signature (Refused fault) = IsName name
     × Signs g r m old new name before after capacity (Err fault)
-    × (IsSome (binding_in old.records name) → new ≡ caching old new.cached)
+    × (IsSome (binding_in old.records name) → KeepsForRepeat old new (is_before_repeat fault))
 Asks g r m name old new before after capacity signature BadName =
     (IsName name → ⊥) × (new ≡ old) × (after ≡ before)
 

@@ -23,8 +23,8 @@ use Rattle.sign_core.specs.declared.key.AnyPublic.{AnyPublic}
 use Rattle.sign_core.specs.declared.fault.SignFault.{SignFault}
 use Rattle.sign_core.specs.declared.fault.SignFault.TheVariants.{DeviceFailed, NoMemoryToOpen, OutOfMemory}
 use Rattle.sign_core.specs.declared.fault.SignFault.TheVariants.{KeyThere, RandomFailed, StoreFailed}
-use Rattle.sign_core.specs.declared.fault.SignFault.TheVariants.{Damaged, Exhausted, Illegal, LedgerFull, Moved}
-use Rattle.sign_core.specs.declared.fault.SignFault.TheVariants.{Stopped, Unreadable}
+use Rattle.sign_core.specs.declared.fault.SignFault.TheVariants.{Changed, Damaged, Exhausted, Illegal, LedgerFull}
+use Rattle.sign_core.specs.declared.fault.SignFault.TheVariants.{MessageRead, Moved, Stopped, Unreadable}
 use Rattle.sign_core.specs.declared.source.Source as source
 use Rattle.sign_core.specs.Source.{Provides}
 use Rattle.sign_core.specs.Records.{binding_in, can_follow, deepest, key_in, leaves_of_current, next_at}
@@ -274,15 +274,35 @@ is_before_draws LedgerFull = true
 is_before_draws Moved = true
 is_before_draws _ = false
 
+-- 22, 26, 30 and 31 come before any cache is made, ..
+abbrev pub is_before_caches : SignFault → Bool
+is_before_caches Exhausted = true
+is_before_caches Stopped = true
+is_before_caches LedgerFull = true
+is_before_caches Moved = true
+is_before_caches _ = false
+
+-- .. and of a name that is bound so do 21 and 27.
+abbrev pub is_before_repeat : SignFault → Bool
+is_before_repeat Changed = true
+is_before_repeat MessageRead = true
+is_before_repeat fault = is_before_caches fault
+
 -- What an answer keeps as it was, where so many records are wanted: 22, 26, 28, 30 and 31 keep all but the memory, and
--- so does 29 before anything is drawn; later it comes of the store, or of a new tree; and each answer keeps the store,
--- unless a record was added or its append failed.
+-- so does 29 before anything is drawn; later it comes of the store, or of a new tree; 22, 26, 30 and 31 keep the caches;
+-- and each answer keeps the store, unless a record was added or its append failed.
 pub record KeepsAtRefusal {S R A : Type 0} (g : store.Ghosts S) (has_room : Bool) (wanted : ℕ) (old new : View S R)
     (answer : Result A SignFault) : Type 0 where
   pub at_once : is_fault is_before_draws answer ≡ true → KeepsAll old new
+  pub caches : is_fault is_before_caches answer ≡ true → new.cached ≡ old.cached
   pub unprepared : has_room ≡ false → KeepsAll old new
   pub lacks_tree : has_room ≡ true → LacksTree g wanted old new answer
   pub store : UnlessAppended old new answer (new.store ≡ old.store)
+
+-- What a name that is bound keeps as it was: all but the caches, and where the answer comes before these all.
+pub record KeepsForRepeat {S R : Type 0} (old new : View S R) (is_early : Bool) : Type 0 where
+  pub but_caches : new ≡ caching old new.cached
+  pub early : is_early ≡ true → new ≡ old
 
 -- A call of sign is a step of the world, by some chance, whose draws are those of the key's scheme: the bytes that are
 -- drawn are those that the source gave; the message is read or as it was; and memory is refused only where it is

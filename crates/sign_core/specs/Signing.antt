@@ -23,7 +23,7 @@ use Rattle.sign_core.specs.Links.{AreMade, IsMade, signings_of}
 use Rattle.sign_core.specs.Once.{AreDrawsOf, AreFields, IsTreeDraw, randomizer_sizes, tree_sizes}
 use Rattle.sign_core.specs.Signer.{Ends, IsRead, KeepsAtRefusal, LacksTree, RefusesLate, UnlessAppended, UsesMemory}
 use Rattle.sign_core.specs.Signer.{View}
-use Rattle.sign_core.specs.Signer.{is_before_draws, is_fault, is_random_failed, signature_size}
+use Rattle.sign_core.specs.Signer.{is_before_caches, is_before_draws, is_fault, is_random_failed, signature_size}
 use Rattle.sign_core.specs.Signer.{state_of}
 use Rattle.sign_core.specs.World.{Chance, Draw, Outcome, State, acked, answered, bound_sound, extended, fulfilled}
 use Rattle.sign_core.specs.World.{open_on, requested_of}
@@ -176,6 +176,7 @@ pub record Binds {S R M : Type 0} (g : store.Ghosts S) (r : source.Ghosts R) (m 
   pub room : chance.has_room ≡ true
   pub does : Does g r m old new before after chance.given outcome answer
   pub keeps : KeepsAtRefusal g true (levels_of key.secret - level) old new answer
+  pub late : is_fault is_before_caches answer ≡ false
 
 -- ---- a name that is bound
 

@@ -8,7 +8,7 @@ ghost use Rattle.sign_core.specs.Textbook.{Trees, trees_of};
 ghost use Rattle.state_file.specs.Laws.{levels_of};
 ghost use Rattle.sign_core.specs.Records.{binding_in, deepest, has_moved};
 ghost use Rattle.sign_core.specs.Request.{IsScheme, Prepares};
-ghost use Rattle.sign_core.specs.Signer.{KeepsAll, Signs, caching, state_of};
+ghost use Rattle.sign_core.specs.Signer.{KeepsAll, KeepsForRepeat, Signs, is_before_repeat, is_fault, state_of};
 ghost use Rattle.sign_core.specs.Signing.{Binds, CanBind, IsSomeBinding, IsXmssKey, KeepsCapacity, RepeatsBinding};
 ghost use Rattle.sign_core.specs.Signing.{UnderKey};
 ghost use Rattle.sign_core.specs.Signing.{answered_with};
@@ -113,8 +113,9 @@ impl<S: Store, R: Source> Signer<S, R> {
             (vec_capacity out.old) (answered_with result out.new.items) }
         ensures empty { OnErr result (out.new.items ≡ []) }
         ensures capacity { KeepsCapacity out.old out.new }
-        // A name that is bound changes nothing but caches, whatever the answer.
-        ensures repeat { IsSome (binding_in self.old.records name.now) → self.new ≡ caching self.old self.new.cached }
+        // A name that is bound changes nothing but caches, whatever the answer; with 21 and 27 nothing.
+        ensures repeat { IsSome (binding_in self.old.records name.now) →
+            KeepsForRepeat self.old self.new (is_fault is_before_repeat result) }
     {
         if let Err(fault) = self.answer(name, message, out) {
             out.clear();
@@ -133,7 +134,8 @@ impl<S: Store, R: Source> Signer<S, R> {
         ensures step { Signs S.Store R.Source M.Message self.old self.new name.now message.old message.new
             (vec_capacity out.old) (answered_with result out.new.items) }
         ensures capacity { KeepsCapacity out.old out.new }
-        ensures repeat { IsSome (binding_in self.old.records name.now) → self.new ≡ caching self.old self.new.cached }
+        ensures repeat { IsSome (binding_in self.old.records name.now) →
+            KeepsForRepeat self.old self.new (is_fault is_before_repeat result) }
     {
         self.check_open()?;
         match self.ledger.find(name) {
@@ -153,7 +155,7 @@ impl<S: Store, R: Source> Signer<S, R> {
         ensures step { RepeatsBinding M.Message (state_of self.old) self.old.cached binding.now message.old message.new
             (vec_capacity out.old) (answered_with result out.new.items) }
         ensures capacity { KeepsCapacity out.old out.new }
-        ensures same { self.new ≡ caching self.old self.new.cached }
+        ensures keeps { KeepsForRepeat self.old self.new (is_fault is_before_repeat result) }
     {
         let mut caches = self.caches.take();
         let answer = self.repeat_by(&mut caches, binding, message, out);
@@ -173,6 +175,7 @@ impl<S: Store, R: Source> Signer<S, R> {
         ensures step { RepeatsBinding M.Message (state_of self.now) caches.old binding.now message.old message.new
             (vec_capacity out.old) (answered_with result out.new.items) }
         ensures capacity { KeepsCapacity out.old out.new }
+        ensures early { is_fault is_before_repeat result ≡ true → caches.new ≡ caches.old }
     {
         match Scheme::of(&self.ledger.key().secret) {
             Scheme::Chain(trees) => self.repeat_chain(caches, &trees, binding, message, out),

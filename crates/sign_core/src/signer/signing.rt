@@ -1,6 +1,6 @@
 //! Signing over a store: a name that is bound has its signature again, and a new one has the wanted records made.
 
-ghost use Rattle.std.specs.Prelude.{◌≡◌, ◌≢◌, ◌<◌, ◌+◌, ◌-◌, [], Some, length, vec_capacity, IfErr, IfOk, OnErr, OnOk};
+ghost use Rattle.std.specs.Prelude.{◌≡◌, ◌≢◌, ◌<◌, ◌+◌, ◌-◌, [], Some, true, length, vec_capacity, IfErr, IfOk, OnErr, OnOk};
 ghost use Rattle.typecodes.specs.Message.{Digests};
 ghost use Rattle.lmots.specs.Key.{message_digest_of};
 ghost use Rattle.xmss.specs.Digest.{message_digest_of as xmss_digest_of};
@@ -11,7 +11,7 @@ ghost use Rattle.sign_core.specs.Links.{AreTreesOf, trees_in};
 ghost use Rattle.sign_core.specs.Signing.{Binds, CanBind, ChainStands, DrawsTree, Extends, Fulfils, IsReady};
 ghost use Rattle.sign_core.specs.Signing.{IsSomeBinding, IsXmssKey, KeepsCapacity, RepeatsBinding, UnderKey};
 ghost use Rattle.sign_core.specs.Signing.{answered_with};
-ghost use Rattle.sign_core.specs.Signer.{signature_size, state_of};
+ghost use Rattle.sign_core.specs.Signer.{is_before_repeat, is_fault, signature_size, state_of};
 
 use crate::caches::Caches;
 use crate::fault::SignFault;
@@ -280,6 +280,7 @@ impl<S: Store, R: Source> Signer<S, R> {
         ensures step { RepeatsBinding M.Message (state_of self.now) caches.old binding.now message.old message.new
             (vec_capacity out.old) (answered_with result out.new.items) }
         ensures capacity { KeepsCapacity out.old out.new }
+        ensures early { is_fault is_before_repeat result ≡ true → caches.new ≡ caches.old }
     {
         let Binding {
             leaf,
@@ -330,6 +331,7 @@ impl<S: Store, R: Source> Signer<S, R> {
         ensures step { RepeatsBinding M.Message (state_of self.now) caches.old binding.now message.old message.new
             (vec_capacity out.old) (answered_with result out.new.items) }
         ensures capacity { KeepsCapacity out.old out.new }
+        ensures early { is_fault is_before_repeat result ≡ true → caches.new ≡ caches.old }
     {
         let leaf = binding.leaf;
         let root = self.ledger.key().root;

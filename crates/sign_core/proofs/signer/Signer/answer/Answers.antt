@@ -1,10 +1,11 @@
-use Rattle.std.proofs.Common.{rules, ◌≡◌, ◌∙◌, Err, ap, sym, subst, arith}
+use Rattle.std.proofs.Common.{rules, ◌≡◌, ◌∙◌, Err, ap, sym, subst}
 use Rattle.std.specs.Prelude.{vec_capacity}
 use Rattle.sign_core.specs.Signing.{answered_with}
 use Rattle.sign_core.specs.Records.{key_in}
-use Rattle.sign_core.specs.Signer.{IsSigner, KeepsAll, Signs}
+use Rattle.sign_core.specs.Signer.{IsSigner, KeepsForRepeat, Signs, is_before_repeat}
 use Rattle.sign_core.specs.Signing.{IsBindingOf}
 use Rattle.sign_core.specs.Ledger.{binding_kept}
+use Rattle.sign_core.proofs.Refusals.{same_kind}
 use Rattle.sign_core.proofs.Signs.{hindered_signs, repeats_signs}
 use Rattle.sign_core.proofs.signer.Signer.answer.Goals as goal
 
@@ -27,15 +28,9 @@ returns-in-Some-clause-step g c =
     let is : IsBindingOf v.records c.in-Some.binding key c.args.name.now =
     ap (λ w. binding_kept key.secret w.records c.args.name.now) (sym c.self.view_is) ∙ sym c.find.ensures ∙ c.in-Some.is in
     let new = c.repeat.new.self in
-    let same = c.repeat.ensures.same in
-    let keeps : KeepsAll v new = record {
-      store = ap (λ w. w.store) same;
-      random = ap (λ w. w.random) same;
-      records = ap (λ w. w.records) same;
-      is_open = ap (λ w. w.is_open) same;
-    } in
-    let spare : new.spare ≡ v.spare = ap (λ w. w.spare) same in
+    let answered = answered_with c.repeat.result c.repeat.new.out.items in
+    let keeps = subst (KeepsForRepeat v new) (sym (same_kind is_before_repeat c.repeat.result c.repeat.new.out.items)) c.repeat.ensures.keeps in
     repeats_signs g.S.Store g.R.Source g.M.Message v new c.args.name.now c.args.message.now c.repeat.new.message (vec_capacity c.args.out.now) key
-    c.in-Some.binding (answered_with c.repeat.result c.repeat.new.out.items) (subst (IsSigner g.S.Store) c.self.view_is c.self.invariant.0)
+    c.in-Some.binding answered (subst (IsSigner g.S.Store) c.self.view_is c.self.invariant.0)
     (λ left honest running since. g.met.S.Store.leaves_nothing_else v.store left honest running since)
-    keyed c.in_ok-check_open.ensures.open c.in_ok-check_open.ensures.stays is (c.repeat.ensures.step key keyed c.args.name.now is) keeps (omega (arith, spare))
+    keyed c.in_ok-check_open.ensures.open c.in_ok-check_open.ensures.stays is (c.repeat.ensures.step key keyed c.args.name.now is) keeps

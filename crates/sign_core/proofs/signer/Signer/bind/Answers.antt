@@ -49,7 +49,8 @@ returns-in_err-prepare-clause-step g c =
     (subst (IsSigner g.S.Store) c.self.view_is c.self.invariant.0)
     (λ left honest running since. g.met.S.Store.leaves_nothing_else v.store left honest running since)
     keyed c.requires.open c.requires.goes_on c.requires.unbound
-    (ap (λ w. deepest key.secret w.records) (sym c.self.view_is) ∙ sym c.deepest.ensures ∙ some) made.keeps made.spare made.does)
+    (ap (λ w. deepest key.secret w.records) (sym c.self.view_is) ∙ sym c.deepest.ensures ∙ some) made.keeps
+    made.caches made.spare made.does)
 
 pub returns-in-Chain-clause-step : goal.returns-in-Chain-clause-step
 returns-in-Chain-clause-step g c =

@@ -4,14 +4,15 @@ use Rattle.std.proofs.lemmas.List.{take_at}
 use Rattle.lmots.specs.Key.{message_digest_of}
 use Rattle.state_file.specs.Laws.{bottom_of}
 use Rattle.sign_core.specs.Records.{key_in}
-use Rattle.sign_core.specs.Signer.{state_of}
+use Rattle.sign_core.specs.Signer.{is_before_repeat, state_of}
 use Rattle.sign_core.specs.Links.{AreMade, IsTreeAt, trees_in}
 use Rattle.sign_core.specs.Signing.{IsBindingOf, Repeats, UnderKey, WritesChain}
 use Rattle.sign_core.specs.Signing.{answered_with}
 use Rattle.sign_core.specs.Textbook.{trees_of}
 use Rattle.sign_core.proofs.ChainParts.{links_pairs, same_key}
-use Rattle.sign_core.proofs.Repeats.{bound_chain, chain_read, changed, damaged_chain, is_found, lacks_cache, lacks_room, linked_ok, links_signs, none_made, same_size, signed_chain}
+use Rattle.sign_core.proofs.Repeats.{bound_chain, chain_read, changed, damaged_chain, is_found, lacks_cache, lacks_room, linked_ok, links_signs, none_made, placed_late, same_size, signed_chain}
 use Rattle.sign_core.proofs.LedgerReading.{key_levels}
+use Rattle.sign_core.proofs.Refusals.{never_such}
 use Rattle.sign_core.proofs.signer.Signer.repeat_chain.Goals as goal
 
 pub returns-then-ne-clause-step : goal.returns-then-ne-clause-step
@@ -155,3 +156,18 @@ returns-clause-step g c key keyed name kept =
     (ap (λ k. trees_of k.secret) (sym c.key.ensures.key ∙ own) ∙ c.requires.trees key keyed) signs
     (subst (λ k. WritesChain k.secret c.deref.result.now c.write_chain.new.into) c.key.ensures.key c.write_chain.ensures)
     (take_at c.write_chain.new.into _ c.make_room.new.out.len fits) (key, keyed)
+
+pub returns-in_err-make_room-clause-early : goal.returns-in_err-make_room-clause-early
+returns-in_err-make_room-clause-early g c early =
+    let answer : c.from_residual-in_err-make_room.result ≡ Err c.in_err-make_room.field-0.0 = search rules in
+    never_such is_before_repeat _ _ (answer ∙ ap Err c.in_err-make_room.ensures.refused) refl early
+
+pub returns-in_err-cache_bound-clause-early : goal.returns-in_err-cache_bound-clause-early
+returns-in_err-cache_bound-clause-early g c early =
+    let answer : c.from_residual-in_err-cache_bound.result ≡ Err c.in_err-cache_bound.field-0.0 = search rules in
+    never_such is_before_repeat _ _ (answer ∙ ap Err c.in_err-cache_bound.ensures.fault) refl early
+
+pub returns-in_err-map_err-clause-early : goal.returns-in_err-map_err-clause-early
+returns-in_err-map_err-clause-early g c early =
+    let answer : c.from_residual-in_err-map_err.result ≡ Err c.in_err-map_err.field-0.0 = search rules in
+    placed_late c.push_chain.result c.map_err.result c.in_err-map_err.field-0.0 _ c.map_err.ensures.cases c.in_err-map_err.was answer early

@@ -1,13 +1,14 @@
-use Rattle.std.proofs.Common.{rules, ◌≡◌, ◌∙◌, Some, Err, inr, sym, ap, subst}
+use Rattle.std.proofs.Common.{rules, ◌≡◌, ◌∙◌, Some, Err, inr, refl, sym, ap, subst}
 use Rattle.std.specs.Prelude.{length, vec_capacity}
 use Rattle.std.proofs.lemmas.List.{take_at}
 use Rattle.xmss.specs.Digest.{message_digest_of}
 use Rattle.sign_core.specs.Records.{key_in}
-use Rattle.sign_core.specs.Signer.{IsSigner, state_of}
+use Rattle.sign_core.specs.Signer.{IsSigner, is_before_repeat, state_of}
 use Rattle.sign_core.specs.Signing.{Repeats}
 use Rattle.sign_core.specs.Signing.{answered_with}
 use Rattle.sign_core.proofs.ChainParts.{same_key}
-use Rattle.sign_core.proofs.Repeats.{bound_xmss_leaf, changed, damaged_xmss, is_found, lacks_cache, lacks_room, same_size, signed_xmss, xmss_read}
+use Rattle.sign_core.proofs.Refusals.{never_such}
+use Rattle.sign_core.proofs.Repeats.{bound_xmss_leaf, changed, damaged_xmss, is_found, lacks_cache, lacks_room, placed_late, same_size, signed_xmss, xmss_read}
 use Rattle.sign_core.proofs.signer.Signer.repeat_xmss.Goals as goal
 
 pub returns-then-ne-clause-step : goal.returns-then-ne-clause-step
@@ -100,3 +101,18 @@ returns-clause-step g c key keyed name kept =
     (sym c.ne.ensures ∙ c.if-ne.false) c.map_err.ensures.cases c.in_ok-map_err.was
     (λ rest. c.xmss_link.ensures.sound key rest (c.requires.key key keyed) (ap (λ k. k.root) (sym own)))
     c.write_xmss.ensures (take_at c.write_xmss.new.into _ c.make_room.new.out.len fits)
+
+pub returns-in_err-make_room-clause-early : goal.returns-in_err-make_room-clause-early
+returns-in_err-make_room-clause-early g c early =
+    let answer : c.from_residual-in_err-make_room.result ≡ Err c.in_err-make_room.field-0.0 = search rules in
+    never_such is_before_repeat _ _ (answer ∙ ap Err c.in_err-make_room.ensures.refused) refl early
+
+pub returns-in_err-cache_xmss-clause-early : goal.returns-in_err-cache_xmss-clause-early
+returns-in_err-cache_xmss-clause-early g c early =
+    let answer : c.from_residual-in_err-cache_xmss.result ≡ Err c.in_err-cache_xmss.field-0.0 = search rules in
+    never_such is_before_repeat _ _ (answer ∙ ap Err c.in_err-cache_xmss.ensures.fault) refl early
+
+pub returns-in_err-map_err-clause-early : goal.returns-in_err-map_err-clause-early
+returns-in_err-map_err-clause-early g c early =
+    let answer : c.from_residual-in_err-map_err.result ≡ Err c.in_err-map_err.field-0.0 = search rules in
+    placed_late c.xmss_link.result c.map_err.result c.in_err-map_err.field-0.0 _ c.map_err.ensures.cases c.in_err-map_err.was answer early
