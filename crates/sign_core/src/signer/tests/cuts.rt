@@ -88,13 +88,25 @@ fn a_cut_append_is_answered_from_what_it_left(rt: HostRuntime) {
     );
 }
 
-// A source that ends after the lower tree leaves that tree for the next name, which draws from another tape.
-fn goes_on_with_the_tree(alloc: Global) -> Option<([usize; 2], bool)> {
+// The length of a store's file, and the signer of it, whose source is another tape.
+fn goes_on_by<'a>(
+    alloc: Global,
+    store: FileStore<MemoryDisk>,
+    tape: &'a [u8],
+) -> Option<(u64, InFile<'a>)> {
+    let mut disk = store.into_disk();
+    let len = disk.len().ok()?;
+    let signer = Signer::open(alloc, FileStore::open(disk).ok()?, TapeSource::new(tape)).ok()?;
+    Some((len, signer))
+}
+
+// A source that ends after the lower tree leaves that tree for the next name, which draws from another tape. The length
+// of the file after each of them.
+fn goes_on_with_the_tree(alloc: Global) -> Option<([usize; 2], bool, [u64; 2])> {
     let begin = counting::<128>(0);
     let rest = counting::<32>(128);
     let tape = counting::<160>(0);
-    let store = MemoryStore::with_limit(alloc, 100);
-    let mut signer = in_memory(alloc, TWO, store, &begin)?;
+    let mut signer = in_file(alloc, TWO, &begin)?;
     let calls = [
         Call::Sign(1, 1, Some(SignFault::RandomFailed)),
         Call::Left(&[31, 32]),
@@ -102,16 +114,20 @@ fn goes_on_with_the_tree(alloc: Global) -> Option<([usize; 2], bool)> {
     let first = first_other_call(alloc, &mut signer, &calls)?;
     let mut store = signer.into_store();
     let is_left = are_said(&mut store, 1, &[Said::Extend(1, 0, 48)], &tape)?;
-    let mut signer = Signer::open(alloc, store, TapeSource::new(&rest)).ok()?;
+    let (cut, mut signer) = goes_on_by(alloc, store, &rest)?;
     let second = first_other_call(alloc, &mut signer, &[Call::Sign(2, 2, None)])?;
     let mut store = signer.into_store();
     let is_bound = are_said(&mut store, 2, &[Said::Bound(2, 0, Some(128))], &tape)?;
-    Some(([first, second], is_left && is_bound))
+    let (whole, _signer) = goes_on_by(alloc, store, &[])?;
+    Some(([first, second], is_left && is_bound, [cut, whole]))
 }
 
 #[test]
 fn a_source_that_ends_leaves_the_tree(rt: HostRuntime) {
-    assert_eq!(rt; goes_on_with_the_tree(rt.alloc()), Some(([2, 1], true)));
+    assert_eq!(rt;
+        goes_on_with_the_tree(rt.alloc()),
+        Some(([2, 1], true, [513, 769]))
+    );
 }
 
 // The disk of a key in a file after its first name, where the disk's n-th call from the opening on fails and the name

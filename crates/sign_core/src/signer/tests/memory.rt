@@ -292,8 +292,16 @@ fn answered_in_memory(
 
 // A new key in memory, at the second try where memory was refused at the first.
 fn created_in_memory(alloc: Global, text: &str) -> Option<MemoryStore> {
+    created_within(alloc, text, 200)
+}
+
+// The same in a store that takes so many records.
+fn created_within(alloc: Global, text: &str, limit: u32) -> Option<MemoryStore> {
     let tape = [7; 48];
-    let store = MemoryStore::with_limit(alloc, 200);
+    let store = MemoryStore::with_limit(alloc, limit);
+    if store.limit() == 0 {
+        return None;
+    }
     let spec = Spec::parse(text).ok()?;
     match Signer::create(alloc, spec, store, TapeSource::new(&tape)) {
         Ok(signer) => Some(signer.into_store()),
@@ -425,6 +433,95 @@ fn used_trees_begin_anew_at_last(rt: HostRuntime) {
         goes_on_anew(rt.alloc(), store, &[30, 31, 31], 101),
         Some((true, 3992))
     );
+}
+
+// What a first name answers under a key of two levels whose store takes two records, where it wants a tree and the
+// binding, and how many leaves are left.
+fn wants_more_than_fits(alloc: Global) -> Option<(Result<(), SignFault>, bool)> {
+    let mut out = Vec::new(alloc);
+    let mut signer = opened_on(alloc, created_within(alloc, TWO, 2)?, 50)?;
+    let (answer, _) = answered_in_memory(&mut signer, 1, &mut out)?;
+    let is_left = signer.left().as_slice() == [32, 0].as_slice();
+    let mut store = signer.into_store();
+    Some((answer, is_left && store.load(1) == Ok(None)))
+}
+
+#[test]
+fn a_full_store_is_found_at_last(rt: HostRuntime) {
+    let wanted = (Err(SignFault::LedgerFull), true);
+    assert_eq!(rt; wants_more_than_fits(rt.alloc()), Some(wanted));
+}
+
+// The first byte of the I of a key of more levels.
+fn first_of_identifier(signer: &Numbered) -> Option<u8> {
+    match &signer.ledger.key().secret {
+        Secret::Hss { identifier, .. } => identifier.first().copied(),
+        Secret::Lms { .. } | Secret::Xmss { .. } => None,
+    }
+}
+
+// What a first name answers under a key of two levels whose source gives the key's I again, and the length of the
+// file then.
+fn draws_again(alloc: Global) -> Option<(Result<(), SignFault>, u64)> {
+    let mut out = Vec::new(alloc);
+    let signer = created(alloc, TWO)?;
+    let next = first_of_identifier(&signer)?;
+    let signer = reopened(alloc, signer, next)?;
+    let (signer, answer) = answered(alloc, signer, 1, 1, &mut out)?;
+    Some((answer, len_of(signer)?))
+}
+
+#[test]
+fn a_repeated_draw_is_found_at_last(rt: HostRuntime) {
+    let wanted = (Err(SignFault::RandomRepeated), 257);
+    assert_eq!(rt; draws_again(rt.alloc()), Some(wanted));
+}
+
+// The signer of a key in memory, opened again after the append of its first name was cut, where its source begins
+// with the number 70.
+fn cut_name(alloc: Global, cut: Cut) -> Option<NumberedInMemory> {
+    let mut out = Vec::new(alloc);
+    let mut store = created_in_memory(alloc, LMS)?;
+    store.cut_at(1, cut);
+    let mut signer = opened_on(alloc, store, 50)?;
+    let (answer, _) = answered_in_memory(&mut signer, 1, &mut out)?;
+    if answer != Err(SignFault::StoreFailed) {
+        return None;
+    }
+    let mut store = signer.into_store();
+    store.reopen();
+    opened_on(alloc, store, 70)
+}
+
+// Whether a name that such a cut left is bound: it has a signature with nothing drawn, at the second try where memory
+// was refused at the first, and another message has none.
+fn is_bound_after_a_cut(alloc: Global) -> Option<bool> {
+    let mut out = Vec::new(alloc);
+    let mut signer = cut_name(alloc, Cut::New)?;
+    let name = Name::new(&name_of(1)).ok()?;
+    let mut answer = request(&mut signer, &name, 1, &mut out)?;
+    if answer == Err(SignFault::OutOfMemory) {
+        answer = request(&mut signer, &name, 1, &mut out)?;
+    }
+    let changed = request(&mut signer, &name, 2, &mut out)?;
+    let is_kept = signer.random.next == 70 && signer.left().as_slice() == [31].as_slice();
+    Some(answer == Ok(()) && changed == Err(SignFault::Changed) && is_kept)
+}
+
+// Whether a name that such a cut didn't leave is free, and another name gets its leaf.
+fn is_free_after_a_cut(alloc: Global) -> Option<bool> {
+    let mut out = Vec::new(alloc);
+    let mut signer = cut_name(alloc, Cut::Old)?;
+    let is_free = signer.left().as_slice() == [32].as_slice();
+    let (answer, _) = answered_in_memory(&mut signer, 2, &mut out)?;
+    let is_left = signer.left().as_slice() == [31].as_slice();
+    Some(is_free && answer == Ok(()) && is_left && out.get(..4) == Some([0; 4].as_slice()))
+}
+
+#[test]
+fn a_cut_name_is_answered_at_last(rt: HostRuntime) {
+    assert_eq!(rt; is_bound_after_a_cut(rt.alloc()), Some(true));
+    assert_eq!(rt; is_free_after_a_cut(rt.alloc()), Some(true));
 }
 
 // A store of a key whose root isn't that of its tree.
