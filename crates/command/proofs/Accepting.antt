@@ -409,7 +409,7 @@ unfolding clap_on_literals
 hyphens_fail [] none = cc
 hyphens_fail (word ∷ words) none = cc
 
-nothing_fails : fault_of hbsign_app [] ≢ []
+pub nothing_fails : fault_of hbsign_app [] ≢ []
 unfolding clap_on_literals
 nothing_fails none = cc
 
@@ -420,7 +420,7 @@ unfolding walk_fault
 first_passes word words none = (none_of _ _ (none_of _ _ none).0).0
 
 -- the first word of a line that is accepted is a command's name
-data IsCommandName (word : Text) : Type 0 where
+pub data IsCommandName (word : Text) : Type 0 where
   is_make : word ≡ codes "make" → IsCommandName word
   is_sign : word ≡ codes "sign" → IsCommandName word
   is_verify : word ≡ codes "verify" → IsCommandName word
@@ -446,7 +446,7 @@ other_fails word words text none no_make no_sign no_verify no_retire no_audit no
       ]
 ]
 
-is_named : (word : Text) (words : List Text) → IsUtf8 word → fault_of hbsign_app (word ∷ words) ≡ [] → IsCommandName word
+pub is_named : (word : Text) (words : List Text) → IsUtf8 word → fault_of hbsign_app (word ∷ words) ≡ [] → IsCommandName word
 is_named word words text none = elim (cases_Bool (bytes_eq (codes "make") word)) [
   | inl same ↦ is_make (sym ((bytes_eq-Decides (codes "make") word).0 same))
   | inr no_make ↦ elim (cases_Bool (bytes_eq (codes "sign") word)) [
@@ -470,7 +470,7 @@ is_named word words text none = elim (cases_Bool (bytes_eq (codes "make") word))
   ]
 ]
 
-ok_same : {A E : Type 0} (a b : A) → ◌≡◌ {A = Result A E} (Ok a) (Ok b) → a ≡ b
+pub ok_same : {A E : Type 0} (a b : A) → ◌≡◌ {A = Result A E} (Ok a) (Ok b) → a ≡ b
 ok_same a b same = cc
 
 -- the task of a line `retire` is that of its number
@@ -535,7 +535,7 @@ of_audit_given words None files task same found = absurd cc
 of_audit_given words (Some public) None task same found = absurd cc
 
 -- the task that is found in a line of a command is the command's
-found_in : (name : Text) (s : Shape) (word : Text) (names : List Text) (task : Task) → Enters name s → word ≡ name
+pub found_in : (name : Text) (s : Shape) (word : Text) (names : List Text) (task : Task) → Enters name s → word ≡ name
     → task_found (subcommand_of hbsign_app (word ∷ names)) ≡ Ok task → task_named name (rows_after s.rules [] names) ≡ Ok task
 found_in name s word names task enters is found =
     sym (ap task_found (entered_rows name s names enters)) ∙ subst (λ w. task_found (subcommand_of hbsign_app (w ∷ names)) ≡ Ok task) is found

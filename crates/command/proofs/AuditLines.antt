@@ -17,13 +17,13 @@ use Rattle.command.specs.Audit.{anchor_with, tag_in}
 use Rattle.command.specs.AuditGiven.{Pair, pairs_in, paths_of}
 use Rattle.command.specs.Line.{FindsTask, GivesValues, IsAuditLine, IsCommandLine, IsLineOf, IsPlainWord, IsShownLineOf, Task, audit, audit_anchored, audit_given, audit_given_pairs, audit_given_task, hbsign_app, make, retire, serve, sign, task_found, verify}
 use Rattle.command.specs.Number.{number_in}
-use Rattle.command.proofs.Walking.{AllTaken, Goes, IsTaken, TakesAll, any_taken, at, audit_given_shape, audit_shape, end_fault, enters_audit, enters_audit_given, first_held, goes, is_no_hyphen, plain_taken, stays, takes_line, turn_passes, word_walks}
+use Rattle.command.proofs.Walking.{AllTaken, Goes, IsTaken, TakesAll, any_taken, at, audit_given_shape, audit_shape, end_fault, enters_audit, enters_audit_given, first_collected, goes, is_no_hyphen, plain_taken, stays, takes_line, turn_passes, word_walks}
 use Rattle.command.proofs.WithOption.{after_value_word, after_word, finds_make, finds_serve, finds_sign, goes_line, goes_on, value_turn_passes, value_walks}
 
 -- ---- audit
 
 abbrev audit_1 : Text → Collected
-audit_1 state = first_held (codes "STATE") state
+audit_1 state = first_collected (codes "STATE") state
 
 audit_takes : (state : Text) → TakesAll audit_shape 1 nothing_collected (state ∷ []) 2 (audit_1 state)
 audit_takes state = (audit_1 state, record { before = refl; after = refl; well = refl }, (refl, refl))
@@ -86,7 +86,7 @@ finds_audit words state (Some anchor) line =
 
 -- what the parser has after these values: the public key, and then files
 abbrev given_1 : Text → Collected
-given_1 public = first_held (codes "PUBLIC") public
+given_1 public = first_collected (codes "PUBLIC") public
 
 abbrev after_files : Bool → Text → List Text → Walk
 after_files b public files = record {

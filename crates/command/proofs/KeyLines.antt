@@ -11,7 +11,7 @@ use Rattle.state_file.specs.declared.store.file_store.FileStore.{FileStore}
 use Rattle.command.specs.declared.answer.Done.{Done}
 use Rattle.command.specs.declared.refusal.Refusal.{Refusal}
 use Rattle.command.specs.declared.trace.Role.TheVariants as role
-use Rattle.command.specs.Files.{FilesSeen, ShowsContent}
+use Rattle.command.specs.Files.{FilesSeen, KeepsContents, KeepsOtherContents, ShowsContent}
 use Rattle.command.specs.Make.{MakesIn, MakesOpened, make_answer}
 use Rattle.command.specs.Serve.{ServesIn, ServesOpened}
 use Rattle.command.specs.Sign.{DeliversSigned, SignsAndDelivers, SignsFile, SignsIn, SignsOpened, ready_to_sign, sign_answer}
@@ -22,7 +22,7 @@ use Rattle.command.specs.Trace.{Happening, made, opened}
 pub makes_in : {K R : Type 0} {bound : _} (d : disk.Ghosts K) (g : store.Ghosts (FileStore K bound)) (r : source.Ghosts R) (files : FilesSeen K)
     (spec : Spec) (state public text random : List ℕ) (before after : K) (content : List ℕ → Option (List ℕ)) (published : Result PublicBytes Refusal)
     (answer : Result Done Refusal) (old first last new : List Happening) → IsSpec spec → text ≡ spec_text spec
-    → ((other : List ℕ) → other ≢ state → content other ≡ files.content other) → files.IsOpenedDisk before
+    → KeepsOtherContents state files.content content → files.IsOpenedDisk before
     → MakesOpened {bound = bound} d g r content before after spec public random published first last → first ≡ old ++ made state ∷ []
     → new ≡ last → files.IsClosedDisk after → answer ≡ make_answer published → MakesIn {bound = bound} d g r files state public text random answer old new
 makes_in {bound = bound} d g r files spec state public text random before after content published answer old first last new is spelled known was makes begins ends closed answers =
@@ -66,7 +66,7 @@ signs_opened {bound = bound} d g r content before after name message out random 
 pub signs_in : {K R : Type 0} {bound : _} (d : disk.Ghosts K) (g : store.Ghosts (FileStore K bound)) (r : source.Ghosts R) (files : FilesSeen K)
     (state given name message out random : List ℕ) (before after : K) (content : List ℕ → Option (List ℕ)) (signed : Result ℕ Refusal)
     (answer : Result Done Refusal) (old first last new : List Happening) → given ≡ name → IsName name
-    → ((other : List ℕ) → content other ≡ files.content other) → files.IsOpenedDisk before
+    → KeepsContents files.content content → files.IsOpenedDisk before
     → SignsOpened {bound = bound} d g r content before after given message out random signed first last → first ≡ old ++ opened role.State state ∷ []
     → new ≡ last → files.IsClosedDisk after → answer ≡ sign_answer name signed
     → SignsIn {bound = bound} d g r files state name message out random answer old new
@@ -82,7 +82,7 @@ signs_in {bound = bound} d g r files state given name message out random before 
 pub serves_in : {K R I W : Type 0} {bound : _} (d : disk.Ghosts K) (g : store.Ghosts (FileStore K bound)) (r : source.Ghosts R) (m : message.Ghosts I)
     (contents : W → Option (List ℕ)) (files : FilesSeen K) (state random : List ℕ) (before after : K) (content : List ℕ → Option (List ℕ))
     (from to : I × W) (served : Result ℕ Refusal) (old first last new : List Happening)
-    → ((other : List ℕ) → content other ≡ files.content other) → files.IsOpenedDisk before
+    → KeepsContents files.content content → files.IsOpenedDisk before
     → ServesOpened {bound = bound} d g r m contents content before after random from to served first last → first ≡ old ++ opened role.State state ∷ []
     → new ≡ last → files.IsClosedDisk after → ServesIn {bound = bound} d g r m contents files state random from to served old new
 serves_in {bound = bound} d g r m contents files state random before after content from to served old first last new known was serves begins ends closed =

@@ -22,3 +22,4 @@ pub mod WithOption
 pub mod MessageReading
 pub mod Numbers
 pub mod SigningReads
+pub mod ServeLines

@@ -13,7 +13,7 @@ odd_has_none (message ∷ signature ∷ paths) zero odd = absurd (omega (arith, 
 odd_has_none (message ∷ signature ∷ paths) (suc half) odd =
     ap (option_map (λ pairs. (message, signature) ∷ pairs)) (odd_has_none paths half (omega (arith, odd)))
 
--- what one pair more in front is behind
+-- what one pair more in front gives
 in_front : (pair : Pair) (found : Option (List Pair)) (pairs : List Pair) → option_map (λ l. pair ∷ l) found ≡ Some pairs
     → (later : List Pair) × (found ≡ Some later) × (pair ∷ later ≡ pairs)
 in_front pair None pairs same = absurd cc

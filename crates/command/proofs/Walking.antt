@@ -261,21 +261,21 @@ unfolding clap_on_literals
 enters_verify = record { step = refl; well = refl; rows = λ words. refl; fault = λ words. refl }
 
 -- what the parser has after a first word,
-abbrev pub first_held : Text → Text → Collected
-first_held id word = record nothing_collected { pending = Some (id, word ∷ []) }
+abbrev pub first_collected : Text → Text → Collected
+first_collected id word = record nothing_collected { pending = Some (id, word ∷ []) }
 
 -- and after one more
-abbrev pub next_held : Shape → ℕ → Text → Collected → Collected
-next_held s position word h = (to_positional s.rules (arg_by_index s.rules position) word (at false h position) h).held
+abbrev pub next_collected : Shape → ℕ → Text → Collected → Collected
+next_collected s position word h = (to_positional s.rules (arg_by_index s.rules position) word (at false h position) h).held
 
 abbrev pub verify_1 : Text → Collected
-verify_1 p = first_held (codes "PUBLIC") p
+verify_1 p = first_collected (codes "PUBLIC") p
 
 abbrev pub verify_2 : Text → Text → Collected
-verify_2 p m = next_held verify_shape 2 m (verify_1 p)
+verify_2 p m = next_collected verify_shape 2 m (verify_1 p)
 
 abbrev pub verify_3 : Text → Text → Text → Collected
-verify_3 p m s = next_held verify_shape 3 s (verify_2 p m)
+verify_3 p m s = next_collected verify_shape 3 s (verify_2 p m)
 
 pub takes_public : (p : Text) → TakesValue verify_shape 1 nothing_collected p (verify_1 p)
 takes_public p = record { before = refl; after = refl; well = refl }
@@ -303,10 +303,10 @@ unfolding clap_on_literals
 enters_retire = record { step = refl; well = refl; rows = λ words. refl; fault = λ words. refl }
 
 abbrev pub retire_1 : Text → Collected
-retire_1 state = first_held (codes "STATE") state
+retire_1 state = first_collected (codes "STATE") state
 
 abbrev pub retire_2 : Text → Text → Collected
-retire_2 state upto = next_held retire_shape 2 upto (retire_1 state)
+retire_2 state upto = next_collected retire_shape 2 upto (retire_1 state)
 
 pub takes_state : (state : Text) → TakesValue retire_shape 1 nothing_collected state (retire_1 state)
 takes_state state = record { before = refl; after = refl; well = refl }

@@ -10,7 +10,7 @@ use Rattle.clap.proofs.OnLiterals.{clap_on_literals}
 use Rattle.command.specs.Argument.{default_random}
 use Rattle.command.specs.Line.{FindsTask, IsLineWithOption, IsPlainWord, hbsign_app, make, serve, sign, task_found}
 use Rattle.command.proofs.Accepting.{none_of}
-use Rattle.command.proofs.Walking.{Enters, Goes, TakesAll, at, end_fault, entered_faults, entered_rows, enters_make, enters_serve, enters_sign, first_held, goes, is_no_hyphen, make_shape, next_held, over_all, plain_taken, serve_shape, sign_shape, stays, takes_line}
+use Rattle.command.proofs.Walking.{Enters, Goes, TakesAll, at, end_fault, entered_faults, entered_rows, enters_make, enters_serve, enters_sign, first_collected, goes, is_no_hyphen, make_shape, next_collected, over_all, plain_taken, serve_shape, sign_shape, stays, takes_line}
 
 -- a walk after one more word, and after a word that is an option's value
 abbrev pub after_word : Shape → Walk → Text → Walk
@@ -74,13 +74,13 @@ goes_line words name names s to enters same (ends, passes) well =
 -- ---- make
 
 abbrev make_1 : Text → Collected
-make_1 state = first_held (codes "STATE") state
+make_1 state = first_collected (codes "STATE") state
 
 abbrev make_2 : Text → Text → Collected
-make_2 state public = next_held make_shape 2 public (make_1 state)
+make_2 state public = next_collected make_shape 2 public (make_1 state)
 
 abbrev make_3 : Text → Text → Text → Collected
-make_3 state public spec = next_held make_shape 3 spec (make_2 state public)
+make_3 state public spec = next_collected make_shape 3 spec (make_2 state public)
 
 make_takes : (state public spec : Text) → TakesAll make_shape 1 nothing_collected (state ∷ public ∷ spec ∷ []) 4 (make_3 state public spec)
 make_takes state public spec = (make_1 state, record { before = refl; after = refl; well = refl }, (make_2 state public, record { before = refl; after = refl; well = refl }, (make_3 state public spec, record { before = refl; after = refl; well = refl }, (refl, refl))))
@@ -131,16 +131,16 @@ finds_make words state public spec random (inr (same, plain, file)) =
 -- ---- sign
 
 abbrev sign_1 : Text → Collected
-sign_1 state = first_held (codes "STATE") state
+sign_1 state = first_collected (codes "STATE") state
 
 abbrev sign_2 : Text → Text → Collected
-sign_2 state name = next_held sign_shape 2 name (sign_1 state)
+sign_2 state name = next_collected sign_shape 2 name (sign_1 state)
 
 abbrev sign_3 : Text → Text → Text → Collected
-sign_3 state name message = next_held sign_shape 3 message (sign_2 state name)
+sign_3 state name message = next_collected sign_shape 3 message (sign_2 state name)
 
 abbrev sign_4 : Text → Text → Text → Text → Collected
-sign_4 state name message out = next_held sign_shape 4 out (sign_3 state name message)
+sign_4 state name message out = next_collected sign_shape 4 out (sign_3 state name message)
 
 sign_takes : (state name message out : Text) → TakesAll sign_shape 1 nothing_collected (state ∷ name ∷ message ∷ out ∷ []) 5 (sign_4 state name message out)
 sign_takes state name message out = (sign_1 state, record { before = refl; after = refl; well = refl }, (sign_2 state name, record { before = refl; after = refl; well = refl }, (sign_3 state name message, record { before = refl; after = refl; well = refl }, (sign_4 state name message out, record { before = refl; after = refl; well = refl }, (refl, refl)))))
@@ -191,7 +191,7 @@ finds_sign words state name message out random (inr (same, plain, file)) =
 -- ---- serve
 
 abbrev serve_1 : Text → Collected
-serve_1 state = first_held (codes "STATE") state
+serve_1 state = first_collected (codes "STATE") state
 
 serve_takes : (state : Text) → TakesAll serve_shape 1 nothing_collected (state ∷ []) 2 (serve_1 state)
 serve_takes state = (serve_1 state, record { before = refl; after = refl; well = refl }, (refl, refl))

@@ -98,6 +98,14 @@ FailsToHold role path refusal old new =
     ((refusal ≡ refused.FileFailed) × (new ≡ old ++ not_opened role path ∷ []))
     ⊎ CantHold role refusal (old ++ opened role path ∷ []) new
 
+-- What the file of each path holds is as it was, where it is known.
+abbrev pub KeepsContents : (old new : List ℕ → Option (List ℕ)) → Type 0
+KeepsContents old new = (path : List ℕ) → new path ≡ old path
+
+-- .. but for the file of this path
+abbrev pub KeepsOtherContents : (path : List ℕ) → (old new : List ℕ → Option (List ℕ)) → Type 0
+KeepsOtherContents path old new = (other : List ℕ) → other ≢ path → new other ≡ old other
+
 -- What is seen of the files of a signer: what each path's file holds where that is known, whether a disk is as opening
 -- a state file gives it, and whether it is that of the state file that was closed last.
 pub record FilesSeen (K : Type 0) : Type 1 where

@@ -18,7 +18,7 @@ use Rattle.command.specs.declared.refusal.Refusal.TheVariants.{BadSpec, FileFail
 use Rattle.command.specs.declared.trace.Role.TheVariants as role
 use Rattle.command.specs.Argument.{random_rule, required_rule}
 use Rattle.command.specs.FileDisk.{IsStateRefusal}
-use Rattle.command.specs.Files.{FilesSeen, ShowsContent}
+use Rattle.command.specs.Files.{FilesSeen, KeepsOtherContents, ShowsContent}
 use Rattle.command.specs.KeyFile.{MakesOn, refused_with}
 use Rattle.command.specs.Signing.{PublicBytes, Publishes}
 use Rattle.command.specs.Trace.{Happening, made, making, not_opened, not_writable, opened, writable}
@@ -83,7 +83,7 @@ MakesAt {K} {R} {bound} d g r files spec state public random answer old new =
     ((refusal : Refusal) × IsStateRefusal refusal × (answer ≡ Err refusal)
     × (new ≡ old ++ making {A = K} state (Err refusal) ∷ []))
     ⊎ ((before after : K) × (content : List ℕ → Option (List ℕ)) × (published : Result PublicBytes Refusal)
-    × ((other : List ℕ) → other ≢ state → content other ≡ files.content other) × files.IsOpenedDisk before
+    × KeepsOtherContents state files.content content × files.IsOpenedDisk before
     × MakesOpened {bound = bound} d g r content before after spec public random published (old ++ made state ∷ []) new
     × files.IsClosedDisk after × (answer ≡ make_answer published))
 

@@ -1,5 +1,7 @@
 -- What a run of the program does: what it prints, and what it does to files.
-use Rattle.std.specs.Prelude.{ℕ, List, Result, ◌≡◌, ◌⊎◌, codes, ◌<◌, length, Err, [], string_bytes}
+use Rattle.std.specs.Prelude.{ℕ, List, Result, ◌≡◌, ◌⊎◌, ◌∷◌, codes, ◌<◌, length, Err, [], string_bytes}
+use Rattle.std.specs.Prelude.{Bool, true, false}
+use Rattle.std.specs.Str.{bytes_eq}
 use Rattle.typecodes.specs.declared.message.Message as message
 use Rattle.sign_core.specs.declared.source.Source as source
 use Rattle.state_file.specs.declared.disk.Disk as disk
@@ -80,30 +82,64 @@ abbrev pub Refuses : Taken → Taken → Taken → Taken → Type 0
 Refuses old new errors_old errors_new =
     RefusesLine old new errors_old errors_new ⊎ RefusesWord old new errors_old errors_new
 
--- What comes of a line with this fault: the text of help, the version, nothing on the output and status 2, or the
--- answer that there is no memory.
-abbrev pub Explains : LineFault → Taken → Taken → ℕ → Type 0
-Explains (fault.Help text) old new status = Helps (string_bytes text) old new status
-Explains fault.Version old new status = Helps version_line old new status
-Explains (fault.Refused text) old new status = (status ≡ 2) × (new ≡ old)
-Explains fault.OutOfMemory old new status = ReportsRequest (Err OutOfMemory) old new status
+-- whether a line begins with the word `serve`, so that its output is for replies alone
+abbrev pub begins_with_serve : List (List ℕ) → Bool
+begins_with_serve [] = false
+begins_with_serve (word ∷ words) = bytes_eq word (codes "serve")
+
+-- That there is no memory is reported: on the output, as an answer is; or, where the output is for replies alone, on
+-- that for errors.
+abbrev pub ReportsLack : Bool → (old new errors_old errors_new : Taken) → ℕ → Type 0
+ReportsLack false old new errors_old errors_new status =
+    ReportsRequest (Err OutOfMemory) old new status × (errors_new ≡ errors_old)
+ReportsLack true old new errors_old errors_new status =
+    (new ≡ old) × ReportsServing (Err OutOfMemory) errors_old errors_new status
+
+-- What comes of a line with this fault: the text of help, the version, a text for errors and status 2, or the answer
+-- that there is no memory.
+abbrev pub Explains : Bool → LineFault → (old new errors_old errors_new : Taken) → ℕ → Type 0
+Explains serves (fault.Help text) old new errors_old errors_new status =
+    Helps (string_bytes text) old new status × (errors_new ≡ errors_old)
+Explains serves fault.Version old new errors_old errors_new status =
+    Helps version_line old new status × (errors_new ≡ errors_old)
+Explains serves (fault.Refused text) old new errors_old errors_new status =
+    (status ≡ 2) × RefusesLine old new errors_old errors_new
+Explains serves fault.OutOfMemory old new errors_old errors_new status =
+    ReportsLack serves old new errors_old errors_new status
 
 -- The words have a fault, of which this comes. No line of a text of help can be taken for an answer's. The input is as
 -- it was.
 abbrev pub ExplainsLine : {I O : Type 0} → OutputSeen O → List (List ℕ) → (old new : Streams I O) → ℕ → Type 0
 ExplainsLine o words old new status =
     (why : LineFault) × HasLineFault words why × HasText why
-    × Explains why (taken o.contents o.failures old.output) (taken o.contents o.failures new.output) status
+    × Explains (begins_with_serve words) why (taken o.contents o.failures old.output)
+    (taken o.contents o.failures new.output) old.errors new.errors status
     × (new.input ≡ old.input)
 
 -- Memory was refused to the reader of the line: this is reported, no file was opened, and the input is as it was.
-abbrev pub ReportsNoMemory : {I O : Type 0} → OutputSeen O → Type 0 → (before after : List Happening)
+abbrev pub ReportsNoMemory : {I O : Type 0} → OutputSeen O → List (List ℕ) → Type 0 → (before after : List Happening)
     → (old new : Streams I O) → ℕ → Type 0
-ReportsNoMemory o refused before after old new status =
+ReportsNoMemory o words refused before after old new status =
     refused × (after ≡ before)
-    × ReportsRequest (Err OutOfMemory) (taken o.contents o.failures old.output) (taken o.contents o.failures new.output)
-    status
+    × ReportsLack (begins_with_serve words) (taken o.contents o.failures old.output)
+    (taken o.contents o.failures new.output) old.errors new.errors status
     × (new.input ≡ old.input)
+
+-- The output for errors may have the line of a serving: the words are a line of `serve`; or they begin with this word,
+-- and memory was refused to the reader of the line.
+abbrev pub MayReportServing : List (List ℕ) → (refused : Type 0) → Type 0
+MayReportServing words refused = AsksToServe words ⊎ ((begins_with_serve words ≡ true) × refused)
+
+-- The output has replies and nothing else: it is as it was, or the requests of the input were served, each by a reply
+-- on it.
+abbrev pub HasRepliesAlone : {K R I O : Type 0} {bound : _} → disk.Ghosts K → store.Ghosts (FileStore K bound)
+    → source.Ghosts R → message.Ghosts I → OutputSeen O → FilesSeen K → (before after : List Happening)
+    → (old new : Streams I O) → Type 0
+HasRepliesAlone d g r m o files before after old new =
+    (taken o.contents o.failures new.output ≡ taken o.contents o.failures old.output)
+    ⊎ ((state : List ℕ) × (random : List ℕ) × (served : Result ℕ Refusal)
+    × ServesIn d g r m o.contents files state random (old.input, old.output) (new.input, new.output) served
+    before after)
 
 -- What a run of the program on these words does to files, its input and its outputs: of words without a fault it serves
 -- some task, which `clap` finds in them, and where the words are texts, they are a line of this task; of others it does
@@ -115,12 +151,12 @@ Runs d g r m o words files refused before after old new status =
     ((line_faults words ≡ []) × ((task : Task) × FindsTask words task × (AreTexts words → IsLineOf words task)
     × ReportsTask d g r m o files task before after old new status))
     ⊎ ((after ≡ before) × ExplainsLine o words old new status)
-    ⊎ ReportsNoMemory o refused before after old new status
+    ⊎ ReportsNoMemory o words refused before after old new status
 
 -- Of a line of a task it serves the task, unless there is no memory.
 abbrev pub RunsTask : {K R I O : Type 0} {bound : _} → disk.Ghosts K → store.Ghosts (FileStore K bound)
-    → source.Ghosts R → message.Ghosts I → OutputSeen O → FilesSeen K → Task → Type 0
+    → source.Ghosts R → message.Ghosts I → OutputSeen O → List (List ℕ) → FilesSeen K → Task → Type 0
     → (before after : List Happening) → (old new : Streams I O) → ℕ → Type 0
-RunsTask d g r m o files task refused before after old new status =
+RunsTask d g r m o words files task refused before after old new status =
     ReportsTask d g r m o files task before after old new status
-    ⊎ ReportsNoMemory o refused before after old new status
+    ⊎ ReportsNoMemory o words refused before after old new status

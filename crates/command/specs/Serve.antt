@@ -12,7 +12,7 @@ use Rattle.command.specs.declared.serve.Serve.{Serve}
 use Rattle.command.specs.declared.trace.Role.TheVariants as role
 use Rattle.command.specs.Argument.{random_rule, required_rule}
 use Rattle.command.specs.FileDisk.{IsStateRefusal}
-use Rattle.command.specs.Files.{FilesSeen, ShowsContent}
+use Rattle.command.specs.Files.{FilesSeen, KeepsContents, ShowsContent}
 use Rattle.command.specs.KeyFile.{ServesOn}
 use Rattle.command.specs.Trace.{Happening, not_opened, opened, opening_state}
 
@@ -47,7 +47,7 @@ ServesIn {K} {R} {I} {W} {bound} d g r m contents files state random from to ser
     ((refusal : Refusal) × IsStateRefusal refusal × (served ≡ Err refusal) × (to ≡ from)
     × (new ≡ old ++ opening_state {A = K} state (Err refusal) ∷ []))
     ⊎ ((before after : K) × (content : List ℕ → Option (List ℕ))
-    × ((other : List ℕ) → content other ≡ files.content other) × files.IsOpenedDisk before
+    × KeepsContents files.content content × files.IsOpenedDisk before
     × ServesOpened {bound = bound} d g r m contents content before after random from to served
     (old ++ opened role.State state ∷ []) new
     × files.IsClosedDisk after)

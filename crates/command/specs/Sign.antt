@@ -16,7 +16,7 @@ use Rattle.command.specs.declared.trace.Role.{Role}
 use Rattle.command.specs.declared.trace.Role.TheVariants as role
 use Rattle.command.specs.Argument.{random_rule, required_rule}
 use Rattle.command.specs.FileDisk.{IsStateRefusal}
-use Rattle.command.specs.Files.{FilesSeen, ShowsContent}
+use Rattle.command.specs.Files.{FilesSeen, KeepsContents, ShowsContent}
 use Rattle.command.specs.KeyFile.{SignsOn}
 use Rattle.command.specs.Signing.{Delivers}
 use Rattle.command.specs.Trace.{Happening, ReadsOnce, not_opened, not_writable, opened, opening_state, writable}
@@ -121,7 +121,7 @@ SignsAt {K} {R} {bound} d g r files state name message out random answer old new
     ((refusal : Refusal) × IsStateRefusal refusal × (answer ≡ Err refusal)
     × (new ≡ old ++ opening_state {A = K} state (Err refusal) ∷ []))
     ⊎ ((before after : K) × (content : List ℕ → Option (List ℕ)) × (signed : Result ℕ Refusal)
-    × ((other : List ℕ) → content other ≡ files.content other) × files.IsOpenedDisk before
+    × KeepsContents files.content content × files.IsOpenedDisk before
     × SignsOpened {bound = bound} d g r content before after name message out random signed
     (old ++ opened role.State state ∷ []) new
     × files.IsClosedDisk after × (answer ≡ sign_answer name signed))

@@ -7,6 +7,7 @@ ghost use Rattle.clap.specs.Matches.{matched_of, raw_values};
 ghost use Rattle.clap.specs.Words.{AddsSubcommand, app_of, first_value, found_of, with_subcommand};
 ghost use Rattle.command.specs.AuditGiven.{AnswersGiven, ChecksIn, FailsPair, FailsPairs, IsAuditGiven, JudgesPairs};
 ghost use Rattle.command.specs.AuditGiven.{ReadsPair, ReadsPairs, audit_given_app, pair_of, pairs_in, pairs_of};
+ghost use Rattle.command.specs.Files.{KeepsContents};
 
 use crate::answer::{Answer, Done};
 use crate::argument::{required, several};
@@ -162,7 +163,7 @@ fn read_pair<D: Folder>(
     folder: &mut D,
     files: &GivenFiles<'_>,
 ) -> Result<Given, Refusal>
-    ensures content { (path : List ℕ) → D.content folder.new path ≡ D.content folder.old path }
+    ensures content { KeepsContents (D.content folder.old) (D.content folder.new) }
     ensures reads { MatchResult result
         (λ given. ReadsPair (D.content folder.old) (pair_of files.now) given (D.trace folder.old) (D.trace folder.new))
         (λ refusal. FailsPair (D.content folder.old) (pair_of files.now) refusal (D.trace folder.old)

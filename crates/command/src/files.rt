@@ -1,13 +1,14 @@
 //! The files that a line names: how they are opened and written, and what is read of them.
 
-ghost use Rattle.std.specs.Prelude.{◌≡◌, ◌≢◌, ◌++◌, ◌∷◌, ◌<◌, ◌≤◌, ◌^◌, [], ℕ, List, None, length, take, IfErr, IfOk};
+ghost use Rattle.std.specs.Prelude.{◌≡◌, ◌++◌, ◌∷◌, ◌<◌, ◌≤◌, ◌^◌, [], ℕ, List, None, length, take, IfErr, IfOk};
 ghost use Rattle.std.specs.Prelude.{MatchResult};
 ghost use Rattle.std.specs.Io.{ReadsAtMost};
 ghost use Rattle.std.specs.Io.KnownBytes.{Consumes, IsAtEnd, ReadConsumes};
 ghost use Rattle.std.specs.declared.option.Option.{Option};
 ghost use Rattle.typecodes.specs.Message.{IsContent, read_outcome};
 ghost use Rattle.command.specs.Files.{BeginsContent, CantHold, FailsFile, FailsToHold, FillsRoom, FillsOrFails};
-ghost use Rattle.command.specs.Files.{ReadsAllOrFails, ReadsFile, ReadsKey, ReadsStart, ShowsContent, decisive};
+ghost use Rattle.command.specs.Files.{KeepsContents, KeepsOtherContents, ReadsAllOrFails, ReadsFile, ReadsKey};
+ghost use Rattle.command.specs.Files.{ReadsStart, ShowsContent, decisive};
 ghost use Rattle.command.specs.FileDisk.{IsStateRefusal};
 ghost use Rattle.command.specs.Trace.{ReadsOnce, ReadsToEnd, checking, making, opening, opening_state, writing};
 ghost use Rattle.command.specs.declared.trace.Role.{Role as FileRole};
@@ -41,7 +42,7 @@ pub trait Folder: Traced {
     /// Opens the file at this very path for reading.
     fn open(&mut self, role: Role, path: &str) -> Result<Self::File, Refusal>
         ensures trace { Self.trace self.new ≡ Self.trace self.old ++ opening role path.now result ∷ [] }
-        ensures content { (other : List ℕ) → content self.new other ≡ content self.old other }
+        ensures content { KeepsContents (content self.old) (content self.new) }
         ensures role { IfOk result (λ file. Self.File.role file ≡ role) }
         ensures shows { IfOk result (λ file. ShowsContent (content self.old path.now) (Self.File.remaining file)) }
         ensures err { IfErr result (λ refusal. refusal ≡ Refusal.FileFailed) };
@@ -54,7 +55,7 @@ pub trait Folder: Traced {
         ensures role { Self.File.role file.new ≡ Self.File.role file.old }
         ensures bound { ReadsAtMost result buffer.new }
         ensures bytes { ReadConsumes (Self.File.remaining file.old) (Self.File.remaining file.new) result buffer.new }
-        ensures content { (path : List ℕ) → content self.new path ≡ content self.old path };
+        ensures content { KeepsContents (content self.old) (content self.new) };
 }
 
 /// Where files are written.
@@ -90,7 +91,7 @@ pub trait SignerFolder: Folder + Outlet {
     /// file, and is never made.
     fn open_state(&mut self, path: &str) -> Result<Self::Disk, Refusal>
         ensures trace { Self.trace self.new ≡ Self.trace self.old ++ opening_state path.now result ∷ [] }
-        ensures content { (other : List ℕ) → Self.content self.new other ≡ Self.content self.old other }
+        ensures content { KeepsContents (Self.content self.old) (Self.content self.new) }
         ensures opened { IfOk result is_opened }
         ensures err { IfErr result IsStateRefusal };
 
@@ -98,8 +99,7 @@ pub trait SignerFolder: Folder + Outlet {
     /// stays: its folder is synced.
     fn open_or_make_state(&mut self, path: &str) -> Result<Self::Disk, Refusal>
         ensures trace { Self.trace self.new ≡ Self.trace self.old ++ making path.now result ∷ [] }
-        ensures content { (other : List ℕ) → other ≢ path.now
-            → Self.content self.new other ≡ Self.content self.old other }
+        ensures content { KeepsOtherContents path.now (Self.content self.old) (Self.content self.new) }
         ensures opened { IfOk result is_opened }
         ensures err { IfErr result IsStateRefusal };
 
@@ -111,7 +111,7 @@ pub trait SignerFolder: Folder + Outlet {
     /// Opens the file of random bytes at this very path. The source gives its bytes from the first on.
     fn open_random(&mut self, path: &str) -> Result<Self::Random, Refusal>
         ensures trace { Self.trace self.new ≡ Self.trace self.old ++ opening Role.Random path.now result ∷ [] }
-        ensures content { (other : List ℕ) → Self.content self.new other ≡ Self.content self.old other }
+        ensures content { KeepsContents (Self.content self.old) (Self.content self.new) }
         ensures shows { IfOk result (λ source.
             ShowsContent (Self.content self.old path.now) (Self.Random.upcoming source)) }
         ensures err { IfErr result (λ refusal. refusal ≡ Refusal.FileFailed) };
@@ -153,7 +153,7 @@ pub fn read_key<D: Folder>(
 ) -> io::Result<Result<AnyPublic, KeyFault>>
     ensures reads { ReadsAllOrFails (D.File.role file.old) (D.File.remaining file.old) ReadsKey result
         (D.trace folder.old) (D.trace folder.new) }
-    ensures content { (path : List ℕ) → D.content folder.new path ≡ D.content folder.old path }
+    ensures content { KeepsContents (D.content folder.old) (D.content folder.new) }
 {
     let mut bytes = [0; 69];
     let n = fill(folder, file, &mut bytes)?;
@@ -174,7 +174,7 @@ pub fn read_key_file<D: Folder>(
         (λ key. (bytes : List ℕ) × ReadsFile (D.content folder.old) role path.now bytes (D.trace folder.old)
         (D.trace folder.new) × ReadsKey bytes key)
         (λ refusal. FailsFile role path.now refusal (D.trace folder.old) (D.trace folder.new)) }
-    ensures content { (path : List ℕ) → D.content folder.new path ≡ D.content folder.old path }
+    ensures content { KeepsContents (D.content folder.old) (D.content folder.new) }
 {
     let mut file = folder.open(role, path)?;
     Ok(read_key(folder, &mut file)?)
@@ -191,7 +191,7 @@ pub fn read_file<D: Folder>(
         (λ bytes. ReadsFile (D.content folder.old) role path.now bytes.items (D.trace folder.old)
         (D.trace folder.new))
         (λ refusal. FailsToHold role path.now refusal (D.trace folder.old) (D.trace folder.new)) }
-    ensures content { (path : List ℕ) → D.content folder.new path ≡ D.content folder.old path }
+    ensures content { KeepsContents (D.content folder.old) (D.content folder.new) }
 {
     let mut file = folder.open(role, path)?;
     read_all(alloc, folder, &mut file)
@@ -209,7 +209,7 @@ pub fn read_signature_file<D: Folder>(
         (λ first. ReadsStart (D.content folder.old) role path.now first.items (D.trace folder.old)
         (D.trace folder.new))
         (λ refusal. FailsToHold role path.now refusal (D.trace folder.old) (D.trace folder.new)) }
-    ensures content { (path : List ℕ) → D.content folder.new path ≡ D.content folder.old path }
+    ensures content { KeepsContents (D.content folder.old) (D.content folder.new) }
 {
     let mut file = folder.open(role, path)?;
     read_start(alloc, folder, &mut file)
@@ -225,7 +225,7 @@ fn read_all<D: Folder>(
         (λ bytes. IsContent (D.File.remaining file.old) bytes.items
         × ReadsToEnd (D.File.role file.old) bytes.items (D.trace folder.old) (D.trace folder.new))
         (λ refusal. CantHold (D.File.role file.old) refusal (D.trace folder.old) (D.trace folder.new)) }
-    ensures content { (path : List ℕ) → D.content folder.new path ≡ D.content folder.old path }
+    ensures content { KeepsContents (D.content folder.old) (D.content folder.new) }
 {
     let mut piece = [0; 4096];
     let mut bytes = Vec::new(alloc);
@@ -251,7 +251,7 @@ fn read_start<D: Folder>(
         (λ first. BeginsContent (D.File.remaining file.old) first.items
         × FillsRoom (D.File.role file.old) decisive first.items (D.trace folder.old) (D.trace folder.new))
         (λ refusal. CantHold (D.File.role file.old) refusal (D.trace folder.old) (D.trace folder.new)) }
-    ensures content { (path : List ℕ) → D.content folder.new path ≡ D.content folder.old path }
+    ensures content { KeepsContents (D.content folder.old) (D.content folder.new) }
 {
     let mut first = [0; DECISIVE];
     let n = fill(folder, file, &mut first)?;
@@ -278,7 +278,7 @@ fn count_rest<D: Folder>(folder: &mut D, file: &mut D::File) -> io::Result<usize
     ensures counts { ReadsAllOrFails (D.File.role file.old) (D.File.remaining file.old) (λ rest n. n ≡ length rest)
         result (D.trace folder.old) (D.trace folder.new) }
     ensures bound { IfOk result (λ n. n < 2 ^ 61) }
-    ensures content { (path : List ℕ) → D.content folder.new path ≡ D.content folder.old path }
+    ensures content { KeepsContents (D.content folder.old) (D.content folder.new) }
 {
     let mut piece = [0; 4096];
     let mut count = 0;
@@ -303,7 +303,7 @@ pub fn fill<D: Folder>(folder: &mut D, file: &mut D::File, buffer: &mut [u8]) ->
     ensures end { IfOk result (λ n. n < length buffer.new → IsAtEnd (D.File.remaining file.new)) }
     ensures role { D.File.role file.new ≡ D.File.role file.old }
     ensures trace { FillsOrFails (D.File.role file.old) result buffer.new (D.trace folder.old) (D.trace folder.new) }
-    ensures content { (path : List ℕ) → D.content folder.new path ≡ D.content folder.old path }
+    ensures content { KeepsContents (D.content folder.old) (D.content folder.new) }
 {
     let mut at = 0;
     for turn in 0..u64::MAX {

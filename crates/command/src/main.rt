@@ -51,7 +51,8 @@ mod verify;
 use line::ClapReader;
 use machine::Machine;
 use output::{Output, Part, Printer};
-use refusal::Refusal;
+use serve::Serve;
+use std::env::Env;
 use std::io::BufWriter;
 use std::process::ExitCode;
 use std::{env, io};
@@ -61,7 +62,7 @@ fn main(rt: HostRuntime) -> ExitCode {
     let mut errors = Printer::new(io::writer(&stderr));
     // A line is written in one piece: what a stop leaves of it is all or nothing.
     let Ok(writer) = BufWriter::new(rt.alloc(), io::writer(&rt)) else {
-        return ExitCode::from(no_memory(&rt));
+        return ExitCode::from(no_memory(&rt, &mut errors));
     };
     let mut output = Printer::new(writer);
     ExitCode::from(match words(&rt) {
@@ -74,7 +75,7 @@ fn main(rt: HostRuntime) -> ExitCode {
             &mut output,
             &mut errors,
         ),
-        Err(error) if error.kind() == io::ErrorKind::OutOfMemory => no_memory(&rt),
+        Err(error) if error.kind() == io::ErrorKind::OutOfMemory => { no_memory(&rt, &mut errors) }
         Err(_) => {
             let _ = errors.print(&[Part::Text("error: a word of the line isn't UTF-8\n")]);
             program::LINE_REFUSED
@@ -82,12 +83,18 @@ fn main(rt: HostRuntime) -> ExitCode {
     })
 }
 
-// Prints that there is no memory, without taking any.
-fn no_memory(rt: &HostRuntime) -> u8 {
-    answer::report(
-        &Err(Refusal::OutOfMemory),
-        &mut Printer::new(io::writer(rt)),
-    )
+// Reports that there is no memory, without taking any.
+fn no_memory<E: Output>(rt: &HostRuntime, errors: &mut E) -> u8 {
+    program::report_no_memory(serves(rt), &mut Printer::new(io::writer(rt)), errors)
+}
+
+// Whether the line begins with the word `serve`.
+fn serves(rt: &HostRuntime) -> bool {
+    let mut word = [0; Serve::NAME.len() + 1];
+    match rt.arg(1, &mut word) {
+        Ok(n) => &word[..n] == Serve::NAME.as_bytes(),
+        Err(_) => false,
+    }
 }
 
 // The words of the command line without the program's name.

@@ -1,19 +1,21 @@
 //! The whole program.
 
-ghost use Rattle.std.specs.Prelude.{◌≡◌, ◌≢◌, ◌+◌, ◌<◌, ◌⊎◌, [], length, map};
+ghost use Rattle.std.specs.Prelude.{◌≡◌, ◌≢◌, ◌+◌, ◌<◌, ◌⊎◌, [], length, map, true};
 ghost use Rattle.command.specs.Files.{files_seen};
-ghost use Rattle.command.specs.Line.{IsLineOf, Task as LineTask};
+ghost use Rattle.command.specs.Line.{AreTexts, IsLineOf, Task as LineTask};
 ghost use Rattle.command.specs.LineFault.{HasText, line_faults};
-ghost use Rattle.command.specs.Program.{AsksToServe, Explains, Helps, Refuses, RefusesLine, Runs, RunsTask, Says};
+ghost use Rattle.command.specs.Program.{AsksToServe, Explains, HasRepliesAlone, Helps, MayReportServing, Refuses};
+ghost use Rattle.command.specs.Program.{RefusesLine, ReportsLack, Runs, RunsTask, Says, begins_with_serve};
 ghost use Rattle.command.specs.Output.{Fails, WritesText};
 ghost use Rattle.command.specs.Streams.{output_seen, streams, taken};
 
-use crate::answer::{OUTPUT_FAILED, report};
+use crate::answer::{OUTPUT_FAILED, report, report_serving};
 use crate::files::SignerFolder;
 use crate::line::LineReader;
 use crate::line_fault::LineFault;
 use crate::output::{Output, Part};
 use crate::refusal::Refusal;
+use crate::serve::Serve;
 use state_file::{Disk, FileStore, Store};
 use std::alloc::Global;
 use std::convert::AsStr;
@@ -28,9 +30,9 @@ const VERSION_LINE: &str = "hbsign 0.1.0\n";
 
 /// Does what the words of a line request, without the program's name, and gives the exit status.
 ///
-/// A line on the output reports what came of it; of `serve` the output has replies alone, and a line on `errors` says
-/// why it ended before its input did. A line that is refused is explained on `errors` alone, and status 2 is that of
-/// such a line, or of a name or a spec that is refused.
+/// A line on the output reports what came of it; of `serve` the output has replies alone, whatever happens, and a line
+/// on `errors` says why it ended before its input did, or that there was no memory to read the line. A line that is
+/// refused is explained on `errors` alone, and status 2 is that of such a line, or of a name or a spec that is refused.
 pub fn run<L, D, S, I, O, E>(
     alloc: Global,
     lines: &mut L,
@@ -55,40 +57,61 @@ where
         (streams input.new output.new (taken E.contents E.failures errors.new)) result }
     ensures requests { (task : LineTask) → IsLineOf (map S.text words.now) task
         → RunsTask D.Disk.Disk ⟦<FileStore<D::Disk> as Store>⟧ D.Random.Source ⟦<I as Message>⟧
-        (output_seen O.contents O.failures)
+        (output_seen O.contents O.failures) (map S.text words.now)
         (files_seen (D.content folder.old) D.is_opened (D.is_closed folder.new)) task
         (L.refusals lines.new ≡ L.refusals lines.old + 1) (D.trace folder.old) (D.trace folder.new)
         (streams input.old output.old (taken E.contents E.failures errors.old))
         (streams input.new output.new (taken E.contents E.failures errors.new)) result }
+    ensures replies { AreTexts (map S.text words.now) → AsksToServe (map S.text words.now)
+        → HasRepliesAlone D.Disk.Disk ⟦<FileStore<D::Disk> as Store>⟧ D.Random.Source ⟦<I as Message>⟧
+        (output_seen O.contents O.failures) (files_seen (D.content folder.old) D.is_opened (D.is_closed folder.new))
+        (D.trace folder.old) (D.trace folder.new)
+        (streams input.old output.old (taken E.contents E.failures errors.old))
+        (streams input.new output.new (taken E.contents E.failures errors.new)) }
     ensures input { (input.new ≡ input.old) ⊎ AsksToServe (map S.text words.now) }
     ensures opens_none { line_faults (map S.text words.now) ≢ [] → D.trace folder.new ≡ D.trace folder.old }
     ensures refuses { result ≡ 2 → Refuses (taken O.contents O.failures output.old)
         (taken O.contents O.failures output.new)
         (taken E.contents E.failures errors.old) (taken E.contents E.failures errors.new) }
     ensures silent { result ≢ 2 → (taken E.contents E.failures errors.new ≡ taken E.contents E.failures errors.old)
-        ⊎ AsksToServe (map S.text words.now) }
+        ⊎ MayReportServing (map S.text words.now) (L.refusals lines.new ≡ L.refusals lines.old + 1) }
     ensures spares { line_faults (map S.text words.now) ≡ []
         → (taken E.contents E.failures errors.new ≡ taken E.contents E.failures errors.old)
-        ⊎ AsksToServe (map S.text words.now) }
+        ⊎ MayReportServing (map S.text words.now) (L.refusals lines.new ≡ L.refusals lines.old + 1) }
 {
     match lines.read(words) {
         Ok(request) => request.fulfil(alloc, folder, input, output, errors),
-        Err(fault) => explain(&fault, output, errors),
+        Err(fault) => explain(&fault, begins_with_serve(words), output, errors),
+    }
+}
+
+// Whether a line begins with the word `serve`.
+fn begins_with_serve<S: AsStr>(words: &[S]) -> bool
+    ensures { result ≡ begins_with_serve (map S.text words.now) }
+{
+    match words.first() {
+        Some(word) => word.as_str() == Serve::NAME,
+        None => false,
     }
 }
 
 // Reports why there is no request: the help or the version that was requested, what is wrong with the line, or that
-// there is no memory.
-fn explain<O: Output, E: Output>(fault: &LineFault, output: &mut O, errors: &mut E) -> u8
+// there is no memory, which may be of a line that serves.
+fn explain<O: Output, E: Output>(
+    fault: &LineFault,
+    serves: bool,
+    output: &mut O,
+    errors: &mut E,
+) -> u8
     requires { HasText fault.now }
-    ensures explains { Explains fault.now (taken O.contents O.failures output.old)
-        (taken O.contents O.failures output.new) result }
+    ensures explains { Explains serves fault.now (taken O.contents O.failures output.old)
+        (taken O.contents O.failures output.new)
+        (taken E.contents E.failures errors.old) (taken E.contents E.failures errors.new) result }
     ensures refuses { result ≡ 2 → RefusesLine (taken O.contents O.failures output.old)
         (taken O.contents O.failures output.new)
         (taken E.contents E.failures errors.old) (taken E.contents E.failures errors.new) }
-    ensures silent { result ≢ 2 → taken E.contents E.failures errors.new ≡ taken E.contents E.failures errors.old }
-    ensures spares { fault.now ≡ LineFault.OutOfMemory
-        → taken E.contents E.failures errors.new ≡ taken E.contents E.failures errors.old }
+    ensures silent { result ≢ 2 → (taken E.contents E.failures errors.new ≡ taken E.contents E.failures errors.old)
+        ⊎ ((serves ≡ true) × (fault.now ≡ LineFault.OutOfMemory)) }
 {
     match fault {
         LineFault::Help(text) => print(text.as_str(), output),
@@ -97,7 +120,22 @@ fn explain<O: Output, E: Output>(fault: &LineFault, output: &mut O, errors: &mut
             let _ = errors.print(&[Part::Text(text.as_str())]);
             LINE_REFUSED
         }
-        LineFault::OutOfMemory => report(&Err(Refusal::OutOfMemory), output),
+        LineFault::OutOfMemory => report_no_memory(serves, output, errors),
+    }
+}
+
+/// Reports that there is no memory to read a line: on the output, or of one that serves, whose output is for replies
+/// alone, on `errors`.
+pub fn report_no_memory<O: Output, E: Output>(serves: bool, output: &mut O, errors: &mut E) -> u8
+    ensures reports { ReportsLack serves (taken O.contents O.failures output.old)
+        (taken O.contents O.failures output.new)
+        (taken E.contents E.failures errors.old) (taken E.contents E.failures errors.new) result }
+    ensures status { result ≢ 2 }
+{
+    if serves {
+        report_serving(&Err(Refusal::OutOfMemory), errors)
+    } else {
+        report(&Err(Refusal::OutOfMemory), output)
     }
 }
 

@@ -1,5 +1,6 @@
 use Rattle.std.proofs.Common.{◌≡◌, ◌≤◌, ◌^◌, ◌<◌, ℕ, List, length}
 use Rattle.std.specs.Io.KnownBytes.{Consumes}
+use Rattle.command.specs.Files.{KeepsContents}
 use Rattle.command.specs.Trace.{ReadsOn}
 use Rattle.command.proofs.files.count_rest.Given as goal
 
@@ -9,4 +10,4 @@ invariant-loop-turn g l =
     × ((bytes : List ℕ) × (l.count ≡ length bytes)
     × Consumes (g.D.File.OpenFile.remaining l.initial.file) (g.D.File.OpenFile.remaining l.file) bytes
     × ReadsOn (g.D.File.OpenFile.role l.initial.file) bytes (g.D.Traced.trace l.initial.folder) (g.D.Traced.trace l.folder))
-    × ((path : List ℕ) → g.D.Folder.content l.folder path ≡ g.D.Folder.content l.initial.folder path)
+    × KeepsContents (g.D.Folder.content l.initial.folder) (g.D.Folder.content l.folder)

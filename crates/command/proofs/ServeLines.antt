@@ -1,0 +1,130 @@
+-- A line of `serve` begins with this word, and its output has replies alone.
+use Rattle.std.proofs.Common.{◌≡◌, ◌⊎◌, ◌∙◌, ℕ, Bool, List, [], ◌∷◌, Option, Some, None, Result, Ok, Err, true, false, refl, codes, ap, subst, sym, inl, inr}
+use Rattle.std.specs.Str.{bytes_eq}
+use Rattle.std.proofs.lemmas.Bool.{false≢true}
+use Rattle.clap.specs.Walk.{rows_after}
+use Rattle.clap.specs.Words.{IsAmong, Text}
+use Rattle.key_audit.specs.declared.report.Anchor.{Anchor}
+use Rattle.typecodes.specs.declared.message.Message as message
+use Rattle.sign_core.specs.declared.source.Source as source
+use Rattle.state_file.specs.declared.disk.Disk as disk
+use Rattle.state_file.specs.declared.store.Store as store
+use Rattle.state_file.specs.declared.store.file_store.FileStore.{FileStore}
+use Rattle.command.specs.declared.line.Lack.{Lack}
+use Rattle.command.specs.declared.line_fault.LineFault.{LineFault}
+use Rattle.command.specs.declared.line_fault.LineFault.TheVariants.{OutOfMemory}
+use Rattle.command.specs.declared.refusal.Refusal.{Refusal}
+use Rattle.command.specs.AuditGiven.{Pair, pairs_in}
+use Rattle.command.specs.Audit.{anchor_in}
+use Rattle.command.specs.Files.{FilesSeen}
+use Rattle.command.specs.Line.{AreTexts, FindsTask, Task, audit, audit_anchored, audit_given, audit_given_pairs, audit_given_task, audit_task, make, make_task, retire, retire_number, retire_task, serve, sign, sign_task, verify, verify_task}
+use Rattle.command.specs.LineFault.{HasLineFault, line_faults}
+use Rattle.command.specs.Number.{number_in}
+use Rattle.command.specs.Output.{Taken}
+use Rattle.command.specs.Program.{AsksToServe, Explains, HasRepliesAlone, ReportsLack, ReportsTask, begins_with_serve}
+use Rattle.command.specs.Retire.{most_leaves}
+use Rattle.command.specs.Streams.{OutputSeen, Streams, taken}
+use Rattle.command.specs.Trace.{Happening}
+use Rattle.command.proofs.Accepting.{found_in, is_audit, is_audit_given, is_make, is_named, is_retire, is_serve, is_sign, is_verify, no_line_faults, nothing_fails, ok_same}
+use Rattle.command.proofs.Walking.{audit_given_shape, audit_shape, enters_audit, enters_audit_given, enters_make, enters_retire, enters_sign, enters_verify, make_shape, retire_shape, sign_shape, verify_shape}
+
+-- whether what is found is a task of `serve`
+abbrev serves : Result Task Lack → Bool
+serves (Ok (serve state random)) = true
+serves (Ok (make state public spec random)) = false
+serves (Ok (sign state name message out random)) = false
+serves (Ok (verify public message signature)) = false
+serves (Ok (retire state upto)) = false
+serves (Ok (audit state anchor)) = false
+serves (Ok (audit_given public files)) = false
+serves (Err lack) = false
+
+-- what is found in a line of another command isn't
+not_make : (state public spec random : Option Text) → serves (make_task state public spec random) ≡ false
+not_make (Some s) (Some p) (Some x) (Some r) = refl
+not_make None public spec random = refl
+not_make (Some s) None spec random = refl
+not_make (Some s) (Some p) None random = refl
+not_make (Some s) (Some p) (Some x) None = refl
+
+not_sign : (state name message out random : Option Text) → serves (sign_task state name message out random) ≡ false
+not_sign (Some s) (Some n) (Some m) (Some o) (Some r) = refl
+not_sign None name message out random = refl
+not_sign (Some s) None message out random = refl
+not_sign (Some s) (Some n) None out random = refl
+not_sign (Some s) (Some n) (Some m) None random = refl
+not_sign (Some s) (Some n) (Some m) (Some o) None = refl
+
+not_verify : (public message signature : Option Text) → serves (verify_task public message signature) ≡ false
+not_verify (Some p) (Some m) (Some s) = refl
+not_verify None message signature = refl
+not_verify (Some p) None signature = refl
+not_verify (Some p) (Some m) None = refl
+
+not_number : (state : Text) (number : Option ℕ) → serves (retire_number state number) ≡ false
+not_number state (Some upto) = refl
+not_number state None = refl
+
+not_retire : (state upto : Option Text) → serves (retire_task state upto) ≡ false
+not_retire (Some state) (Some upto) = not_number state (number_in most_leaves upto)
+not_retire None upto = refl
+not_retire (Some state) None = refl
+
+not_anchored : (state : Text) (anchor : Result (Option Anchor) Lack) → serves (audit_anchored state anchor) ≡ false
+not_anchored state (Ok anchor) = refl
+not_anchored state (Err lack) = refl
+
+not_audit : (state count tag : Option Text) → serves (audit_task state count tag) ≡ false
+not_audit (Some state) count tag = not_anchored state (anchor_in count tag)
+not_audit None count tag = refl
+
+not_pairs : (public : Text) (pairs : Option (List Pair)) → serves (audit_given_pairs public pairs) ≡ false
+not_pairs public (Some pairs) = refl
+not_pairs public None = refl
+
+not_audit_given : (public : Option Text) (files : Option (List Text)) → serves (audit_given_task public files) ≡ false
+not_audit_given (Some public) (Some paths) = not_pairs public (pairs_in paths)
+not_audit_given None files = refl
+not_audit_given (Some public) None = refl
+
+differs : (found : Result Task Lack) (state random : Text) → serves found ≡ false → found ≡ Ok (serve state random) → ⊥
+differs found state random isnt same = false≢true (sym isnt ∙ ap serves same)
+
+-- So a line in which a task of `serve` is found begins with this word.
+pub begins : (words : List Text) (state random : Text) → AreTexts words → FindsTask words (serve state random)
+    → begins_with_serve words ≡ true
+begins [] state random texts (none, found) = absurd (nothing_fails none)
+begins (word ∷ names) state random texts (none, found) = elim (is_named word names texts.0 none) [
+  | is_serve is ↦ subst (λ w. bytes_eq w (codes "serve") ≡ true) (sym is) refl
+  | is_make is ↦ absurd (differs _ state random (not_make _ _ _ _) (found_in (codes "make") make_shape word names (serve state random) enters_make is found))
+  | is_sign is ↦ absurd (differs _ state random (not_sign _ _ _ _ _) (found_in (codes "sign") sign_shape word names (serve state random) enters_sign is found))
+  | is_verify is ↦ absurd (differs _ state random (not_verify _ _ _) (found_in (codes "verify") verify_shape word names (serve state random) enters_verify is found))
+  | is_retire is ↦ absurd (differs _ state random (not_retire _ _) (found_in (codes "retire") retire_shape word names (serve state random) enters_retire is found))
+  | is_audit is ↦ absurd (differs _ state random (not_audit _ _ _) (found_in (codes "audit") audit_shape word names (serve state random) enters_audit is found))
+  | is_audit_given is ↦ absurd (differs _ state random (not_audit_given _ _) (found_in (codes "audit-given") audit_given_shape word names (serve state random) enters_audit_given is found))
+]
+
+-- The output of such a line has replies alone, where its task was found,
+pub replies_of_task : {K R I O : Type 0} {bound : _} (d : disk.Ghosts K) (g : store.Ghosts (FileStore K bound)) (r : source.Ghosts R)
+    (m : message.Ghosts I) (o : OutputSeen O) (files : FilesSeen K) (words : List Text) (task : Task) (before after : List Happening)
+    (old new : Streams I O) (status : ℕ) → FindsTask words task → AsksToServe words
+    → ReportsTask d g r m o files task before after old new status → HasRepliesAlone d g r m o files before after old new
+replies_of_task d g r m o files words task before after old new status (none, found) (state, random, (other, finds)) reports =
+    let same : task ≡ serve state random = ok_same task (serve state random) (sym found ∙ finds) in
+    let (served, serves, ended) = subst (λ t. ReportsTask d g r m o files t before after old new status) same reports in
+    inr (state, random, served, serves)
+
+-- .. and where the line couldn't be read, for want of memory.
+lacks_memory : (serves : Bool) (old new errors_old errors_new : Taken) (status : ℕ) → serves ≡ true
+    → ReportsLack serves old new errors_old errors_new status → new ≡ old
+lacks_memory true old new errors_old errors_new status serving (same, reports) = same
+lacks_memory false old new errors_old errors_new status serving reports = absurd (false≢true serving)
+
+pub nothing_of_fault : (words : List Text) (serves : Bool) (fault : LineFault) (old new errors_old errors_new : Taken) (status : ℕ)
+    → serves ≡ begins_with_serve words → AreTexts words → AsksToServe words → (fault ≡ OutOfMemory) ⊎ HasLineFault words fault
+    → Explains serves fault old new errors_old errors_new status → new ≡ old
+nothing_of_fault words serves fault old new errors_old errors_new status is texts (state, random, finds) (inl memory) explains =
+    lacks_memory serves old new errors_old errors_new status (is ∙ begins words state random texts finds)
+    (subst (λ f. Explains serves f old new errors_old errors_new status) memory explains)
+nothing_of_fault words serves fault old new errors_old errors_new status is texts (state, random, (none, found)) (inr (error, among, kind)) explains =
+    absurd (subst (IsAmong error) (no_line_faults words (serve state random) none found) among)
