@@ -60,7 +60,7 @@ def node_path(levels, leaf):
 
 
 class LmsTree:
-    """A tree of LMS by its secret (RFC 8554 4, 5 and Appendix A). Its nodes are made when they are asked for."""
+    """A tree of LMS by its secret (RFC 8554 4, 5 and Appendix A). Its nodes are made when they are needed."""
     def __init__(self, pair, identifier, seed):
         self.pair, self.identifier, self.seed = pair, identifier, seed
         self.height, self.values = HEIGHTS[pair[0]], WIDTHS[pair[1]]
