@@ -23,7 +23,7 @@ impl HssPublic {
     /// (1, 2, 3 or 5).
     #[tactic(auto, using(crate::proofs::Numbers::whole), unfolding(crate::specs::Key::public_key))]
     pub fn read(bytes: &[u8]) -> Result<Self, ReadFault>
-        ensures read { Reads public_key (λ key. key) bytes.now result }
+        ensures reads { Reads public_key (λ key. key) bytes.now result }
         ensures least { IfOk result (λ key. 1 ≤ key.levels) }
         ensures most { IfOk result (λ key. key.levels ≤ 8) }
     {

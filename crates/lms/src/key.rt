@@ -44,7 +44,7 @@ impl LmsPublic {
     /// The key that the bytes spell, 56 bytes and no more. Otherwise their first fault (1, 2 or 5).
     #[tactic(auto, using(typecodes::proofs::Steps::steps))]
     pub fn read(bytes: &[u8]) -> Result<Self, ReadFault>
-        ensures { Reads public_key (λ key. key) bytes.now result }
+        ensures reads { Reads public_key (λ key. key) bytes.now result }
     {
         let mut cursor = Cursor::new(bytes);
         let key = Self::from_cursor(&mut cursor)?;

@@ -79,11 +79,12 @@ impl<'a> LmsSigView<'a> {
     #[tactic(auto, using(typecodes::proofs::Steps::steps))]
     pub fn read(bytes: &'a [u8]) -> Result<Self, ReadFault>
         ensures reads { Reads signature signature_of bytes.entry.now result }
-        ensures whole { IfOk result (λ view. bytes_of view ≡ bytes.entry.now) }
+        ensures whole { IfOk result (λ view. lent_of view ≡ bytes.entry) }
     {
         let mut cursor = Cursor::new(bytes);
-        let view = Self::from_cursor(&mut cursor)?;
+        let mut view = Self::from_cursor(&mut cursor)?;
         cursor.end()?;
+        view.bytes = bytes;
         Ok(view)
     }
 

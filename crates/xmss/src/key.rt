@@ -22,7 +22,7 @@ impl XmssPublic {
     /// (1, 2 or 5).
     #[tactic(auto, using(crate::proofs::Fields::fields), unfolding(crate::specs::Key::public_key))]
     pub fn read(bytes: &[u8]) -> Result<Self, ReadFault>
-        ensures { Reads public_key (λ key. key) bytes.now result }
+        ensures reads { Reads public_key (λ key. key) bytes.now result }
     {
         let mut cursor = Cursor::new(bytes);
         let tree = cursor.xmss_type()?;

@@ -42,8 +42,8 @@ impl<'a> XmssSigView<'a> {
     #[tactic(auto, using(crate::proofs::Fields::fields), unfolding(crate::specs::Signature::signature))]
     pub fn read(tree: XmssType, bytes: &'a [u8]) -> Result<Self, ReadFault>
         ensures reads { Reads (signature tree) signature_of bytes.entry.now result }
+        ensures whole { IfOk result (λ view. lent_of view ≡ bytes.entry) }
         ensures tree { IfOk result (λ view. tree_of view ≡ tree) }
-        ensures whole { IfOk result (λ view. bytes_of view ≡ bytes.entry.now) }
     {
         let mut cursor = Cursor::new(bytes);
         let index = leaf_index(&mut cursor, tree)?;
