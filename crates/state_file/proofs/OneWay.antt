@@ -22,7 +22,7 @@ use Rattle.state_file.specs.declared.record.Secret.{Secret}
 use Rattle.state_file.specs.declared.record.Secret.TheVariants.{Lms, Hss, Xmss}
 use Rattle.state_file.specs.declared.record.Version.{Version}
 use Rattle.state_file.specs.declared.record.Version.TheVariants.{One}
-use Rattle.state_file.specs.Slot.{after_parent_leaf, are_visible, bound_fields, byte, byte_within, exactly, extend_fields, fields_of, hss_secret, key_fields, levels_field, lms_secret, magic, moved_fields, name_field, no_record, only_if, pair_field, pairs, retire_fields, secret_of, slot_record, version_code, version_field, versions, xmss_secret, zeros, kind_of, scheme_of}
+use Rattle.state_file.specs.Slot.{after_parent_leaf, are_visible, bound_fields, byte, byte_within, exactly, extend_fields, fields_of, hss_fields, key_fields, levels_field, lms_fields, magic, moved_fields, name_field, no_record, only_if, pair_field, pairs, retire_fields, secret_fields, slot_record, version_code, version_field, versions, xmss_fields, zeros, kind_of, scheme_of}
 use Rattle.state_file.proofs.Shown.{byte-is, exactly-is, fields-show, only_if-is, schemes-show, version-is}
 
 -- ---- fields
@@ -196,10 +196,10 @@ third_in (Lms pair identifier seed) = []
 third_in (Hss levels identifier seed) = []
 third_in (Xmss tree secret_seed prf_key public_seed) = public_seed
 
-one_way-lms : OneSpelling lms_secret
-unfolding lms_secret pair_in first_in second_in
+one_way-lms : OneSpelling lms_fields
+unfolding lms_fields pair_in first_in second_in
 one_way-lms =
-    let way : Way lms_secret (λ _. Unit {0}) =
+    let way : Way lms_fields (λ _. Unit {0}) =
     way-bind (exactly 1 (1 ∷ [])) _ (λ _. tt) _ (one_way-exactly 1 (1 ∷ [])) (λ level.
     way-bind pair_field _ pair_in _ one_way-pair (λ pair.
     way-bind (zeros 56) _ (λ _. tt) _ (one_way-zeros 56) (λ others.
@@ -209,10 +209,10 @@ one_way-lms =
     way-done _ _ (refl, (refl, (refl, (refl, (refl, (refl, tt)))))))))))) in
     way.one
 
-one_way-hss : OneSpelling hss_secret
-unfolding hss_secret levels_in first_in second_in
+one_way-hss : OneSpelling hss_fields
+unfolding hss_fields levels_in first_in second_in
 one_way-hss =
-    let way : Way hss_secret (λ _. Unit {0}) =
+    let way : Way hss_fields (λ _. Unit {0}) =
     way-bind levels_field _ levels_in _ one_way-levels (λ levels.
     way-bind (block 16) _ first_in _ (one_way-block 16) (λ identifier.
     way-bind (block 32) _ second_in _ (one_way-block 32) (λ seed.
@@ -220,10 +220,10 @@ one_way-hss =
     way-done _ _ (refl, (refl, (refl, (refl, tt)))))))) in
     way.one
 
-one_way-xmss : OneSpelling xmss_secret
-unfolding xmss_secret tree_in first_in second_in third_in
+one_way-xmss : OneSpelling xmss_fields
+unfolding xmss_fields tree_in first_in second_in third_in
 one_way-xmss =
-    let way : Way xmss_secret (λ _. Unit {0}) =
+    let way : Way xmss_fields (λ _. Unit {0}) =
     way-bind (exactly 1 (1 ∷ [])) _ (λ _. tt) _ (one_way-exactly 1 (1 ∷ [])) (λ level.
     way-bind xmss_type _ tree_in _ one_way-xmss_type (λ tree.
     way-bind (zeros 60) _ (λ _. tt) _ (one_way-zeros 60) (λ others.
@@ -234,7 +234,7 @@ one_way-xmss =
     way-done _ _ (refl, (refl, (refl, (refl, (refl, (refl, (refl, tt)))))))))))))) in
     way.one
 
-one_way-secret : (scheme : ℕ) → OneSpelling (secret_of scheme)
+one_way-secret : (scheme : ℕ) → OneSpelling (secret_fields scheme)
 one_way-secret scheme =
     one_way-if (scheme == 1) _ _ one_way-lms (one_way-if (scheme == 2) _ _ one_way-hss (one_way-if (scheme == 3) _ _ one_way-xmss (one_way-refuse 1 UnknownType)))
 
@@ -322,7 +322,7 @@ after_secret version secret = do
   done (KeyRecord (record { version = version; secret = secret; root = root }))
 
 after_scheme : Version → ℕ → Layout Record
-after_scheme version scheme = secret_of scheme >>= after_secret version
+after_scheme version scheme = secret_fields scheme >>= after_secret version
 
 after_version : Version → Layout Record
 after_version version = byte >>= after_scheme version
@@ -341,10 +341,10 @@ way-secret version secret =
 way-scheme : (version : Version) (scheme : ℕ) → Way (after_scheme version scheme) (λ entry. (scheme_of (secret_in entry) ≡ scheme) × (version_in entry ≡ version))
 unfolding after_scheme
 way-scheme version scheme = record {
-  one = one_way-bind (secret_of scheme) (after_secret version) secret_in (one_way-secret scheme) (λ secret. (way-secret version secret).one)
+  one = one_way-bind (secret_fields scheme) (after_secret version) secret_in (one_way-secret scheme) (λ secret. (way-secret version secret).one)
       (λ secret entry bytes spelled. ((way-secret version secret).has entry bytes spelled).0);
   has = λ entry bytes spelled.
-      let (secret, a, b, _, of_scheme, after) = in_turn (secret_of scheme) (after_secret version) entry bytes spelled in
+      let (secret, a, b, _, of_scheme, after) = in_turn (secret_fields scheme) (after_secret version) entry bytes spelled in
       let (same, of_version) = (way-secret version secret).has entry b after in
       (ap scheme_of same ∙ schemes-show scheme secret a of_scheme, of_version);
 }

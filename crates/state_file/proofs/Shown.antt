@@ -14,7 +14,7 @@ use Rattle.state_file.specs.declared.record.Record.{Record}
 use Rattle.state_file.specs.declared.record.Record.TheVariants.{Key as KeyRecord, Extend as ExtendRecord, Bound as BoundRecord, Retire, Moved}
 use Rattle.state_file.specs.declared.record.Version.{Version}
 use Rattle.state_file.specs.File.{begins_key, version_of}
-use Rattle.state_file.specs.Slot.{hss_secret, levels_field, lms_secret, pair_field, xmss_secret, bound_fields, byte, exactly, extend_fields, fields_of, key_fields, known_version, magic, moved_fields, name_field, only_if, retire_fields, secret_of, slot_record, version_code, version_field, versions, zeros, kind_of, scheme_of}
+use Rattle.state_file.specs.Slot.{hss_fields, levels_field, lms_fields, pair_field, xmss_fields, bound_fields, byte, exactly, extend_fields, fields_of, key_fields, known_version, magic, moved_fields, name_field, only_if, retire_fields, secret_fields, slot_record, version_code, version_field, versions, zeros, kind_of, scheme_of}
 
 -- ---- kinds
 
@@ -35,7 +35,7 @@ kind-key : OfKind kind_of key_fields 1
 unfolding key_fields
 kind-key =
     kind-bind (exactly 8 magic) 1 _ (λ begins. kind-bind version_field 1 _ (λ version. kind-bind byte 1 _ (λ scheme.
-    kind-bind (secret_of scheme) 1 _ (λ secret. kind-field 32 1 _ (λ root. kind-bind (zeros 2) 1 _ (λ rest. kind-done 1 _ refl))))))
+    kind-bind (secret_fields scheme) 1 _ (λ secret. kind-field 32 1 _ (λ root. kind-bind (zeros 2) 1 _ (λ rest. kind-done 1 _ refl))))))
 
 kind-extend : OfKind kind_of extend_fields 2
 unfolding extend_fields
@@ -73,24 +73,24 @@ fields-show kind =
     (λ v bytes spelled. absurd spelled)))))
 
 -- so do those of a scheme spell secrets of this scheme
-scheme-lms : OfKind scheme_of lms_secret 1
-unfolding lms_secret
+scheme-lms : OfKind scheme_of lms_fields 1
+unfolding lms_fields
 scheme-lms =
     kind-bind (exactly 1 (1 ∷ [])) 1 _ (λ level. kind-bind pair_field 1 _ (λ pair. kind-bind (zeros 56) 1 _ (λ others.
     kind-field 16 1 _ (λ identifier. kind-field 32 1 _ (λ seed. kind-bind (zeros 64) 1 _ (λ seeds. kind-done 1 _ refl))))))
 
-scheme-hss : OfKind scheme_of hss_secret 2
-unfolding hss_secret
+scheme-hss : OfKind scheme_of hss_fields 2
+unfolding hss_fields
 scheme-hss =
     kind-bind levels_field 2 _ (λ levels. kind-field 16 2 _ (λ identifier. kind-field 32 2 _ (λ seed. kind-bind (zeros 64) 2 _ (λ seeds. kind-done 2 _ refl))))
 
-scheme-xmss : OfKind scheme_of xmss_secret 3
-unfolding xmss_secret
+scheme-xmss : OfKind scheme_of xmss_fields 3
+unfolding xmss_fields
 scheme-xmss =
     kind-bind (exactly 1 (1 ∷ [])) 3 _ (λ level. kind-bind xmss_type 3 _ (λ tree. kind-bind (zeros 60) 3 _ (λ others. kind-bind (zeros 16) 3 _ (λ identifier.
     kind-field 32 3 _ (λ secret_seed. kind-field 32 3 _ (λ prf_key. kind-field 32 3 _ (λ public_seed. kind-done 3 _ refl)))))))
 
-pub schemes-show : (scheme : ℕ) → Shows (secret_of scheme) scheme_of scheme
+pub schemes-show : (scheme : ℕ) → Shows (secret_fields scheme) scheme_of scheme
 schemes-show scheme =
     shows-if scheme_of scheme 1 _ _ scheme-lms.shows (shows-if scheme_of scheme 2 _ _ scheme-hss.shows (shows-if scheme_of scheme 3 _ _ scheme-xmss.shows (λ v bytes spelled. absurd spelled)))
 
@@ -135,7 +135,7 @@ version-is version bytes (front, rest, is, len, spelled) =
 abbrev after_version : Version → Layout Record
 after_version version = do
   scheme ← byte
-  secret ← secret_of scheme
+  secret ← secret_fields scheme
   root ← block 32
   rest ← zeros 2
   done (KeyRecord (record { version = version; secret = secret; root = root }))

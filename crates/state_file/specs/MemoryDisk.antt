@@ -79,8 +79,8 @@ abbrev pub moment_in : MemoryDisk → ℕ
 moment_in disk = length disk.log.items
 
 -- what a stop since a moment might have left
-abbrev pub left_in : MemoryDisk → ℕ → List ℕ → Type 0
-left_in disk = LeftSince disk.first.items disk.log.items
+abbrev pub left_since_in : MemoryDisk → ℕ → List ℕ → Type 0
+left_since_in disk = LeftSince disk.first.items disk.log.items
 
 -- how many calls come before the stop
 abbrev pub stop_in : MemoryDisk → Option ℕ
@@ -109,7 +109,7 @@ past_ends_in disk = disk.past_ends
 
 -- What every call does: time goes on, a refusal is counted, and the stop and the failure are a call nearer.
 pub record CallComes {A : Type 0} (old new : MemoryDisk) (answer : Result A DiskFault) : Type 0 where
-  pub time : TimePasses state_in moment_in left_in old new
+  pub time : TimePasses state_in moment_in left_since_in old new
   pub failures : Counts is_failure (failures_in old) (failures_in new) answer
   pub plan : PlanAfterCall old new
 
@@ -118,6 +118,6 @@ pub record CallComes {A : Type 0} (old new : MemoryDisk) (answer : Result A Disk
 pub record SameMoment (old new : MemoryDisk) : Type 0 where
   pub state : state_in new ≡ state_in old
   pub moment : moment_in new ≡ moment_in old
-  pub left : (t : ℕ) (c : List ℕ) → left_in new t c ↔ left_in old t c
+  pub left : (t : ℕ) (c : List ℕ) → left_since_in new t c ↔ left_since_in old t c
   pub failures : failures_in new ≡ failures_in old
   pub past_ends : past_ends_in new ≡ past_ends_in old

@@ -88,8 +88,8 @@ levels_field = do
   done levels
 
 -- An LMS key: 1 level, its pair and seven zero pairs, I, SEED, and zeros for SK_PRF and the public SEED.
-unfoldable pub lms_secret : Layout Secret
-lms_secret = do
+unfoldable pub lms_fields : Layout Secret
+lms_fields = do
   level ← exactly 1 (1 ∷ [])
   pair ← pair_field
   others ← zeros 56
@@ -99,8 +99,8 @@ lms_secret = do
   done (Lms pair identifier seed)
 
 -- An HSS key: its levels, the I and SEED of the top tree, and zeros for SK_PRF and the public SEED.
-unfoldable pub hss_secret : Layout Secret
-hss_secret = do
+unfoldable pub hss_fields : Layout Secret
+hss_fields = do
   levels ← levels_field
   identifier ← block 16
   seed ← block 32
@@ -109,8 +109,8 @@ hss_secret = do
 
 -- An XMSS key: 1 level, its code with zeros for a one-time code and seven pairs, zeros for I, the seed of
 -- the private values, SK_PRF and the public SEED.
-unfoldable pub xmss_secret : Layout Secret
-xmss_secret = do
+unfoldable pub xmss_fields : Layout Secret
+xmss_fields = do
   level ← exactly 1 (1 ∷ [])
   tree ← xmss_type
   others ← zeros 60
@@ -121,11 +121,11 @@ xmss_secret = do
   done (Xmss tree secret_seed prf_key public_seed)
 
 -- by the scheme: 1 LMS, 2 HSS, 3 XMSS
-abbrev pub secret_of : ℕ → Layout Secret
-secret_of scheme =
-    if scheme == 1 then lms_secret
-    else (if scheme == 2 then hss_secret
-    else (if scheme == 3 then xmss_secret
+abbrev pub secret_fields : ℕ → Layout Secret
+secret_fields scheme =
+    if scheme == 1 then lms_fields
+    else (if scheme == 2 then hss_fields
+    else (if scheme == 3 then xmss_fields
     else no_record 1))
 
 -- the magic, the version, the scheme, what stands by the scheme, and the root
@@ -134,7 +134,7 @@ key_fields = do
   begins ← exactly 8 magic
   version ← version_field
   scheme ← byte
-  secret ← secret_of scheme
+  secret ← secret_fields scheme
   root ← block 32
   rest ← zeros 2
   done (KeyRecord (record { version = version; secret = secret; root = root }))

@@ -158,14 +158,14 @@ impl MemoryDisk {
 
 impl Disk for MemoryDisk {
     ghost use Rattle.state_file.specs.MemoryDisk.{CallComes, SyncsInMemory, WritesInMemory, answer_of};
-    ghost use Rattle.state_file.specs.MemoryDisk.{left_in, moment_in, state_in};
+    ghost use Rattle.state_file.specs.MemoryDisk.{left_since_in, moment_in, state_in};
     ghost use Rattle.state_file.specs.MemoryDisk.{failures_in, next_fate, past_ends_in};
 
     ghost state = { state_in };
 
     ghost moment = { moment_in };
 
-    ghost left_since = { left_in };
+    ghost left_since = { left_since_in };
 
     ghost failures = { failures_in };
 

@@ -4,8 +4,8 @@ ghost use Rattle.std.specs.Prelude.{◌≡◌, ◌<◌, ◌≤◌, ◌+◌, ◌*
 ghost use Rattle.arrayvec.specs.ArrayVec.{array_vec_len};
 ghost use Rattle.typecodes.specs.Cursor.{read, Gives};
 ghost use Rattle.state_file.specs.Fields.{AppendsSpelling};
-ghost use Rattle.state_file.specs.Slot.{hss_secret, levels_field, lms_secret, pair_field, pairs, scheme_of};
-ghost use Rattle.state_file.specs.Slot.{secret_of, xmss_secret};
+ghost use Rattle.state_file.specs.Slot.{hss_fields, levels_field, lms_fields, pair_field, pairs, scheme_of};
+ghost use Rattle.state_file.specs.Slot.{secret_fields, xmss_fields};
 
 use crate::record::Secret;
 use crate::slot::fields::{
@@ -99,11 +99,11 @@ fn put_levels(out: &mut Fields, levels: &Levels)
 }
 
 // What an LMS key is made from, 177 bytes.
-#[tactic(auto, using(typecodes::proofs::Steps::reading), unfolding(crate::specs::Slot::lms_secret))]
+#[tactic(auto, using(typecodes::proofs::Steps::reading), unfolding(crate::specs::Slot::lms_fields))]
 fn read_lms(cursor: &mut Cursor<'_>) -> Result<Secret, ReadFault>
     requires { cursor.old.place + 177 < 2 ^ 32 }
     ensures read { Gives (λ secret. (secret, cursor.new.place)) result
-        (read lms_secret cursor.old.bytes.now cursor.old.place) }
+        (read lms_fields cursor.old.bytes.now cursor.old.place) }
     ensures len { OnOk result (cursor.new.place ≡ cursor.old.place + 177) }
     ensures bytes { cursor.new.bytes ≡ cursor.old.bytes }
 {
@@ -122,7 +122,7 @@ fn read_lms(cursor: &mut Cursor<'_>) -> Result<Secret, ReadFault>
 
 fn put_lms(out: &mut Fields, pair: LmsPair, identifier: &[u8; 16], seed: &[u8; 32])
     requires { array_vec_len out.old + 177 ≤ 223 }
-    ensures writes { AppendsSpelling lms_secret (Secret.Lms pair identifier.now seed.now) out.old.items out.new.items }
+    ensures writes { AppendsSpelling lms_fields (Secret.Lms pair identifier.now seed.now) out.old.items out.new.items }
     ensures len { array_vec_len out.new ≡ array_vec_len out.old + 177 }
 {
     put_exactly(out, &[1]);
@@ -134,11 +134,11 @@ fn put_lms(out: &mut Fields, pair: LmsPair, identifier: &[u8; 16], seed: &[u8; 3
 }
 
 // What an HSS key is made from, 177 bytes.
-#[tactic(auto, using(typecodes::proofs::Steps::reading), unfolding(crate::specs::Slot::hss_secret))]
+#[tactic(auto, using(typecodes::proofs::Steps::reading), unfolding(crate::specs::Slot::hss_fields))]
 fn read_hss(cursor: &mut Cursor<'_>) -> Result<Secret, ReadFault>
     requires { cursor.old.place + 177 < 2 ^ 32 }
     ensures read { Gives (λ secret. (secret, cursor.new.place)) result
-        (read hss_secret cursor.old.bytes.now cursor.old.place) }
+        (read hss_fields cursor.old.bytes.now cursor.old.place) }
     ensures len { OnOk result (cursor.new.place ≡ cursor.old.place + 177) }
     ensures bytes { cursor.new.bytes ≡ cursor.old.bytes }
 {
@@ -155,7 +155,7 @@ fn read_hss(cursor: &mut Cursor<'_>) -> Result<Secret, ReadFault>
 
 fn put_hss(out: &mut Fields, levels: &Levels, identifier: &[u8; 16], seed: &[u8; 32])
     requires { array_vec_len out.old + 177 ≤ 223 }
-    ensures writes { AppendsSpelling hss_secret (Secret.Hss levels.now identifier.now seed.now)
+    ensures writes { AppendsSpelling hss_fields (Secret.Hss levels.now identifier.now seed.now)
         out.old.items out.new.items }
     ensures len { array_vec_len out.new ≡ array_vec_len out.old + 177 }
 {
@@ -166,11 +166,11 @@ fn put_hss(out: &mut Fields, levels: &Levels, identifier: &[u8; 16], seed: &[u8;
 }
 
 // What an XMSS key is made from, 177 bytes.
-#[tactic(auto, using(typecodes::proofs::Steps::reading), unfolding(crate::specs::Slot::xmss_secret))]
+#[tactic(auto, using(typecodes::proofs::Steps::reading), unfolding(crate::specs::Slot::xmss_fields))]
 fn read_xmss(cursor: &mut Cursor<'_>) -> Result<Secret, ReadFault>
     requires { cursor.old.place + 177 < 2 ^ 32 }
     ensures read { Gives (λ secret. (secret, cursor.new.place)) result
-        (read xmss_secret cursor.old.bytes.now cursor.old.place) }
+        (read xmss_fields cursor.old.bytes.now cursor.old.place) }
     ensures len { OnOk result (cursor.new.place ≡ cursor.old.place + 177) }
     ensures bytes { cursor.new.bytes ≡ cursor.old.bytes }
 {
@@ -197,7 +197,7 @@ fn put_xmss(
     public_seed: &[u8; 32],
 )
     requires { array_vec_len out.old + 177 ≤ 223 }
-    ensures writes { AppendsSpelling xmss_secret (Secret.Xmss tree secret_seed.now prf_key.now public_seed.now)
+    ensures writes { AppendsSpelling xmss_fields (Secret.Xmss tree secret_seed.now prf_key.now public_seed.now)
         out.old.items out.new.items }
     ensures len { array_vec_len out.new ≡ array_vec_len out.old + 177 }
 {
@@ -215,7 +215,7 @@ pub(crate) fn read_secret(cursor: &mut Cursor<'_>, scheme: u8) -> Result<Secret,
     requires some { 1 ≤ cursor.old.place }
     requires room { cursor.old.place + 177 < 2 ^ 32 }
     ensures read { Gives (λ secret. (secret, cursor.new.place)) result
-        (read (secret_of scheme) cursor.old.bytes.now cursor.old.place) }
+        (read (secret_fields scheme) cursor.old.bytes.now cursor.old.place) }
     ensures len { OnOk result (cursor.new.place ≡ cursor.old.place + 177) }
     ensures bytes { cursor.new.bytes ≡ cursor.old.bytes }
 {
@@ -230,7 +230,7 @@ pub(crate) fn read_secret(cursor: &mut Cursor<'_>, scheme: u8) -> Result<Secret,
 /// Appends what a key is made from, by its scheme, 177 bytes.
 pub(crate) fn put_secret(out: &mut Fields, secret: &Secret)
     requires { array_vec_len out.old + 177 ≤ 223 }
-    ensures writes { AppendsSpelling (secret_of (scheme_of secret.now)) secret.now out.old.items out.new.items }
+    ensures writes { AppendsSpelling (secret_fields (scheme_of secret.now)) secret.now out.old.items out.new.items }
     ensures len { array_vec_len out.new ≡ array_vec_len out.old + 177 }
 {
     match secret {

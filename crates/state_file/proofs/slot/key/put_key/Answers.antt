@@ -2,7 +2,7 @@ use Rattle.std.proofs.Common.{ℕ, subst}
 use Rattle.typecodes.specs.Fields.{block}
 use Rattle.state_file.specs.declared.record.Record.{Record}
 use Rattle.state_file.specs.declared.record.Record.TheVariants.{Key}
-use Rattle.state_file.specs.Slot.{byte, exactly, key_fields, magic, secret_of, version_field, zeros, scheme_of}
+use Rattle.state_file.specs.Slot.{byte, exactly, key_fields, magic, secret_fields, version_field, zeros, scheme_of}
 use Rattle.state_file.specs.Fields.{AppendsSpelling}
 use Rattle.state_file.proofs.Written.{writes-bind, writes-done}
 use Rattle.state_file.proofs.slot.key.put_key.Goals as goal
@@ -16,7 +16,7 @@ returns-clause-writes c =
     writes-bind (exactly 8 magic) _ tt entry _ _ _ c.put_exactly.ensures.writes
     (writes-bind version_field _ c.args.key.now.version entry _ _ _ c.put_version.ensures.writes
     (writes-bind byte _ (scheme_of c.args.key.now.secret) entry _ _ _ scheme
-    (writes-bind (secret_of (scheme_of c.args.key.now.secret)) _ c.args.key.now.secret entry _ _ _ c.put_secret.ensures.writes
+    (writes-bind (secret_fields (scheme_of c.args.key.now.secret)) _ c.args.key.now.secret entry _ _ _ c.put_secret.ensures.writes
     (writes-bind (block 32) _ c.args.key.now.root entry _ _ _ c.put_array.ensures.writes
     (writes-bind (zeros 2) _ tt entry _ _ _ c.put_zeros.ensures.writes
     (writes-done entry _))))))

@@ -1,12 +1,12 @@
 use Rattle.typecodes.specs.Fields.{block}
 use Rattle.state_file.specs.declared.record.Secret.{Secret}
 use Rattle.state_file.specs.declared.record.Secret.TheVariants.{Hss}
-use Rattle.state_file.specs.Slot.{hss_secret, levels_field, zeros}
+use Rattle.state_file.specs.Slot.{hss_fields, levels_field, zeros}
 use Rattle.state_file.proofs.Written.{writes-bind, writes-done}
 use Rattle.state_file.proofs.slot.secret.put_hss.Goals as goal
 
 pub returns-clause-writes : goal.returns-clause-writes
-unfolding hss_secret
+unfolding hss_fields
 returns-clause-writes c =
     let secret : Secret = Hss c.args.levels.now c.args.identifier.now c.args.seed.now in
     writes-bind levels_field _ c.args.levels.now secret _ _ _ c.put_levels.ensures.writes

@@ -2,12 +2,12 @@ use Rattle.std.proofs.Common.{[], ◌∷◌}
 use Rattle.typecodes.specs.Fields.{block}
 use Rattle.state_file.specs.declared.record.Secret.{Secret}
 use Rattle.state_file.specs.declared.record.Secret.TheVariants.{Lms}
-use Rattle.state_file.specs.Slot.{exactly, lms_secret, pair_field, zeros}
+use Rattle.state_file.specs.Slot.{exactly, lms_fields, pair_field, zeros}
 use Rattle.state_file.proofs.Written.{writes-bind, writes-done}
 use Rattle.state_file.proofs.slot.secret.put_lms.Goals as goal
 
 pub returns-clause-writes : goal.returns-clause-writes
-unfolding lms_secret
+unfolding lms_fields
 returns-clause-writes c =
     let secret : Secret = Lms c.args.pair c.args.identifier.now c.args.seed.now in
     writes-bind (exactly 1 (1 ∷ [])) _ tt secret _ _ _ c.put_exactly.ensures.writes

@@ -2,13 +2,13 @@ use Rattle.std.proofs.Common.{ℕ, [], ◌∷◌, subst}
 use Rattle.typecodes.specs.Fields.{block, number, xmss_type}
 use Rattle.state_file.specs.declared.record.Secret.{Secret}
 use Rattle.state_file.specs.declared.record.Secret.TheVariants.{Xmss}
-use Rattle.state_file.specs.Slot.{exactly, xmss_secret, zeros}
+use Rattle.state_file.specs.Slot.{exactly, xmss_fields, zeros}
 use Rattle.state_file.specs.Fields.{AppendsSpelling}
 use Rattle.state_file.proofs.Written.{writes-bind, writes-done, writes-xmss_type}
 use Rattle.state_file.proofs.slot.secret.put_xmss.Goals as goal
 
 pub returns-clause-writes : goal.returns-clause-writes
-unfolding xmss_secret
+unfolding xmss_fields
 returns-clause-writes c =
     let secret : Secret = Xmss c.args.tree c.args.secret_seed.now c.args.prf_key.now c.args.public_seed.now in
     let Coded : ℕ → Type 0 = λ n. AppendsSpelling number n c.put_exactly.new.out.items c.put_number.new.out.items in

@@ -26,13 +26,13 @@ impl TurningDisk {
 
 impl Disk for TurningDisk {
     ghost use Rattle.state_file.specs.Log.{left_now, left_only_now};
-    ghost use Rattle.state_file.specs.MemoryDisk.{failures_in, left_in, moment_in, past_ends_in, state_in};
+    ghost use Rattle.state_file.specs.MemoryDisk.{failures_in, left_since_in, moment_in, past_ends_in, state_in};
 
     ghost state = { λ turning. state_in turning.disk };
 
     ghost moment = { λ turning. moment_in turning.disk };
 
-    ghost left_since = { λ turning. left_in turning.disk };
+    ghost left_since = { λ turning. left_since_in turning.disk };
 
     ghost failures = { λ turning. failures_in turning.disk };
 
