@@ -18,7 +18,7 @@ use Rattle.state_file.specs.DiskCalls.{CountsFailures}
 use Rattle.state_file.specs.Format.{Formats, LeftByFormat, is_failed_format}
 use Rattle.state_file.specs.Opening.{ReportsContent, Settles, is_failed_opening}
 use Rattle.state_file.specs.Slot.{slot_record}
-use Rattle.state_file.specs.Store.{is_key}
+use Rattle.state_file.specs.Store.{WhileRunning, is_key}
 use Rattle.state_file.specs.declared.file.format.FormatFault.{FormatFault}
 use Rattle.state_file.specs.declared.file.opening.OpenFault.{OpenFault}
 use Rattle.state_file.specs.declared.record.Key.{Key}
@@ -35,6 +35,10 @@ records_of store = store.records
 -- whether a call has failed, so that it answers no more
 abbrev pub has_stopped : {D : Type 0} {bound : _} → FileStore D bound → Bool
 has_stopped store = store.stopped
+
+-- It holds while the store runs, over a disk that keeps what was synced.
+abbrev pub WhileStoreRuns : {D : Type 0} {bound : _} (d : disk.Ghosts D) (store : FileStore D bound) → Type 0 → Type 0
+WhileStoreRuns d store Then = WhileRunning (d.honest (disk_of store)) (has_stopped store) Then
 
 -- What a stop at any moment from the old store on leaves stands for lists that have P; one that stands for none counts
 -- as every list.

@@ -1,6 +1,6 @@
 -- What the calls of a store do.
-use Rattle.std.specs.Prelude.{◌≡◌, ◌⊎◌, ℕ, ◌+◌, ◌<◌, ◌≤◌, Bool, true, false, List, [], ◌∷◌, ◌++◌, length, slice_get}
-use Rattle.std.specs.Prelude.{Option, Some, None, Result, Ok, Err}
+use Rattle.std.specs.Prelude.{◌≡◌, ◌⊎◌, ℕ, ◌+◌, ◌<◌, ◌≤◌, Bool, true, false, IsTrue, List, [], ◌∷◌, ◌++◌, length}
+use Rattle.std.specs.Prelude.{slice_get, Option, Some, None, Result, Ok, Err}
 use Rattle.state_file.specs.declared.record.Record.{Record}
 use Rattle.state_file.specs.declared.record.Record.TheVariants.{Key as KeyRecord, Extend, Bound, Retire, Moved}
 use Rattle.state_file.specs.declared.store.StoreFault.{StoreFault}
@@ -22,6 +22,10 @@ begins_with_key (entry ∷ entries) = is_key entry
 -- The record can be written after this list: the first one is a Key.
 abbrev pub CanFollow : List Record → Record → Type 0
 CanFollow list entry = length list ≡ 0 → is_key entry ≡ true
+
+-- It holds while the store runs: no call has failed, and its device keeps what was synced.
+abbrev pub WhileRunning : (honest stopped : Bool) → Type 0 → Type 0
+WhileRunning honest stopped Then = IsTrue honest → stopped ≡ false → Then
 
 -- What an append does, by its answer: to the list, to whether the store has stopped, and to the count of
 -- its device's failures.
@@ -49,12 +53,12 @@ is_out_of_memory OutOfMemory = true
 is_out_of_memory Full = false
 
 -- An answer 45 counts as a failure of the device, and no other does.
-abbrev pub is_device_failure : StoreFault → Bool
-is_device_failure Stopped = false
-is_device_failure (Damaged k) = false
-is_device_failure DeviceFailed = true
-is_device_failure OutOfMemory = false
-is_device_failure Full = false
+abbrev pub is_device_failed : StoreFault → Bool
+is_device_failed Stopped = false
+is_device_failed (Damaged k) = false
+is_device_failed DeviceFailed = true
+is_device_failed OutOfMemory = false
+is_device_failed Full = false
 
 -- the slot that an answer 43 names
 abbrev pub unreadable_slot : StoreFault → List ℕ
@@ -63,6 +67,11 @@ unreadable_slot (Damaged k) = k ∷ []
 unreadable_slot DeviceFailed = []
 unreadable_slot OutOfMemory = []
 unreadable_slot Full = []
+
+-- the answer is a fault of such a kind
+abbrev pub is_fault : {A E : Type 0} → (is_kind : E → Bool) → Result A E → Bool
+is_fault is_kind (Ok _) = false
+is_fault is_kind (Err fault) = is_kind fault
 
 -- What a refusal names is added at the head of a list, and nothing else is.
 abbrev pub Collects : {A E T : Type 0} (named_by : E → List T) (before after : List T) → Result A E → Type 0

@@ -1,6 +1,6 @@
 //! What a store of records is.
 
-ghost use Rattle.std.specs.Prelude.{◌≡◌, ◌≢◌, ◌⊎◌, ◌≤◌, ◌∷◌, [], ◌++◌, ℕ, List, Bool, true, false, IsTrue, length};
+ghost use Rattle.std.specs.Prelude.{◌≡◌, ◌≢◌, ◌⊎◌, ◌≤◌, ◌∷◌, [], ◌++◌, ℕ, List, Bool, true, length};
 ghost use Rattle.std.specs.Prelude.{IfErr};
 ghost use Rattle.state_file.specs.Disk.{Counts, LeavesOnly};
 
@@ -39,7 +39,8 @@ pub enum StoreFault {
 /// A list of records that grows at its end.
 pub trait Store {
     ghost use Rattle.state_file.specs.declared.record.Record.{Record as R};
-    ghost use Rattle.state_file.specs.Store.{Appends, CanFollow, Collects, Loads, is_out_of_memory, unreadable_slot};
+    ghost use Rattle.state_file.specs.Store.{Appends, CanFollow, Collects, Loads, WhileRunning, is_out_of_memory};
+    ghost use Rattle.state_file.specs.Store.{unreadable_slot};
 
     // its records
     ghost list: { Self → List R };
@@ -77,8 +78,8 @@ pub trait Store {
         ensures refusals { Counts is_out_of_memory (refusals self.old) (refusals self.new) result }
         ensures unreadable { Collects unreadable_slot (unreadable self.old) (unreadable self.new) result }
         ensures same { list self.new ≡ list self.old }
-        ensures any_moment { IsTrue (honest self.old) → stopped self.old ≡ false →
-            LeavesOnly moment left_since self.old self.new (λ left. left ≡ list self.old) }
+        ensures any_moment { WhileRunning (honest self.old) (stopped self.old)
+            (LeavesOnly moment left_since self.old self.new (λ left. left ≡ list self.old)) }
         ensures stays { stopped self.old ≡ true → self.new ≡ self.old }
         ensures honest { honest self.new ≡ honest self.old }
         ensures most { most self.new ≡ most self.old };
@@ -87,12 +88,12 @@ pub trait Store {
     /// the old records, or these and the new one; of one that is refused with another answer than 45, the old ones.
     fn append(&mut self, new: &Record) -> Result<(), StoreFault>
         requires { CanFollow (list self.old) new.now }
-        ensures any_moment { IsTrue (honest self.old) → stopped self.old ≡ false →
-            LeavesOnly moment left_since self.old self.new
-            (λ left. (left ≡ list self.old) ⊎ (left ≡ list self.old ++ new.now ∷ [])) }
-        ensures refused { IsTrue (honest self.old) → stopped self.old ≡ false → IfErr result (λ fault.
-            fault ≢ StoreFault.DeviceFailed →
-            LeavesOnly moment left_since self.old self.new (λ left. left ≡ list self.old)) }
+        ensures any_moment { WhileRunning (honest self.old) (stopped self.old)
+            (LeavesOnly moment left_since self.old self.new
+            (λ left. (left ≡ list self.old) ⊎ (left ≡ list self.old ++ new.now ∷ []))) }
+        ensures refused { WhileRunning (honest self.old) (stopped self.old)
+            (IfErr result (λ fault. fault ≢ StoreFault.DeviceFailed →
+            LeavesOnly moment left_since self.old self.new (λ left. left ≡ list self.old))) }
         ensures stays { stopped self.old ≡ true → self.new ≡ self.old }
         ensures answer { Appends (most self.old) (list self.old) (stopped self.old) new.now (list self.new)
             (stopped self.new)
@@ -110,10 +111,10 @@ pub trait Store {
     ghost few: { (store : Self) → length (list store) ≤ most store };
 
     // Where no call has failed, a stop leaves its list ..
-    ghost leaves_list: { (store : Self) (t : ℕ) → IsTrue (honest store) → stopped store ≡ false → t ≤ moment store →
-        left_since store t (list store) };
+    ghost leaves_list: { (store : Self) (t : ℕ) → WhileRunning (honest store) (stopped store)
+        (t ≤ moment store → left_since store t (list store)) };
 
     // .. and nothing else.
-    ghost leaves_nothing_else: { (store : Self) (left : List R) → IsTrue (honest store) → stopped store ≡ false →
-        left_since store (moment store) left → left ≡ list store };
+    ghost leaves_nothing_else: { (store : Self) (left : List R) → WhileRunning (honest store) (stopped store)
+        (left_since store (moment store) left → left ≡ list store) };
 }

@@ -8,7 +8,7 @@ ghost use Rattle.state_file.specs.File.{IsSyncedFile, IsSyncedFile-prop, LeftLis
 ghost use Rattle.state_file.specs.Gates.{AddsSlot, slot_and_gate};
 ghost use Rattle.std.proofs.Common.{inl};
 ghost use Rattle.state_file.specs.Store.{Appends, CanFollow, Collects, Loads, ReadsTag, is_out_of_memory};
-ghost use Rattle.state_file.specs.Store.{is_device_failure, unreadable_slot};
+ghost use Rattle.state_file.specs.Store.{is_device_failed, unreadable_slot};
 
 #[cfg(test)]
 mod tests;
@@ -101,7 +101,7 @@ impl<D: Disk + Drop> FileStore<D> {
 }
 
 impl<D: Disk + Drop> FileStore<D> {
-    ghost use Rattle.state_file.specs.FileStore.{disk_of, has_stopped, records_of, unreadable_of};
+    ghost use Rattle.state_file.specs.FileStore.{WhileStoreRuns, disk_of, has_stopped, records_of, unreadable_of};
 
     /// The tag of slot k, 32 bytes.
     pub fn tag_at(&mut self, k: u32) -> Result<[u8; 32], StoreFault>
@@ -112,11 +112,11 @@ impl<D: Disk + Drop> FileStore<D> {
             IfOk result (λ tag. tag ≡ tag_at (D.state (disk_of self.old)).content k) }
         ensures same { records_of self.new ≡ records_of self.old }
         ensures unreadable { unreadable_of self.new ≡ unreadable_of self.old }
-        ensures reads { IsTrue (D.honest (disk_of self.old)) → has_stopped self.old ≡ false →
-            OnlyReads D.state D.moment D.left_since (disk_of self.old) (disk_of self.new) }
-        ensures any_moment { IsTrue (D.honest (disk_of self.old)) → has_stopped self.old ≡ false →
-            LeavesOnly D.moment D.left_since (disk_of self.old) (disk_of self.new) (StandsFor (records_of self.old)) }
-        ensures counts { CountsFailures D.Disk is_device_failure (disk_of self.old) (disk_of self.new) result }
+        ensures reads { WhileStoreRuns D.Disk self.old
+            (OnlyReads D.state D.moment D.left_since (disk_of self.old) (disk_of self.new)) }
+        ensures any_moment { WhileStoreRuns D.Disk self.old
+            (LeavesOnly D.moment D.left_since (disk_of self.old) (disk_of self.new) (StandsFor (records_of self.old))) }
+        ensures counts { CountsFailures D.Disk is_device_failed (disk_of self.old) (disk_of self.new) result }
         ensures stays { has_stopped self.old ≡ true → self.new ≡ self.old }
     {
         if self.stopped {
@@ -133,7 +133,8 @@ impl<D: Disk + Drop> FileStore<D> {
 }
 
 impl<D: Disk + Drop> Store for FileStore<D> {
-    ghost use Rattle.state_file.specs.FileStore.{LeavesLists, disk_of, has_stopped, kept_list, kept_stands};
+    ghost use Rattle.state_file.specs.FileStore.{LeavesLists, WhileStoreRuns, disk_of, has_stopped, kept_list};
+    ghost use Rattle.state_file.specs.FileStore.{kept_stands};
     ghost use Rattle.state_file.specs.FileStore.{records_of, unreadable_of};
 
     ghost list = { λ store. records_of store };
@@ -177,12 +178,12 @@ impl<D: Disk + Drop> Store for FileStore<D> {
         ensures memory { result ≢ Err StoreFault.OutOfMemory }
         ensures unreadable { Collects unreadable_slot (unreadable_of self.old) (unreadable_of self.new) result }
         ensures same { records_of self.new ≡ records_of self.old }
-        ensures reads { IsTrue (D.honest (disk_of self.old)) → has_stopped self.old ≡ false →
-            OnlyReads D.state D.moment D.left_since (disk_of self.old) (disk_of self.new) }
-        ensures any_moment { IsTrue (D.honest (disk_of self.old)) → has_stopped self.old ≡ false →
-            LeavesLists D.Disk self.old self.new (λ left. left ≡ records_of self.old) }
+        ensures reads { WhileStoreRuns D.Disk self.old
+            (OnlyReads D.state D.moment D.left_since (disk_of self.old) (disk_of self.new)) }
+        ensures any_moment { WhileStoreRuns D.Disk self.old
+            (LeavesLists D.Disk self.old self.new (λ left. left ≡ records_of self.old)) }
         ensures stays { has_stopped self.old ≡ true → self.new ≡ self.old }
-        ensures counts { CountsFailures D.Disk is_device_failure (disk_of self.old) (disk_of self.new) result }
+        ensures counts { CountsFailures D.Disk is_device_failed (disk_of self.old) (disk_of self.new) result }
     {
         if self.stopped {
             return Err(StoreFault::Stopped);
@@ -210,19 +211,19 @@ impl<D: Disk + Drop> Store for FileStore<D> {
     /// that differs from the old content at most in the new slot and the gate after it (`bytes`).
     fn append(&mut self, new: &Record) -> Result<(), StoreFault>
         requires { CanFollow (records_of self.old) new.now }
-        ensures any_moment { IsTrue (D.honest (disk_of self.old)) → has_stopped self.old ≡ false →
-            LeavesLists D.Disk self.old self.new
-            (λ left. (left ≡ records_of self.old) ⊎ (left ≡ records_of self.old ++ new.now ∷ [])) }
-        ensures refused { IsTrue (D.honest (disk_of self.old)) → has_stopped self.old ≡ false → IfErr result (λ fault.
-            fault ≢ StoreFault.DeviceFailed →
-            LeavesLists D.Disk self.old self.new (λ left. left ≡ records_of self.old)) }
+        ensures any_moment { WhileStoreRuns D.Disk self.old
+            (LeavesLists D.Disk self.old self.new
+            (λ left. (left ≡ records_of self.old) ⊎ (left ≡ records_of self.old ++ new.now ∷ []))) }
+        ensures refused { WhileStoreRuns D.Disk self.old
+            (IfErr result (λ fault. fault ≢ StoreFault.DeviceFailed →
+            LeavesLists D.Disk self.old self.new (λ left. left ≡ records_of self.old))) }
         ensures stays { has_stopped self.old ≡ true → self.new ≡ self.old }
-        ensures contents { IsTrue (D.honest (disk_of self.old)) → has_stopped self.old ≡ false →
-            LeavesOnly D.moment D.left_since (disk_of self.old) (disk_of self.new)
-            (λ c. StandsFor (records_of self.old) c ⊎ StandsFor (records_of self.old ++ new.now ∷ []) c) }
-        ensures bytes { IsTrue (D.honest (disk_of self.old)) → has_stopped self.old ≡ false →
-            LeavesOnly D.moment D.left_since (disk_of self.old) (disk_of self.new)
-            (ChangesOnly (slot_and_gate (length (records_of self.old)) ∷ []) (D.state (disk_of self.old)).content) }
+        ensures contents { WhileStoreRuns D.Disk self.old
+            (LeavesOnly D.moment D.left_since (disk_of self.old) (disk_of self.new)
+            (λ c. StandsFor (records_of self.old) c ⊎ StandsFor (records_of self.old ++ new.now ∷ []) c)) }
+        ensures bytes { WhileStoreRuns D.Disk self.old
+            (LeavesOnly D.moment D.left_since (disk_of self.old) (disk_of self.new)
+            (ChangesOnly (slot_and_gate (length (records_of self.old)) ∷ []) (D.state (disk_of self.old)).content)) }
         ensures answer { Appends most_records (records_of self.old) (has_stopped self.old) new.now (records_of self.new)
             (has_stopped self.new) (D.failures (disk_of self.old)) (D.failures (disk_of self.new)) result }
         ensures refusals { Counts is_out_of_memory 0 0 result }
@@ -233,7 +234,7 @@ impl<D: Disk + Drop> Store for FileStore<D> {
             OnOk result
             (AddsSlot (length (records_of self.old)) (D.state (disk_of self.old)).content
             (D.state (disk_of self.new))) }
-        ensures counts { CountsFailures D.Disk is_device_failure (disk_of self.old) (disk_of self.new) result }
+        ensures counts { CountsFailures D.Disk is_device_failed (disk_of self.old) (disk_of self.new) result }
     {
         if self.stopped {
             return Err(StoreFault::Stopped);
