@@ -11,6 +11,7 @@ use Rattle.state_file.specs.File.{tag_at}
 use Rattle.state_file.specs.FileStore.{disk_of, has_stopped, records_of, unreadable_of}
 use Rattle.state_file.specs.Laws.{IsLegal}
 use Rattle.state_file.specs.Store.{Collects}
+pub use Rattle.state_file.specs.Store.{is_fault}
 use Rattle.sign_core.specs.Once.{public_of_key}
 use Rattle.sign_core.specs.Records.{first_illegal, free_counts, has_moved, key_in}
 use Rattle.key_audit.specs.declared.report.Anchor.{Anchor}
@@ -40,11 +41,6 @@ is_stopped _ = false
 abbrev pub is_device_failed : AuditFault → Bool
 is_device_failed DeviceFailed = true
 is_device_failed _ = false
-
--- the answer is a fault of such a kind
-abbrev pub is_fault : {A : Type 0} → (is_kind : AuditFault → Bool) → Result A AuditFault → Bool
-is_fault is_kind (Ok _) = false
-is_fault is_kind (Err fault) = is_kind fault
 
 -- the slot that an answer 43 names
 abbrev pub unreadable_slot : AuditFault → List ℕ

@@ -19,6 +19,7 @@ use Rattle.state_file.specs.declared.store.Store as store
 use Rattle.state_file.specs.Disk.{Counts, LeavesOnly}
 use Rattle.state_file.specs.Laws.{IsLegal, bottom_of}
 use Rattle.state_file.specs.Store.{Collects, IsRecordAt}
+pub use Rattle.state_file.specs.Store.{is_fault}
 use Rattle.sign_core.specs.declared.key.AnyPublic.{AnyPublic}
 use Rattle.sign_core.specs.declared.fault.SignFault.{SignFault}
 use Rattle.sign_core.specs.declared.fault.SignFault.TheVariants.{DeviceFailed, NoMemoryToOpen, OutOfMemory}
@@ -186,11 +187,6 @@ pub record KeepsAll {S R : Type 0} (old new : View S R) : Type 0 where
   pub random : new.random ≡ old.random
   pub records : new.records ≡ old.records
   pub is_open : new.is_open ≡ old.is_open
-
--- the answer is a fault of such a kind
-abbrev pub is_fault : {A : Type 0} → (is_kind : SignFault → Bool) → Result A SignFault → Bool
-is_fault is_kind (Ok _) = false
-is_fault is_kind (Err fault) = is_kind fault
 
 -- 25 and 29 can come of an append.
 abbrev pub is_of_append : SignFault → Bool
