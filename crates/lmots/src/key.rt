@@ -13,11 +13,10 @@ ghost use Rattle.typecodes.specs.Types.{chains_of, width_of};
 ghost use Rattle.winternitz.specs.Lanes.{lanes};
 
 use crate::hashes::{MESSAGE, PUBLIC};
-use crate::message::feed;
 use sha2::{Digest, Sha256};
 use typecodes::{Message, MessageFailed, OtsType, put};
 use winternitz::lanes::{LANES, sha256_of_55};
-use winternitz::{MOST_CHAINS, Step, Values, climb_from, climb_to, climb_whole, digits};
+use winternitz::{MOST_CHAINS, Step, Values, climb_from, climb_to, climb_whole, digits, feed};
 
 /// A leaf's one-time key, by the identifier I of its tree and its number q: what each hash of the
 /// key begins with (RFC 8554 4.2).

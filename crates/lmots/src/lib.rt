@@ -21,7 +21,6 @@
 
 mod hashes;
 mod key;
-mod message;
 #[cfg(test)]
 mod tests;
 

@@ -9,7 +9,7 @@
 //!
 //! Chains climb in fours: `climb_whole`, `climb_to` and `climb_from` are the walks of all chains of a
 //! key, and `lanes` is SHA-256 of four blocks side by side (`specs/Lanes.antt`), by which a `Step` can
-//! take four steps at once.
+//! take four steps at once. `feed` gives a message to a hash, piece by piece, for the digests that are signed.
 //!
 //! ```rust
 //! use winternitz::{climb_from, digits};
@@ -24,8 +24,10 @@ mod digest;
 mod groups;
 pub mod lanes;
 mod laws;
+mod message;
 
 pub use crate::chain::{Step, climb, climb_four};
 pub use crate::digest::{Digits, digits};
 pub use crate::groups::{MOST_CHAINS, Values, climb_from, climb_to, climb_whole};
 pub use crate::laws::chain_law;
+pub use crate::message::feed;

@@ -10,9 +10,9 @@ ghost use Rattle.typecodes.specs.Message.{Digests};
 ghost use Rattle.winternitz.specs.Lanes.{lanes};
 
 use crate::address::Address;
-use crate::message::feed;
 use sha2::{Digest, Sha256};
 use typecodes::{Message, MessageFailed};
+use winternitz::feed;
 use winternitz::lanes::{LANES, compress, in_each, in_lane, initial, sha256_of_96};
 
 /// F(KEY, M), the hash of a chain's step.

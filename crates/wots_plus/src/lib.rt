@@ -27,7 +27,6 @@ mod address;
 mod hashes;
 mod key;
 mod l_tree;
-mod message;
 #[cfg(test)]
 mod tests;
 

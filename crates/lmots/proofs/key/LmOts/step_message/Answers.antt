@@ -1,4 +1,4 @@
-use Rattle.std.proofs.Common.{◌≡◌, refl, arith}
+use Rattle.std.proofs.Common.{refl, arith}
 use Rattle.typecodes.proofs.Written.{all_parts, next_part}
 use Rattle.lmots.proofs.key.LmOts.step_message.Goals as goal
 

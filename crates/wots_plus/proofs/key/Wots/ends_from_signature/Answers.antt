@@ -1,4 +1,4 @@
-use Rattle.std.proofs.Common.{◌≡◌, ◌∙◌, sym, refl, ap, arith, length, take}
+use Rattle.std.proofs.Common.{◌∙◌, sym, refl, ap, arith, length, take}
 use Rattle.winternitz.proofs.Signing as chains
 use Rattle.wots_plus.specs.Key.{step_of}
 use Rattle.wots_plus.proofs.key.Wots.ends_from_signature.Goals as goal

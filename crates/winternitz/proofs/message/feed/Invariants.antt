@@ -1,7 +1,7 @@
 use Rattle.std.proofs.Common.{length, ◌≡◌}
 use Rattle.sha2.specs.Hashers.{Holds256}
 use Rattle.typecodes.proofs.Messages.{HasFed}
-use Rattle.lmots.proofs.message.feed.Given as goal
+use Rattle.winternitz.proofs.message.feed.Given as goal
 
 abbrev pub invariant-loop-turn : goal.invariant-loop-turn
 invariant-loop-turn g l =

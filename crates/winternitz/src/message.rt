@@ -7,8 +7,8 @@ ghost use Rattle.typecodes.specs.Message.{CantBeRead, Feeds};
 use sha2::{Digest, Sha256};
 use typecodes::{Message, MessageFailed, PIECE, PIECES, read_piece};
 
-// Feeds a message to a hasher, to its end.
-pub(crate) fn feed<M: Message>(hasher: &mut Sha256, message: &mut M) -> Result<(), MessageFailed>
+/// Feeds a message to a hasher, to its end.
+pub fn feed<M: Message>(hasher: &mut Sha256, message: &mut M) -> Result<(), MessageFailed>
     ensures ok { OnOk result (Feeds M.transition M.remaining Holds256 hasher.old hasher.new message.old message.new) }
     ensures err { OnErr result (CantBeRead M.transition message.old message.new) }
 {

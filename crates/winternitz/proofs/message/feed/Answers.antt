@@ -1,7 +1,7 @@
 use Rattle.std.proofs.Common.{rules}
 use Rattle.sha2.specs.Hashers.{Holds256}
 use Rattle.typecodes.proofs.Messages.{fed-full, fed-last, feeding-fails}
-use Rattle.wots_plus.proofs.message.feed.Goals as goal
+use Rattle.winternitz.proofs.message.feed.Goals as goal
 
 pub returns-in_err-n-clause-err : goal.returns-in_err-n-clause-err
 returns-in_err-n-clause-err g c =
