@@ -159,3 +159,9 @@ ReadsPart m left old (Err kind) after new = (after ≡ left) × (1 ≤ left)
 abbrev pub Skips : {M A E : Type 0} → message.Ghosts M → (old new : M) → Result A E → Type 0
 Skips m old new (Ok _) = (text : List ℕ) × ReadWhole m.transition m.remaining text old new
 Skips m old new (Err _) = CantBeRead m.transition old new
+
+-- Nothing more comes of a message: it was read whole, or it can't be read.
+abbrev pub IsOver : {M : Type 0} → message.Ghosts M → M → Type 0
+IsOver {M} m now =
+    (before : M) × (((text : List ℕ) × ReadWhole m.transition m.remaining text before now)
+    ⊎ CantBeRead m.transition before now)

@@ -1,7 +1,7 @@
 //! `serve`: requests over an input, each of which has its reply on an output.
 
 ghost use Rattle.std.specs.Prelude.{◌≡◌, ◌<◌, ◌^◌, vec_capacity};
-ghost use Rattle.sign_core.specs.Frames.{said_by};
+ghost use Rattle.sign_core.specs.Frames.{IsOver, said_by};
 ghost use Rattle.sign_core.specs.Serving.{AnswersFrame, Asks, Finishes, Serves, Turns, WritesReply, is_unread};
 ghost use Rattle.sign_core.specs.Serving.{reply_bytes, reply_frame};
 ghost use Rattle.sign_core.specs.Signing.{KeepsCapacity};
@@ -91,8 +91,8 @@ fn take_turn<S: Store, R: Source, I: Message, W: Write>(
             return Err(fault);
         }
     };
-    let (reply, is_whole) = answer(signer, reader, &head, signature);
-    write_answer(writer, &reply, signature)?;
+    let ((_, is_whole), written) = answer(signer, reader, writer, &head, signature);
+    written?;
     if !is_whole {
         return Err(ServeFault::MessageRead);
     }
@@ -100,15 +100,18 @@ fn take_turn<S: Store, R: Source, I: Message, W: Write>(
 }
 
 // Answers a request whose head was read, and reads its message to the end, or as far as it comes: false where that
-// isn't all of it.
-fn answer<S: Store, R: Source, I: Message>(
+// isn't all of it. Only then the reply is written.
+fn answer<S: Store, R: Source, I: Message, W: Write>(
     signer: &mut Signer<S, R>,
     reader: &mut I,
+    writer: &mut W,
     head: &Head,
     signature: &mut Vec<u8>,
-) -> (Reply, bool)
-    ensures { AnswersFrame S.Store R.Source I.Message (said_by head.now) signer.old signer.new reader.old reader.new
-        (vec_capacity signature.old) (vec_capacity signature.new) signature.new.items result }
+) -> ((Reply, bool), Result<(), ServeFault>)
+    ensures frame { AnswersFrame S.Store R.Source I.Message (said_by head.now) signer.old signer.new reader.old
+        reader.new (vec_capacity signature.old) (vec_capacity signature.new) signature.new.items result.0 }
+    ensures written { WritesReply (reply_bytes result.0.0 signature.new.items) (W.contents writer.old)
+        (W.contents writer.new) result.1 }
 {
     let mut message = FrameMessage {
         input: reader,
@@ -116,10 +119,11 @@ fn answer<S: Store, R: Source, I: Message>(
     };
     let reply = ask(signer, head.name.as_slice(), &mut message, signature);
     let is_whole = finish(&mut message, &reply);
+    let written = write_answer(&message, writer, &reply, signature);
     let FrameMessage { input, .. } = message;
     // Only the proof needs this use: it tells what was read.
     let _ = &*input;
-    (reply, is_whole)
+    ((reply, is_whole), written)
 }
 
 // The same size, which is one of four bytes.
@@ -160,10 +164,18 @@ fn ask<S: Store, R: Source, M: Message>(
     }
 }
 
-// Writes what is replied to a request, where it is Ok with this signature.
-fn write_answer<W: Write>(writer: &mut W, reply: &Reply, signature: &[u8]) -> Result<(), ServeFault>
+// Writes what is replied to a request, where it is Ok with this signature. Nothing more comes of its message then.
+fn write_answer<M: Message, W: Write>(
+    message: &M,
+    writer: &mut W,
+    reply: &Reply,
+    signature: &[u8],
+) -> Result<(), ServeFault>
+    requires { IsOver M.Message message.now }
     ensures { WritesReply (reply_bytes reply.now signature.now) (W.contents writer.old) (W.contents writer.new) result }
 {
+    // Only the contract needs the message.
+    let _ = message;
     match reply {
         Reply::Signed => write_reply(writer, 0, signature),
         Reply::Refused(SignFault::Damaged(slot)) => { write_reply(writer, 28, &slot.to_be_bytes()) }
