@@ -285,8 +285,8 @@ is_before_repeat MessageRead = true
 is_before_repeat fault = is_before_caches fault
 
 -- What an answer keeps as it was, where so many records are wanted: 22, 26, 28, 30 and 31 keep all but the memory, and
--- so does 29 before anything is drawn; later it comes of the store, or of a new tree; 22, 26, 30 and 31 keep the caches;
--- and each answer keeps the store, unless a record was added or its append failed.
+-- so does 29 before anything is drawn; later it comes of the store, or of a new tree; 22, 26, 30 and 31 keep the
+-- caches; and each answer keeps the store, unless a record was added or its append failed.
 pub record KeepsAtRefusal {S R A : Type 0} (g : store.Ghosts S) (has_room : Bool) (wanted : ℕ) (old new : View S R)
     (answer : Result A SignFault) : Type 0 where
   pub at_once : is_fault is_before_draws answer ≡ true → KeepsAll old new
