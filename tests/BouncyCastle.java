@@ -33,8 +33,8 @@ import org.bouncycastle.pqc.crypto.xmss.XMSSSigner;
  * <p>verify: for each line of the input, the paths of a public key, a message and a signature with tabs between them, it
  * prints `verified` or `refused`. time-verify PUBLIC MESSAGE SIGNATURE HASHES: the milliseconds of a verification, and of
  * as many bare hashes of 55 bytes. time-sign lms:H10/W8 or xmss:10: the milliseconds of making a key, and of signing by it
- * as it is read from its bytes, at its first leaf and at its 500th. time-session lms:H10/W8 COUNT: the milliseconds of
- * making a key, and of so many signatures by it as it is kept. Times are those of the processor.
+ * as it is read from its bytes, at its first leaf and at its 500th. time-session SPEC COUNT, for lms:H10/W8, lms:H10/W4 and xmss:10:
+ * the milliseconds of making a key, and of one of so many signatures by it as it is kept. Times are those of the processor.
  */
 public class BouncyCastle {
     static final byte[] MESSAGE = {1};
@@ -44,7 +44,7 @@ public class BouncyCastle {
             case "verify" -> verifyLines();
             case "time-verify" -> timeVerify(words);
             case "time-sign" -> timeSign(words[1].equals("xmss:10") ? new XmssKey() : new LmsKey());
-            case "time-session" -> timeSession(Integer.parseInt(words[2]));
+            case "time-session" -> timeSession(words[1], Integer.parseInt(words[2]));
             default -> throw new IllegalArgumentException(words[0]);
         }
     }
@@ -102,22 +102,52 @@ public class BouncyCastle {
         System.out.println(make + " " + first + " " + later);
     }
 
-    /** The shortest time of three keys of LMS of H10/W8, and that of the first signatures of each. */
-    static void timeSession(int count) {
+    /** The shortest time of three keys, and of one of the first signatures of each. */
+    static void timeSession(String spec, int count) {
         double make = Double.MAX_VALUE;
         double sign = Double.MAX_VALUE;
         for (int round = 0; round < 3; round++) {
             long start = now();
-            LMSSigner signer = new LMSSigner();
-            signer.init(true, LmsKey.generated());
+            Session session = spec.equals("xmss:10") ? new XmssSession() : new LmsSession(spec);
             make = Math.min(make, since(start));
             start = now();
             for (int leaf = 0; leaf < count; leaf++) {
-                signer.generateSignature(MESSAGE);
+                session.sign();
             }
-            sign = Math.min(sign, since(start));
+            sign = Math.min(sign, since(start) / count);
         }
         System.out.println(make + " " + sign);
+    }
+
+    /** A key that is kept in memory, and signs. */
+    interface Session {
+        void sign();
+    }
+
+    static class LmsSession implements Session {
+        final LMSSigner signer = new LMSSigner();
+
+        LmsSession(String spec) {
+            signer.init(true, LmsKey.generated(spec));
+        }
+
+        public void sign() {
+            signer.generateSignature(MESSAGE);
+        }
+    }
+
+    static class XmssSession implements Session {
+        final XMSSSigner signer = new XMSSSigner();
+
+        XmssSession() {
+            XMSSKeyPairGenerator generator = new XMSSKeyPairGenerator();
+            generator.init(new XMSSKeyGenerationParameters(new XMSSParameters(10, new SHA256Digest()), new SecureRandom()));
+            signer.init(true, generator.generateKeyPair().getPrivate());
+        }
+
+        public void sign() {
+            signer.generateSignature(MESSAGE);
+        }
     }
 
     static double signing(Supplier<byte[]> signature) {
@@ -142,15 +172,16 @@ public class BouncyCastle {
     static class LmsKey implements Key {
         byte[] bytes;
 
-        static LMSPrivateKeyParameters generated() {
+        static LMSPrivateKeyParameters generated(String spec) {
             LMSKeyPairGenerator generator = new LMSKeyPairGenerator();
-            LMSParameters parameters = new LMSParameters(LMSigParameters.lms_sha256_n32_h10, LMOtsParameters.sha256_n32_w8);
+            LMOtsParameters oneTime = spec.endsWith("W4") ? LMOtsParameters.sha256_n32_w4 : LMOtsParameters.sha256_n32_w8;
+            LMSParameters parameters = new LMSParameters(LMSigParameters.lms_sha256_n32_h10, oneTime);
             generator.init(new LMSKeyGenerationParameters(parameters, new SecureRandom()));
             return (LMSPrivateKeyParameters) generator.generateKeyPair().getPrivate();
         }
 
         public void make() throws IOException {
-            bytes = generated().getEncoded();
+            bytes = generated("lms:H10/W8").getEncoded();
         }
 
         public Supplier<byte[]> at(int leaves) {

@@ -1,7 +1,8 @@
 // What Botan 2 says of signatures of XMSS, and how long it takes. The first word is what is wanted:
 // verify: for each line of the input, the paths of a public key, a message and a signature with tabs between them, it
 // prints `verified` or `refused`. time-verify PUBLIC MESSAGE SIGNATURE: the milliseconds of a verification. time-sign: the
-// milliseconds of making a key of height 10, and of signing by it at its first leaf and at its 500th. Times are those of the
+// milliseconds of making a key of height 10, and of signing by it at its first leaf and at its 500th. time-session COUNT: the
+// milliseconds of making such a key, and of one of so many signatures by it as it is kept. Times are those of the
 // processor.
 #include <algorithm>
 #include <botan/auto_rng.h>
@@ -80,6 +81,22 @@ static void time_sign()
     std::printf("%f %f %f\n", make, first, later);
 }
 
+// The milliseconds of making a key, and of one of so many signatures by it as it is kept.
+static void time_session(int count)
+{
+    Botan::AutoSeeded_RNG random;
+    const std::vector<uint8_t> message = {1};
+    const auto type = Botan::XMSS_Parameters::XMSS_SHA2_10_256;
+    const double make = shortest(3, [&] { Botan::XMSS_PrivateKey key(type, random); });
+    Botan::XMSS_PrivateKey key(type, random);
+    Botan::PK_Signer signer(key, random, "");
+    const double all = shortest(1, [&] {
+        for (int leaf = 0; leaf < count; leaf++)
+            signer.sign_message(message, random);
+    });
+    std::printf("%f %f\n", make, all / count);
+}
+
 int main(int, char **words)
 {
     const std::string wanted = words[1];
@@ -89,6 +106,8 @@ int main(int, char **words)
         return time_verify(words + 2);
     else if (wanted == "time-sign")
         time_sign();
+    else if (wanted == "time-session")
+        time_session(std::stoi(words[2]));
     else
         return 2;
     return 0;
