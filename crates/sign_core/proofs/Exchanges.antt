@@ -29,7 +29,7 @@ use Rattle.sign_core.specs.Serving.{Turns, WritesReply, is_unread, reply_bytes, 
 use Rattle.sign_core.specs.Signer.{IsRead, KeepsForRepeat, Signs, View, is_before_repeat, is_fault, state_of}
 use Rattle.sign_core.specs.World.{Outcome}
 use Rattle.sign_core.proofs.InputReading.{IsPart, part_cut, part_done, reads_close, reads_none, reads_then}
-use Rattle.sign_core.proofs.Told.{IsTold, is_told}
+use Rattle.sign_core.proofs.Reported.{IsReported, is_reported}
 
 -- ---- heads
 
@@ -217,13 +217,13 @@ module _ {P M : Type 0} (p : message.Ghosts P) (m : message.Ghosts M) (input_of 
       → (is_read ≡ true → given ≡ None → answer ≡ Err fault.MessageRead) → (unread ≡ true → answer ≡ Err fault.MessageRead)
       → (answer ≡ Err fault.MessageRead → unread ≡ true) → Finishes p unread middle new whole
       → ReadTo m name (left_of old) is_read given (input_of old) (input_of new) whole
-  read_to is_read given old middle new answer true true bound first untold told says said (never, same) = absurd (cc)
-  read_to is_read given old middle new answer true false bound first untold told says said (none, same) =
-      let (known, nothing) = untold (says refl) in read_none is_read given old middle new bound known nothing first same
-  read_to is_read given old middle new answer false true bound first untold told says said (rest, later) =
-      read_whole is_read given rest old middle new first (λ known none. true≢false (sym (said (told known none)))) later
-  read_to is_read given old middle new answer false false bound first untold told says said cant =
-      read_cut is_read given old middle new bound first (λ known none. true≢false (sym (said (told known none)))) cant
+  read_to is_read given old middle new answer true true bound first unreported reported says said (never, same) = absurd (cc)
+  read_to is_read given old middle new answer true false bound first unreported reported says said (none, same) =
+      let (known, nothing) = unreported (says refl) in read_none is_read given old middle new bound known nothing first same
+  read_to is_read given old middle new answer false true bound first unreported reported says said (rest, later) =
+      read_whole is_read given rest old middle new first (λ known none. true≢false (sym (said (reported known none)))) later
+  read_to is_read given old middle new answer false false bound first unreported reported says said cant =
+      read_cut is_read given old middle new bound first (λ known none. true≢false (sym (said (reported known none)))) cant
 
 -- ---- what no read changes
 
@@ -298,10 +298,10 @@ module _ {S R P M : Type 0} (g : store.Ghosts S) (r : source.Ghosts R) (p : mess
       → (answer ≡ Err fault.MessageRead → unread ≡ true) → Finishes p unread middle after whole
       → ReadTo m name (left_of before) signs.outcome.is_read signs.chance.given (input_of before) (input_of after) whole
   signed_to answer unread whole bound signs says said finishes =
-      let told = subst (λ (o : Outcome (List ℕ)). IsTold signs.chance.given o) signs.step (is_told (g.most old.store) (state_of old) name signs.chance) in
+      let reported = subst (λ (o : Outcome (List ℕ)). IsReported signs.chance.given o) signs.step (is_reported (g.most old.store) (state_of old) name signs.chance) in
       let answered = signs.ends.answer_is in
       read_to p m input_of left_of is name signs.outcome.is_read signs.chance.given before middle after answer unread whole bound signs.message
-      (λ is. told.unread (answered ∙ is)) (λ known none. sym answered ∙ told.told known none) says said finishes
+      (λ is. reported.unread (answered ∙ is)) (λ known none. sym answered ∙ reported.reported known none) says said finishes
 
   pub answered_frame : (reply : Reply) (whole : Bool) (room : ℕ) → left_of before < 2 ^ 32 → capacity ≤ room
       → Asks g r p name old new before middle capacity signature reply → Finishes p (is_unread reply) middle after whole
@@ -367,8 +367,8 @@ module _ {S R P : Type 0} (g : store.Ghosts S) (r : source.Ghosts R) (p : messag
       → Signs g r p old new name before middle capacity (Err e) → Finishes p unread middle after whole → IsOver p after
   over_refused e false says signs finishes = over_finished p middle after whole finishes
   over_refused e true says signs (none, same) =
-      let told = subst (λ (o : Outcome (List ℕ)). IsTold signs.chance.given o) signs.step (is_told (g.most old.store) (state_of old) name signs.chance) in
-      let (known, nothing) = told.unread (signs.ends.answer_is ∙ says refl) in
+      let reported = subst (λ (o : Outcome (List ℕ)). IsReported signs.chance.given o) signs.step (is_reported (g.most old.store) (state_of old) name signs.chance) in
+      let (known, nothing) = reported.unread (signs.ends.answer_is ∙ says refl) in
       over_unread p signs.outcome.is_read signs.chance.given before middle after known nothing signs.message same
 
   pub over_answered : (reply : Reply) → Asks g r p name old new before middle capacity signature reply → Finishes p (is_unread reply) middle after whole

@@ -64,7 +64,7 @@ pub mod Unbound
 pub mod Answered
 pub mod Damage
 pub mod RefusalOrder
-pub mod Told
+pub mod Reported
 pub mod InputReading
 pub mod Exchanges
 pub mod Replying

@@ -128,8 +128,8 @@ by_repeat state key k bound chance (Some message) is =
     (by_test Changed (not (are_same made bound.digest)) state (if not chance.has_room then refused state OutOfMemory else sound)
     (λ other. (message, is, differs made bound.digest other))
     (λ changed.
-    let (text, told, apart) = changed in
-    let same : text ≡ message = same_Some text message (sym told ∙ is) in
+    let (text, reported, apart) = changed in
+    let same : text ≡ message = same_Some text message (sym reported ∙ is) in
     differing made bound.digest (subst (λ t. digest_at key state.records k bound.leaf bound.randomizer t ≢ bound.digest) same apart)
     (are_same made bound.digest) refl)
     (λ unchanged. by_not OutOfMemory chance.has_room state sound
