@@ -4,7 +4,7 @@ use super::vectors::*;
 use super::*;
 
 // The bytes whose hexadecimal digits these parts are.
-fn bytes_in(alloc: Global, parts: &[&str]) -> Option<Vec<u8>> {
+pub(super) fn bytes_in(alloc: Global, parts: &[&str]) -> Option<Vec<u8>> {
     let mut bytes = Vec::new(alloc);
     for part in parts {
         for i in 0..part.len() / 2 {
@@ -16,7 +16,7 @@ fn bytes_in(alloc: Global, parts: &[&str]) -> Option<Vec<u8>> {
 }
 
 // A message and its signature.
-type Known<'a> = (&'a str, &'a [&'a str]);
+pub(super) type Known<'a> = (&'a str, &'a [&'a str]);
 
 // What a check answers to signatures that are given in this order.
 fn check_known(
@@ -34,18 +34,18 @@ fn check_known(
     Some(check_given(alloc, &public, &given))
 }
 
-const LMS: [Known<'static>; 3] = [
+pub(super) const LMS: [Known<'static>; 3] = [
     (LMS_MESSAGE_0, LMS_SIGNATURE_0),
     (LMS_MESSAGE_1, LMS_SIGNATURE_1),
     (LMS_OTHER_MESSAGE, LMS_OTHER_SIGNATURE),
 ];
 
-const HSS: [Known<'static>; 2] = [
+pub(super) const HSS: [Known<'static>; 2] = [
     (HSS_MESSAGE_0, HSS_SIGNATURE_0),
     (HSS_MESSAGE_1, HSS_SIGNATURE_1),
 ];
 
-const XMSS: [Known<'static>; 2] = [
+pub(super) const XMSS: [Known<'static>; 2] = [
     (XMSS_MESSAGE_0, XMSS_SIGNATURE_0),
     (XMSS_MESSAGE_1, XMSS_SIGNATURE_1),
 ];

@@ -1,0 +1,213 @@
+//! Requests in frames, each of which is served by itself. `tests/run` runs these with each growth of memory refused in
+//! turn: a reply may then say so, or that the device failed. After that the file is opened again, and the request is
+//! answered as ever.
+
+use super::*;
+use sign_core::{ServeFault, SignFault, serve, verify_any};
+use state_file::{FileStore, MemoryDisk, OpenFault};
+use std::io;
+use std::io::Write;
+
+type InFile = Signer<FileStore<MemoryDisk>, Numbers>;
+
+// A frame, the number of its reply, and how its serving ends.
+type Served = (&'static [u8], u8, Result<u64, ServeFault>);
+
+// A name with the byte 1, the same again, with another byte, a name that is none, a name that isn't there to its end,
+// a second name with one byte of two that are announced, and with both.
+const FRAMES: [Served; 7] = [
+    (b"\x04fw-1\0\0\0\x01\x01", 0, Ok(1)),
+    (b"\x04fw-1\0\0\0\x01\x01", 0, Ok(1)),
+    (b"\x04fw-1\0\0\0\x01\x02", 21, Ok(1)),
+    (b"\0\0\0\0\0", 34, Ok(1)),
+    (b"\x04f", 35, Err(ServeFault::FrameCut)),
+    (b"\x04fw-2\0\0\0\x02\x01", 27, Err(ServeFault::MessageRead)),
+    (b"\x04fw-2\0\0\0\x01\x02", 0, Ok(1)),
+];
+
+// The replies without a body that say that memory or the device was refused, and that the signer is closed.
+const OUT_OF_MEMORY: &[u8] = &[29, 0, 0, 0, 0];
+
+const STORE_FAILED: &[u8] = &[25, 0, 0, 0, 0];
+
+const STOPPED: &[u8] = &[26, 0, 0, 0, 0];
+
+// An output in room that was made before.
+#[derive(Drop)]
+struct Output {
+    taken: Vec<u8>,
+}
+
+impl Write for Output {
+    fn write(&mut self, bytes: &[u8]) -> io::Result<usize> {
+        self.taken.extend_from_slice(bytes)?;
+        Ok(bytes.len())
+    }
+
+    fn flush(&mut self) -> io::Result<()> {
+        Ok(())
+    }
+}
+
+// The output of a reply, whose room is made at the second try where memory is refused at the first.
+fn new_output(alloc: Global) -> Option<Output> {
+    let taken = match Vec::with_capacity(alloc, 3000) {
+        Ok(taken) => taken,
+        Err(_) => Vec::with_capacity(alloc, 3000).ok()?,
+    };
+    Some(Output { taken })
+}
+
+// The disk of a new key.
+fn keyed(alloc: Global, spec: &str) -> Option<MemoryDisk> {
+    let spec = Spec::parse(spec).ok()?;
+    let store = FileStore::format(MemoryDisk::of(alloc, &[]).ok()?).ok()?;
+    let signer = Signer::create(alloc, spec, store, Numbers { next: 0 }).ok()?;
+    Some(signer.into_store().into_disk())
+}
+
+fn keyed_at_last(alloc: Global, spec: &str) -> Option<MemoryDisk> {
+    match keyed(alloc, spec) {
+        Some(disk) => Some(disk),
+        None => keyed(alloc, spec),
+    }
+}
+
+// The store of a disk, at the second try where the device fails at the first.
+fn store_of(disk: MemoryDisk) -> Option<FileStore<MemoryDisk>> {
+    match FileStore::open(disk) {
+        Ok(store) => Some(store),
+        Err(refused) => match refused.fault {
+            OpenFault::DeviceFailed => FileStore::open(refused.given).ok(),
+            _ => None,
+        },
+    }
+}
+
+// The signer of a disk, at the second try where memory is refused at the first. Its source begins with this number.
+fn opened(alloc: Global, disk: MemoryDisk, next: u8) -> Option<InFile> {
+    match Signer::open(alloc, store_of(disk)?, Numbers { next }) {
+        Ok(signer) => Some(signer),
+        Err(refused) => match refused.fault {
+            SignFault::NoMemoryToOpen => {
+                let (store, random) = refused.given;
+                Signer::open(alloc, store, random).ok()
+            }
+            _ => None,
+        },
+    }
+}
+
+fn reopened(alloc: Global, signer: InFile, next: u8) -> Option<InFile> {
+    opened(alloc, signer.into_store().into_disk(), next)
+}
+
+// How many leaves of the lowest tree have signed, where one at least of its 32 is left.
+fn signed_leaves(signer: &InFile) -> Option<u32> {
+    let left = signer.left();
+    match left.as_slice().last()? {
+        0 => Some(0),
+        free => 32u32.checked_sub(*free),
+    }
+}
+
+// The reply to a frame, and how its serving ends.
+fn reply_to(
+    alloc: Global,
+    signer: &mut InFile,
+    frame: &[u8],
+) -> Option<(Vec<u8>, Result<u64, ServeFault>)> {
+    let mut output = new_output(alloc)?;
+    let mut input = frame;
+    let end = serve(alloc, signer, &mut input, &mut output);
+    Some((output.taken, end))
+}
+
+// The same once more, after the file was opened again: no name was bound before.
+fn reply_again(
+    alloc: Global,
+    signer: InFile,
+    frame: &[u8],
+    signed: u32,
+) -> Option<(InFile, Vec<u8>, Result<u64, ServeFault>)> {
+    let mut signer = reopened(alloc, signer, 100)?;
+    if signed_leaves(&signer)? != signed {
+        return None;
+    }
+    let (reply, end) = reply_to(alloc, &mut signer, frame)?;
+    Some((signer, reply, end))
+}
+
+// A signer after a frame, the reply, and how its serving ends; where memory was refused, of the second try. A signer
+// whose device failed is closed until then, and may have bound the name.
+fn served(
+    alloc: Global,
+    signer: InFile,
+    frame: &[u8],
+) -> Option<(InFile, Vec<u8>, Result<u64, ServeFault>)> {
+    let mut signer = signer;
+    let signed = signed_leaves(&signer)?;
+    let (reply, end) = reply_to(alloc, &mut signer, frame)?;
+    if reply.as_slice() == OUT_OF_MEMORY {
+        return reply_again(alloc, signer, frame, signed);
+    }
+    if reply.as_slice() != STORE_FAILED {
+        return Some((signer, reply, end));
+    }
+    if reply_to(alloc, &mut signer, frame)?.0.as_slice() != STOPPED {
+        return None;
+    }
+    let mut signer = reopened(alloc, signer, 100)?;
+    let (reply, end) = reply_to(alloc, &mut signer, frame)?;
+    Some((signer, reply, end))
+}
+
+// The number of a reply, whose body is a valid signature of the frame's last byte, or empty.
+fn number_of(public: &AnyPublic, frame: &[u8], reply: &[u8]) -> Option<u8> {
+    let (number, rest) = reply.split_first()?;
+    let (size, body) = rest.split_first_chunk::<4>()?;
+    if u32::from_be_bytes(*size) as usize != body.len() {
+        return None;
+    }
+    let message = [*frame.last()?];
+    let is_right = match *number {
+        0 => verify_any(public, &mut message.as_slice(), body).is_ok(),
+        _ => body.is_empty(),
+    };
+    if is_right { Some(*number) } else { None }
+}
+
+// How many of the frames are answered as they should be, before the first that isn't, and how many records there are
+// then. None where the first name has another signature in the end, after the file was opened again.
+fn answered(alloc: Global, spec: &str) -> Option<(usize, u32)> {
+    let mut signer = opened(alloc, keyed_at_last(alloc, spec)?, 50)?;
+    let public = signer.public_key();
+    let mut first = Vec::new(alloc);
+    for (i, (frame, number, wanted)) in FRAMES.iter().enumerate() {
+        let (after, reply, end) = served(alloc, signer, frame)?;
+        signer = after;
+        let is_right = number_of(&public, frame, &reply)? == *number && end == *wanted;
+        if !is_right || (i == 1 && reply != first) {
+            return Some((i, signer.into_store().count()));
+        }
+        if i == 0 {
+            first = reply;
+        }
+    }
+    let signer = reopened(alloc, signer, 150)?;
+    let (signer, reply, _) = served(alloc, signer, FRAMES[0].0)?;
+    if reply != first {
+        return None;
+    }
+    Some((FRAMES.len(), signer.into_store().count()))
+}
+
+#[test]
+fn one_tree_serves_at_last(rt: HostRuntime) {
+    assert_eq!(rt; answered(rt.alloc(), "lms:H5/W8"), Some((7, 3)));
+}
+
+#[test]
+fn two_levels_serve_at_last(rt: HostRuntime) {
+    assert_eq!(rt; answered(rt.alloc(), TWO_LEVELS), Some((7, 4)));
+}
