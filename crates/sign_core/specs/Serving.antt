@@ -132,7 +132,7 @@ TurnEnds bytes ending exchanges written (Err MessageRead) = Turn bytes ending ex
 TurnEnds bytes ending exchanges written (Err WriteFailed) =
     (lost : List ℕ) × (fault : Option ServeFault) × Turn bytes ending exchanges (written ++ lost) fault
 
--- How an exchange closes behind so many whole frames: at the input's end, or after 2^32 replies; or by a turn that
+-- How an exchange closes after so many whole frames: at the input's end, or after 2^32 replies; or by a turn that
 -- fails.
 abbrev pub Closes : (count : ℕ) → (bytes : List ℕ) → Ending → List Exchange → (written : List ℕ)
     → Result ℕ ServeFault → Type 0

@@ -1,5 +1,5 @@
-//! Calls that take no memory. Of each pair of tests the first one prepares what the second one then calls, and both have
-//! as many growths of memory. `tests/run` counts them from outside.
+//! Calls that take no memory. Of each pair of tests the first one prepares what the second one then calls, and both
+//! have as many growths of memory. `tests/run` counts them from outside.
 
 ghost use Rattle.std.specs.Prelude.{[], false, ⊤};
 ghost use Rattle.state_file.specs.Disk.{settled};

@@ -49,7 +49,7 @@ struct Exchange {
     file: Vec<u8>,
 }
 
-// An input, of which a read gives at most so many bytes. It ends behind them or fails there. Where it interrupts, it
+// An input, of which a read gives at most so many bytes. It ends after them or fails there. Where it interrupts, it
 // does so once before each read.
 #[derive(Drop)]
 struct Input<'a> {

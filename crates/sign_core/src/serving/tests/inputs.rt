@@ -45,7 +45,7 @@ const INPUTS: [(u32, &[u8], &[u8], Result<u64, ServeFault>); 12] = [
         b"\x16\0\0\0\0",
         Err(ServeFault::MessageRead),
     ),
-    // an input that ends in the size of a message, behind a name that is none
+    // an input that ends in the size of a message, after a name that is none
     (
         0,
         b"\x01 \0\0\0",
@@ -182,7 +182,7 @@ const ENDS: [Result<u64, ServeFault>; 21] = [
     Ok(2),
 ];
 
-// How many beginnings end so, whole and by single bytes; and with 27 where reads fail behind them.
+// How many beginnings end so, whole and by single bytes; and with 27 where reads fail after them.
 fn right_beginnings(alloc: Global) -> Option<usize> {
     let tape = counting::<80>(0);
     let file = new_file(alloc, CHEAP, &tape, 0)?;
@@ -356,7 +356,7 @@ fn of_other_root(alloc: Global, text: &str, slot: u32) -> Option<(Vec<u8>, bool)
     Some((came.output, came.end == Ok(2) && came.file == changed))
 }
 
-// The slot of the record is told in four bytes.
+// The slot of the record is replied in four bytes.
 #[test]
 fn a_changed_root_is_told_with_its_slot(rt: HostRuntime) {
     for (text, slot, last) in [(CHEAP, 0, 0), ("hss:H5/W2,H5/W2", 1, 1)] {

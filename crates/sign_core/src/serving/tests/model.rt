@@ -2,7 +2,7 @@
 
 use super::*;
 
-// A request, of whose message not all may be there, and what stands behind it.
+// A request, of whose message not all may be there, and what comes after it.
 #[derive(Clone, Copy)]
 struct Frame<'a> {
     name: &'a [u8],
@@ -73,7 +73,7 @@ enum Turn<'a> {
     Ends(Option<ServeFault>),
 }
 
-// Adds the reply to the first frame of an input, behind which reads fail, or there is its end.
+// Adds the reply to the first frame of an input, after which reads fail, or there is its end.
 fn take_first<'a>(
     alloc: Global,
     signer: &mut InFile<'_>,

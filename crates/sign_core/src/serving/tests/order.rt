@@ -14,7 +14,7 @@ struct Line<'a> {
 }
 
 impl Line<'_> {
-    // How many bytes may be read and written before the next reply is passed on; None behind the last one.
+    // How many bytes may be read and written before the next reply is passed on; None after the last one.
     fn limits(&self) -> Option<(usize, usize)> {
         self.ends.get(self.replies.get()).copied()
     }
@@ -47,7 +47,7 @@ impl Read for Client<'_> {
     }
 }
 
-// What the client gets. A write before its frame was read whole, a write behind the reply, and a flush before all of it
+// What the client gets. A write before its frame was read whole, a write after the reply, and a flush before all of it
 // was written fail.
 #[derive(Drop)]
 struct Replies<'a> {

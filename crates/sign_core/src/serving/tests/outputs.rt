@@ -62,10 +62,10 @@ fn cut_by(
     Some((writes, flushes, cut))
 }
 
-// A name that is signed, the same with another message, and a name that is none; behind them the input is cut.
+// A name that is signed, the same with another message, and a name that is none; after them the input is cut.
 const REPLIED: &[u8] = b"\x04fw-1\0\0\0\x01\x01\x04fw-1\0\0\0\x01\x02\0\0\0\0\x01\x03\x04fw";
 
-// A new name whose message is cut, behind a request that is refused.
+// A new name whose message is cut, after a request that is refused.
 const REFUSED: &[u8] = b"\x01 \0\0\0\x01\x01\x04fw-1\0\0\0\x02\x01";
 
 // Whether each odd call of the output of an exchange cuts it where it should: each that fails, each write that takes

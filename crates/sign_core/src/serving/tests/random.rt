@@ -107,7 +107,7 @@ fn in_a_row(alloc: Global, seed: u64) -> Option<(usize, u32, usize)> {
     Some((sum, left, file.len()))
 }
 
-// Of the 100,000 frames 213 are cut off whole. The others and 224 ends that are told have a reply of 5 bytes each; 32
+// Of the 100,000 frames 213 are cut off whole. The others and 224 ends that are replied have a reply of 5 bytes each; 32
 // names are signed, and 219 repeated, with 4460 bytes. This was counted by the rules of frames and names alone.
 #[test]
 fn random_frames_are_in_step(rt: HostRuntime) {
