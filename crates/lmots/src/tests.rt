@@ -5,8 +5,8 @@ use crate::LmOts;
 use sha2::{Digest, Sha256};
 use std::process::Abort;
 use typecodes::OtsType;
-use winternitz::Step;
 use winternitz::lanes::LANES;
+use winternitz::{Step, climb, climb_four};
 
 // 00, 01, .., 1f
 const RISING: [u8; 32] = [
@@ -62,6 +62,31 @@ fn four_steps_are_steps(rt: HostRuntime) {
     for lane in 0..LANES {
         let plain = KEY.step(chains[lane], at[lane], &values[lane]);
         assert_eq!(rt; after[lane], plain, "lane {lane}");
+    }
+}
+
+// Each number of steps in each lane, with other numbers in the lanes beside it: the ends are those of each chain by itself.
+#[test]
+fn each_length_climbs_in_each_lane(rt: HostRuntime) {
+    for steps in 0..=255u8 {
+        let to = [
+            steps,
+            steps.wrapping_add(64),
+            steps.wrapping_add(128),
+            steps.wrapping_add(192),
+        ];
+        expect_four(&rt, &to);
+    }
+}
+
+// Four chains that climb together from their first values end where each ends by itself.
+fn expect_four(rt: &impl Abort, to: &[u8; LANES]) {
+    let chains = [3, 0x0102, 0, 264];
+    let values = [RISING, [0; 32], [0xff; 32], [7; 32]];
+    let ends = climb_four(&KEY, &chains, &[0; LANES], to, &values);
+    for lane in 0..LANES {
+        let end = climb(&KEY, chains[lane], 0, to[lane], &values[lane]);
+        assert_eq!(rt; ends[lane], end, "lane {lane} of {to:?}");
     }
 }
 
