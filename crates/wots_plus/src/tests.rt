@@ -7,7 +7,7 @@ use crate::{Address, Prf, Wots, hash_f, hash_h, hash_message, hash_message_from,
 use sha2::{Digest, Sha256};
 use std::process::Abort;
 use winternitz::lanes::LANES;
-use winternitz::{Step, digits};
+use winternitz::{Step, climb, climb_four, digits};
 
 // SEED: 00, 01, .., 1f
 const SEED: [u8; 32] = [
@@ -142,6 +142,31 @@ fn four_steps_are_steps(rt: HostRuntime) {
             let plain = key.step(chains[lane], at[lane], &values[lane]);
             assert_eq!(rt; after[lane], plain, "lane {lane}");
         }
+    }
+}
+
+// Each number of steps in each lane, with other numbers in the lanes beside it: the ends are those of each chain by itself.
+#[test]
+fn each_length_climbs_in_each_lane(rt: HostRuntime) {
+    let seed = Prf::new(SEED);
+    let key = Wots {
+        seed: &seed,
+        leaf: 0x01020304,
+    };
+    for steps in 0..16u8 {
+        let to = [steps, (steps + 4) % 16, (steps + 8) % 16, (steps + 12) % 16];
+        expect_four(&rt, &key, &to);
+    }
+}
+
+// Four chains that climb together from their first values end where each ends by itself.
+fn expect_four(rt: &impl Abort, key: &Wots<'_>, to: &[u8; LANES]) {
+    let chains = [3, 0, 66, 5];
+    let values = [VALUE, OTHER, [0; 32], [0xff; 32]];
+    let ends = climb_four(key, &chains, &[0; LANES], to, &values);
+    for lane in 0..LANES {
+        let end = climb(key, chains[lane], 0, to[lane], &values[lane]);
+        assert_eq!(rt; ends[lane], end, "lane {lane} of {to:?}");
     }
 }
 
