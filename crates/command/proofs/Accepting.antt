@@ -18,8 +18,8 @@ use Rattle.command.specs.Line.{AreTexts, FindsTask, GivesValues, IsCommandLine, 
 use Rattle.key_audit.specs.declared.report.Anchor.{Anchor}
 use Rattle.command.specs.Audit.{anchor_in}
 use Rattle.command.specs.AuditGiven.{Pair, pairs_in}
-use Rattle.command.specs.declared.line.Lack.{Lack}
-use Rattle.command.specs.LineFault.{lacks, line_faults}
+use Rattle.command.specs.declared.line.UsageFault.{UsageFault}
+use Rattle.command.specs.LineFault.{usage_faults, line_faults}
 use Rattle.command.specs.Number.{number_in}
 use Rattle.command.specs.Retire.{most_leaves}
 use Rattle.command.proofs.Walking.{Enters, IsTaken, TakesValue, at, audit_given_shape, audit_shape, end_fault, enters_audit, enters_audit_given, enters_make, enters_retire, enters_serve, enters_sign, enters_verify, entered_faults, entered_rows, finds_retire, finds_task, finds_verify, is_no_hyphen, make_shape, retire_1, retire_2, retire_shape, serve_shape, sign_shape, takes_either, takes_message, takes_public, takes_signature, takes_state, takes_upto, turn_passes, verify_1, verify_2, verify_3, verify_shape, whole, word_is_value, word_walks}
@@ -286,41 +286,41 @@ unfolding clap_on_literals
 retire_full state upto b word taken none =
     let fault = sym (turn_passes retire_shape b 3 word (retire_2 state upto) taken) ∙ none in cc
 
--- and where one lacks the words don't end
-verify_lacks : (b : Bool) → end_fault verify_shape (at b nothing_collected 1) ≢ []
+-- and where one is missing the words don't end
+verify_misses : (b : Bool) → end_fault verify_shape (at b nothing_collected 1) ≢ []
 unfolding clap_on_literals
-verify_lacks b none = cc
+verify_misses b none = cc
 
-verify_lacks_1 : (p : Text) (b : Bool) → end_fault verify_shape (at b (verify_1 p) 2) ≢ []
+verify_misses_1 : (p : Text) (b : Bool) → end_fault verify_shape (at b (verify_1 p) 2) ≢ []
 unfolding clap_on_literals
-verify_lacks_1 p b none = cc
+verify_misses_1 p b none = cc
 
-verify_lacks_2 : (p m : Text) (b : Bool) → end_fault verify_shape (at b (verify_2 p m) 3) ≢ []
+verify_misses_2 : (p m : Text) (b : Bool) → end_fault verify_shape (at b (verify_2 p m) 3) ≢ []
 unfolding clap_on_literals
-verify_lacks_2 p m b none = cc
+verify_misses_2 p m b none = cc
 
-retire_lacks : (b : Bool) → end_fault retire_shape (at b nothing_collected 1) ≢ []
+retire_misses : (b : Bool) → end_fault retire_shape (at b nothing_collected 1) ≢ []
 unfolding clap_on_literals
-retire_lacks b none = cc
+retire_misses b none = cc
 
-retire_lacks_1 : (state : Text) (b : Bool) → end_fault retire_shape (at b (retire_1 state) 2) ≢ []
+retire_misses_1 : (state : Text) (b : Bool) → end_fault retire_shape (at b (retire_1 state) 2) ≢ []
 unfolding clap_on_literals
-retire_lacks_1 state b none = cc
+retire_misses_1 state b none = cc
 
 verify_waits : Waits verify_shape 3 1 nothing_collected
 verify_waits = (
   refl,
-  verify_lacks,
+  verify_misses,
   λ p. (
     verify_1 p,
     takes_public p,
     (
       refl,
-      verify_lacks_1 p,
+      verify_misses_1 p,
       λ m. (
         verify_2 p m,
         takes_message p m,
-        (refl, verify_lacks_2 p m, λ s. (verify_3 p m s, takes_signature p m s, (refl, verify_full p m s))),
+        (refl, verify_misses_2 p m, λ s. (verify_3 p m s, takes_signature p m s, (refl, verify_full p m s))),
       ),
     ),
   ),
@@ -329,11 +329,11 @@ verify_waits = (
 retire_waits : Waits retire_shape 2 1 nothing_collected
 retire_waits = (
   refl,
-  retire_lacks,
+  retire_misses,
   λ state. (
     retire_1 state,
     takes_state state,
-    (refl, retire_lacks_1 state, λ upto. (retire_2 state upto, takes_upto state upto, (refl, retire_full state upto))),
+    (refl, retire_misses_1 state, λ upto. (retire_2 state upto, takes_upto state upto, (refl, retire_full state upto))),
   ),
 )
 
@@ -510,11 +510,11 @@ of_serve words None random task same found = absurd cc
 of_serve words (Some s) None task same found = absurd cc
 
 -- .. of a line `audit`,
-of_anchor : (words : List Text) (state : Text) (anchor : Result (Option Anchor) Lack) (task : Task) → audit_anchored state anchor ≡ Ok task
+of_anchor : (words : List Text) (state : Text) (anchor : Result (Option Anchor) UsageFault) (task : Task) → audit_anchored state anchor ≡ Ok task
     → FindsTask words task → IsLineOf words task
 of_anchor words state (Ok anchor) task same found =
     let is = ok_same (audit state anchor) task same in subst (IsLineOf words) is (subst (FindsTask words) (sym is) found)
-of_anchor words state (Err lack) task same found = absurd cc
+of_anchor words state (Err fault) task same found = absurd cc
 
 of_audit : (words : List Text) (state count tag : Option Text) (task : Task) → audit_task state count tag ≡ Ok task
     → FindsTask words task → IsLineOf words task
@@ -574,7 +574,7 @@ is_line_of (word ∷ names) task none found texts = elim (is_named word names te
 pub no_line_faults : (words : List Text) (task : Task) → fault_of hbsign_app words ≡ [] → task_found (subcommand_of hbsign_app words) ≡ Ok task
     → line_faults words ≡ []
 no_line_faults words task none found =
-    ap (λ k. or_else k (lacks (task_found (subcommand_of hbsign_app words)))) none ∙ ap lacks found
+    ap (λ k. or_else k (usage_faults (task_found (subcommand_of hbsign_app words)))) none ∙ ap usage_faults found
 
 pub task_has_no_faults : (words : List Text) (task : Task) → IsLineOf words task → line_faults words ≡ []
 task_has_no_faults words task line = let (none, found) = finds_task words task line in no_line_faults words task none found

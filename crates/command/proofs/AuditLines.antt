@@ -132,9 +132,9 @@ takes_one false [] word taken =
 takes_one false (public ∷ []) word taken =
     (word_walks audit_given_shape.rules false 2 word (given_1 public) taken, turn_passes audit_given_shape false 2 word (given_1 public) taken)
 takes_one false (public ∷ file ∷ files) word taken =
-    let held = (after_files false public (file ∷ files)).held in (
-      rw (file_met audit_given_shape.rules false 2 word held taken) refl,
-      rw (file_met audit_given_shape.rules false 2 word held taken, file_passes audit_given_shape false word held taken) refl,
+    let so_far = (after_files false public (file ∷ files)).held in (
+      rw (file_met audit_given_shape.rules false 2 word so_far taken) refl,
+      rw (file_met audit_given_shape.rules false 2 word so_far taken, file_passes audit_given_shape false word so_far taken) refl,
     )
 takes_one true [] word taken =
     (word_walks audit_given_shape.rules true 1 word nothing_collected taken, turn_passes audit_given_shape true 1 word nothing_collected taken)
@@ -191,11 +191,11 @@ given_ends : (b : Bool) (public file : Text) (files : List Text) → length (fil
     → end_fault audit_given_shape (after_files b public (file ∷ files)) ≡ []
 unfolding clap_on_literals
 given_ends b public file files most =
-    let held = (after_files b public (file ∷ files)).held in
-    let settles : settle_fault audit_given_shape.rules audit_given_shape.args_override_self held ≡ [] =
+    let so_far = (after_files b public (file ∷ files)).held in
+    let settles : settle_fault audit_given_shape.rules audit_given_shape.args_override_self so_far ≡ [] =
     ap₂ or_else (is_in_range (length (file ∷ files)) (omega arith) most) (none_of_values false TextParser (λ v. refl) (file ∷ files)) in
-    ap (λ k. or_else k (or_else (defaults_fault (settled audit_given_shape.rules held).rows audit_given_shape.rules)
-    (check_fault audit_given_shape (finished audit_given_shape.rules held) false))) settles
+    ap (λ k. or_else k (or_else (defaults_fault (settled audit_given_shape.rules so_far).rows audit_given_shape.rules)
+    (check_fault audit_given_shape (finished audit_given_shape.rules so_far) false))) settles
 
 given_found : (b : Bool) (public file : Text) (files : List Text)
     → task_found (Some (codes "audit-given", finished audit_given_shape.rules (after_files b public (file ∷ files)).held))

@@ -5,7 +5,7 @@ use Rattle.std.specs.declared.io.ErrorKind.{ErrorKind}
 use Rattle.typecodes.specs.Message.{IsContent}
 use Rattle.sign_core.specs.declared.key.AnyPublic.{AnyPublic}
 use Rattle.sign_core.specs.declared.key.KeyFault.{KeyFault}
-use Rattle.command.specs.Files.{BeginsContent, CantHold, FailsFile, FailsToHold, FailsToRead, FillsRoom, ReadsFile, ReadsKey, ReadsStart, ShowsContent, decisive}
+use Rattle.command.specs.Files.{BeginsContent, CantKeep, FailsFile, FailsToReadOrKeep, FailsToRead, FillsRoom, ReadsFile, ReadsKey, ReadsStart, ShowsContent, decisive}
 use Rattle.command.specs.Refusal.{refusal_of}
 use Rattle.command.specs.Trace.{Happening, ReadsToEnd, opened}
 use Rattle.command.specs.declared.refusal.Refusal.{Refusal}
@@ -19,22 +19,22 @@ begins_file content left first shows (whole, fits, is) = (whole, same_content co
 -- the file that was opened by a path was read and kept, or not
 pub file_read : {A : Type 0} (items : A → List ℕ) (content : List ℕ → Option (List ℕ)) (left : Option (List ℕ)) (role of : Role) (path : List ℕ)
     (result : Result A Refusal) (old mid new : List Happening) → ShowsContent (content path) left → of ≡ role → mid ≡ old ++ opened role path ∷ []
-    → MatchResult result (λ x. IsContent left (items x) × ReadsToEnd of (items x) mid new) (λ r. CantHold of r mid new)
-    → MatchResult result (λ x. ReadsFile content role path (items x) old new) (λ r. FailsToHold role path r old new)
+    → MatchResult result (λ x. IsContent left (items x) × ReadsToEnd of (items x) mid new) (λ r. CantKeep of r mid new)
+    → MatchResult result (λ x. ReadsFile content role path (items x) old new) (λ r. FailsToReadOrKeep role path r old new)
 file_read items content left role of path (Ok x) old mid new shows same begins (fits, reads) =
     (same_content (content path) left (items x) shows fits, subst (λ t. ReadsToEnd role (items x) t new) begins (subst (λ r. ReadsToEnd r (items x) mid new) same reads))
 file_read items content left role of path (Err refusal) old mid new shows same begins fails =
-    inr (subst (λ t. CantHold role refusal t new) begins (subst (λ r. CantHold r refusal mid new) same fails))
+    inr (subst (λ t. CantKeep role refusal t new) begins (subst (λ r. CantKeep r refusal mid new) same fails))
 
 -- .. or its first bytes
 pub start_read : {A : Type 0} (items : A → List ℕ) (content : List ℕ → Option (List ℕ)) (left : Option (List ℕ)) (role of : Role) (path : List ℕ)
     (result : Result A Refusal) (old mid new : List Happening) → ShowsContent (content path) left → of ≡ role → mid ≡ old ++ opened role path ∷ []
-    → MatchResult result (λ x. BeginsContent left (items x) × FillsRoom of decisive (items x) mid new) (λ r. CantHold of r mid new)
-    → MatchResult result (λ x. ReadsStart content role path (items x) old new) (λ r. FailsToHold role path r old new)
+    → MatchResult result (λ x. BeginsContent left (items x) × FillsRoom of decisive (items x) mid new) (λ r. CantKeep of r mid new)
+    → MatchResult result (λ x. ReadsStart content role path (items x) old new) (λ r. FailsToReadOrKeep role path r old new)
 start_read items content left role of path (Ok x) old mid new shows same begins (fits, reads) =
     (begins_file (content path) left (items x) shows fits, subst (λ t. FillsRoom role decisive (items x) t new) begins (subst (λ r. FillsRoom r decisive (items x) mid new) same reads))
 start_read items content left role of path (Err refusal) old mid new shows same begins fails =
-    inr (subst (λ t. CantHold role refusal t new) begins (subst (λ r. CantHold r refusal mid new) same fails))
+    inr (subst (λ t. CantKeep role refusal t new) begins (subst (λ r. CantKeep r refusal mid new) same fails))
 
 -- it was read as a key
 pub key_read : (content : List ℕ → Option (List ℕ)) (left : Option (List ℕ)) (role of : Role) (path : List ℕ) (key : Result AnyPublic KeyFault)

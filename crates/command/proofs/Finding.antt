@@ -10,8 +10,8 @@ use Rattle.clap.specs.declared.error.kind.ErrorKind.TheVariants.{OutOfMemory}
 use Rattle.clap.specs.declared.parser.matches.ArgMatches.{ArgMatches}
 use Rattle.clap.specs.declared.parser.matches.ArgMatches.TheViews.{out-ArgMatches, out-SubCommand}
 use Rattle.clap.specs.declared.parser.matches.SubCommand.{SubCommand}
-use Rattle.command.specs.LineFault.{lacks}
-use Rattle.command.specs.Line.{Task, lack_kind, audit, audit_given, audit_given_task, audit_task, make, make_task, retire, retire_task, serve, serve_task, sign, sign_task, verify, verify_task}
+use Rattle.command.specs.LineFault.{usage_faults}
+use Rattle.command.specs.Line.{Task, usage_kind, audit, audit_given, audit_given_task, audit_task, make, make_task, retire, retire_task, serve, serve_task, sign, sign_task, verify, verify_task}
 use Rattle.command.specs.Audit.{IsAudit}
 use Rattle.command.specs.AuditGiven.{IsAuditGiven, pairs_of}
 use Rattle.command.specs.declared.audit.Audit.{Audit}
@@ -20,8 +20,8 @@ use Rattle.command.specs.Make.{IsMake}
 use Rattle.command.specs.Retire.{IsRetire}
 use Rattle.command.specs.Serve.{IsServe}
 use Rattle.command.specs.Sign.{IsSign}
-use Rattle.command.specs.declared.line.Lack.{Lack}
-use Rattle.command.specs.declared.line.Lack.TheVariants.{Anchor as NoAnchor, Command, Count, Number, Pairs, Tag}
+use Rattle.command.specs.declared.line.UsageFault.{UsageFault}
+use Rattle.command.specs.declared.line.UsageFault.TheVariants.{Anchor as NoAnchor, Command, Count, Number, Pairs, Tag}
 use Rattle.command.specs.declared.make.Make.{Make}
 use Rattle.command.specs.declared.retire.Retire.{Retire}
 use Rattle.command.specs.declared.serve.Serve.{Serve}
@@ -64,10 +64,10 @@ is_make_task state public spec random words (state_is, public_is, spec_is, rando
 
 -- .. and where not
 pub no_make_task : (state public spec random : Option Text) → IsMake state public spec random None → Err Command ≡ make_task state public spec random
-no_make_task None public spec random lacks = refl
-no_make_task (Some s) None spec random lacks = refl
-no_make_task (Some s) (Some p) None random lacks = refl
-no_make_task (Some s) (Some p) (Some x) None lacks = refl
+no_make_task None public spec random missing = refl
+no_make_task (Some s) None spec random missing = refl
+no_make_task (Some s) (Some p) None random missing = refl
+no_make_task (Some s) (Some p) (Some x) None missing = refl
 no_make_task (Some s) (Some p) (Some x) (Some r) (inl none) = absurd cc
 no_make_task (Some s) (Some p) (Some x) (Some r) (inr (inl none)) = absurd cc
 no_make_task (Some s) (Some p) (Some x) (Some r) (inr (inr (inl none))) = absurd cc
@@ -82,11 +82,11 @@ is_sign_task state name message out random words (state_is, name_is, message_is,
 -- .. and where not
 pub no_sign_task : (state name message out random : Option Text) → IsSign state name message out random None
     → Err Command ≡ sign_task state name message out random
-no_sign_task None name message out random lacks = refl
-no_sign_task (Some s) None message out random lacks = refl
-no_sign_task (Some s) (Some n) None out random lacks = refl
-no_sign_task (Some s) (Some n) (Some m) None random lacks = refl
-no_sign_task (Some s) (Some n) (Some m) (Some o) None lacks = refl
+no_sign_task None name message out random missing = refl
+no_sign_task (Some s) None message out random missing = refl
+no_sign_task (Some s) (Some n) None out random missing = refl
+no_sign_task (Some s) (Some n) (Some m) None random missing = refl
+no_sign_task (Some s) (Some n) (Some m) (Some o) None missing = refl
 no_sign_task (Some s) (Some n) (Some m) (Some o) (Some r) (inl none) = absurd cc
 no_sign_task (Some s) (Some n) (Some m) (Some o) (Some r) (inr (inl none)) = absurd cc
 no_sign_task (Some s) (Some n) (Some m) (Some o) (Some r) (inr (inr (inl none))) = absurd cc
@@ -112,8 +112,8 @@ is_serve_task state random words (state_is, random_is) = rw (state_is, random_is
 
 -- .. and where not
 pub no_serve_task : (state random : Option Text) → IsServe state random None → Err Command ≡ serve_task state random
-no_serve_task None random lacks = refl
-no_serve_task (Some s) None lacks = refl
+no_serve_task None random missing = refl
+no_serve_task (Some s) None missing = refl
 no_serve_task (Some s) (Some r) (inl none) = absurd cc
 no_serve_task (Some s) (Some r) (inr none) = absurd cc
 
@@ -127,10 +127,10 @@ pub is_retire_task : (state upto : Option Text) (words : Retire) → IsRetire st
 is_retire_task state upto words (state_is, (text, upto_is, spells)) = rw (state_is, upto_is, spells) refl
 
 -- .. and where not
-pub no_retire_task : (state upto : Option Text) (lack : Lack) → IsRetire state upto (Err lack) → Err lack ≡ retire_task state upto
+pub no_retire_task : (state upto : Option Text) (fault : UsageFault) → IsRetire state upto (Err fault) → Err fault ≡ retire_task state upto
 no_retire_task state upto Number (text, path, state_is, upto_is, spells) = rw (state_is, upto_is, spells) refl
-no_retire_task None upto Command lacks = refl
-no_retire_task (Some path) None Command lacks = refl
+no_retire_task None upto Command missing = refl
+no_retire_task (Some path) None Command missing = refl
 no_retire_task (Some path) (Some text) Command (inl none) = absurd cc
 no_retire_task (Some path) (Some text) Command (inr none) = absurd cc
 no_retire_task state upto Count never = absurd never
@@ -144,11 +144,11 @@ pub is_audit_task : (state count tag : Option Text) (words : Audit) → IsAudit 
 is_audit_task state count tag words (state_is, anchor_is) = rw (state_is, anchor_is) refl
 
 -- .. and where not
-pub no_audit_task : (state count tag : Option Text) (lack : Lack) → IsAudit state count tag (Err lack) → Err lack ≡ audit_task state count tag
-no_audit_task state count tag lack (inl (state_is, lack_is)) = rw (state_is, lack_is) refl
-no_audit_task state count tag lack (inr (path, state_is, anchor_is)) = rw (state_is, anchor_is) refl
+pub no_audit_task : (state count tag : Option Text) (fault : UsageFault) → IsAudit state count tag (Err fault) → Err fault ≡ audit_task state count tag
+no_audit_task state count tag fault (inl (state_is, fault_is)) = rw (state_is, fault_is) refl
+no_audit_task state count tag fault (inr (path, state_is, anchor_is)) = rw (state_is, anchor_is) refl
 
-pub same_audit : {s t n m g h : Option Text} (words : Result Audit Lack) → s ≡ t → n ≡ m → g ≡ h → IsAudit s n g words → IsAudit t m h words
+pub same_audit : {s t n m g h : Option Text} (words : Result Audit UsageFault) → s ≡ t → n ≡ m → g ≡ h → IsAudit s n g words → IsAudit t m h words
 same_audit {s = s} {t = t} {n = n} {m = m} {g = g} {h = h} words state count tag is =
     subst (λ a. IsAudit a m h words) state (subst (λ a. IsAudit s a h words) count (subst (λ a. IsAudit s n a words) tag is))
 
@@ -158,14 +158,14 @@ pub is_audit_given_task : (public : Option Text) (files : Option (List Text)) (w
 is_audit_given_task public files words (public_is, (paths, files_are, pairs_are)) = rw (public_is, files_are, pairs_are) refl
 
 -- .. and where not
-pub no_audit_given_task : (public : Option Text) (files : Option (List Text)) (lack : Lack) → IsAuditGiven public files (Err lack)
-    → Err lack ≡ audit_given_task public files
-no_audit_given_task public files lack (inl (inl none, lack_is)) = rw (none, lack_is) refl
-no_audit_given_task None files lack (inl (inr none, lack_is)) = rw lack_is refl
-no_audit_given_task (Some path) files lack (inl (inr none, lack_is)) = rw (none, lack_is) refl
-no_audit_given_task public files lack (inr (path, paths, public_is, files_are, odd, lack_is)) = rw (public_is, files_are, odd, lack_is) refl
+pub no_audit_given_task : (public : Option Text) (files : Option (List Text)) (fault : UsageFault) → IsAuditGiven public files (Err fault)
+    → Err fault ≡ audit_given_task public files
+no_audit_given_task public files fault (inl (inl none, fault_is)) = rw (none, fault_is) refl
+no_audit_given_task None files fault (inl (inr none, fault_is)) = rw fault_is refl
+no_audit_given_task (Some path) files fault (inl (inr none, fault_is)) = rw (none, fault_is) refl
+no_audit_given_task public files fault (inr (path, paths, public_is, files_are, odd, fault_is)) = rw (public_is, files_are, odd, fault_is) refl
 
-pub same_audit_given : {p q : Option Text} {f g : Option (List Text)} (words : Result AuditGiven Lack) → p ≡ q → f ≡ g → IsAuditGiven p f words
+pub same_audit_given : {p q : Option Text} {f g : Option (List Text)} (words : Result AuditGiven UsageFault) → p ≡ q → f ≡ g → IsAuditGiven p f words
     → IsAuditGiven q g words
 same_audit_given {p = p} {q = q} {f = f} {g = g} words public files is =
     subst (λ a. IsAuditGiven a g words) public (subst (λ a. IsAuditGiven p a words) files is)
@@ -187,7 +187,7 @@ or_others [] others e (inl memory) = inl memory
 or_others [] others e (inr among) = absurd among
 or_others (k ∷ ks) others e has = has
 
--- what lacks gives the kind of a line in which `clap` finds nothing wrong
-pub lacks_kind : (faults : Kinds) (found : Result Task Lack) (lack : Lack) (e : Error) → faults ≡ [] → found ≡ Err lack → kind_of e ≡ lack_kind lack
-    → HasKind (or_else faults (lacks found)) e
-lacks_kind faults found lack e none is same = rw (none, is) (inr (inl same))
+-- a usage fault gives the kind of a line in which `clap` finds nothing wrong
+pub usage_kind_is : (faults : Kinds) (found : Result Task UsageFault) (fault : UsageFault) (e : Error) → faults ≡ [] → found ≡ Err fault → kind_of e ≡ usage_kind fault
+    → HasKind (or_else faults (usage_faults found)) e
+usage_kind_is faults found fault e none is same = rw (none, is) (inr (inl same))

@@ -8,7 +8,7 @@ use Rattle.std.specs.declared.io.Error.{Error}
 use Rattle.std.specs.declared.io.ErrorKind.TheVariants.{FileTooLarge, Interrupted, OutOfMemory, TimedOut}
 use Rattle.typecodes.specs.Message.{IsContent, ReadOutcome, Transitions, Transition}
 use Rattle.typecodes.proofs.Messages.{Progress, gave-append, interruptions-append, reads-append}
-use Rattle.command.specs.Files.{CantHold, FailsToRead, FillsRoom, ReadsAllOrFails}
+use Rattle.command.specs.Files.{CantKeep, FailsToRead, FillsRoom, ReadsAllOrFails}
 use Rattle.command.specs.Refusal.{refusal_of}
 use Rattle.command.specs.declared.refusal.Refusal.{Refusal}
 use Rattle.command.specs.declared.refusal.Refusal.TheVariants as refused
@@ -128,19 +128,19 @@ reads_part role of room a b old before new first same (inr (short, more)) = inr 
 
 -- memory for it was refused
 pub keeps_no_more : (role of : Role) (room : ℕ) (a b : List ℕ) (refusal : Refusal) (old before new : List Happening) → refusal ≡ refused.OutOfMemory
-    → 1 ≤ length b → ReadsOn role a old before → of ≡ role → FillsRoom of room b before new → CantHold role refusal old new
+    → 1 ≤ length b → ReadsOn role a old before → of ≡ role → FillsRoom of room b before new → CantKeep role refusal old new
 keeps_no_more role of room a b refusal old before new memory some first same fills =
     inr (memory, (a ++ b, omega (arith, length-append a b, some), reads_part role of room a b old before new first same fills))
 
 -- a failed read, which is reported
 pub cant_read : {A : Type 0} (role : Role) (kind : ErrorKind) (Good : A → Type 0) (result : Result A Refusal) (old new : List Happening)
     → IsErrAnd result (λ refusal. refusal ≡ refusal_of kind) → FailsToRead role kind old new
-    → MatchResult result Good (λ refusal. CantHold role refusal old new)
+    → MatchResult result Good (λ refusal. CantKeep role refusal old new)
 cant_read role kind Good (Ok x) old new is fails = absurd is
 cant_read role kind Good (Err refusal) old new is fails = inl (kind, is, fails)
 
 -- .. and a first piece
 pub keeps_none : (role : Role) (room : ℕ) (b : List ℕ) (refusal : Refusal) (old new : List Happening) → refusal ≡ refused.OutOfMemory
-    → 1 ≤ length b → FillsRoom role room b old new → CantHold role refusal old new
+    → 1 ≤ length b → FillsRoom role room b old new → CantKeep role refusal old new
 keeps_none role room b refusal old new memory some (inl (full, reads)) = inr (memory, (b, some, inl reads))
 keeps_none role room b refusal old new memory some (inr (short, reads)) = inr (memory, (b, some, inr reads))

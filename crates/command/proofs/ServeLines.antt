@@ -1,35 +1,37 @@
--- A line of `serve` begins with this word, and its output has replies alone.
+-- A line of `serve` begins with this word, a line without a fault that begins with it is one of `serve`, and the output
+-- of such a line has replies alone.
 use Rattle.std.proofs.Common.{◌≡◌, ◌⊎◌, ◌∙◌, ℕ, Bool, List, [], ◌∷◌, Option, Some, None, Result, Ok, Err, true, false, refl, codes, ap, subst, sym, inl, inr}
 use Rattle.std.specs.Str.{bytes_eq}
 use Rattle.std.proofs.lemmas.Bool.{false≢true}
+use Rattle.std.proofs.lemmas.Slice.Eq.{bytes_eq-Decides}
 use Rattle.clap.specs.Walk.{rows_after}
-use Rattle.clap.specs.Words.{IsAmong, Text}
+use Rattle.clap.specs.Words.{IsAmong, Text, fault_of, first_of, subcommand_of}
 use Rattle.key_audit.specs.declared.report.Anchor.{Anchor}
 use Rattle.typecodes.specs.declared.message.Message as message
 use Rattle.sign_core.specs.declared.source.Source as source
 use Rattle.state_file.specs.declared.disk.Disk as disk
 use Rattle.state_file.specs.declared.store.Store as store
 use Rattle.state_file.specs.declared.store.file_store.FileStore.{FileStore}
-use Rattle.command.specs.declared.line.Lack.{Lack}
+use Rattle.command.specs.declared.line.UsageFault.{UsageFault}
 use Rattle.command.specs.declared.line_fault.LineFault.{LineFault}
 use Rattle.command.specs.declared.line_fault.LineFault.TheVariants.{OutOfMemory}
 use Rattle.command.specs.declared.refusal.Refusal.{Refusal}
 use Rattle.command.specs.AuditGiven.{Pair, pairs_in}
 use Rattle.command.specs.Audit.{anchor_in}
 use Rattle.command.specs.Files.{FilesSeen}
-use Rattle.command.specs.Line.{AreTexts, FindsTask, Task, audit, audit_anchored, audit_given, audit_given_pairs, audit_given_task, audit_task, make, make_task, retire, retire_number, retire_task, serve, sign, sign_task, verify, verify_task}
-use Rattle.command.specs.LineFault.{HasLineFault, line_faults}
+use Rattle.command.specs.Line.{AreTexts, FindsTask, Task, audit, audit_anchored, audit_given, audit_given_pairs, audit_given_task, audit_task, hbsign_app, make, make_task, retire, retire_number, retire_task, serve, serve_task, sign, sign_task, task_found, verify, verify_task}
+use Rattle.command.specs.LineFault.{HasLineFault, usage_faults, line_faults}
 use Rattle.command.specs.Number.{number_in}
 use Rattle.command.specs.Output.{Taken}
-use Rattle.command.specs.Program.{AsksToServe, Explains, HasRepliesAlone, ReportsLack, ReportsTask, begins_with_serve}
+use Rattle.command.specs.Program.{AsksToServe, Explains, HasRepliesAlone, KeepsErrorsUnlessServing, ReportsOutOfMemory, ReportsTask, begins_with_serve}
 use Rattle.command.specs.Retire.{most_leaves}
 use Rattle.command.specs.Streams.{OutputSeen, Streams, taken}
 use Rattle.command.specs.Trace.{Happening}
-use Rattle.command.proofs.Accepting.{found_in, is_audit, is_audit_given, is_make, is_named, is_retire, is_serve, is_sign, is_verify, no_line_faults, nothing_fails, ok_same}
-use Rattle.command.proofs.Walking.{audit_given_shape, audit_shape, enters_audit, enters_audit_given, enters_make, enters_retire, enters_sign, enters_verify, make_shape, retire_shape, sign_shape, verify_shape}
+use Rattle.command.proofs.Accepting.{found_in, is_audit, is_audit_given, is_make, is_named, is_retire, is_serve, is_sign, is_verify, no_line_faults, none_of, nothing_fails, ok_same}
+use Rattle.command.proofs.Walking.{audit_given_shape, audit_shape, enters_audit, enters_audit_given, enters_make, enters_retire, enters_serve, enters_sign, enters_verify, entered_rows, make_shape, retire_shape, serve_shape, sign_shape, verify_shape}
 
 -- whether what is found is a task of `serve`
-abbrev serves : Result Task Lack → Bool
+abbrev serves : Result Task UsageFault → Bool
 serves (Ok (serve state random)) = true
 serves (Ok (make state public spec random)) = false
 serves (Ok (sign state name message out random)) = false
@@ -37,7 +39,7 @@ serves (Ok (verify public message signature)) = false
 serves (Ok (retire state upto)) = false
 serves (Ok (audit state anchor)) = false
 serves (Ok (audit_given public files)) = false
-serves (Err lack) = false
+serves (Err fault) = false
 
 -- what is found in a line of another command isn't
 not_make : (state public spec random : Option Text) → serves (make_task state public spec random) ≡ false
@@ -70,9 +72,9 @@ not_retire (Some state) (Some upto) = not_number state (number_in most_leaves up
 not_retire None upto = refl
 not_retire (Some state) None = refl
 
-not_anchored : (state : Text) (anchor : Result (Option Anchor) Lack) → serves (audit_anchored state anchor) ≡ false
+not_anchored : (state : Text) (anchor : Result (Option Anchor) UsageFault) → serves (audit_anchored state anchor) ≡ false
 not_anchored state (Ok anchor) = refl
-not_anchored state (Err lack) = refl
+not_anchored state (Err fault) = refl
 
 not_audit : (state count tag : Option Text) → serves (audit_task state count tag) ≡ false
 not_audit (Some state) count tag = not_anchored state (anchor_in count tag)
@@ -87,7 +89,7 @@ not_audit_given (Some public) (Some paths) = not_pairs public (pairs_in paths)
 not_audit_given None files = refl
 not_audit_given (Some public) None = refl
 
-differs : (found : Result Task Lack) (state random : Text) → serves found ≡ false → found ≡ Ok (serve state random) → ⊥
+differs : (found : Result Task UsageFault) (state random : Text) → serves found ≡ false → found ≡ Ok (serve state random) → ⊥
 differs found state random isnt same = false≢true (sym isnt ∙ ap serves same)
 
 -- So a line in which a task of `serve` is found begins with this word.
@@ -104,7 +106,45 @@ begins (word ∷ names) state random texts (none, found) = elim (is_named word n
   | is_audit_given is ↦ absurd (differs _ state random (not_audit_given _ _) (found_in (codes "audit-given") audit_given_shape word names (serve state random) enters_audit_given is found))
 ]
 
--- The output of such a line has replies alone, where its task was found,
+-- Where nothing is wrong with a line that begins with this word, it is one of `serve`.
+serves_found : (words : List Text) (state random : Option Text) → fault_of hbsign_app words ≡ []
+    → task_found (subcommand_of hbsign_app words) ≡ serve_task state random → usage_faults (serve_task state random) ≡ []
+    → AsksToServe words
+serves_found words (Some s) (Some r) passes found none = (s, r, (passes, found))
+serves_found words None random passes found none = absurd cc
+serves_found words (Some s) None passes found none = absurd cc
+
+asks_to_serve : (words : List Text) → begins_with_serve words ≡ true → line_faults words ≡ [] → AsksToServe words
+asks_to_serve [] begins none = absurd (false≢true begins)
+asks_to_serve (word ∷ names) begins none =
+    let task = λ (w : Text). task_found (subcommand_of hbsign_app (w ∷ names)) in
+    let (passes, complete) = none_of (fault_of hbsign_app (word ∷ names)) (usage_faults (task word)) none in
+    let rows = rows_after serve_shape.rules [] names in
+    let of_serve : Result Task UsageFault = serve_task (first_of (codes "STATE") rows) (first_of (codes "random") rows) in
+    let found : task word ≡ of_serve = subst (λ w. task w ≡ of_serve) (sym ((bytes_eq-Decides word (codes "serve")).0 begins))
+    (ap task_found (entered_rows (codes "serve") serve_shape names enters_serve)) in
+    serves_found (word ∷ names) (first_of (codes "STATE") rows) (first_of (codes "random") rows) passes found
+    (subst (λ t. usage_faults t ≡ []) found complete)
+
+-- So where a line without a fault can't be read, for want of memory, the output for errors is as it was, unless the line
+-- is one of `serve`.
+reported : (words : List Text) (serves : Bool) (old new errors_old errors_new : Taken) (status : ℕ)
+    → serves ≡ begins_with_serve words → line_faults words ≡ []
+    → ReportsOutOfMemory serves old new errors_old errors_new status
+    → KeepsErrorsUnlessServing words errors_old errors_new
+reported words true old new errors_old errors_new status is none reports = inr (asks_to_serve words (sym is) none)
+reported words false old new errors_old errors_new status is none (reports, same) = inl same
+
+pub errors_kept : (words : List Text) (serves : Bool) (fault : LineFault) (old new errors_old errors_new : Taken)
+    (status : ℕ) → serves ≡ begins_with_serve words → line_faults words ≡ [] → (fault ≡ OutOfMemory) ⊎ HasLineFault words fault
+    → Explains serves fault old new errors_old errors_new status → KeepsErrorsUnlessServing words errors_old errors_new
+errors_kept words serves fault old new errors_old errors_new status is none (inl memory) explains =
+    reported words serves old new errors_old errors_new status is none
+    (subst (λ f. Explains serves f old new errors_old errors_new status) memory explains)
+errors_kept words serves fault old new errors_old errors_new status is none (inr (error, among, kind)) explains =
+    absurd (subst (IsAmong error) none among)
+
+-- The output of a line of `serve` has replies alone, where its task was found,
 pub replies_of_task : {K R I O : Type 0} {bound : _} (d : disk.Ghosts K) (g : store.Ghosts (FileStore K bound)) (r : source.Ghosts R)
     (m : message.Ghosts I) (o : OutputSeen O) (files : FilesSeen K) (words : List Text) (task : Task) (before after : List Happening)
     (old new : Streams I O) (status : ℕ) → FindsTask words task → AsksToServe words
@@ -115,16 +155,16 @@ replies_of_task d g r m o files words task before after old new status (none, fo
     inr (state, random, served, serves)
 
 -- .. and where the line couldn't be read, for want of memory.
-lacks_memory : (serves : Bool) (old new errors_old errors_new : Taken) (status : ℕ) → serves ≡ true
-    → ReportsLack serves old new errors_old errors_new status → new ≡ old
-lacks_memory true old new errors_old errors_new status serving (same, reports) = same
-lacks_memory false old new errors_old errors_new status serving reports = absurd (false≢true serving)
+nothing_printed : (serves : Bool) (old new errors_old errors_new : Taken) (status : ℕ) → serves ≡ true
+    → ReportsOutOfMemory serves old new errors_old errors_new status → new ≡ old
+nothing_printed true old new errors_old errors_new status serving (same, reports) = same
+nothing_printed false old new errors_old errors_new status serving reports = absurd (false≢true serving)
 
 pub nothing_of_fault : (words : List Text) (serves : Bool) (fault : LineFault) (old new errors_old errors_new : Taken) (status : ℕ)
     → serves ≡ begins_with_serve words → AreTexts words → AsksToServe words → (fault ≡ OutOfMemory) ⊎ HasLineFault words fault
     → Explains serves fault old new errors_old errors_new status → new ≡ old
 nothing_of_fault words serves fault old new errors_old errors_new status is texts (state, random, finds) (inl memory) explains =
-    lacks_memory serves old new errors_old errors_new status (is ∙ begins words state random texts finds)
+    nothing_printed serves old new errors_old errors_new status (is ∙ begins words state random texts finds)
     (subst (λ f. Explains serves f old new errors_old errors_new status) memory explains)
 nothing_of_fault words serves fault old new errors_old errors_new status is texts (state, random, (none, found)) (inr (error, among, kind)) explains =
     absurd (subst (IsAmong error) (no_line_faults words (serve state random) none found) among)

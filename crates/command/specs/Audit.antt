@@ -10,8 +10,8 @@ use Rattle.state_file.specs.declared.disk.Disk as disk
 use Rattle.command.specs.declared.answer.Done.{Done}
 use Rattle.command.specs.declared.answer.Done.TheVariants.{Audited}
 use Rattle.command.specs.declared.audit.Audit.{Audit}
-use Rattle.command.specs.declared.line.Lack.{Lack}
-use Rattle.command.specs.declared.line.Lack.TheVariants as lack
+use Rattle.command.specs.declared.line.UsageFault.{UsageFault}
+use Rattle.command.specs.declared.line.UsageFault.TheVariants as usage
 use Rattle.command.specs.declared.refusal.Refusal.{Refusal}
 use Rattle.command.specs.declared.trace.Role.TheVariants as role
 use Rattle.command.specs.Argument.{option_rule, required_rule}
@@ -40,22 +40,22 @@ abbrev pub tag_in : Text → Option (List ℕ)
 tag_in text = decoded (decode_sized text 32)
 
 -- the anchor of a count and a tag, where both are spelled
-abbrev pub anchor_with : Option ℕ → Option (List ℕ) → Result (Option Anchor) Lack
+abbrev pub anchor_with : Option ℕ → Option (List ℕ) → Result (Option Anchor) UsageFault
 anchor_with (Some count) (Some tag) = Ok (Some (record { count = count; tag = tag }))
-anchor_with None _ = Err lack.Count
-anchor_with (Some _) None = Err lack.Tag
+anchor_with None _ = Err usage.Count
+anchor_with (Some _) None = Err usage.Tag
 
 -- the anchor of the texts of a count and a tag: both are given, or neither is
-abbrev pub anchor_in : (count tag : Option Text) → Result (Option Anchor) Lack
+abbrev pub anchor_in : (count tag : Option Text) → Result (Option Anchor) UsageFault
 anchor_in None None = Ok None
 anchor_in (Some count) (Some tag) = anchor_with (number_in most_records count) (tag_in tag)
-anchor_in None (Some _) = Err lack.Anchor
-anchor_in (Some _) None = Err lack.Anchor
+anchor_in None (Some _) = Err usage.Anchor
+anchor_in (Some _) None = Err usage.Anchor
 
 -- what the values of the words say: a state file and maybe an anchor; or the file isn't given, or there is no anchor
-abbrev pub IsAudit : (state count tag : Option Text) → Result Audit Lack → Type 0
+abbrev pub IsAudit : (state count tag : Option Text) → Result Audit UsageFault → Type 0
 IsAudit state count tag (Ok words) = (state ≡ Some words.state.now) × (anchor_in count tag ≡ Ok words.anchor)
-IsAudit state count tag (Err fault) = ((state ≡ None) × (fault ≡ lack.Command))
+IsAudit state count tag (Err fault) = ((state ≡ None) × (fault ≡ usage.Command))
     ⊎ ((path : Text) × (state ≡ Some path) × (anchor_in count tag ≡ Err fault))
 
 -- ---- what it does

@@ -12,13 +12,13 @@ use Rattle.command.specs.declared.answer.Done.{Done}
 use Rattle.command.specs.declared.answer.Done.TheVariants.{Checked}
 use Rattle.command.specs.declared.audit_given.AuditGiven.{AuditGiven}
 use Rattle.command.specs.declared.audit_given.GivenFiles.{GivenFiles}
-use Rattle.command.specs.declared.line.Lack.{Lack}
-use Rattle.command.specs.declared.line.Lack.TheVariants as lack
+use Rattle.command.specs.declared.line.UsageFault.{UsageFault}
+use Rattle.command.specs.declared.line.UsageFault.TheVariants as usage
 use Rattle.command.specs.declared.refusal.Refusal.{Refusal}
 use Rattle.command.specs.declared.refusal.Refusal.TheVariants as refused
 use Rattle.command.specs.declared.trace.Role.TheVariants as role
 use Rattle.command.specs.Argument.{required_rule, several_rule}
-use Rattle.command.specs.Files.{FailsFile, FailsToHold, ReadsFile, ReadsKey, ReadsStart, decisive}
+use Rattle.command.specs.Files.{FailsFile, FailsToReadOrKeep, ReadsFile, ReadsKey, ReadsStart, decisive}
 use Rattle.command.specs.Trace.{Happening}
 
 -- the command
@@ -50,12 +50,12 @@ abbrev pub pairs_of : AuditGiven → List Pair
 pairs_of words = map pair_of words.files.items
 
 -- what the values of the words say: a public key and pairs of files; or one of both isn't given, or a file has no other
-abbrev pub IsAuditGiven : (public : Option Text) → (files : Option (List Text)) → Result AuditGiven Lack → Type 0
+abbrev pub IsAuditGiven : (public : Option Text) → (files : Option (List Text)) → Result AuditGiven UsageFault → Type 0
 IsAuditGiven public files (Ok words) = (public ≡ Some words.public.now)
     × ((paths : List Text) × (files ≡ Some paths) × (pairs_in paths ≡ Some (pairs_of words)))
-IsAuditGiven public files (Err fault) = (((public ≡ None) ⊎ (files ≡ None)) × (fault ≡ lack.Command))
+IsAuditGiven public files (Err fault) = (((public ≡ None) ⊎ (files ≡ None)) × (fault ≡ usage.Command))
     ⊎ ((path : Text) × (paths : List Text) × (public ≡ Some path) × (files ≡ Some paths)
-    × (pairs_in paths ≡ None) × (fault ≡ lack.Pairs))
+    × (pairs_in paths ≡ None) × (fault ≡ usage.Pairs))
 
 -- ---- how they are read
 
@@ -75,9 +75,9 @@ ReadsPairs content (pair ∷ pairs) given old new = (first : Given) × (later : 
 -- One of the two files couldn't be read or kept, which is reported, and none after it was opened.
 abbrev pub FailsPair : (content : List ℕ → Option (List ℕ)) → Pair → Refusal → (old new : List Happening) → Type 0
 FailsPair content pair refusal old new =
-    FailsToHold role.Message pair.0 refusal old new
+    FailsToReadOrKeep role.Message pair.0 refusal old new
     ⊎ ((bytes : List ℕ) × (mid : List Happening) × ReadsFile content role.Message pair.0 bytes old mid
-    × FailsToHold role.Signature pair.1 refusal mid new)
+    × FailsToReadOrKeep role.Signature pair.1 refusal mid new)
 
 -- Some pairs were read, and no more: the next one couldn't be, or there was no memory for those that were, which are
 -- one at least.

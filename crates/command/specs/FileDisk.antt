@@ -1,4 +1,4 @@
--- How a disk reads and writes a file of the machine: by calls, each of which may do a part of what is asked.
+-- How a disk reads and writes a file of the machine: by calls, each of which may do a part of what is requested.
 use Rattle.std.specs.Prelude.{ℕ, List, ◌≡◌, ◌+◌, ◌-◌, [], ◌∷◌, ◌++◌, ◌≤◌, ◌^◌, ◌⊎◌, length, drop, Result, Ok, Err}
 use Rattle.std.proofs.Common.{subst}
 use Rattle.std.specs.Prelude.{Bool, true, false, IsTrue}
@@ -51,7 +51,7 @@ abbrev pub size_of : ReadOutcome → ℕ
 size_of (Ok bytes) = length bytes
 size_of (Err kind) = 0
 
--- A read at the offset where the rest of the bytes stands asks for the rest, and for no more.
+-- A read at the offset where the rest of the bytes stands requests the rest, and no more.
 abbrev pub ReadsRest : (at room : ℕ) → Transition Stage
 ReadsRest at room (done, old) outcome (after, new) =
     (after ≡ done + size_of outcome) × (new ≡ old ++ read_at (at + done) (room - done) outcome ∷ [])
@@ -98,7 +98,7 @@ WritesAt at bytes (Err Failed) old new = EndsBeyond at (length bytes) old new
 WritesAt at bytes (Err PastEnd) old new = ⊥
 WritesAt at bytes (Err OutOfMemory) old new = ⊥
 
--- The file was asked for its length, once, and this is the answer.
+-- The file's length was requested, once, and this is the answer.
 abbrev pub Measures : Result ℕ DiskFault → (old new : List Happening) → Type 0
 Measures (Ok n) old new = new ≡ old ++ measured (Ok n) ∷ []
 Measures (Err fault) old new = (fault ≡ Failed) × (kind : ErrorKind) × (new ≡ old ++ measured (Err kind) ∷ [])

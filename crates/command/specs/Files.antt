@@ -20,7 +20,7 @@ abbrev pub ReadsKey : List ℕ → Result AnyPublic KeyFault → Type 0
 ReadsKey bytes (Ok key) = SpellsKey key bytes
 ReadsKey bytes (Err fault) = KeyHasFault bytes fault
 
--- Where it is known what a file holds, these bytes are before a reader of it.
+-- Where a file's content is known, these bytes are what a reader of it has yet to read.
 abbrev pub ShowsContent : Option (List ℕ) → Option (List ℕ) → Type 0
 ShowsContent content left = IfSome content (λ bytes. left ≡ Some bytes)
 
@@ -29,12 +29,12 @@ ShowsContent content left = IfSome content (λ bytes. left ≡ Some bytes)
 abbrev pub FailsToRead : Role → ErrorKind → List Happening → List Happening → Type 0
 FailsToRead role kind old new = ReadsToFailure role kind old new ⊎ ((kind ≢ OutOfMemory) × ReadsForever role old new)
 
--- Room for so many bytes was filled by reading a file: these bytes fill it, or they are fewer, and the file ended.
+-- A file was read into a buffer of so many bytes: these bytes fill it, or they are fewer, and the file ended.
 abbrev pub FillsRoom : Role → ℕ → List ℕ → List Happening → List Happening → Type 0
 FillsRoom role room bytes old new =
     ((length bytes ≡ room) × ReadsOn role bytes old new) ⊎ ((length bytes < room) × ReadsToEnd role bytes old new)
 
--- A buffer was filled, and has so many bytes of the file; or reading failed.
+-- A file was read into a buffer, which has so many bytes of it; or reading failed.
 abbrev pub FillsOrFails : Role → Result ℕ Error → List ℕ → List Happening → List Happening → Type 0
 FillsOrFails role (Ok count) buffer old new = FillsRoom role (length buffer) (take count buffer) old new
 FillsOrFails role (Err error) buffer old new = FailsToRead role (error_kind error) old new
@@ -82,9 +82,9 @@ ReportsMemory role refusal old new =
     (refusal ≡ refused.OutOfMemory)
     × ((bytes : List ℕ) × (1 ≤ length bytes) × (ReadsOn role bytes old new ⊎ ReadsToEnd role bytes old new))
 
--- One of the two.
-abbrev pub CantHold : Role → Refusal → (old new : List Happening) → Type 0
-CantHold role refusal old new = ReportsRead role refusal old new ⊎ ReportsMemory role refusal old new
+-- Reading failed, or there was no memory for the bytes that were read.
+abbrev pub CantKeep : Role → Refusal → (old new : List Happening) → Type 0
+CantKeep role refusal old new = ReportsRead role refusal old new ⊎ ReportsMemory role refusal old new
 
 -- The file of this path couldn't be opened, or not be read, which is reported.
 abbrev pub FailsFile : Role → (path : List ℕ) → Refusal → (old new : List Happening) → Type 0
@@ -93,12 +93,12 @@ FailsFile role path refusal old new =
     ⊎ ReportsRead role refusal (old ++ opened role path ∷ []) new
 
 -- It couldn't be opened, or its bytes not be read and kept, which is reported.
-abbrev pub FailsToHold : Role → (path : List ℕ) → Refusal → (old new : List Happening) → Type 0
-FailsToHold role path refusal old new =
+abbrev pub FailsToReadOrKeep : Role → (path : List ℕ) → Refusal → (old new : List Happening) → Type 0
+FailsToReadOrKeep role path refusal old new =
     ((refusal ≡ refused.FileFailed) × (new ≡ old ++ not_opened role path ∷ []))
-    ⊎ CantHold role refusal (old ++ opened role path ∷ []) new
+    ⊎ CantKeep role refusal (old ++ opened role path ∷ []) new
 
--- What the file of each path holds is as it was, where it is known.
+-- The content of the file at each path is as it was, where it is known.
 abbrev pub KeepsContents : (old new : List ℕ → Option (List ℕ)) → Type 0
 KeepsContents old new = (path : List ℕ) → new path ≡ old path
 
@@ -106,8 +106,8 @@ KeepsContents old new = (path : List ℕ) → new path ≡ old path
 abbrev pub KeepsOtherContents : (path : List ℕ) → (old new : List ℕ → Option (List ℕ)) → Type 0
 KeepsOtherContents path old new = (other : List ℕ) → other ≢ path → new other ≡ old other
 
--- What is seen of the files of a signer: what each path's file holds where that is known, whether a disk is as opening
--- a state file gives it, and whether it is that of the state file that was closed last.
+-- What is seen of the files of a signer: the content of each path's file where that is known, whether a disk is as
+-- opening a state file gives it, and whether it is that of the state file that was closed last.
 pub record FilesSeen (K : Type 0) : Type 1 where
   pub content : List ℕ → Option (List ℕ)
   pub IsOpenedDisk : K → Type 0

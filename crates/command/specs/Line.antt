@@ -11,9 +11,9 @@ use Rattle.state_file.specs.declared.disk.Disk as disk
 use Rattle.state_file.specs.declared.store.Store as store
 use Rattle.state_file.specs.declared.store.file_store.FileStore.{FileStore}
 use Rattle.state_file.specs.File.{most_records}
-use Rattle.command.specs.declared.line.Lack.{Lack}
-use Rattle.command.specs.declared.line.Lack.TheVariants as lack
-use Rattle.command.specs.declared.line.Lack.TheVariants.{Command, Number}
+use Rattle.command.specs.declared.line.UsageFault.{UsageFault}
+use Rattle.command.specs.declared.line.UsageFault.TheVariants as usage
+use Rattle.command.specs.declared.line.UsageFault.TheVariants.{Command, Number}
 use Rattle.command.specs.declared.line.Request.{Request}
 use Rattle.command.specs.declared.line.Request.TheVariants.{Make, Sign, Verify, Retire, Audit, AuditGiven, Serve}
 use Rattle.command.specs.declared.answer.Done.{Done}
@@ -100,61 +100,61 @@ task_of (AuditGiven words) = audit_given words.public.now (pairs_of words)
 task_of (Serve words) = serve words.state.now words.random.now
 
 -- the same, where there is one
-abbrev pub task_or_lack : Result Request Lack → Result Task Lack
-task_or_lack (Ok request) = Ok (task_of request)
-task_or_lack (Err lack) = Err lack
+abbrev pub task_or_fault : Result Request UsageFault → Result Task UsageFault
+task_or_fault (Ok request) = Ok (task_of request)
+task_or_fault (Err fault) = Err fault
 
 -- ---- what `clap` finds in a line
 
 -- the task of `make`, by the values of its words
-abbrev pub make_task : (state public spec random : Option Text) → Result Task Lack
+abbrev pub make_task : (state public spec random : Option Text) → Result Task UsageFault
 make_task (Some state) (Some public) (Some spec) (Some random) = Ok (make state public spec random)
 make_task _ _ _ _ = Err Command
 
 -- that of `sign`
-abbrev pub sign_task : (state name message out random : Option Text) → Result Task Lack
+abbrev pub sign_task : (state name message out random : Option Text) → Result Task UsageFault
 sign_task (Some state) (Some name) (Some message) (Some out) (Some random) = Ok (sign state name message out random)
 sign_task _ _ _ _ _ = Err Command
 
 -- that of `verify`
-abbrev pub verify_task : Option Text → Option Text → Option Text → Result Task Lack
+abbrev pub verify_task : Option Text → Option Text → Option Text → Result Task UsageFault
 verify_task (Some public) (Some message) (Some signature) = Ok (verify public message signature)
 verify_task _ _ _ = Err Command
 
 -- that of `retire`
-abbrev pub retire_number : Text → Option ℕ → Result Task Lack
+abbrev pub retire_number : Text → Option ℕ → Result Task UsageFault
 retire_number state (Some upto) = Ok (retire state upto)
 retire_number state None = Err Number
 
-abbrev pub retire_task : Option Text → Option Text → Result Task Lack
+abbrev pub retire_task : Option Text → Option Text → Result Task UsageFault
 retire_task (Some state) (Some upto) = retire_number state (number_in most_leaves upto)
 retire_task _ _ = Err Command
 
 -- that of `audit`
-abbrev pub audit_anchored : Text → Result (Option Anchor) Lack → Result Task Lack
+abbrev pub audit_anchored : Text → Result (Option Anchor) UsageFault → Result Task UsageFault
 audit_anchored state (Ok anchor) = Ok (audit state anchor)
 audit_anchored state (Err fault) = Err fault
 
-abbrev pub audit_task : (state count tag : Option Text) → Result Task Lack
+abbrev pub audit_task : (state count tag : Option Text) → Result Task UsageFault
 audit_task (Some state) count tag = audit_anchored state (anchor_in count tag)
 audit_task None _ _ = Err Command
 
 -- that of `serve`
-abbrev pub serve_task : (state random : Option Text) → Result Task Lack
+abbrev pub serve_task : (state random : Option Text) → Result Task UsageFault
 serve_task (Some state) (Some random) = Ok (serve state random)
 serve_task _ _ = Err Command
 
 -- that of `audit-given`
-abbrev pub audit_given_pairs : Text → Option (List Pair) → Result Task Lack
+abbrev pub audit_given_pairs : Text → Option (List Pair) → Result Task UsageFault
 audit_given_pairs public (Some pairs) = Ok (audit_given public pairs)
-audit_given_pairs public None = Err lack.Pairs
+audit_given_pairs public None = Err usage.Pairs
 
-abbrev pub audit_given_task : Option Text → Option (List Text) → Result Task Lack
+abbrev pub audit_given_task : Option Text → Option (List Text) → Result Task UsageFault
 audit_given_task (Some public) (Some paths) = audit_given_pairs public (pairs_in paths)
 audit_given_task _ _ = Err Command
 
 -- the task of a command's name and the rows of its values, of those that have as many values on each line
-abbrev pub fixed_task_named : Text → List Row → Result Task Lack
+abbrev pub fixed_task_named : Text → List Row → Result Task UsageFault
 fixed_task_named name rows =
     if bytes_eq name (codes "make")
     then make_task (first_of (codes "STATE") rows) (first_of (codes "PUBLIC") rows) (first_of (codes "SPEC") rows)
@@ -174,14 +174,14 @@ fixed_task_named name rows =
     else Err Command)))))
 
 -- .. and of every command
-abbrev pub task_named : Text → List Row → Result Task Lack
+abbrev pub task_named : Text → List Row → Result Task UsageFault
 task_named name rows =
     if bytes_eq name (codes "audit-given")
     then audit_given_task (first_of (codes "PUBLIC") rows) (all_of (codes "FILES") rows)
     else fixed_task_named name rows
 
 -- the task of the command that was found, if one was
-abbrev pub task_found : Option (Text × List Row) → Result Task Lack
+abbrev pub task_found : Option (Text × List Row) → Result Task UsageFault
 task_found None = Err Command
 task_found (Some (name, rows)) = task_named name rows
 
@@ -238,14 +238,14 @@ IsShownLineOf words (audit_given public files) =
     (files ≢ []) × IsCommandLine words (codes "audit-given") (public ∷ paths_of files)
 IsShownLineOf words (serve state random) = IsLineWithOption words (codes "serve") (state ∷ []) random
 
--- the kind of error that a lack is
-abbrev pub lack_kind : Lack → ErrorKind
-lack_kind Command = kind.MissingSubcommand
-lack_kind Number = kind.ValueValidation
-lack_kind lack.Count = kind.ValueValidation
-lack_kind lack.Tag = kind.ValueValidation
-lack_kind lack.Anchor = kind.MissingRequiredArgument
-lack_kind lack.Pairs = kind.WrongNumberOfValues
+-- the kind of error that a usage fault is
+abbrev pub usage_kind : UsageFault → ErrorKind
+usage_kind Command = kind.MissingSubcommand
+usage_kind Number = kind.ValueValidation
+usage_kind usage.Count = kind.ValueValidation
+usage_kind usage.Tag = kind.ValueValidation
+usage_kind usage.Anchor = kind.MissingRequiredArgument
+usage_kind usage.Pairs = kind.WrongNumberOfValues
 
 -- ---- how a task is served
 

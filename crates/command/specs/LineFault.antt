@@ -6,9 +6,9 @@ use Rattle.clap.specs.Kinds.{or_else}
 use Rattle.clap.specs.Words.{IsAmong, Kinds, fault_of, subcommand_of}
 use Rattle.clap.specs.declared.error.kind.ErrorKind.{ErrorKind}
 use Rattle.clap.specs.declared.error.kind.ErrorKind.TheVariants as kind
-use Rattle.command.specs.Line.{Task, hbsign_app, lack_kind, task_found}
+use Rattle.command.specs.Line.{Task, hbsign_app, usage_kind, task_found}
 use Rattle.command.specs.declared.line.ClapReader.{ClapReader}
-use Rattle.command.specs.declared.line.Lack.{Lack}
+use Rattle.command.specs.declared.line.UsageFault.{UsageFault}
 use Rattle.command.specs.declared.line_fault.LineFault.{LineFault}
 use Rattle.command.specs.declared.line_fault.LineFault.TheVariants.{Help, Version, Refused, OutOfMemory}
 
@@ -53,14 +53,14 @@ IsFaultOf Version error = error ≡ kind.DisplayVersion
 IsFaultOf (Refused text) error = IsMistake error
 IsFaultOf OutOfMemory error = ⊥
 
--- the error of a line in which `clap` finds nothing wrong, and no task
-abbrev pub lacks : Result Task Lack → Kinds
-lacks (Ok task) = []
-lacks (Err lack) = lack_kind lack ∷ []
+-- the usage fault of a line in which `clap` finds nothing wrong, and no task, as a kind of error
+abbrev pub usage_faults : Result Task UsageFault → Kinds
+usage_faults (Ok task) = []
+usage_faults (Err fault) = usage_kind fault ∷ []
 
--- the kinds of error that a line may have: those that `clap` gives, or where it gives none what lacks
+-- the kinds of error that a line may have: those that `clap` gives, or where it gives none, that of the usage fault
 abbrev pub line_faults : List (List ℕ) → Kinds
-line_faults words = or_else (fault_of hbsign_app words) (lacks (task_found (subcommand_of hbsign_app words)))
+line_faults words = or_else (fault_of hbsign_app words) (usage_faults (task_found (subcommand_of hbsign_app words)))
 
 -- The words have this fault: `clap` gives an error of its kind for them.
 abbrev pub HasLineFault : List (List ℕ) → LineFault → Type 0

@@ -34,7 +34,7 @@ IsMake state public spec random (Some words) = (state ≡ Some words.state.now) 
     × (spec ≡ Some words.spec.now) × (random ≡ Some words.random.now)
 IsMake state public spec random None = (state ≡ None) ⊎ (public ≡ None) ⊎ (spec ≡ None) ⊎ (random ≡ None)
 
--- Once the state file was opened, the file of random bytes was, and it was asked whether the public key's can be
+-- Once the state file was opened, the file of random bytes was, and it was checked whether the public key's can be
 -- written. The one couldn't be opened, or the other can't be written.
 abbrev pub FailsToMake : (public random : List ℕ) → (old new : List Happening) → Type 0
 FailsToMake public random old new = (new ≡ old ++ not_opened role.Random random ∷ [])
@@ -76,7 +76,7 @@ make_answer (Err refusal) = Err refusal
 
 -- The state file at this path couldn't be opened or made, or is locked, which is reported. Or it was opened, and made
 -- where there was none; on the disk that this gave a key was made, once, and it was closed; what came of it is the
--- answer. What the file of random bytes holds is known where it is another than the state file.
+-- answer. The content of the file of random bytes is known where it is another than the state file.
 abbrev pub MakesAt : {K R : Type 0} {bound : _} → disk.Ghosts K → store.Ghosts (FileStore K bound) → source.Ghosts R
     → FilesSeen K → Spec → (state public random : List ℕ) → Result Done Refusal → (old new : List Happening) → Type 0
 MakesAt {K} {R} {bound} d g r files spec state public random answer old new =

@@ -62,13 +62,18 @@ Helps text old new status = ((status ≡ 0) × WritesText text old new) ⊎ ((st
 abbrev pub version_line : List ℕ
 version_line = codes "hbsign 0.1.0\n"
 
--- A text that isn't empty was written, or the output failed.
-abbrev pub Says : Taken → Taken → Type 0
-Says old new = ((text : List ℕ) × (0 < length text) × WritesText text old new) ⊎ Fails old new
+-- A text was written, or the output failed.
+abbrev pub Says : List ℕ → Taken → Taken → Type 0
+Says text old new = WritesText text old new ⊎ Fails old new
 
--- A line was refused: nothing is on the output, and a text on the output for errors, or this failed.
-abbrev pub RefusesLine : Taken → Taken → Taken → Taken → Type 0
-RefusesLine old new errors_old errors_new = (new ≡ old) × Says errors_old errors_new
+-- A line was refused with this text: it is on the output for errors, or this failed, and nothing is on the output.
+abbrev pub RefusesLineWith : List ℕ → (old new errors_old errors_new : Taken) → Type 0
+RefusesLineWith text old new errors_old errors_new = (new ≡ old) × Says text errors_old errors_new
+
+-- .. with a text that isn't empty
+abbrev pub RefusesLine : (old new errors_old errors_new : Taken) → Type 0
+RefusesLine old new errors_old errors_new =
+    (text : List ℕ) × (0 < length text) × RefusesLineWith text old new errors_old errors_new
 
 -- A word of the line, a name or a spec, was refused: this answer's line is on the output, and nothing on that for
 -- errors.
@@ -89,23 +94,24 @@ begins_with_serve (word ∷ words) = bytes_eq word (codes "serve")
 
 -- That there is no memory is reported: on the output, as an answer is; or, where the output is for replies alone, on
 -- that for errors.
-abbrev pub ReportsLack : Bool → (old new errors_old errors_new : Taken) → ℕ → Type 0
-ReportsLack false old new errors_old errors_new status =
+abbrev pub ReportsOutOfMemory : Bool → (old new errors_old errors_new : Taken) → ℕ → Type 0
+ReportsOutOfMemory false old new errors_old errors_new status =
     ReportsRequest (Err OutOfMemory) old new status × (errors_new ≡ errors_old)
-ReportsLack true old new errors_old errors_new status =
+ReportsOutOfMemory true old new errors_old errors_new status =
     (new ≡ old) × ReportsServing (Err OutOfMemory) errors_old errors_new status
 
--- What comes of a line with this fault: the text of help, the version, a text for errors and status 2, or the answer
--- that there is no memory.
+-- What comes of a line with this fault: the fault's text, as help with status 0 or on the output for errors with status
+-- 2; the line of the version; or the answer that there is no memory. The first argument says whether the line begins
+-- with `serve`.
 abbrev pub Explains : Bool → LineFault → (old new errors_old errors_new : Taken) → ℕ → Type 0
 Explains serves (fault.Help text) old new errors_old errors_new status =
     Helps (string_bytes text) old new status × (errors_new ≡ errors_old)
 Explains serves fault.Version old new errors_old errors_new status =
     Helps version_line old new status × (errors_new ≡ errors_old)
 Explains serves (fault.Refused text) old new errors_old errors_new status =
-    (status ≡ 2) × RefusesLine old new errors_old errors_new
+    (status ≡ 2) × RefusesLineWith (string_bytes text) old new errors_old errors_new
 Explains serves fault.OutOfMemory old new errors_old errors_new status =
-    ReportsLack serves old new errors_old errors_new status
+    ReportsOutOfMemory serves old new errors_old errors_new status
 
 -- The words have a fault, of which this comes. No line of a text of help can be taken for an answer's. The input is as
 -- it was.
@@ -121,7 +127,7 @@ abbrev pub ReportsNoMemory : {I O : Type 0} → OutputSeen O → List (List ℕ)
     → (old new : Streams I O) → ℕ → Type 0
 ReportsNoMemory o words refused before after old new status =
     refused × (after ≡ before)
-    × ReportsLack (begins_with_serve words) (taken o.contents o.failures old.output)
+    × ReportsOutOfMemory (begins_with_serve words) (taken o.contents o.failures old.output)
     (taken o.contents o.failures new.output) old.errors new.errors status
     × (new.input ≡ old.input)
 
@@ -129,6 +135,10 @@ ReportsNoMemory o words refused before after old new status =
 -- and memory was refused to the reader of the line.
 abbrev pub MayReportServing : List (List ℕ) → (refused : Type 0) → Type 0
 MayReportServing words refused = AsksToServe words ⊎ ((begins_with_serve words ≡ true) × refused)
+
+-- Where nothing is wrong with a line, the output for errors is as it was, unless it is a line of `serve`.
+abbrev pub KeepsErrorsUnlessServing : List (List ℕ) → (errors_old errors_new : Taken) → Type 0
+KeepsErrorsUnlessServing words errors_old errors_new = (errors_new ≡ errors_old) ⊎ AsksToServe words
 
 -- The output has replies and nothing else: it is as it was, or the requests of the input were served, each by a reply
 -- on it.

@@ -6,8 +6,8 @@ use Rattle.state_file.specs.declared.store.Store as store
 use Rattle.state_file.specs.declared.store.file_store.FileStore.{FileStore}
 use Rattle.command.specs.declared.answer.Done.{Done}
 use Rattle.command.specs.declared.answer.Done.TheVariants.{Retired}
-use Rattle.command.specs.declared.line.Lack.{Lack}
-use Rattle.command.specs.declared.line.Lack.TheVariants.{Command, Number}
+use Rattle.command.specs.declared.line.UsageFault.{UsageFault}
+use Rattle.command.specs.declared.line.UsageFault.TheVariants.{Command, Number}
 use Rattle.command.specs.declared.refusal.Refusal.{Refusal}
 use Rattle.command.specs.declared.retire.Retire.{Retire}
 use Rattle.command.specs.declared.trace.Role.TheVariants as role
@@ -28,7 +28,7 @@ abbrev pub most_leaves : ℕ
 most_leaves = 33554432
 
 -- what the values of the words say: a state file and a number; or one isn't given, or UPTO spells no such number
-abbrev pub IsRetire : Option Text → Option Text → Result Retire Lack → Type 0
+abbrev pub IsRetire : Option Text → Option Text → Result Retire UsageFault → Type 0
 IsRetire state upto (Ok words) = (state ≡ Some words.state.now)
     × ((text : Text) × (upto ≡ Some text) × (number_in most_leaves text ≡ Some words.upto))
 IsRetire state upto (Err Number) = (text : Text) × (path : Text) × (state ≡ Some path) × (upto ≡ Some text)

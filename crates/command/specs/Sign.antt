@@ -49,7 +49,7 @@ message_file = record {
 
 -- ---- the files
 
--- Once the state file was opened, the message's file was and then that of random bytes, and it was asked whether the
+-- Once the state file was opened, the message's file was and then that of random bytes, and it was checked whether the
 -- signature's can be written. One of the first two couldn't be opened, or the last can't be written.
 abbrev pub FailsToSign : (message out random : List ℕ) → (old new : List Happening) → Type 0
 FailsToSign message out random old new = (new ≡ old ++ not_opened role.Message message ∷ [])

@@ -12,7 +12,7 @@ use Rattle.typecodes.specs.Message.{Gave, GivesText, GivesAll, ReadOutcome, Tran
 
 -- A file was opened by this path, or couldn't be; a state file was opened, and was made where there was none, or
 -- couldn't be; a state file is locked by another; a read of a file gave these bytes, or failed. Of a file that is
--- read and written at offsets: its length was asked for; a read at an offset, for so many bytes, gave these; a write
+-- read and written at offsets: its length was requested; a read at an offset, for so many bytes, gave these; a write
 -- of bytes at an offset took these, which are the first of them; it was synced. Of a file that is to be written: it
 -- is none of those that were opened, and nothing is known by which it can't be written, or this isn't so; it has
 -- these bytes and no others, or couldn't be written.
@@ -69,7 +69,7 @@ making path (Ok file) = made path
 making path (Err Locked) = locked path
 making path (Err _) = not_made path
 
--- what a call that asks whether a file may be written does
+-- what a call that checks whether a file may be written does
 abbrev pub checking : {A E : Type 0} → Role → (path : List ℕ) → Result A E → Happening
 checking role path (Ok _) = writable role path
 checking role path (Err _) = not_writable role path

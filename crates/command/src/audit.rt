@@ -12,7 +12,7 @@ use crate::answer::{Answer, Done};
 use crate::argument::{option, required};
 use crate::files::SignerFolder;
 use crate::key_file;
-use crate::line::Lack;
+use crate::line::UsageFault;
 use crate::number::read_number;
 use crate::refusal::Refusal;
 use clap::{ArgMatches, Command};
@@ -66,17 +66,17 @@ impl<'a> Audit<'a> {
     }
 
     /// What the words say.
-    pub fn of(matches: &ArgMatches<'a>) -> Result<Self, Lack>
+    pub fn of(matches: &ArgMatches<'a>) -> Result<Self, UsageFault>
         ensures { IsAudit (first_value (found_of matches.now) (codes "STATE"))
             (first_value (found_of matches.now) (codes "count")) (first_value (found_of matches.now) (codes "tag"))
             result }
     {
         let Some(state) = matches.get_str("STATE") else {
-            return Err(Lack::Command);
+            return Err(UsageFault::Command);
         };
         match anchor_of(matches.get_str("count"), matches.get_str("tag")) {
             Ok(anchor) => Ok(Audit { state, anchor }),
-            Err(lack) => Err(lack),
+            Err(fault) => Err(fault),
         }
     }
 
@@ -106,26 +106,26 @@ fn answer_to(audited: Result<Report, Refusal>) -> Answer
 }
 
 // The anchor of the texts of a count and a tag: both are given, or neither is.
-fn anchor_of(count: Option<&str>, tag: Option<&str>) -> Result<Option<Anchor>, Lack>
+fn anchor_of(count: Option<&str>, tag: Option<&str>) -> Result<Option<Anchor>, UsageFault>
     ensures { result ≡ anchor_in (option_map (λ text. text.now) count.entry) (option_map (λ text. text.now) tag.entry) }
 {
     match (count, tag) {
         (None, None) => Ok(None),
         (Some(count), Some(tag)) => read_anchor(count, tag),
-        _ => Err(Lack::Anchor),
+        _ => Err(UsageFault::Anchor),
     }
 }
 
 // The anchor that the texts of a count and a tag spell.
-fn read_anchor(count: &str, tag: &str) -> Result<Option<Anchor>, Lack>
+fn read_anchor(count: &str, tag: &str) -> Result<Option<Anchor>, UsageFault>
     ensures { result ≡ anchor_in (Some count.now) (Some tag.now) }
 {
     let Some(count) = read_number(count.as_bytes(), MOST_RECORDS) else {
-        return Err(Lack::Count);
+        return Err(UsageFault::Count);
     };
     match read_tag(tag) {
         Some(tag) => Ok(Some(Anchor { count, tag })),
-        None => Err(Lack::Tag),
+        None => Err(UsageFault::Tag),
     }
 }
 

@@ -13,7 +13,7 @@ use crate::answer::{Answer, Done};
 use crate::argument::{required, several};
 use crate::files;
 use crate::files::Folder;
-use crate::line::Lack;
+use crate::line::UsageFault;
 use crate::refusal::Refusal;
 use crate::trace::Role;
 use clap::{ArgMatches, Command};
@@ -63,19 +63,22 @@ impl<'a> AuditGiven<'a> {
     }
 
     /// What the words say. Memory is wanted for the paths.
-    pub fn of(alloc: Global, matches: &ArgMatches<'a>) -> Result<Result<Self, Lack>, AllocError>
+    pub fn of(
+        alloc: Global,
+        matches: &ArgMatches<'a>,
+    ) -> Result<Result<Self, UsageFault>, AllocError>
         ensures { IfOk result (IsAuditGiven (first_value (found_of matches.now) (codes "PUBLIC"))
             (option_map raw_values (matched_of (found_of matches.now) (codes "FILES")))) }
     {
         let Some(public) = matches.get_str("PUBLIC") else {
-            return Ok(Err(Lack::Command));
+            return Ok(Err(UsageFault::Command));
         };
         let Some(paths) = matches.get_strs("FILES") else {
-            return Ok(Err(Lack::Command));
+            return Ok(Err(UsageFault::Command));
         };
         match pair_paths(alloc, paths)? {
             Some(files) => Ok(Ok(AuditGiven { public, files })),
-            None => Ok(Err(Lack::Pairs)),
+            None => Ok(Err(UsageFault::Pairs)),
         }
     }
 

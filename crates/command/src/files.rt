@@ -6,7 +6,7 @@ ghost use Rattle.std.specs.Io.{ReadsAtMost};
 ghost use Rattle.std.specs.Io.KnownBytes.{Consumes, IsAtEnd, ReadConsumes};
 ghost use Rattle.std.specs.declared.option.Option.{Option};
 ghost use Rattle.typecodes.specs.Message.{IsContent, read_outcome};
-ghost use Rattle.command.specs.Files.{BeginsContent, CantHold, FailsFile, FailsToHold, FillsRoom, FillsOrFails};
+ghost use Rattle.command.specs.Files.{BeginsContent, CantKeep, FailsFile, FailsToReadOrKeep, FillsRoom, FillsOrFails};
 ghost use Rattle.command.specs.Files.{KeepsContents, KeepsOtherContents, ReadsAllOrFails, ReadsFile, ReadsKey};
 ghost use Rattle.command.specs.Files.{ReadsStart, ShowsContent, decisive};
 ghost use Rattle.command.specs.FileDisk.{IsStateRefusal};
@@ -36,7 +36,7 @@ pub trait Folder: Traced {
     /// A file that was opened.
     type File: OpenFile + Drop;
 
-    // what the file at a path holds, where it is known
+    // the content of the file at a path, where it is known
     ghost content: { Self → List ℕ → Option (List ℕ) };
 
     /// Opens the file at this very path for reading.
@@ -190,7 +190,7 @@ pub fn read_file<D: Folder>(
     ensures reads { MatchResult result
         (λ bytes. ReadsFile (D.content folder.old) role path.now bytes.items (D.trace folder.old)
         (D.trace folder.new))
-        (λ refusal. FailsToHold role path.now refusal (D.trace folder.old) (D.trace folder.new)) }
+        (λ refusal. FailsToReadOrKeep role path.now refusal (D.trace folder.old) (D.trace folder.new)) }
     ensures content { KeepsContents (D.content folder.old) (D.content folder.new) }
 {
     let mut file = folder.open(role, path)?;
@@ -208,7 +208,7 @@ pub fn read_signature_file<D: Folder>(
     ensures reads { MatchResult result
         (λ first. ReadsStart (D.content folder.old) role path.now first.items (D.trace folder.old)
         (D.trace folder.new))
-        (λ refusal. FailsToHold role path.now refusal (D.trace folder.old) (D.trace folder.new)) }
+        (λ refusal. FailsToReadOrKeep role path.now refusal (D.trace folder.old) (D.trace folder.new)) }
     ensures content { KeepsContents (D.content folder.old) (D.content folder.new) }
 {
     let mut file = folder.open(role, path)?;
@@ -224,7 +224,7 @@ fn read_all<D: Folder>(
     ensures reads { MatchResult result
         (λ bytes. IsContent (D.File.remaining file.old) bytes.items
         × ReadsToEnd (D.File.role file.old) bytes.items (D.trace folder.old) (D.trace folder.new))
-        (λ refusal. CantHold (D.File.role file.old) refusal (D.trace folder.old) (D.trace folder.new)) }
+        (λ refusal. CantKeep (D.File.role file.old) refusal (D.trace folder.old) (D.trace folder.new)) }
     ensures content { KeepsContents (D.content folder.old) (D.content folder.new) }
 {
     let mut piece = [0; 4096];
@@ -250,7 +250,7 @@ fn read_start<D: Folder>(
     ensures reads { MatchResult result
         (λ first. BeginsContent (D.File.remaining file.old) first.items
         × FillsRoom (D.File.role file.old) decisive first.items (D.trace folder.old) (D.trace folder.new))
-        (λ refusal. CantHold (D.File.role file.old) refusal (D.trace folder.old) (D.trace folder.new)) }
+        (λ refusal. CantKeep (D.File.role file.old) refusal (D.trace folder.old) (D.trace folder.new)) }
     ensures content { KeepsContents (D.content folder.old) (D.content folder.new) }
 {
     let mut first = [0; DECISIVE];
@@ -265,7 +265,7 @@ fn read_start<D: Folder>(
 // Keeps bytes after those that are kept already. Where there are none, no memory is wanted.
 fn keep(bytes: &mut Vec<u8>, more: &[u8]) -> Result<(), AllocError>
     ensures kept { IfOk result (λ _. bytes.new.items ≡ bytes.old.items ++ more.now) }
-    ensures lacks { IfErr result (λ _. 1 ≤ length more.now) }
+    ensures refused { IfErr result (λ _. 1 ≤ length more.now) }
 {
     if more.is_empty() {
         return Ok(());

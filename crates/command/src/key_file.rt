@@ -84,7 +84,7 @@ pub fn make<D: Disk + Drop, R: Source + Drop>(
     }
 }
 
-// Signs a message under a name. On Ok `signature` holds the signature.
+// Signs a message under a name. On Ok `signature` has the signature.
 fn sign_with<S: Store, R: Source, M: Message>(
     signer: &mut Signer<S, R>,
     name: &Name,
@@ -100,7 +100,7 @@ fn sign_with<S: Store, R: Source, M: Message>(
     }
 }
 
-/// Signs a message under a name with the key on a disk, and gives the disk back. On Ok `signature` holds the signature.
+/// Signs a message under a name with the key on a disk, and gives the disk back. On Ok `signature` has the signature.
 pub fn sign<D: Disk + Drop, R: Source + Drop, M: Message>(
     alloc: Global,
     disk: D,

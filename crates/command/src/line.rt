@@ -4,7 +4,7 @@ ghost use Rattle.std.specs.Prelude.{◌≡◌, ◌≢◌, ◌⊎◌, ◌+◌, �
 ghost use Rattle.clap.specs.Words.{HasKind, app_of, fault_of, kind_of, subcommand_of, subcommand_rows_of};
 ghost use Rattle.clap.specs.Words.{found_of, rows_of};
 ghost use Rattle.command.specs.Line.{AreTexts, FindsTask, IsLineOf, IsShownLineOf, bare_app, fixed_task_named};
-ghost use Rattle.command.specs.Line.{hbsign_app, lack_kind, task_found, task_of, task_or_lack};
+ghost use Rattle.command.specs.Line.{hbsign_app, usage_kind, task_found, task_of, task_or_fault};
 ghost use Rattle.command.specs.Line.{Task as LineTask};
 ghost use Rattle.command.specs.LineFault.{CountsRefusals, HasLineFault, HasText, line_faults};
 
@@ -87,7 +87,7 @@ impl<'a> Request<'a> {
 
 /// Why words in which `clap` finds nothing wrong request nothing.
 #[derive(Clone, Copy, Debug, PartialEq, Eq)]
-pub enum Lack {
+pub enum UsageFault {
     /// No command was given.
     Command,
     /// UPTO is no decimal number, or too great a one.
@@ -102,28 +102,28 @@ pub enum Lack {
     Pairs,
 }
 
-impl Lack {
+impl UsageFault {
     // The kind of error that it is.
     fn kind(self) -> ErrorKind
-        ensures { result ≡ lack_kind self }
+        ensures { result ≡ usage_kind self }
     {
         match self {
-            Lack::Command => ErrorKind::MissingSubcommand,
-            Lack::Number | Lack::Count | Lack::Tag => ErrorKind::ValueValidation,
-            Lack::Anchor => ErrorKind::MissingRequiredArgument,
-            Lack::Pairs => ErrorKind::WrongNumberOfValues,
+            UsageFault::Command => ErrorKind::MissingSubcommand,
+            UsageFault::Number | UsageFault::Count | UsageFault::Tag => ErrorKind::ValueValidation,
+            UsageFault::Anchor => ErrorKind::MissingRequiredArgument,
+            UsageFault::Pairs => ErrorKind::WrongNumberOfValues,
         }
     }
 
     // What is said of it.
     fn message(self) -> &'static str {
         match self {
-            Lack::Command => "no command was given",
-            Lack::Number => "UPTO is a decimal number up to 33554432",
-            Lack::Count => "K of --count is a decimal number up to 2147483648",
-            Lack::Tag => "T of --tag is 64 hex digits",
-            Lack::Anchor => "--count and --tag are given together, or neither is",
-            Lack::Pairs => "FILES are messages, each with its signature after it",
+            UsageFault::Command => "no command was given",
+            UsageFault::Number => "UPTO is a decimal number up to 33554432",
+            UsageFault::Count => "K of --count is a decimal number up to 2147483648",
+            UsageFault::Tag => "T of --tag is 64 hex digits",
+            UsageFault::Anchor => "--count and --tag are given together, or neither is",
+            UsageFault::Pairs => "FILES are messages, each with its signature after it",
         }
     }
 }
@@ -136,8 +136,8 @@ pub trait LineReader {
     // how often memory was refused
     ghost refusals: { Self → ℕ };
 
-    /// Reads the words of a line, without the program's name. The fault is one that `clap` gives for these words, or
-    /// that of what lacks, or there is no memory.
+    /// Reads the words of a line, without the program's name. The fault is one that `clap` gives for these words, or a
+    /// usage fault, or there is no memory.
     fn read<'a, S: AsStr>(&mut self, words: &'a [S]) -> Result<Request<'a>, LineFault>
         ensures requests { (task : LineTask) → IsLineOf (map S.text words.now) task
             → MatchResult result (λ request. task_of request ≡ task) (λ fault. fault ≡ LineFault.OutOfMemory) }
@@ -182,7 +182,7 @@ impl LineReader for ClapReader {
     ghost refusals = { refusals_of };
 
     fn read<'a, S: AsStr>(&mut self, words: &'a [S]) -> Result<Request<'a>, LineFault> {
-        // Only the proof needs this use: it tells how many words there are at most.
+        // Only the proof needs this use: it says how many words there are at most.
         let _ = words.len();
         match read(self.alloc, words) {
             Ok(request) => Ok(request),
@@ -206,7 +206,7 @@ fn read<'a, S: AsStr>(alloc: Global, words: &'a [S]) -> Result<Request<'a>, Erro
     let matches = command.try_get_matches_from_mut(words)?;
     match find_request(alloc, &matches)? {
         Ok(request) => Ok(request),
-        Err(lack) => Err(command.error(lack.kind(), lack.message())?),
+        Err(fault) => Err(command.error(fault.kind(), fault.message())?),
     }
 }
 
@@ -243,50 +243,50 @@ fn bare_hbsign<'a>(alloc: Global) -> Result<Command<'a>, AllocError>
 fn find_request<'a>(
     alloc: Global,
     matches: &ArgMatches<'a>,
-) -> Result<Result<Request<'a>, Lack>, AllocError>
-    ensures { IfOk result (λ found. task_or_lack found ≡ task_found (subcommand_rows_of matches.now)) }
+) -> Result<Result<Request<'a>, UsageFault>, AllocError>
+    ensures { IfOk result (λ found. task_or_fault found ≡ task_found (subcommand_rows_of matches.now)) }
 {
     let Some((name, words)) = matches.subcommand() else {
-        return Ok(Err(Lack::Command));
+        return Ok(Err(UsageFault::Command));
     };
     match name {
         AuditGiven::NAME => match AuditGiven::of(alloc, words)? {
             Ok(words) => Ok(Ok(Request::AuditGiven(words))),
-            Err(lack) => Ok(Err(lack)),
+            Err(fault) => Ok(Err(fault)),
         },
         _ => Ok(find_fixed_request(name, words)),
     }
 }
 
 // The request of a subcommand that has as many values on each line, with its words.
-fn find_fixed_request<'a>(name: &str, words: &ArgMatches<'a>) -> Result<Request<'a>, Lack>
-    ensures { task_or_lack result ≡ fixed_task_named name.now (rows_of (found_of words.now)) }
+fn find_fixed_request<'a>(name: &str, words: &ArgMatches<'a>) -> Result<Request<'a>, UsageFault>
+    ensures { task_or_fault result ≡ fixed_task_named name.now (rows_of (found_of words.now)) }
 {
     match name {
         Make::NAME => match Make::of(words) {
             Some(words) => Ok(Request::Make(words)),
-            None => Err(Lack::Command),
+            None => Err(UsageFault::Command),
         },
         Sign::NAME => match Sign::of(words) {
             Some(words) => Ok(Request::Sign(words)),
-            None => Err(Lack::Command),
+            None => Err(UsageFault::Command),
         },
         Verify::NAME => match Verify::of(words) {
             Some(files) => Ok(Request::Verify(files)),
-            None => Err(Lack::Command),
+            None => Err(UsageFault::Command),
         },
         Retire::NAME => match Retire::of(words) {
             Ok(words) => Ok(Request::Retire(words)),
-            Err(lack) => Err(lack),
+            Err(fault) => Err(fault),
         },
         Audit::NAME => match Audit::of(words) {
             Ok(words) => Ok(Request::Audit(words)),
-            Err(lack) => Err(lack),
+            Err(fault) => Err(fault),
         },
         Serve::NAME => match Serve::of(words) {
             Some(words) => Ok(Request::Serve(words)),
-            None => Err(Lack::Command),
+            None => Err(UsageFault::Command),
         },
-        _ => Err(Lack::Command),
+        _ => Err(UsageFault::Command),
     }
 }

@@ -1,4 +1,4 @@
-//! What comes of a line that requests nothing of the program's commands.
+//! Why a line gives no request, with the text that is printed for it.
 
 ghost use Rattle.std.specs.Prelude.{◌≡◌, ◌≢◌, ◌<◌, ◌↔◌, ◌⊎◌, IfOk, IsTrue, length, string_bytes};
 ghost use Rattle.clap.specs.Words.{kind_of};
@@ -18,7 +18,7 @@ pub enum LineFault {
     Help(String),
     /// The version was requested.
     Version,
-    /// The line is wrong. The text, which isn't empty, says how.
+    /// The line is wrong. The text says how, and isn't empty.
     Refused(String),
     /// There is no memory.
     OutOfMemory,
@@ -104,6 +104,8 @@ fn has_lowercase_line(text: &[u8]) -> bool
 // The text, or one that isn't empty.
 fn text_or_refusal<T: TextMaker>(texts: &mut T, text: String) -> Result<String, AllocError>
     ensures text { IfOk result (λ refusal. 0 < length (string_bytes refusal)) }
+    ensures kept { 0 < length (string_bytes text)
+        → IfOk result (λ refusal. string_bytes refusal ≡ string_bytes text) }
     ensures counts { CountsFailure result (T.refusals texts.old) (T.refusals texts.new) }
 {
     if text.is_empty() {

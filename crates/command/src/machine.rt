@@ -16,7 +16,7 @@ use std::io::{ErrorKind, Read, Write};
 use std::marker::Model;
 use std::{fs, io};
 
-/// The files of a machine. What they hold isn't known.
+/// The files of a machine. What is in them isn't known.
 #[derive(Drop)]
 pub struct Machine<R> {
     rt: R,

@@ -110,7 +110,7 @@ impl<'a> Make<'a> {
         }
     }
 
-    // Opens the file of random bytes, and asks whether that of the public key can be written.
+    // Opens the file of random bytes, and checks whether that of the public key can be written.
     fn open_files<D: SignerFolder>(&self, folder: &mut D) -> Result<D::Random, Refusal>
         ensures { ReadiesToMake D.Random.upcoming (D.content folder.old) self.now.public.now self.now.random.now result
             (D.trace folder.old) (D.trace folder.new) }

@@ -4,8 +4,9 @@ ghost use Rattle.std.specs.Prelude.{◌≡◌, ◌≢◌, ◌+◌, ◌<◌, ◌�
 ghost use Rattle.command.specs.Files.{files_seen};
 ghost use Rattle.command.specs.Line.{AreTexts, IsLineOf, Task as LineTask};
 ghost use Rattle.command.specs.LineFault.{HasText, line_faults};
-ghost use Rattle.command.specs.Program.{AsksToServe, Explains, HasRepliesAlone, Helps, MayReportServing, Refuses};
-ghost use Rattle.command.specs.Program.{RefusesLine, ReportsLack, Runs, RunsTask, Says, begins_with_serve};
+ghost use Rattle.command.specs.Program.{AsksToServe, Explains, HasRepliesAlone, Helps, KeepsErrorsUnlessServing};
+ghost use Rattle.command.specs.Program.{MayReportServing, Refuses, RefusesLine, ReportsOutOfMemory, Runs, RunsTask};
+ghost use Rattle.command.specs.Program.{Says, begins_with_serve};
 ghost use Rattle.command.specs.Output.{Fails, WritesText};
 ghost use Rattle.command.specs.Streams.{output_seen, streams, taken};
 
@@ -30,9 +31,9 @@ const VERSION_LINE: &str = "hbsign 0.1.0\n";
 
 /// Does what the words of a line request, without the program's name, and gives the exit status.
 ///
-/// A line on the output reports what came of it; of `serve` the output has replies alone, whatever happens, and a line
-/// on `errors` says why it ended before its input did, or that there was no memory to read the line. A line that is
-/// refused is explained on `errors` alone, and status 2 is that of such a line, or of a name or a spec that is refused.
+/// A line on the output reports what came of it. Of `serve` the output has replies and nothing else, also where serving
+/// fails: a line on `errors` then says why, or that there was no memory to read the line. A line that is refused is
+/// explained on `errors` alone, and status 2 is that of such a line, or of a name or a spec that is refused.
 pub fn run<L, D, S, I, O, E>(
     alloc: Global,
     lines: &mut L,
@@ -75,9 +76,8 @@ where
         (taken E.contents E.failures errors.old) (taken E.contents E.failures errors.new) }
     ensures silent { result ≢ 2 → (taken E.contents E.failures errors.new ≡ taken E.contents E.failures errors.old)
         ⊎ MayReportServing (map S.text words.now) (L.refusals lines.new ≡ L.refusals lines.old + 1) }
-    ensures spares { line_faults (map S.text words.now) ≡ []
-        → (taken E.contents E.failures errors.new ≡ taken E.contents E.failures errors.old)
-        ⊎ MayReportServing (map S.text words.now) (L.refusals lines.new ≡ L.refusals lines.old + 1) }
+    ensures accepted { line_faults (map S.text words.now) ≡ [] → KeepsErrorsUnlessServing (map S.text words.now)
+        (taken E.contents E.failures errors.old) (taken E.contents E.failures errors.new) }
 {
     match lines.read(words) {
         Ok(request) => request.fulfil(alloc, folder, input, output, errors),
@@ -127,7 +127,7 @@ fn explain<O: Output, E: Output>(
 /// Reports that there is no memory to read a line: on the output, or of one that serves, whose output is for replies
 /// alone, on `errors`.
 pub fn report_no_memory<O: Output, E: Output>(serves: bool, output: &mut O, errors: &mut E) -> u8
-    ensures reports { ReportsLack serves (taken O.contents O.failures output.old)
+    ensures reports { ReportsOutOfMemory serves (taken O.contents O.failures output.old)
         (taken O.contents O.failures output.new)
         (taken E.contents E.failures errors.old) (taken E.contents E.failures errors.new) result }
     ensures status { result ≢ 2 }

@@ -10,7 +10,7 @@ use crate::answer::{Answer, Done};
 use crate::argument::required;
 use crate::files::SignerFolder;
 use crate::key_file;
-use crate::line::Lack;
+use crate::line::UsageFault;
 use crate::number::read_number;
 use clap::{ArgMatches, Command};
 use state_file::{Disk, FileStore, Store};
@@ -53,19 +53,19 @@ impl<'a> Retire<'a> {
     }
 
     /// What the words say.
-    pub fn of(matches: &ArgMatches<'a>) -> Result<Self, Lack>
+    pub fn of(matches: &ArgMatches<'a>) -> Result<Self, UsageFault>
         ensures { IsRetire (first_value (found_of matches.now) (codes "STATE"))
             (first_value (found_of matches.now) (codes "UPTO")) result }
     {
         let Some(state) = matches.get_str("STATE") else {
-            return Err(Lack::Command);
+            return Err(UsageFault::Command);
         };
         let Some(upto) = matches.get_str("UPTO") else {
-            return Err(Lack::Command);
+            return Err(UsageFault::Command);
         };
         match read_number(upto.as_bytes(), MOST_LEAVES) {
             Some(upto) => Ok(Retire { state, upto }),
-            None => Err(Lack::Number),
+            None => Err(UsageFault::Number),
         }
     }
 

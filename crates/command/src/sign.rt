@@ -119,7 +119,7 @@ impl<'a> Sign<'a> {
         }
     }
 
-    // Opens the files of the message and of random bytes, and asks whether the signature's can be written.
+    // Opens the files of the message and of random bytes, and checks whether the signature's can be written.
     fn open_files<D: SignerFolder>(&self, folder: &mut D) -> Result<(D::File, D::Random), Refusal>
         ensures { ReadiesToSign D.File.role D.File.remaining D.Random.upcoming (D.content folder.old)
             self.now.message.now self.now.out.now self.now.random.now result (D.trace folder.old)
@@ -154,7 +154,7 @@ fn sign_file<D: SignerFolder>(
     }
 }
 
-// Signs the message of a file on a disk. The disk is given back, and on Ok `signature` holds the signature.
+// Signs the message of a file on a disk. The disk is given back, and on Ok `signature` has the signature.
 fn read_and_sign<D: SignerFolder>(
     alloc: Global,
     folder: &mut D,
@@ -175,7 +175,7 @@ fn read_and_sign<D: SignerFolder>(
     };
     let (disk, signed) = key_file::sign(alloc, disk, random, name, &mut reader, signature);
     let FileReader { folder, .. } = reader;
-    // Only the proof needs this use: it tells what the reader noted.
+    // Only the proof needs this use: it says what the reader noted.
     let _ = &*folder;
     (disk, signed)
 }

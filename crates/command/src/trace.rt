@@ -47,7 +47,7 @@ pub enum Event<'a> {
     Given(Role, &'a [u8]),
     /// A read fails.
     Failed(Role, ErrorKind),
-    /// The length is asked for.
+    /// The length is requested.
     Measured(Result<u64, ErrorKind>),
     /// A read at this offset, for so many bytes, gives these.
     ReadAt(u64, usize, Result<&'a [u8], ErrorKind>),

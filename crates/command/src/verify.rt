@@ -98,7 +98,7 @@ impl<'a> Verify<'a> {
         })
     }
 
-    /// Opens the files, reads them, and judges what they hold.
+    /// Opens the files, reads them, and judges what is in them.
     pub fn answer<D: Folder>(&self, folder: &mut D) -> Answer
         ensures { VerifiesIn (D.content folder.old) self.now.public.now self.now.message.now self.now.signature.now
             result (D.trace folder.old) (D.trace folder.new) }
@@ -134,7 +134,7 @@ fn judge_files<D: Folder>(
     };
     let answer = judge(key, &mut message, &bytes[..n]);
     let FileReader { folder, .. } = message;
-    // Only the proof needs this use: it tells what the reader noted.
+    // Only the proof needs this use: it says what the reader noted.
     let _ = &*folder;
     answer
 }

@@ -1,5 +1,5 @@
 -- A public key that was read from bytes is spelled by these alone.
-use Rattle.std.proofs.Common.{◌≡◌, ◌∙◌, refl, sym, ap, ap₂, ℕ, zero, suc, ◌-◌, ◌<◌, ◌≤◌, ◌^◌, List, [], ◌++◌, length, take, drop, Option, Some, None, Ok, subst, arith, append-nil, append_assoc, take_at}
+use Rattle.std.proofs.Common.{◌≡◌, ◌∙◌, refl, sym, ap, ap₂, ℕ, zero, suc, ◌-◌, ◌<◌, ◌≤◌, ◌^◌, List, [], ◌++◌, length, take, drop, Option, Some, None, Ok, subst, arith, append-nil, take_at}
 use Rattle.std.proofs.lemmas.List.{take-append-drop}
 use Rattle.typecodes.specs.Types.{lms_code, lms_types, named, ots_code, ots_types}
 use Rattle.typecodes.specs.Layout.{Spells, AreBytes}
@@ -15,7 +15,7 @@ use Rattle.lms.specs.declared.key.LmsPublic.{LmsPublic}
 use Rattle.lms.specs.Key.{public_key as lms_public_key}
 use Rattle.lms.specs.Writing.{public_bytes as lms_public_bytes}
 use Rattle.lms.proofs.After.{after_identifier, after_key_tree, after_root, after_types}
-use Rattle.typecodes.proofs.FieldBytes.{lms_named, number_spelled, ots_named}
+use Rattle.typecodes.proofs.FieldBytes.{four_parts, lms_named, number_spelled, ots_named}
 
 -- a number's digits are bytes
 u32-bytes : (c : ℕ) → AreBytes (u32str c)
@@ -60,10 +60,7 @@ public-spelled key bytes are spelled =
     let b_ends : b ≡ u32str (ots_code ots) ++ (identifier ++ root) = b_is ∙ ap₂ (λ c d. c ++ d) c_is d_ends in
     let all : bytes ≡ u32str (lms_code tree) ++ (u32str (ots_code ots) ++ (identifier ++ root)) = bytes_are ∙ ap₂ (λ a b. a ++ b) a_is b_ends in
     let made : LmsPublic = record { pair = record { tree = tree; ots = ots }; identifier = identifier; root = root } in
-    all ∙ regrouped (u32str (lms_code tree)) (u32str (ots_code ots)) identifier root ∙ ap lms_public_bytes {x = made} {y = key} ended.0
-  where
-    regrouped : (a b c d : List ℕ) → a ++ (b ++ (c ++ d)) ≡ a ++ b ++ c ++ d
-    regrouped a b c d = simp append_assoc
+    all ∙ four_parts (u32str (lms_code tree)) (u32str (ots_code ots)) identifier root ∙ ap lms_public_bytes {x = made} {y = key} ended.0
 
 -- So the bytes between the places where a key begins and ends are its bytes.
 pub public-read : (key : LmsPublic) (bytes : List ℕ) (place end : ℕ) → place ≤ length bytes → AreBytes bytes → read lms_public_key bytes place ≡ Ok (key, end)

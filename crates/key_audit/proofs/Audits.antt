@@ -18,7 +18,7 @@ use Rattle.key_audit.specs.declared.report.Report.{Report}
 use Rattle.key_audit.specs.Audit.{AreTags, Audits, ChecksAnchor, FitsAnchor, IsBeyond, IsSlotTag, IsTagged, IsWithin, Judges, ReadsStore, Reports, is_fault, is_stopped}
 use Rattle.key_audit.specs.Loading.{AreLoaded, GivesTag, IsNoLedger, ReadsSlotTag}
 use Rattle.key_audit.specs.Tags.{IsTag}
-use Rattle.key_audit.proofs.Loads.{IsKept, answered, kept_by, reads_after}
+use Rattle.key_audit.proofs.Loads.{IsUnchanged, answered, kept_by, reads_after}
 use Rattle.key_audit.proofs.Tags.{tag_law}
 
 -- legal records are some
@@ -177,11 +177,11 @@ module _ {D : Type 0} (d : disk.Ghosts D) where
   }
 
   -- tags of slots that stay
-  same_tags : (old mid : FileStore D d) → IsKept d old mid → has_stopped old ≡ false → IsTrue (d.honest (disk_of old)) → (k : ℕ) (tag : List ℕ)
+  same_tags : (old mid : FileStore D d) → IsUnchanged d old mid → has_stopped old ≡ false → IsTrue (d.honest (disk_of old)) → (k : ℕ) (tag : List ℕ)
       → IsSlotTag d (disk_of old) k tag → IsSlotTag d (disk_of mid) k tag
   same_tags old mid kept running honest k tag is = is ∙ ap (λ (s : DiskState). tag_at s.content k) (sym (kept.reads honest running).stays)
 
-  same_tags_back : (old mid : FileStore D d) → IsKept d old mid → has_stopped old ≡ false → IsTrue (d.honest (disk_of old)) → (k : ℕ)
+  same_tags_back : (old mid : FileStore D d) → IsUnchanged d old mid → has_stopped old ≡ false → IsTrue (d.honest (disk_of old)) → (k : ℕ)
       (tag : List ℕ) → IsSlotTag d (disk_of mid) k tag → IsSlotTag d (disk_of old) k tag
   same_tags_back old mid kept running honest k tag is = is ∙ ap (λ (s : DiskState). tag_at s.content k) (kept.reads honest running).stays
 

@@ -8,7 +8,7 @@ use Rattle.state_file.specs.declared.record.Record.{Record}
 use Rattle.state_file.specs.declared.store.file_store.FileStore.{FileStore}
 use Rattle.state_file.specs.Disk.{Counts, LeavesOnly, MayLeave}
 use Rattle.state_file.specs.DiskCalls.{OnlyReads}
-use Rattle.state_file.specs.FileStore.{disk_of, has_stopped, records_of, unreadable_of}
+use Rattle.state_file.specs.FileStore.{WhileStoreRuns, disk_of, has_stopped, records_of, unreadable_of}
 use Rattle.state_file.specs.Store.{Collects, IsRecordAt}
 use Rattle.state_file.proofs.Moments.{combined, started}
 use Rattle.sign_core.proofs.Adding.{length_one_more}
@@ -18,9 +18,9 @@ use Rattle.key_audit.specs.Audit.{ReadsStore, is_device_failed, is_fault, is_sto
 use Rattle.key_audit.specs.Loading.{AreLoaded, LoadsSlot}
 
 -- Calls that didn't fail left all of a store as it was.
-pub record IsKept {D : Type 0} (d : disk.Ghosts D) (old now : FileStore D d) : Type 0 where
+pub record IsUnchanged {D : Type 0} (d : disk.Ghosts D) (old now : FileStore D d) : Type 0 where
   pub records : records_of now ≡ records_of old
-  pub reads : IsTrue (d.honest (disk_of old)) → has_stopped old ≡ false → OnlyReads d.state d.moment d.left_since (disk_of old) (disk_of now)
+  pub reads : WhileStoreRuns d old (OnlyReads d.state d.moment d.left_since (disk_of old) (disk_of now))
   pub failures : d.failures (disk_of now) ≡ d.failures (disk_of old)
   pub past_ends : IsTrue (d.honest (disk_of old)) → d.past_ends (disk_of now) ≡ d.past_ends (disk_of old)
   pub honest : d.honest (disk_of now) ≡ d.honest (disk_of old)
@@ -34,7 +34,7 @@ module _ {D : Type 0} (d : disk.Ghosts D) where
   OnlyNow store = (c : List ℕ) → IsTrue (d.honest (disk_of store)) → d.left_since (disk_of store) (d.moment (disk_of store)) c
       → MayLeave (d.state (disk_of store)) c
 
-  pub kept_first : (store : FileStore D d) → OnlyNow store → IsKept d store store
+  pub kept_first : (store : FileStore D d) → OnlyNow store → IsUnchanged d store store
   kept_first store only = record {
     records = refl;
     reads = λ honest running. record {
@@ -60,7 +60,7 @@ module _ {D : Type 0} (d : disk.Ghosts D) where
   }
 
   -- one call more
-  pub reads_after : {A : Type 0} (old mid new : FileStore D d) (answer : Result A AuditFault) → IsKept d old mid → ReadsStore d mid new answer
+  pub reads_after : {A : Type 0} (old mid new : FileStore D d) (answer : Result A AuditFault) → IsUnchanged d old mid → ReadsStore d mid new answer
       → ReadsStore d old new answer
   reads_after old mid new answer kept reads = record {
     records = reads.records ∙ kept.records;
@@ -78,7 +78,7 @@ module _ {D : Type 0} (d : disk.Ghosts D) where
     unreadable = subst (λ l. Collects unreadable_slot l (unreadable_of new) answer) kept.unreadable reads.unreadable;
   }
 
-  pub kept_by : {A : Type 0} (old new : FileStore D d) (x : A) → ReadsStore d old new (Ok x) → IsKept d old new
+  pub kept_by : {A : Type 0} (old new : FileStore D d) (x : A) → ReadsStore d old new (Ok x) → IsUnchanged d old new
   kept_by old new x reads = record {
     records = reads.records;
     reads = reads.reads;
@@ -91,7 +91,7 @@ module _ {D : Type 0} (d : disk.Ghosts D) where
   }
 
   -- an answer without a further call
-  pub answered : {A : Type 0} (old now : FileStore D d) (answer : Result A AuditFault) → IsKept d old now → has_stopped old ≡ false
+  pub answered : {A : Type 0} (old now : FileStore D d) (answer : Result A AuditFault) → IsUnchanged d old now → has_stopped old ≡ false
       → is_fault is_stopped answer ≡ false → is_fault is_device_failed answer ≡ false
       → ((n : ℕ) → Counts is_device_failed n n answer) → ((l : List ℕ) → Collects unreadable_slot l l answer) → ReadsStore d old now answer
   answered old now answer kept running not_stopped not_failed none no_slot = record {
@@ -112,7 +112,7 @@ module _ {D : Type 0} (d : disk.Ghosts D) where
 
   -- Its first k records were loaded, and nothing failed.
   pub record HasLoaded (old now : FileStore D d) (records : List Record) (k : ℕ) : Type 0 where
-    pub kept : IsKept d old now
+    pub kept : IsUnchanged d old now
     pub long : length records ≡ k
     pub inside : k ≤ length (records_of old)
     pub same : IsTrue (d.honest (disk_of old)) → records ≡ take k (records_of old)

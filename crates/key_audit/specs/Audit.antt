@@ -8,7 +8,7 @@ use Rattle.state_file.specs.declared.record.Record.{Record}
 use Rattle.state_file.specs.declared.store.file_store.FileStore.{FileStore}
 use Rattle.state_file.specs.DiskCalls.{CountsFailures, OnlyReads}
 use Rattle.state_file.specs.File.{tag_at}
-use Rattle.state_file.specs.FileStore.{disk_of, has_stopped, records_of, unreadable_of}
+use Rattle.state_file.specs.FileStore.{WhileStoreRuns, disk_of, has_stopped, records_of, unreadable_of}
 use Rattle.state_file.specs.Laws.{IsLegal}
 use Rattle.state_file.specs.Store.{Collects}
 pub use Rattle.state_file.specs.Store.{is_fault}
@@ -54,8 +54,7 @@ unreadable_slot _ = []
 pub record ReadsStore {D A : Type 0} (d : disk.Ghosts D) (old new : FileStore D d) (answer : Result A AuditFault)
     : Type 0 where
   pub records : records_of new ≡ records_of old
-  pub reads : IsTrue (d.honest (disk_of old)) → has_stopped old ≡ false
-      → OnlyReads d.state d.moment d.left_since (disk_of old) (disk_of new)
+  pub reads : WhileStoreRuns d old (OnlyReads d.state d.moment d.left_since (disk_of old) (disk_of new))
   pub counts : CountsFailures d is_device_failed (disk_of old) (disk_of new) answer
   pub was_stopped : has_stopped old ≡ is_fault is_stopped answer
   pub stopped : has_stopped new ≡ (is_fault is_device_failed answer || has_stopped old)

@@ -1,9 +1,9 @@
--- The textbook signature is valid.
+-- The textbook signature is valid. xmss has a file like this one, of its own standard's validity: what both share stands
+-- in winternitz and merkle.
 use Rattle.std.proofs.Common.{◌≡◌, refl, ℕ, ◌<◌, ◌^◌, List}
 use Rattle.std.proofs.lemmas.List.FromFn.{length-map-range_with_len}
 use Rattle.typecodes.specs.Types.{chains_of, height_of}
-use Rattle.merkle.proofs.Climb.{climbed_is_ascent, climbed_nodes}
-use Rattle.merkle.proofs.Paths.{path_ends, path_long}
+use Rattle.merkle.proofs.Paths.{path_leads, path_long}
 use Rattle.lmots.specs.Key.{ends_of_seed, message_digest_of}
 use Rattle.lmots.proofs.Signing.{signed_climbs}
 use Rattle.lms.specs.declared.secret.LmsSecret.{LmsSecret}
@@ -12,7 +12,7 @@ use Rattle.lms.specs.Writing.{signed, textbook}
 use Rattle.lms.specs.Verification.{IsValid}
 
 -- The textbook signature of a message is valid under the secret's public key.
-pub textbook_valid : (secret : LmsSecret) (q : ℕ) (randomizer message : List ℕ) → q < 2 ^ height_of secret.pair.tree
+textbook_valid : (secret : LmsSecret) (q : ℕ) (randomizer message : List ℕ) → q < 2 ^ height_of secret.pair.tree
     → IsValid (public_of secret) message (textbook secret q randomizer (message_digest_of secret.identifier q randomizer message))
 textbook_valid secret q randomizer message inside =
     let h = height_of secret.pair.tree in
@@ -24,9 +24,7 @@ textbook_valid secret q randomizer message inside =
       leads = record {
         ends = ends_of_seed secret.identifier q secret.pair.ots secret.seed;
         climbed = signed_climbs secret.identifier q secret.pair.ots secret.seed (message_digest_of secret.identifier q randomizer message);
-        nodes = climbed_nodes (joins_of secret) q (leaves_of secret q) (path_in secret q);
-        ascent = climbed_is_ascent (joins_of secret) q (leaves_of secret q) (path_in secret q);
-        last = path_ends (leaves_of secret) (joins_of secret) h q inside;
+        path = path_leads (leaves_of secret) (joins_of secret) h q inside;
       };
     }
 

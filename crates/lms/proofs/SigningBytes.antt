@@ -1,12 +1,13 @@
--- The bytes of keys and signatures spell them, field by field.
-use Rattle.std.proofs.Common.{◌≡◌, refl, ℕ, ◌<◌, ◌^◌, List, [], ◌++◌, length, get_or, subst, append_assoc}
+-- The bytes of keys and signatures spell them, field by field. What the fields of both standards share stands in
+-- typecodes; xmss has a file like this one for its own layouts, whose fields are others.
+use Rattle.std.proofs.Common.{◌≡◌, refl, ℕ, ◌<◌, ◌^◌, List, [], ◌++◌, length, get_or, subst}
 use Rattle.std.specs.List.{concat}
 use Rattle.std.proofs.lemmas.Bool.{lt-ltb}
 use Rattle.std.proofs.lemmas.List.FromFn.{length-map-range_with_len}
 use Rattle.typecodes.specs.Types.{chains_of, height_of, lms_code, ots_code}
 use Rattle.typecodes.specs.Layout.{Spells}
 use Rattle.typecodes.specs.Fields.{block, lms_type, number, ots_type, values}
-use Rattle.typecodes.proofs.FieldBytes.{block_spelled, last_field, lms_spelled, number_spelled, ots_spelled, values_spelled}
+use Rattle.typecodes.proofs.FieldBytes.{block_spelled, four_parts, last_field, lms_spelled, number_spelled, ots_spelled, six_parts, values_spelled}
 use Rattle.typecodes.proofs.Leaves.{lms_leaf_small}
 use Rattle.typecodes.proofs.Spelling.{from_turn}
 use Rattle.lmots.specs.Hashes.{u32str}
@@ -50,13 +51,6 @@ one_time_spelled s rest sized spelled =
     (from_turn (values (chains_of s.pair.ots)) (after_chains s.q s.pair.ots s.randomizer) s.chains s (concat s.chains) rest
     (values_spelled (chains_of s.pair.ots) s.chains sized.chain_count sized.chains) spelled)
 
--- parts that are put together one by one
-regrouped : (a b c d e f : List ℕ) → a ++ (b ++ (c ++ (d ++ (e ++ f)))) ≡ a ++ b ++ c ++ d ++ e ++ f
-regrouped a b c d e f = simp append_assoc
-
-regrouped_four : (a b c d : List ℕ) → a ++ (b ++ (c ++ d)) ≡ a ++ b ++ c ++ d
-regrouped_four a b c d = simp append_assoc
-
 -- A signature whose parts have their sizes and whose types a reader knows is spelled by its bytes.
 pub signature_spelled : (s : Signature) → IsSized s
     → Spells signature s (signature_bytes s)
@@ -64,7 +58,7 @@ unfolding signature
 signature_spelled s sized =
     let rest = u32str (lms_code s.pair.tree) ++ concat s.path in
     let one_time = s.randomizer ++ (concat s.chains ++ rest) in
-    subst (Spells signature s) (regrouped (u32str s.q) (u32str (ots_code s.pair.ots)) s.randomizer (concat s.chains) (u32str (lms_code s.pair.tree)) (concat s.path))
+    subst (Spells signature s) (six_parts (u32str s.q) (u32str (ots_code s.pair.ots)) s.randomizer (concat s.chains) (u32str (lms_code s.pair.tree)) (concat s.path))
     (from_turn number after_q s.q s (u32str s.q) (u32str (ots_code s.pair.ots) ++ one_time)
     (number_spelled s.q (lms_leaf_small s.pair.tree s.q sized.inside))
     (from_turn ots_type (after_ots s.q) s.pair.ots s (u32str (ots_code s.pair.ots)) one_time
@@ -92,7 +86,7 @@ pub public_spelled : (key : LmsPublic) → length key.identifier ≡ 16 → leng
 unfolding public_key
 public_spelled key identifier root =
     let bytes = key.identifier ++ key.root in
-    subst (Spells public_key key) (regrouped_four (u32str (lms_code key.pair.tree)) (u32str (ots_code key.pair.ots)) key.identifier key.root)
+    subst (Spells public_key key) (four_parts (u32str (lms_code key.pair.tree)) (u32str (ots_code key.pair.ots)) key.identifier key.root)
     (from_turn lms_type after_key_tree key.pair.tree key (u32str (lms_code key.pair.tree)) (u32str (ots_code key.pair.ots) ++ bytes)
     (lms_spelled key.pair.tree)
     (from_turn ots_type (after_types key.pair.tree) key.pair.ots key (u32str (ots_code key.pair.ots)) bytes

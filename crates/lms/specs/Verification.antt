@@ -7,22 +7,19 @@ use Rattle.typecodes.specs.declared.refusal.Refusal.TheVariants.{RootMismatch, M
 use Rattle.typecodes.specs.Layout.{Spells, HasFault}
 pub use Rattle.typecodes.specs.Verdict.{LeavesMessage}
 use Rattle.typecodes.specs.Types.{chains_of, height_of}
-use Rattle.merkle.specs.Ascent.{IsAscent, at}
+use Rattle.merkle.specs.Ascent.{PathLeadsTo}
 use Rattle.lmots.specs.Key.{ClimbTo, message_digest_of, public_hash}
 use Rattle.lms.specs.declared.key.LmsPublic.{LmsPublic}
 use Rattle.lms.specs.Nodes.{join_of, leaf_of}
 use Rattle.lms.specs.Signature.{Signature, signature}
 
--- The node to which a signature of a digest Q leads, in a tree with the identifier I: from the digits of Q the
--- signature's values climb to the ends of their chains; these make a leaf; and from this leaf the path leads, node by
--- node, to a node of the path's height.
-pub record LeadsTo (identifier digest : List ℕ) (s : Signature) (node : List ℕ) : Type 0 where
+-- The node to which a signature of a digest Q leads under a key: from the digits of Q the signature's values climb to
+-- the ends of their chains; these make a leaf; and from this leaf the path leads to the node.
+pub record LeadsTo (key : LmsPublic) (digest : List ℕ) (s : Signature) (node : List ℕ) : Type 0 where
   pub ends : List (List ℕ)
-  pub climbed : ClimbTo identifier s.q s.pair.ots digest s.chains ends
-  pub nodes : List (List ℕ)
-  pub ascent : IsAscent (join_of identifier (height_of s.pair.tree)) s.q
-      (leaf_of identifier (height_of s.pair.tree) s.q (public_hash identifier s.q ends)) s.path nodes
-  pub last : at nodes (length s.path) ≡ node
+  pub climbed : ClimbTo key.identifier s.q s.pair.ots digest s.chains ends
+  pub path : PathLeadsTo (join_of key.identifier (height_of s.pair.tree)) s.q
+      (leaf_of key.identifier (height_of s.pair.tree) s.q (public_hash key.identifier s.q ends)) s.path node
 
 -- The signature's types are the key's; it has a value for each chain of the one-time type; its index q
 -- is one of a leaf of the tree, and the path is as long as the tree is high; and as that of a digest it leads to the
@@ -32,7 +29,7 @@ pub record IsValidFor (key : LmsPublic) (digest : List ℕ) (s : Signature) : Ty
   pub chains : length s.chains ≡ chains_of key.pair.ots
   pub leaf : s.q < 2 ^ height_of key.pair.tree
   pub height : length s.path ≡ height_of key.pair.tree
-  pub leads : LeadsTo key.identifier digest s key.root
+  pub leads : LeadsTo key digest s key.root
 
 -- Q, the digest of a message that a signature signs
 abbrev pub digest_of : LmsPublic → List ℕ → Signature → List ℕ
@@ -65,9 +62,3 @@ LevelVerdict key message s i (Err LevelMismatch) = ⊥
 LevelVerdict key message s i (Err MessageRead) = s.pair ≡ key.pair
 LevelVerdict key message s i (Err (RootMismatch level)) =
     (level ≡ i) × (s.pair ≡ key.pair) × (IsValid key message s → ⊥)
-
--- the same of a signature of the key's types, by the digest of what it signs
-abbrev pub DigestVerdict : {A : Type 0} → LmsPublic → List ℕ → Signature → ℕ → Result A Refusal → Type 0
-DigestVerdict key digest s i (Ok _) = IsValidFor key digest s
-DigestVerdict key digest s i (Err (RootMismatch level)) = (level ≡ i) × (IsValidFor key digest s → ⊥)
-DigestVerdict key digest s i (Err other) = ⊥

@@ -84,6 +84,7 @@ impl<'a> LmsSigView<'a> {
         let mut cursor = Cursor::new(bytes);
         let mut view = Self::from_cursor(&mut cursor)?;
         cursor.end()?;
+        // No bytes follow the signature, so its bytes are all that were given: the view keeps the caller's own slice.
         view.bytes = bytes;
         Ok(view)
     }

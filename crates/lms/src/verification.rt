@@ -2,8 +2,8 @@
 
 ghost use Rattle.std.specs.Prelude.{◌≡◌, ◌≢◌, List, ℕ, Err, MatchResult};
 ghost use Rattle.lms.specs.View.{signature_of};
-ghost use Rattle.lms.specs.Verification.{DigestVerdict, LeadsTo, LeavesMessage, LevelVerdict, Verdict};
-ghost use Rattle.typecodes.specs.Verdict.{Verifies};
+ghost use Rattle.lms.specs.Verification.{IsValidFor, LeadsTo, LeavesMessage, LevelVerdict, Verdict};
+ghost use Rattle.typecodes.specs.Verdict.{DigestVerdict, Verifies};
 
 use crate::key::LmsPublic;
 use crate::nodes::Nodes;
@@ -92,9 +92,9 @@ impl LmsSigView<'_> {
     // Whether the signature of a digest leads to the key's root (RFC 8554 5.4.2, step 4).
     fn verify_digest(&self, public: &LmsPublic, digest: &[u8; 32], level: u8) -> Result<(), Refusal>
         requires { self.now.pair ≡ public.now.pair }
-        ensures { DigestVerdict public.now digest.now (signature_of self.now) level result }
+        ensures { DigestVerdict (IsValidFor public.now digest.now (signature_of self.now)) level result }
     {
-        if candidate(&public.identifier, digest, self) == public.root {
+        if candidate(public, digest, self) == public.root {
             Ok(())
         } else {
             Err(Refusal::RootMismatch(level))
@@ -102,19 +102,19 @@ impl LmsSigView<'_> {
     }
 }
 
-// The node to which a signature of a digest leads, and no other (RFC 8554 5.4.2, algorithm 6a).
-fn candidate(identifier: &[u8; 16], digest: &[u8; 32], view: &LmsSigView<'_>) -> [u8; 32]
-    ensures leads { LeadsTo identifier.now digest.now (signature_of view.now) result }
+// The root to which a signature of a digest leads, and no other (RFC 8554 5.4.2, algorithm 6a).
+fn candidate(public: &LmsPublic, digest: &[u8; 32], view: &LmsSigView<'_>) -> [u8; 32]
+    ensures leads { LeadsTo public.now digest.now (signature_of view.now) result }
     ensures only { (other : List ℕ) →
-        LeadsTo identifier.now digest.now (signature_of view.now) other → other ≡ result }
+        LeadsTo public.now digest.now (signature_of view.now) other → other ≡ result }
 {
     let key = LmOts {
-        identifier: *identifier,
+        identifier: public.identifier,
         leaf: view.q,
     };
     let public_hash = key.hash_from_signature(view.pair.ots, digest, view.chains);
     let nodes = Nodes {
-        identifier: *identifier,
+        identifier: public.identifier,
         height: view.pair.tree.height(),
     };
     let leaf = nodes.leaf(view.q, &public_hash);

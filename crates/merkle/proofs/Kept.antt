@@ -122,12 +122,12 @@ path_parts leaf join base (suc depth) q =
     ∙ ap (λ d. lower ++ path_from leaf join base d (q / 2 ^ base)) (add-one depth)
 
 -- a path out of a block, and on out of the upper tree
-pub path_joined : (leaf : Leaves) (join : Joins) (height q index : ℕ) (lower upper : List (List ℕ))
+pub whole_path : (leaf : Leaves) (join : Joins) (height q index : ℕ) (lower upper : List (List ℕ))
     → lower ≡ path_from leaf join 0 (block_height height) q
     → upper ≡ path_from leaf join (block_height height) (height - block_height height) index
     → index ≡ q / 2 ^ block_height height
     → lower ++ upper ≡ path_of leaf join height q
-path_joined leaf join height q index lower upper lower_is upper_is is =
+whole_path leaf join height q index lower upper lower_is upper_is is =
     let b = block_height height in
     let all : b + (height - b) ≡ height = omega arith in
     ap (λ xs. xs ++ upper) lower_is

@@ -121,7 +121,7 @@ halves_inside base depth j above within inside =
     rw lower at (children_inside (base + depth) j (omega arith) within inside)
 
 -- both halves, and the node over them where one stood
-pub halves_joined : (leaf : Leaves) (join : Joins) (base depth j n : ℕ) (left right top : List (List ℕ)) (over : List ℕ)
+pub nodes_over_halves : (leaf : Leaves) (join : Joins) (base depth j n : ℕ) (left right top : List (List ℕ)) (over : List ℕ)
     → 0 < depth
     → n + 2 ≡ 2 ^ depth
     → left ≡ nodes_under leaf join base (depth - 1) (2 * j)
@@ -129,7 +129,7 @@ pub halves_joined : (leaf : Leaves) (join : Joins) (base depth j n : ℕ) (left 
     → length top ≡ 1
     → over ≡ join (base + (depth - 1)) j (slice_index_or left n []) (slice_index_or right n [])
     → left ++ (right ++ slice_set top 0 over) ≡ nodes_under leaf join base depth j
-halves_joined leaf join base depth j n left right top over above last left_is right_is one over_is =
+nodes_over_halves leaf join base depth j n left right top over above last left_is right_is one over_is =
     let d = depth - 1 in
     let lower : base + depth - 1 ≡ base + d = omega arith in
     let e : depth - 1 + 1 ≡ depth = omega arith in

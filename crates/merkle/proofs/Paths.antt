@@ -1,21 +1,25 @@
--- The authentication path of a leaf, and the nodes that it leads through.
+-- The authentication path of a leaf, and the node that it leads to.
 use Rattle.std.proofs.Common.{◌≡◌, ◌∙◌, refl, ap, ℕ, ◌<◌, ◌^◌, length, arith}
 use Rattle.std.proofs.lemmas.List.FromFn.{length-map-range_with_len}
-use Rattle.merkle.specs.Ascent.{at}
+use Rattle.merkle.specs.Ascent.{PathLeadsTo, at}
 use Rattle.merkle.specs.Tree.{Joins, Leaves, path_of, root_of}
-use Rattle.merkle.proofs.Climb.{climbed_nodes, climbed_nodes_at}
+use Rattle.merkle.proofs.Climb.{climbed_is_ascent, climbed_nodes, climbed_nodes_at}
 use Rattle.merkle.proofs.Leading.{climbed_to_root}
 
 -- it is as long as the tree is high
 pub path_long : (leaves : Leaves) (joins : Joins) (h q : ℕ) → length (path_of leaves joins h q) ≡ h
 path_long leaves joins h q = length-map-range_with_len _ 0 h
 
--- and the last node is the root
-pub path_ends : (leaves : Leaves) (joins : Joins) (h q : ℕ) → q < 2 ^ h
-    → at (climbed_nodes joins q (leaves q) (path_of leaves joins h q)) (length (path_of leaves joins h q)) ≡ root_of leaves joins h
-path_ends leaves joins h q inside =
+-- and it leads to the root
+pub path_leads : (leaves : Leaves) (joins : Joins) (h q : ℕ) → q < 2 ^ h
+    → PathLeadsTo joins q (leaves q) (path_of leaves joins h q) (root_of leaves joins h)
+path_leads leaves joins h q inside =
     let path = path_of leaves joins h q in
     let long = path_long leaves joins h q in
-    ap (at (climbed_nodes joins q (leaves q) path)) long
-    ∙ climbed_nodes_at joins q (leaves q) path h (omega (arith, long))
-    ∙ climbed_to_root leaves joins h q (leaves q) path inside refl refl
+    record {
+      nodes = climbed_nodes joins q (leaves q) path;
+      ascent = climbed_is_ascent joins q (leaves q) path;
+      last = ap (at (climbed_nodes joins q (leaves q) path)) long
+          ∙ climbed_nodes_at joins q (leaves q) path h (omega (arith, long))
+          ∙ climbed_to_root leaves joins h q (leaves q) path inside refl refl;
+    }

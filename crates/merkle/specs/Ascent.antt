@@ -15,3 +15,9 @@ pub record IsAscent (join : Joins) (q : ℕ) (leaf : List ℕ) (path nodes : Lis
       → at nodes (k + 1) ≡ (if q / 2 ^ k % 2 == 1
       then join k (q / 2 ^ (k + 1)) (at path k) (at nodes k)
       else join k (q / 2 ^ (k + 1)) (at nodes k) (at path k))
+
+-- The node to which a path leads from a leaf: the last of the nodes above the leaf, of the path's height.
+pub record PathLeadsTo (join : Joins) (q : ℕ) (leaf : List ℕ) (path : List (List ℕ)) (node : List ℕ) : Type 0 where
+  pub nodes : List (List ℕ)
+  pub ascent : IsAscent join q leaf path nodes
+  pub last : at nodes (length path) ≡ node

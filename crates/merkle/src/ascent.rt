@@ -1,7 +1,7 @@
 //! The nodes through which an authentication path leads.
 
 ghost use Rattle.std.specs.Prelude.{◌≡◌, ◌≤◌, ◌<◌, ◌^◌, ℕ, List, length};
-ghost use Rattle.merkle.specs.Ascent.{IsAscent, at};
+ghost use Rattle.merkle.specs.Ascent.{PathLeadsTo};
 ghost use Rattle.merkle.specs.Tree.{path_of, root_of};
 
 use crate::tree::NodeHash;
@@ -11,11 +11,9 @@ use crate::tree::NodeHash;
 pub fn root_from_path<T: NodeHash>(tree: &T, q: u32, leaf: &[u8; 32], path: &[[u8; 32]]) -> [u8; 32]
     requires height { length path.now ≤ 25 }
     requires inside { q < 2 ^ length path.now }
-    // The last of the nodes above the leaf.
-    ensures last { (nodes : List (List ℕ)) × IsAscent (T.join_of tree.now) q leaf.now path.now nodes
-        × (result ≡ at nodes (length path.now)) }
-    ensures only { (nodes : List (List ℕ)) → IsAscent (T.join_of tree.now) q leaf.now path.now nodes →
-        result ≡ at nodes (length path.now) }
+    // The last of the nodes above the leaf, and no other.
+    ensures last { PathLeadsTo (T.join_of tree.now) q leaf.now path.now result }
+    ensures only { (other : List ℕ) → PathLeadsTo (T.join_of tree.now) q leaf.now path.now other → other ≡ result }
     // The path of leaf q leads from it to the root.
     ensures leads { (leaves : ℕ → List ℕ) → path.now ≡ path_of leaves (T.join_of tree.now) (length path.now) q →
         leaf.now ≡ leaves q → result ≡ root_of leaves (T.join_of tree.now) (length path.now) }

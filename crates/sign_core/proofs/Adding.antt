@@ -9,6 +9,7 @@ use Rattle.state_file.specs.declared.record.Record.{Record}
 use Rattle.state_file.specs.declared.store.Store as store
 use Rattle.state_file.specs.Disk.{LeavesOnly}
 use Rattle.state_file.specs.Laws.{IsLegal}
+use Rattle.state_file.specs.Store.{WhileRunning}
 use Rattle.state_file.proofs.Moments.{weaker}
 use Rattle.sign_core.specs.declared.fault.SignFault.{SignFault}
 use Rattle.sign_core.specs.declared.fault.SignFault.TheVariants.{RandomRepeated, MessageRead, Moved as MovedFault, RetireRange, NoKey, Illegal, DeviceFailed}
@@ -31,6 +32,11 @@ use Rattle.sign_core.proofs.Legal.{grows as legal_grows}
 use Rattle.sign_core.proofs.Sizes.{key_has_sizes}
 use Rattle.sign_core.proofs.Stays.{old_or_new}
 use Rattle.sign_core.specs.World.{acked, cut_old, cut_new, no_memory}
+
+-- what a stop leaves of a store between two calls: its list
+abbrev pub LeavesItsList : {S : Type 0} → store.Ghosts S → S → Type 0
+LeavesItsList g kept_in = (left : List Record)
+    → WhileRunning (g.honest kept_in) (g.stopped kept_in) (g.left_since kept_in (g.moment kept_in) left → left ≡ g.list kept_in)
 
 -- what a stop leaves in an append is a beginning of the records with the new one
 beginning_left : (list records left : List Record) (entry : Record) (all : List Record) → list ≡ records → all ≡ records ++ entry ∷ []
@@ -60,13 +66,13 @@ beginning_kept records more left all is same = record {
 
 pub moments_kept : {S : Type 0} (g : store.Ghosts S) (old new : S) (records more all : List Record) → LeavesOld g old new
     → (IsTrue (g.honest old) → g.list old ≡ records) → all ≡ records ++ more
-    → IsTrue (g.honest old) → g.stopped old ≡ false → LeavesOnly g.moment g.left_since old new (IsBeginning (length records) all)
+    → WhileRunning (g.honest old) (g.stopped old) (LeavesOnly g.moment g.left_since old new (IsBeginning (length records) all))
 moments_kept g old new records more all leaves same is honest running =
     weaker g.moment g.left_since old new _ _ (λ left kept. beginning_kept records more left all (kept ∙ same honest) is) (leaves honest running)
 
 pub moments_left : {S : Type 0} (g : store.Ghosts S) (old new : S) (entry : Record) (records all : List Record) → LeavesEither g old new entry
     → (IsTrue (g.honest old) → g.list old ≡ records) → all ≡ records ++ entry ∷ []
-    → IsTrue (g.honest old) → g.stopped old ≡ false → LeavesOnly g.moment g.left_since old new (IsBeginning (length records) all)
+    → WhileRunning (g.honest old) (g.stopped old) (LeavesOnly g.moment g.left_since old new (IsBeginning (length records) all))
 moments_left g old new entry records all either same is honest running =
     weaker g.moment g.left_since old new _ _ (λ left either_one. beginning_left (g.list old) records left entry all (same honest) is either_one) (either honest
     running)

@@ -202,14 +202,14 @@ reach_before secret before Moved tree n is = absurd (none-some (tree, n) is)
 
 -- no record reaches a number in a tree that stands at the list's end or isn't made yet
 pub next_unmade : (secret : Secret) (records : List Record) (tree : ℕ) → 0 < tree → length records ≤ tree + 1 → next_in secret records tree ≡ 0
-next_unmade secret records tree some late = elim ((is_next secret records tree).least) [
+next_unmade secret records tree some at_end = elim ((is_next secret records tree).least) [
   | inl none ↦ none
   | inr (k, entry, at, reached) ↦
       let within : k < length records = slice_get_within records k entry at in
       let long : length (take k records) ≡ k = length-take-le k records (omega (arith, within)) in
       absurd (elim (reach_before secret (take k records) entry tree (next_in secret records tree) reached) [
         | inl first ↦ omega (arith, some, first)
-        | inr before ↦ omega (arith, before, long, within, late)
+        | inr before ↦ omega (arith, before, long, within, at_end)
       ])
 ]
 

@@ -28,9 +28,9 @@ is_tried {S = S} {R = R} g old new entry answer adds Kept = by_fate adds.fate ad
     by_fate no_memory ends = λ same none. absurd (true≢false (ap (is_fault is_of_append) ends.answer_is ∙ none))
 
 -- Its answer comes after all that is drawn.
-pub is_late : {S R : Type 0} (g : store.Ghosts S) (old new : View S R) (entry : Record) (answer : Result (Unit {0}) SignFault) → Adds g old new entry answer
+pub comes_after_draws : {S R : Type 0} (g : store.Ghosts S) (old new : View S R) (entry : Record) (answer : Result (Unit {0}) SignFault) → Adds g old new entry answer
     → is_fault is_before_draws answer ≡ false
-is_late {S = S} {R = R} g old new entry answer adds = by_fate adds.fate adds.ends
+comes_after_draws {S = S} {R = R} g old new entry answer adds = by_fate adds.fate adds.ends
   where
     by_fate : (fate : Fate) → Ends g old new (added (state_of old) entry fate) answer → is_fault is_before_draws answer ≡ false
     by_fate acked ends = ap (is_fault is_before_draws) (sym ends.answer_is)

@@ -1,6 +1,6 @@
 -- What each end of a binding is: what was drawn, then what became of the message, and of the append of its record.
 use Rattle.std.proofs.Common.{◌≡◌, ◌∙◌, refl, sym, ap, ap₂, subst, inl, ℕ, ◌+◌, ◌-◌, ◌<◌, ◌^◌, Bool, true, false, List, [], ◌∷◌, ◌++◌, length, map}
-use Rattle.std.proofs.Common.{Option, Some, None, Result, Ok, Err, MatchResult, IfErr, OnOk, IsErrAnd, append-nil, arith, IsTrue}
+use Rattle.std.proofs.Common.{Option, Some, None, Result, Ok, Err, MatchResult, IfErr, OnOk, IsErrAnd, append-nil, arith}
 use Rattle.std.specs.Prelude.{not, is_some, replicate, unwrap_or, ◌&&◌}
 use Rattle.std.specs.List.{concat}
 use Rattle.std.specs.Cmp.Lexicographic.{bytes_decides}
@@ -45,13 +45,14 @@ use Rattle.sign_core.specs.Ledger.{Table}
 use Rattle.sign_core.specs.World.{Chance, Fate, Outcome, acked, answered, appended, bound_sound, bound_with, cut_new, cut_old, drawing, fulfilled, new_bound, no_memory}
 use Rattle.sign_core.specs.World.{open_on, randomizer_from, reading}
 use Rattle.sign_core.specs.Textbook.{Trees, damaged_in, digest_at, secret_at, signature_at, signing_of_bound, signings_above, tree_before, trees_of}
+use Rattle.sign_core.proofs.Adding.{LeavesItsList}
 use Rattle.sign_core.proofs.Draws.{draw_fails}
-use Rattle.sign_core.proofs.Appended.{added_records, counts_answered, ends_alike, is_late, is_tried, no_draw_fails, same_fault}
+use Rattle.sign_core.proofs.Appended.{added_records, counts_answered, ends_alike, comes_after_draws, is_tried, no_draw_fails, same_fault}
 use Rattle.sign_core.proofs.Append.{tree_within}
 use Rattle.sign_core.proofs.ChainParts.{all_pairs, leaf_digest, key_chain, xmss_leaf_digest}
 use Rattle.sign_core.proofs.Follow.{tell_free}
 use Rattle.sign_core.proofs.LinkParts.{more_made}
-use Rattle.sign_core.proofs.Refusals.{after_caches, counted, keeps_at_all, keeps_late, same_view}
+use Rattle.sign_core.proofs.Refusals.{after_caches, counted, keeps_at_all, keeps_after_draws, same_view}
 use Rattle.sign_core.proofs.Repeats.{fault_of, linked_ok}
 use Rattle.sign_core.proofs.Retiring.{beginning_kept}
 use Rattle.sign_core.proofs.Stays.{before_stays, key_stays, secret_stays, signings_stay, some_keyed}
@@ -74,7 +75,7 @@ module _ {S R M : Type 0} (g : store.Ghosts S) (r : source.Ghosts R) (m : messag
   -- a call that draws, reads the message or not, and is refused: the store is as it was
   pub does_kept : {A : Type 0} {caches : Cached} (state_open : Bool) (fault : SignFault) (drawn : List ℕ) (read : Bool) (given : Option (List ℕ))
       → is_open ≡ state_open → IsTied g kept_in ledger.records
-      → ((left : List Record) → IsTrue (g.honest kept_in) → g.stopped kept_in ≡ false → g.left_since kept_in (g.moment kept_in) left → left ≡ g.list kept_in)
+      → LeavesItsList g kept_in
       → ((n : ℕ) → Counts {A = A} is_store_failed n n (Err fault)) → ((n : ℕ) → Counts {A = A} is_out_of_memory n n (Err fault))
       → Provides (r.upcoming random) drawn (r.upcoming mid) → Counts {A = A} is_random_failed (r.failures random) (r.failures mid) (Err fault)
       → IsRead m read given before after
@@ -277,7 +278,7 @@ module _ {S R M : Type 0} (g : store.Ghosts S) (r : source.Ghosts R) (m : messag
     (is_open : Bool) (before after : M) (key : Key) (trees : Trees) (these : trees_of key.secret ≡ Some trees) where
   -- the source fails
   pub undrawn : {caches : Cached} (fault : SignFault) → is_open ≡ true → IsTied g kept_in ledger.records → after ≡ before
-      → ((left : List Record) → IsTrue (g.honest kept_in) → g.stopped kept_in ≡ false → g.left_since kept_in (g.moment kept_in) left → left ≡ g.list kept_in)
+      → LeavesItsList g kept_in
       → DrawsBytes (r.failures random) (r.failures mid) (r.upcoming random) (r.upcoming mid) (Err fault)
       → Fulfils g r m name 0 (view_of kept_in random ledger caches is_open) (view_of kept_in mid ledger caches is_open) before after (Err fault) key
   undrawn {caches = caches} fault opened tied unread only draws =
@@ -293,13 +294,13 @@ module _ {S R M : Type 0} (g : store.Ghosts S) (r : source.Ghosts R) (m : messag
         bound_possible = tt;
         does = does_kept g r m kept_in random mid ledger is_open before after {A = List ℕ} true RandomFailed [] false None opened tied only (λ n. refl) (λ n. refl)
             nothing once unread;
-        late = refl;
+        not_before_draws = refl;
         lacks_tree = λ is same. absurd (cc (is));
       })
 
   -- the message can't be read
   pub unread_bound : {caches : Cached} (randomizer : List ℕ) → is_open ≡ true → IsTied g kept_in ledger.records
-      → ((left : List Record) → IsTrue (g.honest kept_in) → g.stopped kept_in ≡ false → g.left_since kept_in (g.moment kept_in) left → left ≡ g.list kept_in)
+      → LeavesItsList g kept_in
       → DrawsBytes (r.failures random) (r.failures mid) (r.upcoming random) (r.upcoming mid) (Ok randomizer) → length randomizer ≡ 32 → AreBytes randomizer
       → CantBeRead m.transition before after
       → Fulfils g r m name 0 (view_of kept_in random ledger caches is_open) (view_of kept_in mid ledger caches is_open) before after (Err MessageRead) key
@@ -314,7 +315,7 @@ module _ {S R M : Type 0} (g : store.Ghosts S) (r : source.Ghosts R) (m : messag
     bound_possible = chain_sizes key.secret trees randomizer these sized bytes;
     does = does_kept g r m kept_in random mid ledger is_open before after {A = List ℕ} true MessageRead (concat (randomizer ∷ []) ++ []) true None opened tied only
         (λ n. refl) (λ n. refl) (one_field (r.upcoming random) (r.upcoming mid) randomizer draws.1) draws.0 fails;
-    late = refl;
+    not_before_draws = refl;
     lacks_tree = λ is same. absurd (cc (is));
   }
 
@@ -342,7 +343,7 @@ module _ {S R M : Type 0} (g : store.Ghosts S) (r : source.Ghosts R) (m : messag
         bound_possible = chain_sizes key.secret trees randomizer these sized bytes;
         does = does_added g r m kept_in random mid ledger is_open before after new (BoundRecord bound) (sign bound) (concat (randomizer ∷ [])) text a opened adds
             (one_field (r.upcoming random) (r.upcoming mid) randomizer draws.1) draws.0 whole;
-        late = same_fault is_before_draws a _ ∙ is_late g (view_of kept_in mid ledger caches is_open) new (BoundRecord bound) a adds;
+        not_before_draws = same_fault is_before_draws a _ ∙ comes_after_draws g (view_of kept_in mid ledger caches is_open) new (BoundRecord bound) a adds;
         lacks_tree = counted g 1 (view_of kept_in random ledger caches is_open) new _ (counts_answered is_out_of_memory _ _ a _ adds.refusals);
       })
 
@@ -472,7 +473,7 @@ module _ {S R M : Type 0} (g : store.Ghosts S) (r : source.Ghosts R) (m : messag
 
   -- the key's record isn't sound
   pub damaged_binds : {A : Type 0} (linked : Result A ℕ) (mapped : Result A SignFault) (fault : SignFault) → IsTied g v.store v.records → after ≡ before
-      → ((left : List Record) → IsTrue (g.honest v.store) → g.stopped v.store ≡ false → g.left_since v.store (g.moment v.store) left → left ≡ g.list v.store)
+      → LeavesItsList g v.store
       → MatchResult linked (λ x. mapped ≡ Ok x) (λ k. IsErrAnd mapped (λ e. e ≡ Damaged k)) → mapped ≡ Err fault
       → ((rest : List Record) → IfErr linked (λ k. damaged_in key 0 (KeyRecord key ∷ rest) 0 ≡ Some k))
       → Binds g r m name 0 v v before after (Err fault) key
@@ -488,12 +489,12 @@ module _ {S R M : Type 0} (g : store.Ghosts S) (r : source.Ghosts R) (m : messag
         does = does_kept g r m v.store v.random v.random shown v.is_open before after {A = List ℕ} v.is_open (Damaged k) [] false None refl tied only
             (λ n. refl) (λ n. refl) (gives_nothing (r.upcoming v.random)) refl unread;
         keeps = keeps_at_all g true (levels_of key.secret - 0) v v (Err (Damaged k)) (same_view v) (λ _. refl) (λ _ is. cc (is));
-        late = refl;
+        not_before_caches = refl;
       })
 
   -- the message can't be read
   pub unread_binds : {A : Type 0} (linked : Result A ℕ) (mapped : Result A SignFault) (x : A) → v.is_open ≡ true → IsTied g v.store v.records
-      → ((left : List Record) → IsTrue (g.honest v.store) → g.stopped v.store ≡ false → g.left_since v.store (g.moment v.store) left → left ≡ g.list v.store)
+      → LeavesItsList g v.store
       → MatchResult linked (λ y. mapped ≡ Ok y) (λ k. IsErrAnd mapped (λ e. e ≡ Damaged k)) → mapped ≡ Ok x
       → ((rest : List Record) → OnOk linked (damaged_in key 0 (KeyRecord key ∷ rest) 0 ≡ None))
       → CantBeRead m.transition before after → Binds g r m name 0 v v before after (Err MessageRead) key
@@ -507,7 +508,7 @@ module _ {S R M : Type 0} (g : store.Ghosts S) (r : source.Ghosts R) (m : messag
         does = does_kept g r m v.store v.random v.random shown v.is_open before after {A = List ℕ} true MessageRead [] true None opened tied only
             (λ n. refl) (λ n. refl) (gives_nothing (r.upcoming v.random)) refl fails;
         keeps = keeps_at_all g true (levels_of key.secret - 0) v v (Err MessageRead) (same_view v) (λ _. refl) (λ _ is. cc (is));
-        late = refl;
+        not_before_caches = refl;
       }
 
   -- the record is appended, or its append fails
@@ -533,7 +534,7 @@ module _ {S R M : Type 0} (g : store.Ghosts S) (r : source.Ghosts R) (m : messag
         possible = record { trees = tt; bound = tt };
         room = refl;
         does = does;
-        keeps = keeps_late g r m (levels_of key.secret - 0) v new before after _ _ _ (same_fault is_before_draws a _ ∙ is_late g v new (BoundRecord bound) a adds)
+        keeps = keeps_after_draws g r m (levels_of key.secret - 0) v new before after _ _ _ (same_fault is_before_draws a _ ∙ comes_after_draws g v new (BoundRecord bound) a adds)
             (counted g (levels_of key.secret - 0) v new _ (counts_answered is_out_of_memory _ _ a _ adds.refusals)) does;
-        late = after_caches _ (same_fault is_before_draws a _ ∙ is_late g v new (BoundRecord bound) a adds);
+        not_before_caches = after_caches _ (same_fault is_before_draws a _ ∙ comes_after_draws g v new (BoundRecord bound) a adds);
       })

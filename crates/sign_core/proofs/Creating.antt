@@ -11,7 +11,7 @@ use Rattle.state_file.specs.declared.record.Record.TheVariants.{Key as KeyRecord
 use Rattle.state_file.specs.declared.record.Secret.{Secret}
 use Rattle.state_file.specs.declared.store.Store as store
 use Rattle.state_file.specs.Disk.{Counts, LeavesOnly}
-use Rattle.state_file.specs.Store.{Collects}
+use Rattle.state_file.specs.Store.{Collects, WhileRunning}
 use Rattle.state_file.proofs.Moments.{combined}
 use Rattle.sign_core.specs.declared.key.AnyPublic.{AnyPublic}
 use Rattle.sign_core.specs.declared.fault.SignFault.{SignFault}
@@ -180,14 +180,14 @@ honest_mid has honest = subst IsTrue (sym has.looked.honest) honest
 -- the moments of both
 both_moments : {S A : Type 0} (g : store.Ghosts S) (old mid new : S) (entry : Record) (answer : Result A SignFault) (all : List Record)
     → HasAppended g old mid new entry answer → all ≡ g.list old ++ entry ∷ []
-    → IsTrue (g.honest old) → g.stopped old ≡ false → LeavesOnly g.moment g.left_since old new (IsBeginning (length (g.list old)) all)
+    → WhileRunning (g.honest old) (g.stopped old) (LeavesOnly g.moment g.left_since old new (IsBeginning (length (g.list old)) all))
 both_moments g old mid new entry answer all has is honest running =
     combined g.moment g.left_since old mid new _ (moments_kept g old mid (g.list old) (entry ∷ []) all has.looked.moments (λ _. refl) is honest running)
     (moments_left g mid new entry (g.list old) all has.appended.moments (λ _. has.looked.list) is (honest_mid has honest) has.looked.finds.2)
 
 old_moments : {S A : Type 0} (g : store.Ghosts S) (old mid new : S) (entry : Record) (answer : Result A SignFault)
     → HasAppended g old mid new entry answer → LeavesOld g mid new → (all : List Record) → all ≡ g.list old ++ []
-    → IsTrue (g.honest old) → g.stopped old ≡ false → LeavesOnly g.moment g.left_since old new (IsBeginning (length (g.list old)) all)
+    → WhileRunning (g.honest old) (g.stopped old) (LeavesOnly g.moment g.left_since old new (IsBeginning (length (g.list old)) all))
 old_moments g old mid new entry answer has leaves all is honest running =
     combined g.moment g.left_since old mid new _ (moments_kept g old mid (g.list old) [] all has.looked.moments (λ _. refl) is honest running)
     (moments_kept g mid new (g.list old) [] all leaves (λ _. has.looked.list) is (honest_mid has honest) has.looked.finds.2)

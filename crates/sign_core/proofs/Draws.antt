@@ -83,14 +83,14 @@ seed_fails records before mid after upcoming between left identifier fault answe
     )
 
 -- The source fails for C.
-pub randomizer_fails : (records : List Record) (before mid late after : ℕ) (upcoming between last left : Option (List ℕ)) (identifier seed : List ℕ) (fault : SignFault)
+pub randomizer_fails : (records : List Record) (before mid after_two after : ℕ) (upcoming between last left : Option (List ℕ)) (identifier seed : List ℕ) (fault : SignFault)
     (answer : Result TreeSeeds SignFault)
-    → Drawn before mid upcoming between 16 identifier → has_identifier records identifier ≡ false → Drawn mid late between last 32 seed
-    → DrawsBytes late after last left (Err fault) → answer ≡ Err fault
+    → Drawn before mid upcoming between 16 identifier → has_identifier records identifier ≡ false → Drawn mid after_two between last 32 seed
+    → DrawsBytes after_two after last left (Err fault) → answer ≡ Err fault
     → DrawsTree records before after upcoming left answer
-randomizer_fails records before mid late after upcoming between last left identifier seed fault answer first fresh second draws answers =
-    let fails = draw_fails late after last left fault draws in
-    let once : after ≡ late + 1 = fails_once late after last left fault draws in
+randomizer_fails records before mid after_two after upcoming between last left identifier seed fault answer first fresh second draws answers =
+    let fails = draw_fails after_two after last left fault draws in
+    let once : after ≡ after_two + 1 = fails_once after_two after last left fault draws in
     let both : Provides upcoming (identifier ++ seed) last = gives_both upcoming identifier between seed last first.draws.1 second.draws.1 in
     let gives : Provides upcoming (concat (identifier ∷ seed ∷ [])) left =
     subst (λ (bytes : List ℕ). Provides upcoming (identifier ++ bytes) left) (sym (append-nil seed))
@@ -106,11 +106,11 @@ randomizer_fails records before mid late after upcoming between last left identi
     )
 
 -- The source gives all three.
-pub all_drawn : (records : List Record) (before mid late after : ℕ) (upcoming between last left : Option (List ℕ)) (identifier seed randomizer : List ℕ)
-    → Drawn before mid upcoming between 16 identifier → has_identifier records identifier ≡ false → Drawn mid late between last 32 seed
-    → Drawn late after last left 32 randomizer
+pub all_drawn : (records : List Record) (before mid after_two after : ℕ) (upcoming between last left : Option (List ℕ)) (identifier seed randomizer : List ℕ)
+    → Drawn before mid upcoming between 16 identifier → has_identifier records identifier ≡ false → Drawn mid after_two between last 32 seed
+    → Drawn after_two after last left 32 randomizer
     → DrawsTree records before after upcoming left (Ok (record { identifier = identifier; seed = seed; randomizer = randomizer }))
-all_drawn records before mid late after upcoming between last left identifier seed randomizer first fresh second third =
+all_drawn records before mid after_two after upcoming between last left identifier seed randomizer first fresh second third =
     let below : Provides between (seed ++ randomizer) left = gives_both between seed last randomizer left second.draws.1 third.draws.1 in
     let gives : Provides upcoming (identifier ++ (seed ++ randomizer)) left =
     gives_both upcoming identifier between (seed ++ randomizer) left first.draws.1 below in

@@ -23,7 +23,7 @@ use Rattle.sign_core.proofs.OnceKept.{kept_choice}
 abbrev pub IsPlain : SignFault → Type 0
 IsPlain fault = (fault ≢ Exhausted) × (fault ≢ StoreFailed) × ((slot : ℕ) → fault ≢ Damaged slot)
 
--- Q holds of refusals, answers and cuts, and whatever is drawn or read before.
+-- Q holds of refusals, answers and cuts, and also with anything drawn or read before.
 pub record Ends (Q : Outcome (List ℕ) → Type 0) : Type 0 where
   pub drawn : (bytes : List ℕ) (outcome : Outcome (List ℕ)) → Q outcome → Q (drawing bytes outcome)
   pub read : (outcome : Outcome (List ℕ)) → Q outcome → Q (reading outcome)

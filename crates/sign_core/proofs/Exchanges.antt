@@ -22,7 +22,7 @@ use Rattle.sign_core.specs.declared.serving.Reply.{Reply}
 use Rattle.sign_core.specs.declared.serving.Reply.TheVariants.{BadName, Refused, Signed}
 use Rattle.sign_core.specs.declared.source.Source as source
 use Rattle.sign_core.specs.Fault.{serve_number_of}
-use Rattle.sign_core.specs.Frames.{CutsField, Ending, FillsBuffer, IsOver, ReadsInput, ReadsField, ReadsHead, Request, after_size, broken, bytes_of, ended, given_by, going, head, said_by}
+use Rattle.sign_core.specs.Frames.{CutsField, Ending, FillsBuffer, ReadsInput, ReadsField, ReadsHead, Request, WasReadOrFailed, after_size, broken, bytes_of, ended, given_by, going, head, said_by}
 use Rattle.sign_core.specs.Records.{binding_in}
 use Rattle.sign_core.specs.Serving.{AnswersFrame, AnswersInTurn, AreFrames, Asks, Closes, ComesTo, Exchange, Finishes, Serves, SignsGiven, Turn}
 use Rattle.sign_core.specs.Serving.{Turns, WritesReply, is_unread, reply_bytes, reply_frame, reply_of}
@@ -350,32 +350,32 @@ module _ {S R P M : Type 0} (g : store.Ghosts S) (r : source.Ghosts R) (p : mess
 -- ---- the end of a message
 
 -- what is left of it was read, or can't be
-over_finished : {P : Type 0} (p : message.Ghosts P) (old new : P) (whole : Bool) → Finishes p false old new whole → IsOver p new
-over_finished p old new true (text, all) = (old, inl (text, all))
-over_finished p old new false cant = (old, inr cant)
+after_finishing : {P : Type 0} (p : message.Ghosts P) (old new : P) (whole : Bool) → Finishes p false old new whole → WasReadOrFailed p new
+after_finishing p old new true (text, all) = (old, inl (text, all))
+after_finishing p old new false cant = (old, inr cant)
 
 -- the signer couldn't read it
-over_unread : {P : Type 0} (p : message.Ghosts P) (is_read : Bool) (given : Option (List ℕ)) (old middle new : P) → is_read ≡ true → given ≡ None
-    → IsRead p is_read given old middle → new ≡ middle → IsOver p new
-over_unread p true None old middle new known none cant same = (old, inr (subst (CantBeRead p.transition old) (sym same) cant))
-over_unread p true (Some text) old middle new known none cant same = absurd (cc)
-over_unread p false given old middle new known none cant same = absurd (cc)
+after_unread : {P : Type 0} (p : message.Ghosts P) (is_read : Bool) (given : Option (List ℕ)) (old middle new : P) → is_read ≡ true → given ≡ None
+    → IsRead p is_read given old middle → new ≡ middle → WasReadOrFailed p new
+after_unread p true None old middle new known none cant same = (old, inr (subst (CantBeRead p.transition old) (sym same) cant))
+after_unread p true (Some text) old middle new known none cant same = absurd (cc)
+after_unread p false given old middle new known none cant same = absurd (cc)
 
 module _ {S R P : Type 0} (g : store.Ghosts S) (r : source.Ghosts R) (p : message.Ghosts P) (old new : View S R) (name signature : List ℕ)
     (before middle after : P) (capacity : ℕ) (whole : Bool) where
-  over_refused : (e : SignFault) (unread : Bool) → (unread ≡ true → ◌≡◌ {A = Result (List ℕ) SignFault} (Err e) (Err fault.MessageRead))
-      → Signs g r p old new name before middle capacity (Err e) → Finishes p unread middle after whole → IsOver p after
-  over_refused e false says signs finishes = over_finished p middle after whole finishes
-  over_refused e true says signs (none, same) =
+  after_refusal : (e : SignFault) (unread : Bool) → (unread ≡ true → ◌≡◌ {A = Result (List ℕ) SignFault} (Err e) (Err fault.MessageRead))
+      → Signs g r p old new name before middle capacity (Err e) → Finishes p unread middle after whole → WasReadOrFailed p after
+  after_refusal e false says signs finishes = after_finishing p middle after whole finishes
+  after_refusal e true says signs (none, same) =
       let reported = subst (λ (o : Outcome (List ℕ)). IsReported signs.chance.given o) signs.step (is_reported (g.most old.store) (state_of old) name signs.chance) in
       let (known, nothing) = reported.unread (signs.ends.answer_is ∙ says refl) in
-      over_unread p signs.outcome.is_read signs.chance.given before middle after known nothing signs.message same
+      after_unread p signs.outcome.is_read signs.chance.given before middle after known nothing signs.message same
 
-  pub over_answered : (reply : Reply) → Asks g r p name old new before middle capacity signature reply → Finishes p (is_unread reply) middle after whole
-      → IsOver p after
-  over_answered Signed asks finishes = over_finished p middle after whole finishes
-  over_answered (Refused e) (is_name, signs, repeat) finishes = over_refused e (is_unread (Refused e)) (says_unread e) signs finishes
-  over_answered BadName asks finishes = over_finished p middle after whole finishes
+  pub after_answer : (reply : Reply) → Asks g r p name old new before middle capacity signature reply → Finishes p (is_unread reply) middle after whole
+      → WasReadOrFailed p after
+  after_answer Signed asks finishes = after_finishing p middle after whole finishes
+  after_answer (Refused e) (is_name, signs, repeat) finishes = after_refusal e (is_unread (Refused e)) (says_unread e) signs finishes
+  after_answer BadName asks finishes = after_finishing p middle after whole finishes
 
 -- so it is of the values that these are
 pub answered_at : {S R I : Type 0} (g : store.Ghosts S) (r : source.Ghosts R) (m : message.Ghosts I) (said : List ℕ × ℕ) (name : List ℕ) (announced : ℕ)

@@ -1,5 +1,5 @@
 -- What each end of an extend is: one new tree, by some draw.
-use Rattle.std.proofs.Common.{◌≡◌, ◌∙◌, ℕ, ◌+◌, ◌<◌, true, false, List, [], ◌∷◌, ◌++◌, length, take, Some, Result, Ok, Err, refl, sym, ap, subst, append-nil, arith, IsTrue, inl, inr}
+use Rattle.std.proofs.Common.{◌≡◌, ◌∙◌, ℕ, ◌+◌, ◌<◌, true, false, List, [], ◌∷◌, ◌++◌, length, take, Some, Result, Ok, Err, refl, sym, ap, subst, append-nil, arith, inl, inr}
 use Rattle.std.specs.Prelude.{Bool, if◌then◌else◌, slice_index_or}
 use Rattle.std.specs.List.{concat}
 use Rattle.std.proofs.Math.Seq.{take-length}
@@ -21,6 +21,7 @@ use Rattle.lms.specs.Writing.{public_bytes}
 use Rattle.sign_core.specs.declared.links.Link.{Link}
 use Rattle.sign_core.specs.Ledger.{Table}
 use Rattle.state_file.specs.declared.record.Record.TheVariants.{Extend as ExtendRecord}
+use Rattle.sign_core.proofs.Adding.{LeavesItsList}
 use Rattle.sign_core.proofs.StandingChain.{entry_is}
 use Rattle.sign_core.specs.declared.signer.signing.TreeSeeds.{TreeSeeds}
 use Rattle.sign_core.specs.Signing.{answered_with}
@@ -34,7 +35,7 @@ use Rattle.sign_core.specs.Signing.{DrawsTree, Extends, StandsIn}
 use Rattle.sign_core.specs.World.{Fate, Outcome, acked, answered, appended, cut_new, cut_old, drawing, extended, no_memory}
 use Rattle.sign_core.specs.World.{open_on, refused}
 use Rattle.sign_core.specs.Textbook.{Trees, trees_of}
-use Rattle.sign_core.proofs.Appended.{after_draw, counts_answered, ends_alike, is_late, is_tried, no_draw_fails, same_fault}
+use Rattle.sign_core.proofs.Appended.{after_draw, counts_answered, ends_alike, comes_after_draws, is_tried, no_draw_fails, same_fault}
 use Rattle.sign_core.proofs.Fulfilled.{drawing_twice, extends_by, next_extend, whole_draw}
 
 -- the records are a beginning of themselves
@@ -75,8 +76,7 @@ draw_repeats key level trees records identifier there next =
 pub record Rests {S R : Type 0} (g : store.Ghosts S) (view : View S R) : Type 0 where
   pub is_open : view.is_open ≡ true
   pub tied : IsTied g view.store view.records
-  pub leaves : (left : List Record) → IsTrue (g.honest view.store) → g.stopped view.store ≡ false → g.left_since view.store (g.moment view.store) left
-      → left ≡ g.list view.store
+  pub leaves : LeavesItsList g view.store
 
 module _ {S R : Type 0} (g : store.Ghosts S) (r : source.Ghosts R) (level : ℕ) (key : Key) (trees : Trees) (is_trees : trees_of key.secret ≡ Some trees) where
   -- what leaves all but the source
@@ -118,7 +118,7 @@ module _ {S R : Type 0} (g : store.Ghosts S) (r : source.Ghosts R) (level : ℕ)
     refusals = inl (subst (λ (a : Result (List ℕ) SignFault). Counts is_out_of_memory (g.refusals view.store) (g.refusals view.store) a) is refl);
     memory = omega arith;
     stays = λ _ _. refl;
-    late = ap (is_fault is_before_draws) (sym is);
+    not_before_draws = ap (is_fault is_before_draws) (sym is);
   }
   undrawn view random RandomRepeated answer rests is (identifier, kept, gave, sized, there) = record {
     draw = record { fields = identifier ∷ []; fate = acked };
@@ -133,7 +133,7 @@ module _ {S R : Type 0} (g : store.Ghosts S) (r : source.Ghosts R) (level : ℕ)
     refusals = inl (subst (λ (a : Result (List ℕ) SignFault). Counts is_out_of_memory (g.refusals view.store) (g.refusals view.store) a) is refl);
     memory = omega arith;
     stays = λ _ _. refl;
-    late = ap (is_fault is_before_draws) (sym is);
+    not_before_draws = ap (is_fault is_before_draws) (sym is);
   }
   undrawn view random Changed answer rests is draws = absurd draws
   undrawn view random Exhausted answer rests is draws = absurd draws
@@ -208,7 +208,7 @@ drawn {S = S} {R = R} g r level key trees view new random seeds entry answer is_
       memory = adds.memory;
       stays = λ same none. is_tried g (after_draw view random) new entry answer adds (new.store ≡ view.store) same
           (sym (same_fault is_of_append answer []) ∙ none);
-      late = same_fault is_before_draws answer [] ∙ is_late g (after_draw view random) new entry answer adds;
+      not_before_draws = same_fault is_before_draws answer [] ∙ comes_after_draws g (after_draw view random) new entry answer adds;
     }
 
 module _ {S R : Type 0} (g : store.Ghosts S) (r : source.Ghosts R) (level : ℕ) (key : Key) (trees : Trees) (is_trees : trees_of key.secret ≡ Some trees) where
@@ -230,7 +230,7 @@ module _ {S R : Type 0} (g : store.Ghosts S) (r : source.Ghosts R) (level : ℕ)
         refusals = inr (sym is, refl);
         memory = omega arith;
         stays = λ _ _. refl;
-        late = ap (is_fault is_before_draws) (sym is);
+        not_before_draws = ap (is_fault is_before_draws) (sym is);
       }
 
 -- a record that is added by a signer with other caches

@@ -19,7 +19,7 @@ use Rattle.sign_core.specs.declared.fault.SignFault.TheVariants.{OutOfMemory, Ra
 use Rattle.sign_core.specs.Source.{Provides}
 use Rattle.sign_core.specs.Records.{binding_in, has_identifier, has_moved, key_in, next_at}
 use Rattle.sign_core.specs.Once.{IsBeginning, reached}
-use Rattle.sign_core.specs.Signer.{Ends, GrowsAlike, IsRead, KeepsStore, RefusesLate, UsesMemory, View, is_out_of_memory, is_random_failed, is_store_failed}
+use Rattle.sign_core.specs.Signer.{Ends, GrowsAlike, IsRead, KeepsStore, RefusesAfterDraws, UsesMemory, View, is_out_of_memory, is_random_failed, is_store_failed}
 use Rattle.sign_core.specs.Signing.{Does, Extends, Fulfils, IsReady}
 use Rattle.sign_core.specs.Textbook.{Trees, trees_of}
 use Rattle.sign_core.specs.World.{Chance, Draw, Fate, Outcome, acked, answered, appended, cut_new, cut_old, drawing, no_memory}
@@ -190,7 +190,7 @@ does_after g r m old mid new before after given extend bytes outcome answer runn
     }
 
 -- an answer is Ok only where the store was refused no memory
-once : {S R : Type 0} (g : store.Ghosts S) (old mid : View S R) → RefusesLate {A = List ℕ} (Ok []) (g.refusals old.store) (g.refusals mid.store)
+once : {S R : Type 0} (g : store.Ghosts S) (old mid : View S R) → RefusesAfterDraws {A = List ℕ} (Ok []) (g.refusals old.store) (g.refusals mid.store)
     → g.refusals mid.store ≡ g.refusals old.store
 once g old mid (inl counts) = counts
 once g old mid (inr (is, same)) = same
@@ -247,7 +247,7 @@ fulfils_after {S = S} {R = R} {M = M} g r m name key below level old mid new bef
           bound_possible = second.bound_possible;
           does = does_after g r m old mid new before after second.given extend bytes second.outcome answer running ends gave first.failures (once g old mid first.refusals)
               first.memory second.does;
-          late = second.late;
+          not_before_draws = second.not_before_draws;
           lacks_tree = λ is same.
               let few = second.lacks_tree is (same ∙ sym (once g old mid first.refusals)) in
               omega (arith, few, ap length ends.records, length_push old.records (ExtendRecord extend));
@@ -331,6 +331,6 @@ fulfils_refused {S = S} {R = R} {M = M} g r m name key below level old new unrea
             memory = first.memory;
             stays = first.stays;
           };
-          late = first.late;
+          not_before_draws = first.not_before_draws;
           lacks_tree = λ _ _. omega (arith, ap length (first.ends.records ∙ ap (λ o. o.acknowledged) (sym is) ∙ kept));
         }

@@ -124,13 +124,13 @@ pub record KeepsTime {D : Type 0} (d : disk.Ghosts D) : Type 0 where
   pub only_now : (on : D) (c : List ℕ) → IsTrue (d.honest on) → d.left_since on (d.moment on) c → MayLeave (d.state on) c
 
 -- the store's moments and lists are those of its disk
-pub record IsOver {D : Type 0} (d : disk.Ghosts D) (g : store.Ghosts (FileStore D d)) : Type 0 where
+pub record IsTiedToDisk {D : Type 0} (d : disk.Ghosts D) (g : store.Ghosts (FileStore D d)) : Type 0 where
   pub lists : (old new : FileStore D d) (list : List Record) → LeftLists (d.left_since (disk_of new)) (d.moment (disk_of old)) list
       → g.left_since new (g.moment old) list
   pub later : (old new : FileStore D d) → g.moment old ≤ g.moment new → d.moment (disk_of old) ≤ d.moment (disk_of new)
   pub honest : (old new : FileStore D d) → g.honest new ≡ g.honest old → d.honest (disk_of new) ≡ d.honest (disk_of old)
 
-module _ {D : Type 0} (d : disk.Ghosts D) (g : store.Ghosts (FileStore D d)) (time : KeepsTime d) (over : IsOver d g) (limit : ℕ) where
+module _ {D : Type 0} (d : disk.Ghosts D) (g : store.Ghosts (FileStore D d)) (time : KeepsTime d) (tied : IsTiedToDisk d g) (limit : ℕ) where
   -- what a stop right now leaves of the store's disk, a run from the first world leaves
   abbrev LeavesRuns : (first now : World) → FileStore D d → Type 0
   LeavesRuns first now store = (content : List ℕ) → d.left_since (disk_of store) (d.moment (disk_of store)) content
@@ -146,7 +146,7 @@ module _ {D : Type 0} (d : disk.Ghosts D) (g : store.Ghosts (FileStore D d)) (ti
       elim is.leaves as (λ u. IsLeftByRun limit first now.handed content) [
         | inl leaves ↦
             let (list, stands, left) = one_left begins (longer all) (not_beginning (length now.state.records) all) (d.left_since (disk_of call.store))
-            (d.moment (disk_of old)) content since (λ list lists. leaves.each list (over.lists old call.store list lists)) in
+            (d.moment (disk_of old)) content since (λ list lists. leaves.each list (tied.lists old call.store list lists)) in
             record {
               records = list;
               stands = stands;
@@ -162,7 +162,7 @@ module _ {D : Type 0} (d : disk.Ghosts D) (g : store.Ghosts (FileStore D d)) (ti
       let left = after limit now call.event in
       let records = left.state.records in
       let (list, stands, same) = one_left (λ l. l ≡ records) (longer records) (not_longer records) (d.left_since (disk_of call.store))
-      (d.moment (disk_of call.store)) content since (λ list lists. is.lasts opens list (over.lists call.store call.store list lists)) in
+      (d.moment (disk_of call.store)) content since (λ list lists. is.lasts opens list (tied.lists call.store call.store list lists)) in
       record {
         records = list;
         stands = stands;
@@ -176,7 +176,7 @@ module _ {D : Type 0} (d : disk.Ghosts D) (g : store.Ghosts (FileStore D d)) (ti
       → LeavesRuns first (after limit now call.event) call.store
   closed_call first now old call honest runs was is closed content since =
       let earlier : d.moment (disk_of old) ≤ d.moment (disk_of call.store) = elim is.is_call.leaves [
-        | inl leaves ↦ over.later old call.store leaves.later
+        | inl leaves ↦ tied.later old call.store leaves.later
         | inr same ↦ subst (λ s. d.moment (disk_of old) ≤ d.moment (disk_of s)) (sym same) (omega arith)
       ] in
       let since_old = time.counts_now (disk_of call.store) (d.moment (disk_of old)) content honest earlier
@@ -193,7 +193,7 @@ module _ {D : Type 0} (d : disk.Ghosts D) (g : store.Ghosts (FileStore D d)) (ti
   one_call : (first now : World) (old : FileStore D d) (call : Call (FileStore D d)) → HasServed first now old → IsLastingCall g limit now old call
       → HasServed first (after limit now call.event) call.store
   one_call first now old call served is =
-      let honest = subst IsTrue (sym (over.honest old call.store is.honest)) served.honest in
+      let honest = subst IsTrue (sym (tied.honest old call.store is.honest)) served.honest in
       record {
         honest = honest;
         runs = runs_on limit first now _ served.runs (one_event limit now call.event is.is_call.possible);
@@ -247,7 +247,7 @@ module _ {D : Type 0} (d : disk.Ghosts D) (g : store.Ghosts (FileStore D d)) (ti
 
   -- ---- lives one after the other
 
-  -- whatever may be left, a run leads there
+  -- to each content that may be left a run leads
   abbrev LeavesByRuns : (List ℕ → Type 0) → List Handed → Type 0
   LeavesByRuns before handed = (content : List ℕ) → before content → IsLeftByRun limit beginning handed content
 
@@ -314,10 +314,10 @@ after_power d before on content honest same left = record {
   holds = λ other may. subst before (sym (synced_left content other (subst (λ s. MayLeave s other) same may))) left;
 }
 
-no_earlier : {D : Type 0} (d : disk.Ghosts D) (g : store.Ghosts (FileStore D d)) (over : IsOver d g) (limit : ℕ) (world : World) (old : FileStore D d)
+no_earlier : {D : Type 0} (d : disk.Ghosts D) (g : store.Ghosts (FileStore D d)) (tied : IsTiedToDisk d g) (limit : ℕ) (world : World) (old : FileStore D d)
     (call : Call (FileStore D d)) → IsCall g.moment g.left_since limit world old call → d.moment (disk_of old) ≤ d.moment (disk_of call.store)
-no_earlier d g over limit world old call is = elim is.leaves [
-  | inl leaves ↦ over.later old call.store leaves.later
+no_earlier d g tied limit world old call is = elim is.leaves [
+  | inl leaves ↦ tied.later old call.store leaves.later
   | inr same ↦ subst (λ s. d.moment (disk_of old) ≤ d.moment (disk_of s)) (sym same) (omega arith)
 ]
 
@@ -325,35 +325,35 @@ tried_later : {D : Type 0} (d : disk.Ghosts D) (old new : D) → IsTriedOn d old
 tried_later d old new (inl leaves) = leaves.later
 tried_later d old new (inr leaves) = leaves.later
 
-goes_on : {D : Type 0} (d : disk.Ghosts D) (g : store.Ghosts (FileStore D d)) → KeepsTime d → (over : IsOver d g) → (limit : ℕ) (before : List ℕ → Type 0)
+goes_on : {D : Type 0} (d : disk.Ghosts D) (g : store.Ghosts (FileStore D d)) → KeepsTime d → (tied : IsTiedToDisk d g) → (limit : ℕ) (before : List ℕ → Type 0)
     (handed : List Handed) (life : Life D d) → IsTrue (d.honest (disk_at_end life)) → IsLife d g limit before handed life
     → IsAtStart d (left_by d life) (disk_at_end life)
-goes_on d g time over limit before handed (fails old new) honest is = record {
+goes_on d g time tied limit before handed (fails old new) honest is = record {
   honest = honest;
   holds = λ content may. time.counts_now new (d.moment old) content honest (tried_later d old new is.1) may;
 }
-goes_on d g time over limit before handed (serves on store calls last) honest is = record {
+goes_on d g time tied limit before handed (serves on store calls last) honest is = record {
   honest = honest;
   holds = λ content may.
       let ended = store_after_calls store calls in
       time.counts_now (disk_of last.store) (d.moment (disk_of ended)) content honest
-      (no_earlier d g over limit (world_after limit store calls handed) ended last is.1.is_last) may;
+      (no_earlier d g tied limit (world_after limit store calls handed) ended last is.1.is_last) may;
 }
 
-pub lives_law : {D : Type 0} (d : disk.Ghosts D) (g : store.Ghosts (FileStore D d)) → KeepsTime d → IsOver d g → LivesLaw d g
-lives_law d g time over = record {
+pub lives_law : {D : Type 0} (d : disk.Ghosts D) (g : store.Ghosts (FileStore D d)) → KeepsTime d → IsTiedToDisk d g → LivesLaw d g
+lives_law d g time tied = record {
   after_power = λ lives on content honest same left. after_power d (left_by_all d HasNoKey lives) on content honest same left;
-  goes_on = λ limit lives life honest is. goes_on d g time over limit (left_by_all d HasNoKey lives) (handed_by_all limit [] lives) life honest is;
-  finds = λ on store records is stands. finds d g time over 0 on store records is stands;
-  leaves = λ limit lives content are left. known_after d g time over limit lives are content left;
+  goes_on = λ limit lives life honest is. goes_on d g time tied limit (left_by_all d HasNoKey lives) (handed_by_all limit [] lives) life honest is;
+  finds = λ on store records is stands. finds d g time tied 0 on store records is stands;
+  leaves = λ limit lives content are left. known_after d g time tied limit lives are content left;
   once = λ limit lives content records are left stands.
-      let by = known_after d g time over limit lives are content left in
+      let by = known_after d g time tied limit lives are content left in
       let same : by.records ≡ records = stands_one by.records records content by.stands stands in
       subst (λ l. IsOnce limit (world_of (closed_on l) (handed_by_all limit [] lives))) same (run_once limit _ by.runs);
   once_after = λ limit lives on store calls last are is.
       let handed = handed_by_all limit [] lives in
       let before = left_by_all d HasNoKey lives in
-      let start = run_to d g time over limit before handed on store (known_after d g time over limit lives are) is.0 is.1.is_store in
-      let served = after_service d g time over limit before handed on store calls last is.0 is.1 in
+      let start = run_to d g time tied limit before handed on store (known_after d g time tied limit lives are) is.0 is.1.is_store in
+      let served = after_service d g time tied limit before handed on store calls last is.0 is.1 in
       run_once limit (world_after limit store calls handed) (runs_on limit beginning (world_on store handed) _ start served.runs);
 }

@@ -24,7 +24,7 @@ use Rattle.sign_core.specs.Signer.{IsTakenUp, IsTied, LeavesOld, LoadsAll, Loads
 use Rattle.sign_core.specs.Ledger.{LacksRoom, Table}
 use Rattle.sign_core.specs.World.{answered, closed_on, open_on, opened, opened_by, opened_on, published, refused}
 use Rattle.sign_core.specs.Textbook.{HasSizes, SecretHasSizes, public_in}
-use Rattle.sign_core.proofs.Adding.{length_one_more, some_records}
+use Rattle.sign_core.proofs.Adding.{LeavesItsList, length_one_more, some_records}
 use Rattle.sign_core.proofs.Follow.{key_stays}
 use Rattle.sign_core.proofs.Illegal.{first_illegal_appended, first_illegal_after, illegal_after, legal_from_none}
 use Rattle.sign_core.proofs.Lists.{take_with_next}
@@ -33,7 +33,7 @@ use Rattle.sign_core.proofs.Sizes.{public_made}
 -- ---- what was loaded
 
 -- Calls that read a store and don't fail leave all of it as it was.
-pub record IsKept {S : Type 0} (g : store.Ghosts S) (old now : S) : Type 0 where
+pub record IsUnchanged {S : Type 0} (g : store.Ghosts S) (old now : S) : Type 0 where
   pub list : g.list now ≡ g.list old
   pub moments : LeavesOld g old now
   pub stopped : g.stopped now ≡ g.stopped old
@@ -52,7 +52,7 @@ pub record Begins {S : Type 0} (g : store.Ghosts S) (old : S) (records : List Re
 
 -- They were loaded, each could follow those before it, and nothing failed.
 pub record HasLoaded {S : Type 0} (g : store.Ghosts S) (old now : S) (records : List Record) (k : ℕ) : Type 0 where
-  pub kept : IsKept g old now
+  pub kept : IsUnchanged g old now
   pub begins : Begins g old records k
   pub legal : first_illegal records ≡ None
   pub running : 0 < k → g.stopped old ≡ false
@@ -66,7 +66,7 @@ pub record IsLoadedTo {S : Type 0} (g : store.Ghosts S) (old now : S) (table : T
 
 -- before the first load
 pub none_loaded : {S : Type 0} (g : store.Ghosts S) (old : S)
-    → ((left : List Record) → IsTrue (g.honest old) → g.stopped old ≡ false → g.left_since old (g.moment old) left → left ≡ g.list old)
+    → LeavesItsList g old
     → HasLoaded g old old [] 0
 none_loaded g old only = record {
   kept = record {
@@ -86,14 +86,14 @@ none_loaded g old only = record {
 }
 
 -- the moments of one load more
-later_moments : {S : Type 0} (g : store.Ghosts S) (old now next : S) → IsKept g old now → LeavesOld g now next → LeavesOld g old next
+later_moments : {S : Type 0} (g : store.Ghosts S) (old now next : S) → IsUnchanged g old now → LeavesOld g now next → LeavesOld g old next
 later_moments g old now next kept leaves honest running =
     combined g.moment g.left_since old now next _ (kept.moments honest running)
     (weaker g.moment g.left_since now next _ _ (λ left same. same ∙ kept.list) (leaves (subst IsTrue (sym kept.honest) honest) (kept.stopped ∙ running)))
 
 -- a load that finds a record, or the end
-kept_found : {S : Type 0} (g : store.Ghosts S) (old now next : S) (k : ℕ) (found : Option Record) → IsKept g old now → LoadsRecord g now next k (Ok found)
-    → g.stopped now ≡ false → g.stopped next ≡ false → g.failures next ≡ g.failures now → IsKept g old next
+kept_found : {S : Type 0} (g : store.Ghosts S) (old now next : S) (k : ℕ) (found : Option Record) → IsUnchanged g old now → LoadsRecord g now next k (Ok found)
+    → g.stopped now ≡ false → g.stopped next ≡ false → g.failures next ≡ g.failures now → IsUnchanged g old next
 kept_found g old now next k found kept loads was is failures = record {
   list = loads.list ∙ kept.list;
   moments = later_moments g old now next kept loads.moments;
@@ -106,11 +106,11 @@ kept_found g old now next k found kept loads was is failures = record {
   stays = λ before. absurd (true≢false (sym before ∙ sym kept.stopped ∙ was));
 }
 
-pub kept_some : {S : Type 0} (g : store.Ghosts S) (old now next : S) (k : ℕ) (entry : Record) → IsKept g old now
-    → LoadsRecord g now next k (Ok (Some entry)) → IsKept g old next
+pub kept_some : {S : Type 0} (g : store.Ghosts S) (old now next : S) (k : ℕ) (entry : Record) → IsUnchanged g old now
+    → LoadsRecord g now next k (Ok (Some entry)) → IsUnchanged g old next
 kept_some g old now next k entry kept loads = kept_found g old now next k (Some entry) kept loads loads.loads.0 loads.loads.3 loads.loads.4
 
-pub kept_none : {S : Type 0} (g : store.Ghosts S) (old now next : S) (k : ℕ) → IsKept g old now → LoadsRecord g now next k (Ok None) → IsKept g old next
+pub kept_none : {S : Type 0} (g : store.Ghosts S) (old now next : S) (k : ℕ) → IsUnchanged g old now → LoadsRecord g now next k (Ok None) → IsUnchanged g old next
 kept_none g old now next k kept loads = kept_found g old now next k None kept loads loads.loads.0 loads.loads.2 loads.loads.3
 
 -- one record more
@@ -118,7 +118,7 @@ record_at : (honest : Bool) (list : List Record) (k : ℕ) (entry : Record) → 
 record_at true list k entry at is = at
 record_at false list k entry at is = absurd (true≢false (sym is))
 
-pub begins_more : {S : Type 0} (g : store.Ghosts S) (old now next : S) (records : List Record) (k : ℕ) (entry : Record) → IsKept g old now
+pub begins_more : {S : Type 0} (g : store.Ghosts S) (old now next : S) (records : List Record) (k : ℕ) (entry : Record) → IsUnchanged g old now
     → Begins g old records k → LoadsRecord g now next k (Ok (Some entry)) → Begins g old (records ++ entry ∷ []) (k + 1)
 begins_more g old now next records k entry kept begins loads = record {
   long = length_one_more records entry ∙ ap (λ n. n + 1) begins.long;
@@ -197,7 +197,7 @@ stopped_at g old now next records k fault has load stopped list moments failures
 }
 
 -- a load more of a store that has stopped
-later_stays : {S : Type 0} (g : store.Ghosts S) (old now next : S) → IsKept g old now → (g.stopped now ≡ true → next ≡ now) → g.stopped old ≡ true → next ≡ old
+later_stays : {S : Type 0} (g : store.Ghosts S) (old now next : S) → IsUnchanged g old now → (g.stopped now ≡ true → next ≡ now) → g.stopped old ≡ true → next ≡ old
 later_stays g old now next kept stays before = stays (kept.stopped ∙ before) ∙ kept.stays before
 
 -- the first load alone can find a store that has stopped
@@ -382,7 +382,7 @@ taken g old now next table after k entry is loads takes =
 
 -- the key
 pub key_taken : {S : Type 0} (g : store.Ghosts S) (old next : S) (table : Table) (key : Key)
-    → ((left : List Record) → IsTrue (g.honest old) → g.stopped old ≡ false → g.left_since old (g.moment old) left → left ≡ g.list old)
+    → LeavesItsList g old
     → LoadsRecord g old next 0 (Ok (Some (KeyRecord key))) → HasSizes (KeyRecord key) → table.key ≡ key → table.records ≡ KeyRecord key ∷ []
     → IsLoadedTo g old next table 1
 key_taken g old next table key only loads sizes same records =
@@ -469,7 +469,7 @@ not_first (Retire upto) not = refl
 not_first MovedRecord not = refl
 
 pub key_refused : {S : Type 0} (g : store.Ghosts S) (old next : S) (entry : Record) (found : Option Key)
-    → ((left : List Record) → IsTrue (g.honest old) → g.stopped old ≡ false → g.left_since old (g.moment old) left → left ≡ g.list old)
+    → LeavesItsList g old
     → LoadsRecord g old next 0 (Ok (Some entry)) → (found ≡ None → is_key entry ≡ false)
     → IfErr (ok_or found (Illegal 0)) (λ fault. LoadsAll g old next (IsTakenUp (Err fault)))
 key_refused g old next entry (Some key) only loads other = tt

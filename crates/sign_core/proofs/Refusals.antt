@@ -20,28 +20,28 @@ counted {A = A} g wanted old new answer counts is same =
 
 -- What comes after draws comes after caches were made.
 is_after : (e : SignFault) → is_before_draws e ≡ false → is_before_caches e ≡ false
-is_after Exhausted late = absurd (true≢false late)
-is_after Stopped late = absurd (true≢false late)
-is_after LedgerFull late = absurd (true≢false late)
-is_after Moved late = absurd (true≢false late)
-is_after (Damaged k) late = refl
-is_after (Unreadable k) late = refl
-is_after (Illegal k) late = refl
-is_after Changed late = refl
-is_after RandomFailed late = refl
-is_after StoreFailed late = refl
-is_after OutOfMemory late = refl
-is_after KeyThere late = refl
-is_after RandomRepeated late = refl
-is_after MessageRead late = refl
-is_after RetireRange late = refl
-is_after NoKey late = refl
-is_after DeviceFailed late = refl
-is_after NoMemoryToOpen late = refl
+is_after Exhausted not_before = absurd (true≢false not_before)
+is_after Stopped not_before = absurd (true≢false not_before)
+is_after LedgerFull not_before = absurd (true≢false not_before)
+is_after Moved not_before = absurd (true≢false not_before)
+is_after (Damaged k) not_before = refl
+is_after (Unreadable k) not_before = refl
+is_after (Illegal k) not_before = refl
+is_after Changed not_before = refl
+is_after RandomFailed not_before = refl
+is_after StoreFailed not_before = refl
+is_after OutOfMemory not_before = refl
+is_after KeyThere not_before = refl
+is_after RandomRepeated not_before = refl
+is_after MessageRead not_before = refl
+is_after RetireRange not_before = refl
+is_after NoKey not_before = refl
+is_after DeviceFailed not_before = refl
+is_after NoMemoryToOpen not_before = refl
 
 pub after_caches : {A : Type 0} (answer : Result A SignFault) → is_fault is_before_draws answer ≡ false → is_fault is_before_caches answer ≡ false
-after_caches (Ok value) late = refl
-after_caches (Err e) late = is_after e late
+after_caches (Ok value) not_before = refl
+after_caches (Err e) not_before = is_after e not_before
 
 -- What comes before caches of a new name does so of a bound one.
 is_bound_early : (e : SignFault) → is_before_caches e ≡ true → is_before_repeat e ≡ true
@@ -79,7 +79,7 @@ pub never_such : {A : Type 0} {X : Type 0} (is_kind : SignFault → Bool) (answe
     → is_fault is_kind answer ≡ true → X
 never_such is_kind answer e is no_such such = absurd (true≢false (sym such ∙ ap (is_fault is_kind) is ∙ no_such))
 
--- A call that keeps all, whatever its answer, but for 29 after draws.
+-- A call that keeps all, with any answer but 29 after draws.
 pub keeps_at_all : {S R A : Type 0} (g : store.Ghosts S) (has_room : Bool) (wanted : ℕ) (old new : View S R) (answer : Result A SignFault) → KeepsAll old new
     → (is_fault is_before_caches answer ≡ true → new.cached ≡ old.cached) → (has_room ≡ true → answer ≡ Err OutOfMemory → ⊥) → KeepsAtRefusal g has_room wanted old new answer
 keeps_at_all g has_room wanted old new answer keeps caches other = record {
@@ -94,12 +94,12 @@ pub same_view : {S R : Type 0} (v : View S R) → KeepsAll v v
 same_view v = record { store = refl; random = refl; records = refl; is_open = refl }
 
 -- A call that comes to draw.
-pub keeps_late : {S R M A : Type 0} (g : store.Ghosts S) (r : source.Ghosts R) (m : message.Ghosts M) (wanted : ℕ) (old new : View S R) (before after : M)
+pub keeps_after_draws : {S R M A : Type 0} (g : store.Ghosts S) (r : source.Ghosts R) (m : message.Ghosts M) (wanted : ℕ) (old new : View S R) (before after : M)
     (given : Option (List ℕ)) (outcome : Outcome A) (answer : Result A SignFault) → is_fault is_before_draws answer ≡ false
     → LacksTree g wanted old new answer → Does g r m old new before after given outcome answer → KeepsAtRefusal g true wanted old new answer
-keeps_late g r m wanted old new before after given outcome answer late lacks does = record {
-  at_once = λ early. absurd (true≢false (sym early ∙ late));
-  caches = λ early. absurd (true≢false (sym early ∙ after_caches answer late));
+keeps_after_draws g r m wanted old new before after given outcome answer not_before lacks does = record {
+  at_once = λ early. absurd (true≢false (sym early ∙ not_before));
+  caches = λ early. absurd (true≢false (sym early ∙ after_caches answer not_before));
   unprepared = λ none. absurd (true≢false none);
   lacks_tree = λ room. lacks;
   store = does.stays;

@@ -185,11 +185,11 @@ fault_of (Ok x) mapped fault P cases was is = absurd (cc)
 fault_of (Err k) mapped fault P cases was is = (k, subst (λ r. IsErrAnd r (λ e. e ≡ Damaged k)) was cases, is)
 
 -- Such an answer comes after caches were made.
-pub placed_late : {A B X : Type 0} (linked : Result A ℕ) (mapped : Result A SignFault) (fault : SignFault) (answer : Result B SignFault)
+pub damaged_after_caches : {A B X : Type 0} (linked : Result A ℕ) (mapped : Result A SignFault) (fault : SignFault) (answer : Result B SignFault)
     → MatchResult linked (λ x. mapped ≡ Ok x) (λ k. IsErrAnd mapped (λ e. e ≡ Damaged k)) → mapped ≡ Err fault → answer ≡ Err fault
     → is_fault is_before_repeat answer ≡ true → X
-placed_late (Ok x) mapped fault answer cases was is early = absurd (cc)
-placed_late (Err k) mapped fault answer cases was is early =
+damaged_after_caches (Ok x) mapped fault answer cases was is early = absurd (cc)
+damaged_after_caches (Err k) mapped fault answer cases was is early =
     let of_place : fault ≡ Damaged k = subst (λ r. IsErrAnd r (λ e. e ≡ Damaged k)) was cases in
     never_such is_before_repeat answer (Damaged k) (is ∙ ap Err of_place) refl early
 

@@ -1,6 +1,6 @@
 -- What each end of a call of retire is: a step of the world.
 use Rattle.std.proofs.Common.{◌≡◌, ℕ, ◌+◌, ◌<◌, ◌≤◌, Bool, true, false, List, [], ◌++◌, length, Some, None, Result, Err, refl, sym, ap, ◌∙◌}
-use Rattle.std.proofs.Common.{arith, IsTrue, true≢false, append-nil}
+use Rattle.std.proofs.Common.{arith, true≢false, append-nil}
 use Rattle.std.specs.Prelude.{take, nat_le, nat_lt, not, if◌then◌else◌}
 use Rattle.std.proofs.Math.Seq.{take-length}
 use Rattle.std.proofs.lemmas.Bool.Decides.{nat_tests}
@@ -19,6 +19,7 @@ use Rattle.sign_core.specs.Records.{has_moved, key_in, leaves_of_current, next_a
 use Rattle.sign_core.specs.Once.{IsBeginning}
 use Rattle.sign_core.specs.Signer.{Hinders, IsSigner, IsTied, Retires, View, added, is_out_of_memory, is_store_failed, state_of}
 use Rattle.sign_core.specs.World.{Fate, Outcome, State, acked, answered, refused, retired, retired_under}
+use Rattle.sign_core.proofs.Adding.{LeavesItsList}
 
 -- a retiring, by what hinders it
 abbrev judged : State → (upto : ℕ) → Fate → (closed moved range done full : Bool) → Outcome (Unit {0})
@@ -82,7 +83,7 @@ tied_running g v signer running false is = absurd (true≢false (sym (signer.shu
 
 -- a call that leaves all as it was
 pub left_retires : {S R : Type 0} (g : store.Ghosts S) (v : View S R) (upto : ℕ) (answer : Result (Unit {0}) SignFault) → IsSigner g v
-    → ((left : List Record) → IsTrue (g.honest v.store) → g.stopped v.store ≡ false → g.left_since v.store (g.moment v.store) left → left ≡ g.list v.store)
+    → LeavesItsList g v.store
     → ((fate : Fate) → retired (g.most v.store) (state_of v) upto fate
     ≡ record { state = state_of v; answer = answer; acknowledged = v.records; failed = None; drawn = []; is_read = false })
     → ((n : ℕ) → Counts is_store_failed n n answer) → ((n : ℕ) → Counts is_out_of_memory n n answer) → Retires g v v upto answer
@@ -105,6 +106,7 @@ left_retires g v upto answer signer only step failures refusals = record {
     unreadable = refl;
   };
   random = refl;
+  cached = refl;
   refusals = refusals _;
   spare = refl;
   stays = λ _ _. refl;
@@ -112,7 +114,7 @@ left_retires g v upto answer signer only step failures refusals = record {
 
 -- a call that is hindered at once
 pub hindered_retires : {S R : Type 0} (g : store.Ghosts S) (v : View S R) (upto : ℕ) (key : Key) (fault : SignFault) → IsSigner g v
-    → ((left : List Record) → IsTrue (g.honest v.store) → g.stopped v.store ≡ false → g.left_since v.store (g.moment v.store) left → left ≡ g.list v.store)
+    → LeavesItsList g v.store
     → key_in v.records ≡ Some key → Hinders v.is_open (has_moved v.records) fault → Retires g v v upto (Err fault)
 hindered_retires g v upto key Stopped signer only keyed why =
     left_retires g v upto (Err Stopped) signer only (λ fate. closed_step (g.most v.store) (state_of v) upto fate key keyed why) (λ n. refl) (λ n. refl)

@@ -35,6 +35,7 @@ use Rattle.sign_core.specs.World.{Chance, Creation, Event, Fate, Handed, Opening
 use Rattle.sign_core.specs.World.{created_after, cut_new, cut_old, handed_with, new_key, no_memory, opened, opened_by, opened_on, published, refused}
 use Rattle.sign_core.specs.World.{reopen, request, requested, retire, retired, secret_from}
 use Rattle.sign_core.proofs.Acknowledged.{open_acknowledged}
+use Rattle.sign_core.proofs.Adding.{LeavesItsList}
 use Rattle.sign_core.proofs.Calls.{draws_of, opened_reaches}
 use Rattle.sign_core.proofs.DrawnAgain.{signed_read}
 use Rattle.sign_core.proofs.OnceParts.{closed_retires, closed_under}
@@ -448,9 +449,8 @@ refuses_to_open g kept_in random result world stopped opens =
 -- ---- calls that last
 
 -- what a stop leaves of a store that runs
-abbrev NothingElse : {S : Type 0} → store.Ghosts S → Type 0
-NothingElse {S = S} g = (kept_in : S) (left : List Record) → IsTrue (g.honest kept_in) → g.stopped kept_in ≡ false
-    → g.left_since kept_in (g.moment kept_in) left → left ≡ g.list kept_in
+abbrev pub NothingElse : {S : Type 0} → store.Ghosts S → Type 0
+NothingElse {S = S} g = (kept_in : S) → LeavesItsList g kept_in
 
 open_lasts : {S R : Type 0} (g : store.Ghosts S) (limit : ℕ) (world : World) (event : Event) (old : S) (new : View S R) → NothingElse g
     → IsEventOf g limit world event old new.store → IsTrue (g.honest old) → IsSigner g new → IsAfter new (after limit world event)
@@ -473,10 +473,7 @@ closed_lasts g limit world event old new is closed = record {
   lasts = λ opens left since. absurd (true≢false (sym opens ∙ closed));
 }
 
-pub signer_law : {S R M : Type 0} (g : store.Ghosts S) (r : source.Ghosts R) (m : message.Ghosts M)
-    → ((kept_in : S) (left : List Record) → IsTrue (g.honest kept_in) → g.stopped kept_in ≡ false → g.left_since kept_in (g.moment kept_in) left
-    → left ≡ g.list kept_in)
-    → SignerLaw g r m
+pub signer_law : {S R M : Type 0} (g : store.Ghosts S) (r : source.Ghosts R) (m : message.Ghosts M) → NothingElse g → SignerLaw g r m
 signer_law g r m nothing_else = record {
   signs = signs_in g r m;
   retires = retires_in g;

@@ -1,6 +1,6 @@
 -- What each end of a call of sign is: a step of the world.
 use Rattle.std.proofs.Common.{◌≡◌, ◌∙◌, ℕ, ◌+◌, ◌-◌, ◌<◌, ◌≤◌, Bool, true, false, not, List, [], ◌++◌, length, Option, Some, None, Result, Ok, Err, refl}
-use Rattle.std.proofs.Common.{sym, ap, subst, inl, arith, IsTrue, true≢false, append-nil}
+use Rattle.std.proofs.Common.{sym, ap, subst, inl, arith, true≢false, append-nil}
 use Rattle.std.specs.Prelude.{take, nat_lt, if◌then◌else◌, option_map, MatchResult, IsErrAnd}
 use Rattle.std.specs.Option.{ok_or}
 use Rattle.std.proofs.Math.Seq.{take-length}
@@ -31,7 +31,8 @@ use Rattle.sign_core.specs.Signing.{Binds, Fulfils, IsBindingOf, IsReady, Repeat
 use Rattle.sign_core.specs.Ledger.{kept_of}
 use Rattle.sign_core.specs.World.{Chance, Outcome, State, bound_anew, bound_sound, reading, refused, repeated, repeated_sound, requested, requested_of, requested_under}
 use Rattle.sign_core.specs.Textbook.{damaged_in, digest_at, tree_before}
-use Rattle.sign_core.proofs.Refusals.{after_caches, before_repeat, keeps_at_all, keeps_late, same_view}
+use Rattle.sign_core.proofs.Adding.{LeavesItsList}
+use Rattle.sign_core.proofs.Refusals.{after_caches, before_repeat, keeps_at_all, keeps_after_draws, same_view}
 
 -- ---- requests, by what hinders them
 
@@ -92,11 +93,6 @@ pub record IsCalm (has_room : Bool) (answer : Result (List ℕ) SignFault) : Typ
   pub store : (n : ℕ) → Counts is_store_failed n n answer
   pub random : (n : ℕ) → Counts is_random_failed n n answer
   pub memory : (n : ℕ) → CountsEarly has_room answer n n
-
--- what a stop leaves of a store between two calls
-abbrev pub LeavesItsList : {S : Type 0} → store.Ghosts S → S → Type 0
-LeavesItsList g kept_in = (left : List Record) → IsTrue (g.honest kept_in) → g.stopped kept_in ≡ false
-    → g.left_since kept_in (g.moment kept_in) left → left ≡ g.list kept_in
 
 beginning_kept : (records left all : List Record) → left ≡ records → all ≡ records ++ [] → IsBeginning (length records) all left
 beginning_kept records left all is same = record {
@@ -353,7 +349,7 @@ module _ {S R M : Type 0} (g : store.Ghosts S) (r : source.Ghosts R) (m : messag
         memory = omega (arith, spare, b.does.memory);
         keeps = record {
           at_once = λ early. kept_of_other old new mid.spare mid.cached (b.keeps.at_once early);
-          caches = λ early. absurd (true≢false (sym early ∙ b.late));
+          caches = λ early. absurd (true≢false (sym early ∙ b.not_before_caches));
           unprepared = λ lacking. absurd (true≢false (sym b.room ∙ lacking));
           lacks_tree = λ room. subst (λ l. LacksTree g (wanted_by key.secret l) old new answer) (sym at) (b.keeps.lacks_tree refl);
           store = b.keeps.store;
@@ -388,7 +384,7 @@ module _ {S R M : Type 0} (g : store.Ghosts S) (r : source.Ghosts R) (m : messag
       stays = λ _ _. refl;
     };
     keeps = keeps_at_all g true (levels_of key.secret - level) v v (Err (Damaged slot)) (same_view v) (λ _. refl) (λ _ is. cc (is));
-    late = refl;
+    not_before_caches = refl;
   }
 
   -- the standing chain is sound, and what is wanted from there is made
@@ -404,9 +400,9 @@ module _ {S R M : Type 0} (g : store.Ghosts S) (r : source.Ghosts R) (m : messag
     possible = record { trees = fulfils.trees_possible; bound = fulfils.bound_possible };
     room = refl;
     does = fulfils.does;
-    keeps = keeps_late g r m (levels_of key.secret - level) old new before after _ _ _ fulfils.late
+    keeps = keeps_after_draws g r m (levels_of key.secret - level) old new before after _ _ _ fulfils.not_before_draws
         (λ is same. let few = fulfils.lacks_tree is same in omega (arith, few, within)) fulfils.does;
-    late = after_caches answer fulfils.late;
+    not_before_caches = after_caches answer fulfils.not_before_draws;
   }
 
 -- ---- what a call answered

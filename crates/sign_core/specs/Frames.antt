@@ -160,8 +160,8 @@ abbrev pub Skips : {M A E : Type 0} → message.Ghosts M → (old new : M) → R
 Skips m old new (Ok _) = (text : List ℕ) × ReadWhole m.transition m.remaining text old new
 Skips m old new (Err _) = CantBeRead m.transition old new
 
--- Nothing more comes of a message: it was read whole, or it can't be read.
-abbrev pub IsOver : {M : Type 0} → message.Ghosts M → M → Type 0
-IsOver {M} m now =
+-- The message was read to its end, or counts as one that can't be read.
+abbrev pub WasReadOrFailed : {M : Type 0} → message.Ghosts M → M → Type 0
+WasReadOrFailed {M} m now =
     (before : M) × (((text : List ℕ) × ReadWhole m.transition m.remaining text before now)
     ⊎ CantBeRead m.transition before now)

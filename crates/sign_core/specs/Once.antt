@@ -236,7 +236,7 @@ pub record IsBeyondNext (records : List Record) (key : Key) (upto : ℕ) : Type 
 
 -- ---- the law
 
--- What holds in a world, whatever came before.
+-- What holds in a world after any events.
 pub record IsOnce (limit : ℕ) (world : World) : Type 0 where
   -- no leaf at any level signs two digests
   pub one_digest : (x y : Handed) (uses others : List LeafUse) (u v : LeafUse) → WereHanded world x y uses others

@@ -53,7 +53,7 @@ pub record OpenedLaw : Type 0 where
   pub valid : (limit : ℕ) (state : State) (name message signature : List ℕ) (chance : Chance)
       → AreWellFormed state.records → AreDraws chance → chance.given ≡ Some message
       → (requested limit state name chance).answer ≡ Ok signature → IsValidUnder state.records message signature
-  -- and so is each that is handed out, whatever comes
+  -- and so is each that any events from there on hand out
   pub handed : (limit : ℕ) (world : World) (events : List Event) (x : Handed)
       → AreWellFormed world.state.records → world.handed ≡ [] → AllEvents events
       → Contains (run limit world events).handed x → IsValidUnder world.state.records x.message x.signature

@@ -18,7 +18,7 @@ use Rattle.state_file.specs.declared.record.Secret.TheVariants.{Lms, Hss, Xmss}
 use Rattle.state_file.specs.declared.store.Store as store
 use Rattle.state_file.specs.Disk.{Counts, LeavesOnly}
 use Rattle.state_file.specs.Laws.{IsLegal, bottom_of}
-use Rattle.state_file.specs.Store.{Collects, IsRecordAt}
+use Rattle.state_file.specs.Store.{Collects, IsRecordAt, WhileRunning}
 pub use Rattle.state_file.specs.Store.{is_fault}
 use Rattle.sign_core.specs.declared.key.AnyPublic.{AnyPublic}
 use Rattle.sign_core.specs.declared.fault.SignFault.{SignFault}
@@ -124,8 +124,8 @@ unreadable_slot _ = []
 pub record KeepsStore {S A : Type 0} (g : store.Ghosts S) (old new : S) (records : List Record)
     (outcome : Outcome A) : Type 0 where
   pub list : GrowsAlike (g.list old) (g.list new) records outcome.state.records
-  pub moments : IsTrue (g.honest old) → g.stopped old ≡ false
-      → LeavesOnly g.moment g.left_since old new (IsBeginning (length records) (reached outcome))
+  pub moments : WhileRunning (g.honest old) (g.stopped old)
+      (LeavesOnly g.moment g.left_since old new (IsBeginning (length records) (reached outcome)))
   pub failures : Counts is_store_failed (g.failures old) (g.failures new) outcome.answer
   pub honest : g.honest new ≡ g.honest old
   pub most : g.most new ≡ g.most old
@@ -153,13 +153,13 @@ AppendsTo old entry new stopped before after (Err _) = ⊥
 
 -- a stop at any moment of it leaves the old list, or the new record as well
 abbrev pub LeavesEither : {S : Type 0} → store.Ghosts S → (old new : S) → Record → Type 0
-LeavesEither g old new entry = IsTrue (g.honest old) → g.stopped old ≡ false
-    → LeavesOnly g.moment g.left_since old new (λ left. (left ≡ g.list old) ⊎ (left ≡ g.list old ++ entry ∷ []))
+LeavesEither g old new entry = WhileRunning (g.honest old) (g.stopped old)
+    (LeavesOnly g.moment g.left_since old new (λ left. (left ≡ g.list old) ⊎ (left ≡ g.list old ++ entry ∷ [])))
 
 -- .. or of a call that adds nothing, the old list
 abbrev pub LeavesOld : {S : Type 0} → store.Ghosts S → (old new : S) → Type 0
-LeavesOld g old new = IsTrue (g.honest old) → g.stopped old ≡ false
-    → LeavesOnly g.moment g.left_since old new (λ left. left ≡ g.list old)
+LeavesOld g old new = WhileRunning (g.honest old) (g.stopped old)
+    (LeavesOnly g.moment g.left_since old new (λ left. left ≡ g.list old))
 
 -- all that an append comes to
 pub record IsAppended {S A : Type 0} (g : store.Ghosts S) (old new : S) (entry : Record) (answer : Result A SignFault)
@@ -245,13 +245,13 @@ IsRead m false given old new = new ≡ old
 
 -- A refusal for want of memory that comes after draws is one of the store, which counts it, or of the cache of a new
 -- tree.
-abbrev pub RefusesLate : {A : Type 0} → Result A SignFault → (before after : ℕ) → Type 0
-RefusesLate answer before after =
+abbrev pub RefusesAfterDraws : {A : Type 0} → Result A SignFault → (before after : ℕ) → Type 0
+RefusesAfterDraws answer before after =
     Counts is_out_of_memory before after answer ⊎ ((answer ≡ Err OutOfMemory) × (after ≡ before))
 
 -- A refusal for want of memory is the signer's own, before anything is drawn, or such a one.
 abbrev pub RefusesMemory : {A : Type 0} → (has_room : Bool) → Result A SignFault → (before after : ℕ) → Type 0
-RefusesMemory true answer before after = RefusesLate answer before after
+RefusesMemory true answer before after = RefusesAfterDraws answer before after
 RefusesMemory false answer before after = after ≡ before
 
 -- A refusal for want of memory after draws that the store doesn't count comes where not all new trees are recorded that
@@ -278,7 +278,7 @@ is_before_caches LedgerFull = true
 is_before_caches Moved = true
 is_before_caches _ = false
 
--- .. and of a name that is bound so do 21 and 27.
+-- .. and so do 21 and 27 under a name that is bound, whose message is read and compared first.
 abbrev pub is_before_repeat : SignFault → Bool
 is_before_repeat Changed = true
 is_before_repeat MessageRead = true
@@ -330,8 +330,8 @@ IsBottom records bottom = (key : Key) → key_in records ≡ Some key
     → (bottom.0 ≡ next_at key.secret records (bottom_of key.secret))
     × (bottom.1 ≡ leaves_of_current key.secret records (bottom_of key.secret))
 
--- A call of retire is a step of the world; it draws nothing, and memory is as it was. Unless a record was added or its
--- append failed, so is all of the signer.
+-- A call of retire is a step of the world; it draws nothing, and memory and caches are as they were. Unless a record was
+-- added or its append failed, so is all of the signer.
 pub record Retires {S R : Type 0} (g : store.Ghosts S) (old new : View S R) (upto : ℕ)
     (answer : Result (Unit {0}) SignFault) : Type 0 where
   pub fate : Fate
@@ -339,6 +339,7 @@ pub record Retires {S R : Type 0} (g : store.Ghosts S) (old new : View S R) (upt
   pub step : retired (g.most old.store) (state_of old) upto fate ≡ outcome
   pub ends : Ends g old new outcome answer
   pub random : new.random ≡ old.random
+  pub cached : new.cached ≡ old.cached
   pub refusals : Counts is_out_of_memory (g.refusals old.store) (g.refusals new.store) answer
   pub spare : new.spare ≡ old.spare
   pub stays : UnlessAppended old new answer (new ≡ old)

@@ -21,7 +21,8 @@ use Rattle.sign_core.specs.Source.{Provides}
 use Rattle.sign_core.specs.Records.{binding_in, current, has_identifier, has_moved, key_in, next_at}
 use Rattle.sign_core.specs.Links.{AreMade, IsMade, signings_of}
 use Rattle.sign_core.specs.Once.{AreDrawsOf, AreFields, IsTreeDraw, randomizer_sizes, tree_sizes}
-use Rattle.sign_core.specs.Signer.{Ends, IsRead, KeepsAtRefusal, LacksTree, RefusesLate, UnlessAppended, UsesMemory}
+use Rattle.sign_core.specs.Signer.{Ends, IsRead, KeepsAtRefusal, LacksTree, RefusesAfterDraws}
+use Rattle.sign_core.specs.Signer.{UnlessAppended, UsesMemory}
 use Rattle.sign_core.specs.Signer.{View}
 use Rattle.sign_core.specs.Signer.{is_before_caches, is_before_draws, is_fault, is_random_failed, signature_size}
 use Rattle.sign_core.specs.Signer.{state_of}
@@ -129,7 +130,7 @@ pub record Does {S R M A : Type 0} (g : store.Ghosts S) (r : source.Ghosts R) (m
   pub source : Provides (r.upcoming old.random) outcome.drawn (r.upcoming new.random)
   pub failures : Counts is_random_failed (r.failures old.random) (r.failures new.random) answer
   pub message : IsRead m outcome.is_read given before after
-  pub refusals : RefusesLate answer (g.refusals old.store) (g.refusals new.store)
+  pub refusals : RefusesAfterDraws answer (g.refusals old.store) (g.refusals new.store)
   pub memory : UsesMemory old new
   pub stays : UnlessAppended old new answer (new.store ≡ old.store)
 
@@ -144,10 +145,10 @@ pub record Extends {S R : Type 0} (g : store.Ghosts S) (r : source.Ghosts R) (le
   pub ends : Ends g old new outcome answer
   pub source : Provides (r.upcoming old.random) outcome.drawn (r.upcoming new.random)
   pub failures : Counts is_random_failed (r.failures old.random) (r.failures new.random) answer
-  pub refusals : RefusesLate answer (g.refusals old.store) (g.refusals new.store)
+  pub refusals : RefusesAfterDraws answer (g.refusals old.store) (g.refusals new.store)
   pub memory : UsesMemory old new
   pub stays : UnlessAppended old new answer (new.store ≡ old.store)
-  pub late : is_fault is_before_draws answer ≡ false
+  pub not_before_draws : is_fault is_before_draws answer ≡ false
 
 -- All that a new name wants, where so many levels below a standing chain have no tree: the Extends, and the Bound.
 pub record Fulfils {S R M : Type 0} (g : store.Ghosts S) (r : source.Ghosts R) (m : message.Ghosts M) (name : List ℕ)
@@ -162,7 +163,7 @@ pub record Fulfils {S R M : Type 0} (g : store.Ghosts S) (r : source.Ghosts R) (
   pub trees_possible : AllByRecursion IsTreeDraw trees
   pub bound_possible : AreFields (randomizer_sizes key.secret) bound.fields
   pub does : Does g r m old new before after given outcome answer
-  pub late : is_fault is_before_draws answer ≡ false
+  pub not_before_draws : is_fault is_before_draws answer ≡ false
   pub lacks_tree : LacksTree g (below + 1) old new answer
 
 -- A name that isn't bound, where there is room, and this level is the deepest with a free leaf.
@@ -176,7 +177,7 @@ pub record Binds {S R M : Type 0} (g : store.Ghosts S) (r : source.Ghosts R) (m 
   pub room : chance.has_room ≡ true
   pub does : Does g r m old new before after chance.given outcome answer
   pub keeps : KeepsAtRefusal g true (levels_of key.secret - level) old new answer
-  pub late : is_fault is_before_caches answer ≡ false
+  pub not_before_caches : is_fault is_before_caches answer ≡ false
 
 -- ---- a name that is bound
 

@@ -1,7 +1,7 @@
 //! Public keys of every scheme.
 
-ghost use Rattle.std.specs.Prelude.{◌≡◌, ◌≤◌, List, ℕ, length, IfErr, IfOk, Ok};
-ghost use Rattle.typecodes.specs.Message.{IsContent};
+ghost use Rattle.std.specs.Prelude.{◌≡◌, ◌≤◌, length, IfErr, IfOk, Ok};
+ghost use Rattle.typecodes.specs.Verdict.{Verifies};
 ghost use Rattle.sign_core.specs.Key.{KeyHasFault, KeyLeavesMessage, KeyVerdict, SpellsKey};
 
 use arrayvec::ArrayVec;
@@ -100,9 +100,8 @@ pub fn verify_any<M: Message>(
     message: &mut M,
     signature: &[u8],
 ) -> Result<(), Refusal>
-    ensures { (text : List ℕ) × IsContent (M.remaining message.old) text
-        × KeyVerdict public.now text signature.now result
-        × KeyLeavesMessage M.transition M.remaining public.now text message.old message.new result }
+    ensures { Verifies M.remaining (λ text. KeyVerdict public.now text signature.now)
+        (KeyLeavesMessage M.transition M.remaining public.now) message.old message.new result }
 {
     match public {
         AnyPublic::Lms(key) => lms::verify(key, message, signature),

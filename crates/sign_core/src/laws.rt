@@ -82,7 +82,7 @@ pub fn textbook_laws()
 /// many as there are and in any order. A request may come again, as after an answer that was lost, or come with another
 /// message under the same name. In each event a load, the random source, memory, the message or the store may fail. An
 /// append that is cut leaves the old records, or the new one as well, and closes the signer until it is opened again.
-/// Whatever has come, these hold after it:
+/// After each such run these hold:
 ///
 /// - No leaf at any level signs two digests, and none of the bottom level signs under two names. Which leaves a
 ///   signature uses, and for which digests, is read off the bytes that were handed out, the message and the public key.

@@ -51,8 +51,8 @@ mod writing;
 pub use crate::fault::{ServeFault, SignFault};
 pub use crate::key::{AnyPublic, KeyFault, verify_any};
 pub use crate::laws::{
-    after_refusal_law, calls_law, cut_law, lasting_law, ledger_laws, once_law, opened_law,
-    refusal_law, signer_law, sound_law, stop_law, stopped_law, textbook_laws,
+    after_refusal_law, calls_law, cut_law, lasting_law, ledger_laws, lives_law, once_law,
+    opened_law, refusal_law, signer_law, sound_law, stop_law, stopped_law, textbook_laws,
 };
 pub use crate::ledger::{Ledger, LedgerFault};
 pub use crate::rng_source::RngSource;

@@ -1,7 +1,7 @@
 //! `serve`: requests over an input, each of which has its reply on an output.
 
 ghost use Rattle.std.specs.Prelude.{◌≡◌, ◌<◌, ◌^◌, vec_capacity};
-ghost use Rattle.sign_core.specs.Frames.{IsOver, said_by};
+ghost use Rattle.sign_core.specs.Frames.{WasReadOrFailed, said_by};
 ghost use Rattle.sign_core.specs.Serving.{AnswersFrame, Asks, Finishes, Serves, Turns, WritesReply, is_unread};
 ghost use Rattle.sign_core.specs.Serving.{reply_bytes, reply_frame};
 ghost use Rattle.sign_core.specs.Signing.{KeepsCapacity};
@@ -164,14 +164,15 @@ fn ask<S: Store, R: Source, M: Message>(
     }
 }
 
-// Writes what is replied to a request, where it is Ok with this signature. Nothing more comes of its message then.
+// Writes what is replied to a request, where it is Ok with this signature. The request's message was read to its end
+// before, or can't be read.
 fn write_answer<M: Message, W: Write>(
     message: &M,
     writer: &mut W,
     reply: &Reply,
     signature: &[u8],
 ) -> Result<(), ServeFault>
-    requires { IsOver M.Message message.now }
+    requires { WasReadOrFailed M.Message message.now }
     ensures { WritesReply (reply_bytes reply.now signature.now) (W.contents writer.old) (W.contents writer.new) result }
 {
     // Only the contract needs the message.

@@ -366,7 +366,8 @@ impl<S: Store, R: Source> Signer<S, R> {
         requires few { length self.old.records < S.most self.old.store }
         requires counted { length self.old.records < 2 ^ 32 - 1 }
         requires room { TakesMemory entry → 0 < self.old.spare }
-        ensures { Adds S.Store self.old self.new entry result }
+        ensures adds { Adds S.Store self.old self.new entry result }
+        ensures cached { self.new.cached ≡ self.old.cached }
     {
         match append(&mut self.store, &entry) {
             Ok(()) => {

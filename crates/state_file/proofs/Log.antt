@@ -42,28 +42,28 @@ newest_taken log i entry inside is =
 
 -- the whole range was written
 pub overlays_range : (at : ℕ) (bytes old new : List ℕ) → Overlays at bytes old new → ChangesOnly (range_of at bytes ∷ []) old new
-overlays_range at [] old new over = record {
-  kept = λ offset inside outside. ⊎_elim (over.before offset inside) (over.after offset inside) outside.0;
+overlays_range at [] old new overlaid = record {
+  kept = λ offset inside outside. ⊎_elim (overlaid.before offset inside) (overlaid.after offset inside) outside.0;
   no_shorter = grind (arith, nat_tests);
   no_longer = grind (arith, nat_tests);
 }
-overlays_range at (b ∷ bytes) old new over = record {
-  kept = λ offset inside outside. ⊎_elim (over.before offset inside) (over.after offset inside) outside.0;
+overlays_range at (b ∷ bytes) old new overlaid = record {
+  kept = λ offset inside outside. ⊎_elim (overlaid.before offset inside) (overlaid.after offset inside) outside.0;
   no_shorter = grind (arith, nat_tests);
   no_longer = grind (arith, nat_tests);
 }
 
 pub overlays_bytes : (at : ℕ) (bytes old new : List ℕ) → Overlays at bytes old new → slice_range new at (at + length bytes) ≡ bytes
-overlays_bytes at [] old new over = let none : at + 0 - at ≡ 0 = omega arith in ap (λ n. take n (drop at new)) none
-overlays_bytes at (b ∷ bytes) old new over =
+overlays_bytes at [] old new overlaid = let none : at + 0 - at ≡ 0 = omega arith in ap (λ n. take n (drop at new)) none
+overlays_bytes at (b ∷ bytes) old new overlaid =
     let fits : at + length (b ∷ bytes) ≤ length new = grind (arith, nat_tests) in
     let width : at + length (b ∷ bytes) - at ≡ length (b ∷ bytes) = omega arith in
-    ap (λ n. take n (drop at new)) width ∙ ap (λ (l : List ℕ). take (length (b ∷ bytes)) l) (at_from_reads 0 new (b ∷ bytes) at fits over.put) ∙ take_at (b ∷ bytes) (drop (at + length (b ∷ bytes)) new) (length (b ∷ bytes)) refl
+    ap (λ n. take n (drop at new)) width ∙ ap (λ (l : List ℕ). take (length (b ∷ bytes)) l) (at_from_reads 0 new (b ∷ bytes) at fits overlaid.put) ∙ take_at (b ∷ bytes) (drop (at + length (b ∷ bytes)) new) (length (b ∷ bytes)) refl
 
 pub opens : (first : List ℕ) (log log_new : List Entry) (at : ℕ) (bytes old new : List ℕ) → Overlays at bytes old new → log_new ≡ log ++ Wrote at (at + length bytes) ∷ []
     → OpensRange (range_of at bytes) (state_of old first log) (state_of new first log_new)
-opens first log log_new at bytes old new over is = record {
-  changes = overlays_range at bytes old new over;
+opens first log log_new at bytes old new overlaid is = record {
+  changes = overlays_range at bytes old new overlaid;
   more = ap ranges_of (ap reverse is ∙ newest_first log (Wrote at (at + length bytes)));
   same_base = ap (base_of first) (ap reverse is ∙ newest_first log (Wrote at (at + length bytes)));
 }
@@ -81,9 +81,9 @@ widened at n bytes old new changes =
 -- what was written in part, a stop may leave after the entry for it all
 pub left_more : (first : List ℕ) (log log_new : List Entry) (at n : ℕ) (bytes old new : List ℕ) → LeftBy first log old → Overlays at (take n bytes) old new
     → log_new ≡ log ++ Wrote at (at + length bytes) ∷ [] → LeftBy first log_new new
-left_more first log log_new at n bytes old new left over is =
+left_more first log log_new at n bytes old new left overlaid is =
     let e : reverse log_new ≡ Wrote at (at + length bytes) ∷ reverse log = ap reverse is ∙ newest_first log (Wrote at (at + length bytes)) in
-    let changes = widened at n bytes old new (overlays_range at (take n bytes) old new over) in
+    let changes = widened at n bytes old new (overlays_range at (take n bytes) old new overlaid) in
     subst (λ (l : List Entry). ChangesOnly (ranges_of l) (base_of first l) new) (sym e)
     (changes_more (range_of at bytes) (ranges_of (reverse log)) (base_of first (reverse log)) old new left changes)
 
@@ -92,23 +92,23 @@ part_is_bytes : (n : ℕ) (bytes : List ℕ) → AreBytes bytes → AreBytes (ta
 part_is_bytes n bytes are = AreBytes-front (take n bytes) (drop n bytes) (subst AreBytes (sym (take-append-drop n bytes)) are)
 
 -- bytes over bytes are bytes
-over_bytes : (at : ℕ) (bytes old new : List ℕ) → AreBytes bytes → AreBytes old → Overlays at bytes old new → AreBytes new
-over_bytes at bytes old new are were over i =
+overlay_is_bytes : (at : ℕ) (bytes old new : List ℕ) → AreBytes bytes → AreBytes old → Overlays at bytes old new → AreBytes new
+overlay_is_bytes at bytes old new are were overlaid i =
     elim (cases_lt i (length new)) [
       | inr past ↦ rw (get_or_past new i 0 past) (omega arith)
       | inl inside ↦ elim (cases_lt i at) [
         | inl before ↦ elim (cases_lt i (length old)) [
-          | inl there ↦ subst (λ n. n < 256) (sym (over.before i there before)) (were i)
-          | inr gap ↦ subst (λ n. n < 256) (sym (over.gap i gap before inside)) (omega arith)
+          | inl there ↦ subst (λ n. n < 256) (sym (overlaid.before i there before)) (were i)
+          | inr gap ↦ subst (λ n. n < 256) (sym (overlaid.gap i gap before inside)) (omega arith)
         ]
         | inr after ↦ elim (cases_lt i (at + length bytes)) [
           | inl put ↦ let e : at + (i - at) ≡ i = omega (arith, after) in
-              subst (λ n. n < 256) (sym (over.put (i - at) (omega (arith, after, put))) ∙ ap (λ k. slice_index new k) e) (are (i - at))
-          | inr rest ↦ subst (λ n. n < 256) (sym (over.after i (grind (arith, nat_tests)) rest)) (were i)
+              subst (λ n. n < 256) (sym (overlaid.put (i - at) (omega (arith, after, put))) ∙ ap (λ k. slice_index new k) e) (are (i - at))
+          | inr rest ↦ subst (λ n. n < 256) (sym (overlaid.after i (grind (arith, nat_tests)) rest)) (were i)
         ]
       ]
     ]
 
 -- what is written over bytes in part leaves bytes
-pub part_over_bytes : (at n : ℕ) (bytes old new : List ℕ) → AreBytes bytes → AreBytes old → Overlays at (take n bytes) old new → AreBytes new
-part_over_bytes at n bytes old new are = over_bytes at (take n bytes) old new (part_is_bytes n bytes are)
+pub part_overlay_is_bytes : (at n : ℕ) (bytes old new : List ℕ) → AreBytes bytes → AreBytes old → Overlays at (take n bytes) old new → AreBytes new
+part_overlay_is_bytes at n bytes old new are = overlay_is_bytes at (take n bytes) old new (part_is_bytes n bytes are)

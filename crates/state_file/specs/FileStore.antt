@@ -36,7 +36,7 @@ records_of store = store.records
 abbrev pub has_stopped : {D : Type 0} {bound : _} → FileStore D bound → Bool
 has_stopped store = store.stopped
 
--- It holds while the store runs, over a disk that keeps what was synced.
+-- The same of a store over a disk.
 abbrev pub WhileStoreRuns : {D : Type 0} {bound : _} (d : disk.Ghosts D) (store : FileStore D bound) → Type 0 → Type 0
 WhileStoreRuns d store Then = WhileRunning (d.honest (disk_of store)) (has_stopped store) Then
 
@@ -61,8 +61,8 @@ abbrev pub outcome_of : {A T F : Type 0} → Result A (Refused T F) → Result A
 outcome_of (Ok a) = Ok a
 outcome_of (Err refused) = Err refused.fault
 
--- The records of a disk were found, or it was reported why there are none. The disk is synced, and holds what it held;
--- all that a stop may leave meanwhile is what one might have left before.
+-- The records of a disk were found, or it was reported why there are none. The disk is synced, and its content is what
+-- it was; all that a stop may leave meanwhile is what one might have left before.
 pub record FindsRecords {D : Type 0} {bound : _} (d : disk.Ghosts D) (given : D)
     (result : Result (FileStore D bound) (Refused D OpenFault)) : Type 0 where
   pub records : IsTrue (d.honest given)

@@ -23,7 +23,8 @@ begins_with_key (entry ∷ entries) = is_key entry
 abbrev pub CanFollow : List Record → Record → Type 0
 CanFollow list entry = length list ≡ 0 → is_key entry ≡ true
 
--- It holds while the store runs: no call has failed, and its device keeps what was synced.
+-- What is promised only while a store runs: its device is honest, and hasn't failed in a call of the store since that
+-- was opened.
 abbrev pub WhileRunning : (honest stopped : Bool) → Type 0 → Type 0
 WhileRunning honest stopped Then = IsTrue honest → stopped ≡ false → Then
 

@@ -1,5 +1,5 @@
 -- Which bytes spell the fields of a layout, one after the other.
-use Rattle.std.proofs.Common.{◌≡◌, ◌∙◌, refl, sym, ap, ℕ, zero, suc, ◌<◌, ◌^◌, List, [], ◌∷◌, length, get_or, Option, Some, subst, arith, append-nil}
+use Rattle.std.proofs.Common.{◌≡◌, ◌∙◌, refl, sym, ap, ℕ, zero, suc, ◌<◌, ◌^◌, List, [], ◌∷◌, ◌++◌, length, get_or, Option, Some, subst, arith, append_assoc, append-nil}
 use Rattle.std.specs.List.{concat}
 use Rattle.byteorder.specs.Endian.{big_bytes, big_number}
 use Rattle.byteorder.specs.Numbers.{big_number-reads_back}
@@ -13,6 +13,16 @@ use Rattle.typecodes.specs.Types.{lms_code, lms_types, named, ots_code, ots_type
 use Rattle.typecodes.specs.Layout.{Layout, Spells, done, ◌>>=◌}
 use Rattle.typecodes.specs.Fields.{block, known, lms_type, number, ots_type, typed, values, xmss_type}
 use Rattle.typecodes.proofs.Spelling.{from_turn}
+
+-- parts that are put together one by one
+pub three_parts : (a b c : List ℕ) → a ++ (b ++ c) ≡ a ++ b ++ c
+three_parts a b c = simp append_assoc
+
+pub four_parts : (a b c d : List ℕ) → a ++ (b ++ (c ++ d)) ≡ a ++ b ++ c ++ d
+four_parts a b c d = simp append_assoc
+
+pub six_parts : (a b c d e f : List ℕ) → a ++ (b ++ (c ++ (d ++ (e ++ f)))) ≡ a ++ b ++ c ++ d ++ e ++ f
+six_parts a b c d e f = simp append_assoc
 
 -- the last field of a layout ends its bytes
 pub last_field : {V W : Type 0} (first : Layout V) (next : V → Layout W) (v : V) (w : W) (bytes : List ℕ)

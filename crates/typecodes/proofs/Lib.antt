@@ -16,3 +16,4 @@ pub mod Leaves
 pub mod Unambiguous
 pub mod WasRead
 pub mod Messages
+pub mod Verdicts

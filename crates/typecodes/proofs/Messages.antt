@@ -147,12 +147,12 @@ fails-later transition remaining pieces text old before new has cant =
           )
     ]
 
--- So many full pieces were read and fed to what holds bytes.
+-- So many full pieces were read, and each was fed to what takes bytes, as a hasher.
 abbrev pub HasFed : {M H : Type 0} → Transition M → (M → Option (List ℕ)) → (H → List ℕ → Type 0) → ℕ → H → H → M → M → Type 0
 HasFed transition remaining holds pieces before after old new =
     (text : List ℕ) × HasRead transition remaining pieces text old new × ((head : List ℕ) → holds before head → holds after (head ++ text))
 
--- a piece is taken after what was held
+-- a piece comes after what the hasher has
 takes-more : {H : Type 0} (holds : H → List ℕ → Type 0) (text piece : List ℕ) (before middle after : H)
     → ((head : List ℕ) → holds before head → holds middle (head ++ text))
     → ((head : List ℕ) → holds middle head → holds after (head ++ piece))

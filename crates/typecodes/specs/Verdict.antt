@@ -17,14 +17,21 @@ LeavesMessage transition remaining text old new (Err LevelMismatch) = ⊥
 LeavesMessage transition remaining text old new (Err MessageRead) = CantBeRead transition old new
 LeavesMessage transition remaining text old new (Err (RootMismatch level)) = ReadWhole transition remaining text old new
 
--- What a verification answers whose message a reader gives: some text is the reader's content, or any where nothing is
--- known of it; the verdict is one on this text; and the reader is left as that verdict on this text leaves it.
+-- What verification answers of a signature that was read, as that of level i, by the digest of what it signs: it is
+-- valid for the digest, or it leads to another root.
+abbrev pub DigestVerdict : {A : Type 0} → Type 0 → ℕ → Result A Refusal → Type 0
+DigestVerdict valid i (Ok _) = valid
+DigestVerdict valid i (Err (RootMismatch level)) = (level ≡ i) × (valid → ⊥)
+DigestVerdict valid i (Err other) = ⊥
+
+-- The answer of a verification that reads its message from a reader: for some text the verdict is this answer, and the
+-- reader is as this answer leaves it. Where the reader's content is known, it is this text.
 abbrev pub Verifies : {M A : Type 0} → (M → Option (List ℕ)) → (List ℕ → Result A Refusal → Type 0)
     → (List ℕ → M → M → Result A Refusal → Type 0) → M → M → Result A Refusal → Type 0
 Verifies remaining verdict leaves old new result =
     (text : List ℕ) × IsContent (remaining old) text × verdict text result × leaves text old new result
 
--- What verification answers of bytes that are to sign a message, by the key, the message and the bytes.
+-- What a scheme's verification answers, by the key, the message and the bytes of the signature.
 abbrev pub Verdicts : Type 0 → Type 1
 Verdicts K = K → List ℕ → List ℕ → Result (Unit {0}) Refusal → Type 0
 

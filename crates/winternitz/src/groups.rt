@@ -48,7 +48,7 @@ pub fn climb_from<S: Step>(step: &S, digits: &[u8], last: u8, values: &[[u8; 32]
     climb_each(step, digits, &the_same(last), values)
 }
 
-// The same place for each chain.
+// The same place for each chain. It is a function of its own so that the long list stays out of its callers' goals.
 fn the_same(place: u8) -> [u8; MOST_CHAINS]
     ensures long { length result ≡ 265 }
     ensures each { (i : ℕ) → i < 265 → slice_index result i ≡ place }
@@ -80,7 +80,8 @@ fn climb_each<S: Step>(step: &S, from: &[u8], to: &[u8], values: &[[u8; 32]]) ->
     ends
 }
 
-// The numbers of the chains, those with the fewest steps first.
+// The numbers of the chains, those with the fewest steps first. `sorted` makes the list; this function adds what
+// follows from its being a permutation, so that `climb_each` has it as facts where it indexes by the list.
 fn by_length(from: &[u8], to: &[u8], count: usize) -> ArrayVec<u16, MOST_CHAINS>
     requires { count ≤ 265 }
     ensures order { IsPermutation (range_with_len 0 count) result.items }
@@ -92,7 +93,7 @@ fn by_length(from: &[u8], to: &[u8], count: usize) -> ArrayVec<u16, MOST_CHAINS>
     sorted(from, to, count)
 }
 
-// The same, as a permutation of these numbers.
+// The numbers of the chains, sorted by how many steps each has.
 fn sorted(from: &[u8], to: &[u8], count: usize) -> ArrayVec<u16, MOST_CHAINS>
     requires { count ≤ 265 }
     ensures order { IsPermutation (range_with_len 0 count) result.items }

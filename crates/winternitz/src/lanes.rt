@@ -16,8 +16,8 @@ mod rounds;
 #[cfg(test)]
 mod tests;
 
-/// How many blocks stand side by side. This, the type of the vectors and `lanes` in `specs/Lanes.antt` are all that
-/// another width would change.
+/// How many blocks stand side by side. Another width changes this, the type of the vectors, `lanes` in
+/// `specs/Lanes.antt`, and the number in the invariants of loops over lanes.
 pub const LANES: usize = 4;
 
 /// A word of each block.
@@ -126,7 +126,8 @@ pub fn sha256_of_55(messages: &[[u8; 55]; LANES]) -> [[u8; 32]; LANES]
     digests(&compress(&initial(), &blocks))
 }
 
-// The block of a message of 55 bytes.
+// The block of a message of 55 bytes, whose compression gives the message's SHA-256. It is a function apart from
+// `padded_55` so that the long list of the block's bytes stays out of the goals about SHA-256.
 fn block_of_55(message: &[u8; 55]) -> [u8; 64]
     ensures { digest_bytes (spec.compress initial_hash_256 result) 8 ≡ sha256 message.now }
 {
@@ -158,7 +159,8 @@ pub fn sha256_of_96(first: &States, last: &[[u8; 32]; LANES]) -> [[u8; 32]; LANE
     digests(&compress(first, &blocks))
 }
 
-// The second block of a message of 96 bytes.
+// The second block of a message of 96 bytes, whose compression after the first gives the message's SHA-256. It is a
+// function apart from `padded_96` for the same reason as `block_of_55`.
 fn last_of_96(last: &[u8; 32]) -> [u8; 64]
     ensures { (block : List ℕ) → length block ≡ 64
         → digest_bytes (spec.compress (spec.compress initial_hash_256 block) result) 8 ≡ sha256 (block ++ last.now) }

@@ -19,6 +19,12 @@ use typecodes::{WOTS_CHAINS, put};
 use winternitz::lanes::{LANES, States, in_each, sha256_of_128};
 use winternitz::{MOST_CHAINS, Step, Values, climb_from, climb_to, climb_whole, digits};
 
+// The bits of a digit, for w = 16.
+const WIDTH: u8 = 4;
+
+// The steps of a chain, which is also the greatest digit.
+const STEPS: u8 = 15;
+
 /// A leaf's one-time key, by the public SEED of its tree and its number.
 #[derive(Clone, Copy)]
 pub struct Wots<'seed> {
@@ -89,67 +95,6 @@ impl Wots<'_> {
         hasher.finalize()
     }
 
-    /// The public hash of the key whose private values are made of a secret: the root of the L-tree
-    /// over the ends of its chains (RFC 8391 3.1.4 and 4.1.6).
-    pub fn public_hash(&self, secret: &[u8; 32]) -> [u8; 32]
-        ensures { result ≡ spec.public_hash self.now.seed.now.key self.now.leaf
-            (ends_of_secret self.now.seed.now.key self.now.leaf secret.now) }
-    {
-        let mut ends = self.ends_from_secret(secret);
-        self.l_tree(&mut ends[..WOTS_CHAINS])
-    }
-
-    /// Writes the values of a digest's signature, one after the other: each chain climbed from its
-    /// private value to its digit of the digest (RFC 8391 3.1.5). The caller gives 32 bytes for each
-    /// chain.
-    pub fn sign_digest(&self, secret: &[u8; 32], digest: &[u8; 32], into: &mut [u8])
-        requires { length into.old ≡ 32 * wots_chains }
-        ensures value { into.new ≡ concat (signed_values self.now.seed.now.key self.now.leaf secret.now digest.now) }
-        // They climb to the ends of the key's chains.
-        ensures climbs { ClimbTo self.now.seed.now.key self.now.leaf digest.now
-            (values_in wots_chains into.new) (ends_of_secret self.now.seed.now.key self.now.leaf secret.now) }
-    {
-        let starts = self.private_values(secret);
-        let values = climb_to(self, &digits(WIDTH, digest), &starts[..WOTS_CHAINS]);
-        into.copy_from_slice(values[..WOTS_CHAINS].as_flattened());
-    }
-
-    /// The public hash to which the values of a signature lead: the root of the L-tree over the ends
-    /// of the chains, each climbed from its digit of the digest (RFC 8391 3.1.6 and 4.1.10). The caller
-    /// gives a value for each chain.
-    pub fn hash_from_signature(&self, digest: &[u8; 32], values: &[[u8; 32]]) -> [u8; 32]
-        requires { length values.now ≡ wots_chains }
-        ensures value { result ≡ spec.public_hash self.now.seed.now.key self.now.leaf
-            (ends_of_signature self.now.seed.now.key self.now.leaf digest.now values.now) }
-        // The same of any list of ends, and that there is one.
-        ensures only { (ends : List (List ℕ)) →
-            ClimbTo self.now.seed.now.key self.now.leaf digest.now values.now ends →
-            result ≡ spec.public_hash self.now.seed.now.key self.now.leaf ends }
-        ensures some { (ends : List (List ℕ)) ×
-            ClimbTo self.now.seed.now.key self.now.leaf digest.now values.now ends ×
-            (result ≡ spec.public_hash self.now.seed.now.key self.now.leaf ends) }
-    {
-        let mut ends = self.ends_from_signature(digest, values);
-        self.l_tree(&mut ends[..WOTS_CHAINS])
-    }
-
-    // The ends of the chains that a signature's values are climbed to.
-    fn ends_from_signature(&self, digest: &[u8; 32], values: &[[u8; 32]]) -> Values
-        requires { length values.now ≡ wots_chains }
-        ensures { take wots_chains result
-            ≡ ends_of_signature self.now.seed.now.key self.now.leaf digest.now values.now }
-    {
-        climb_from(self, &digits(WIDTH, digest), STEPS, values)
-    }
-
-    // The ends of the chains of a secret's key.
-    fn ends_from_secret(&self, secret: &[u8; 32]) -> Values
-        ensures { take wots_chains result ≡ ends_of_secret self.now.seed.now.key self.now.leaf secret.now }
-    {
-        let starts = self.private_values(secret);
-        climb_whole(self, STEPS, &starts[..WOTS_CHAINS])
-    }
-
     // The private values of all chains, four at a time.
     fn private_values(&self, secret: &[u8; 32]) -> Values
         ensures { (i : ℕ) → i < wots_chains → slice_index_or result i []
@@ -202,10 +147,65 @@ impl Wots<'_> {
         put(&mut block, offset, &self.step_address(chain, 0, 0));
         block
     }
+
+    /// The public hash of the key whose private values are made of a secret: the root of the L-tree
+    /// over the ends of its chains (RFC 8391 3.1.4 and 4.1.6).
+    pub fn public_hash(&self, secret: &[u8; 32]) -> [u8; 32]
+        ensures { result ≡ spec.public_hash self.now.seed.now.key self.now.leaf
+            (ends_of_secret self.now.seed.now.key self.now.leaf secret.now) }
+    {
+        let mut ends = self.ends_from_secret(secret);
+        self.l_tree(&mut ends[..WOTS_CHAINS])
+    }
+
+    // The ends of the chains of a secret's key.
+    fn ends_from_secret(&self, secret: &[u8; 32]) -> Values
+        ensures { take wots_chains result ≡ ends_of_secret self.now.seed.now.key self.now.leaf secret.now }
+    {
+        let starts = self.private_values(secret);
+        climb_whole(self, STEPS, &starts[..WOTS_CHAINS])
+    }
+
+    /// Writes the values of a digest's signature, one after the other: each chain climbed from its
+    /// private value to its digit of the digest (RFC 8391 3.1.5). The caller gives 32 bytes for each
+    /// chain.
+    pub fn sign_digest(&self, secret: &[u8; 32], digest: &[u8; 32], into: &mut [u8])
+        requires { length into.old ≡ 32 * wots_chains }
+        ensures value { into.new ≡ concat (signed_values self.now.seed.now.key self.now.leaf secret.now digest.now) }
+        // They climb to the ends of the key's chains.
+        ensures climbs { ClimbTo self.now.seed.now.key self.now.leaf digest.now
+            (values_in wots_chains into.new) (ends_of_secret self.now.seed.now.key self.now.leaf secret.now) }
+    {
+        let starts = self.private_values(secret);
+        let values = climb_to(self, &digits(WIDTH, digest), &starts[..WOTS_CHAINS]);
+        into.copy_from_slice(values[..WOTS_CHAINS].as_flattened());
+    }
+
+    /// The public hash to which the values of a signature lead: the root of the L-tree over the ends
+    /// of the chains, each climbed from its digit of the digest (RFC 8391 3.1.6 and 4.1.10). The caller
+    /// gives a value for each chain.
+    pub fn hash_from_signature(&self, digest: &[u8; 32], values: &[[u8; 32]]) -> [u8; 32]
+        requires { length values.now ≡ wots_chains }
+        ensures value { result ≡ spec.public_hash self.now.seed.now.key self.now.leaf
+            (ends_of_signature self.now.seed.now.key self.now.leaf digest.now values.now) }
+        // The same of any list of ends, and that there is one.
+        ensures only { (ends : List (List ℕ)) →
+            ClimbTo self.now.seed.now.key self.now.leaf digest.now values.now ends →
+            result ≡ spec.public_hash self.now.seed.now.key self.now.leaf ends }
+        ensures some { (ends : List (List ℕ)) ×
+            ClimbTo self.now.seed.now.key self.now.leaf digest.now values.now ends ×
+            (result ≡ spec.public_hash self.now.seed.now.key self.now.leaf ends) }
+    {
+        let mut ends = self.ends_from_signature(digest, values);
+        self.l_tree(&mut ends[..WOTS_CHAINS])
+    }
+
+    // The ends of the chains that a signature's values are climbed to.
+    fn ends_from_signature(&self, digest: &[u8; 32], values: &[[u8; 32]]) -> Values
+        requires { length values.now ≡ wots_chains }
+        ensures { take wots_chains result
+            ≡ ends_of_signature self.now.seed.now.key self.now.leaf digest.now values.now }
+    {
+        climb_from(self, &digits(WIDTH, digest), STEPS, values)
+    }
 }
-
-// The bits of a digit, for w = 16.
-const WIDTH: u8 = 4;
-
-// The steps of a chain, which is also the greatest digit.
-const STEPS: u8 = 15;

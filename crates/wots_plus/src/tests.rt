@@ -145,7 +145,8 @@ fn four_steps_are_steps(rt: HostRuntime) {
     }
 }
 
-// Each number of steps in each lane, with other numbers in the lanes beside it: the ends are those of each chain by itself.
+// Each number of steps in each lane, with other numbers in the lanes beside it: the ends are those of each chain by
+// itself.
 #[test]
 fn each_length_climbs_in_each_lane(rt: HostRuntime) {
     let seed = Prf::new(SEED);

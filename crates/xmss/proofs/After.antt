@@ -1,4 +1,5 @@
--- What comes after each field of a public key and of a signature.
+-- What comes after each field of a public key and of a signature, in this crate's layouts. lms has a file like this one
+-- for its own.
 use Rattle.std.proofs.Common.{ℕ, ◌^◌, List, nat_lt, if◌then◌else◌}
 use Rattle.typecodes.specs.declared.fault.Cause.TheVariants.{LeafOutOfRange}
 use Rattle.typecodes.specs.declared.types.XmssType.{XmssType}

@@ -1,8 +1,8 @@
--- The textbook signature is valid.
-use Rattle.std.proofs.Common.{◌≡◌, refl, ℕ, ◌<◌, ◌^◌, List, subst, sym}
+-- The textbook signature is valid. lms has a file like this one, of its own standard's validity: what both share stands
+-- in winternitz and merkle.
+use Rattle.std.proofs.Common.{◌≡◌, refl, ℕ, ◌<◌, ◌^◌, List}
 use Rattle.typecodes.specs.Types.{xmss_height_of}
-use Rattle.merkle.proofs.Climb.{climbed_is_ascent, climbed_nodes}
-use Rattle.merkle.proofs.Paths.{path_ends, path_long}
+use Rattle.merkle.proofs.Paths.{path_leads, path_long}
 use Rattle.wots_plus.specs.Key.{ends_of_secret}
 use Rattle.wots_plus.proofs.Signing.{signed_climbs}
 use Rattle.xmss.specs.declared.secret.XmssSecret.{XmssSecret}
@@ -20,9 +20,7 @@ textbook_valid secret i message inside = record {
   leads = record {
     ends = ends_of_secret secret.public_seed i secret.secret_seed;
     climbed = signed_climbs secret.public_seed i secret.secret_seed (digest_in secret (root_in secret) i message);
-    nodes = climbed_nodes (joins_of secret) i (leaves_of secret i) (path_in secret i);
-    ascent = climbed_is_ascent (joins_of secret) i (leaves_of secret i) (path_in secret i);
-    last = path_ends (leaves_of secret) (joins_of secret) (xmss_height_of secret.tree) i inside;
+    path = path_leads (leaves_of secret) (joins_of secret) (xmss_height_of secret.tree) i inside;
   };
 }
 
@@ -31,6 +29,4 @@ pub signed_valid : (secret : XmssSecret) (i : ℕ) (message digest : List ℕ) (
     → digest ≡ digest_in secret (root_in secret) i message → path ≡ path_in secret i
     → IsValid (public_of secret) message (signed secret i digest path)
 signed_valid secret i message digest path inside digest_is path_is =
-    subst (λ d. IsValid (public_of secret) message (signed secret i d path)) (sym digest_is)
-    (subst (λ p. IsValid (public_of secret) message (signed secret i (digest_in secret (root_in secret) i message) p)) (sym path_is)
-    (textbook_valid secret i message inside))
+    rw (digest_is, path_is) (textbook_valid secret i message inside)

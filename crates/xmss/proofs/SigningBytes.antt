@@ -1,5 +1,6 @@
--- The bytes of keys and signatures spell them, field by field.
-use Rattle.std.proofs.Common.{◌≡◌, refl, ℕ, ◌<◌, ◌^◌, List, [], ◌++◌, length, get_or, subst, append_assoc}
+-- The bytes of keys and signatures spell them, field by field. What the fields of both standards share stands in
+-- typecodes; lms has a file like this one for its own layouts, whose fields are others.
+use Rattle.std.proofs.Common.{◌≡◌, refl, ℕ, ◌<◌, ◌^◌, List, [], ◌++◌, length, get_or, subst}
 use Rattle.std.specs.List.{concat}
 use Rattle.std.proofs.lemmas.Bool.{lt-ltb}
 use Rattle.sha2.proofs.Facts256.{length-sha256}
@@ -7,7 +8,7 @@ use Rattle.typecodes.specs.declared.types.XmssType.{XmssType}
 use Rattle.typecodes.specs.Types.{xmss_code, xmss_height_of}
 use Rattle.typecodes.specs.Layout.{Spells, done}
 use Rattle.typecodes.specs.Fields.{block, number, values, xmss_type}
-use Rattle.typecodes.proofs.FieldBytes.{block_spelled, last_field, number_spelled, values_spelled, xmss_spelled}
+use Rattle.typecodes.proofs.FieldBytes.{block_spelled, four_parts, last_field, number_spelled, three_parts, values_spelled, xmss_spelled}
 use Rattle.typecodes.proofs.Leaves.{xmss_leaf_small}
 use Rattle.typecodes.proofs.Spelling.{from_turn}
 use Rattle.wots_plus.specs.Hashes.{to_byte}
@@ -35,13 +36,6 @@ pub record IsSized (tree : XmssType) (s : Signature) : Type 0 where
   pub path_count : length s.path ≡ xmss_height_of tree
   pub path : (i : ℕ) → i < xmss_height_of tree → length (get_or s.path i []) ≡ 32
 
--- parts that are put together one by one
-regrouped : (a b c d : List ℕ) → a ++ (b ++ (c ++ d)) ≡ a ++ b ++ c ++ d
-regrouped a b c d = simp append_assoc
-
-regrouped_three : (a b c : List ℕ) → a ++ (b ++ c) ≡ a ++ b ++ c
-regrouped_three a b c = simp append_assoc
-
 -- A signature whose parts have their sizes is spelled by its bytes.
 signature_spelled : (tree : XmssType) (s : Signature) → IsSized tree s → Spells (signature tree) s (signature_bytes s)
 unfolding signature
@@ -50,7 +44,7 @@ signature_spelled tree s sized =
     let index = to_byte s.index 4 in
     let chains = concat s.chains in
     let path = concat s.path in
-    subst (Spells (signature tree) s) (regrouped index s.randomizer chains path)
+    subst (Spells (signature tree) s) (four_parts index s.randomizer chains path)
     (from_turn (leaf_index h) (after_index tree) s.index s index (s.randomizer ++ (chains ++ path))
     (index_spelled h s.index sized.inside (xmss_leaf_small tree s.index sized.inside))
     (from_turn (block 32) (after_randomizer tree s.index) s.randomizer s s.randomizer (chains ++ path)
@@ -79,7 +73,7 @@ pub public_spelled : (key : XmssPublic) → length key.root ≡ 32 → length ke
 unfolding public_key
 public_spelled key root seed =
     let code = to_byte (xmss_code key.tree) 4 in
-    subst (Spells public_key key) (regrouped_three code key.root key.seed)
+    subst (Spells public_key key) (three_parts code key.root key.seed)
     (from_turn xmss_type after_tree key.tree key code (key.root ++ key.seed)
     (xmss_spelled key.tree)
     (from_turn (block 32) (after_root key.tree) key.root key key.root key.seed

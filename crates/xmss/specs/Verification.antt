@@ -8,7 +8,7 @@ use Rattle.typecodes.specs.Layout.{Spells, HasFault}
 use Rattle.typecodes.specs.Message.{Transition}
 use Rattle.typecodes.specs.Verdict.{LeavesMessage as TreeLeavesMessage}
 use Rattle.typecodes.specs.Types.{wots_chains, xmss_height_of}
-use Rattle.merkle.specs.Ascent.{IsAscent, at}
+use Rattle.merkle.specs.Ascent.{PathLeadsTo}
 use Rattle.wots_plus.specs.Key.{ClimbTo}
 use Rattle.xmss.specs.declared.key.XmssPublic.{XmssPublic}
 use Rattle.xmss.specs.Digest.{message_digest_of}
@@ -16,14 +16,11 @@ use Rattle.xmss.specs.Nodes.{join_of, leaf_of}
 use Rattle.xmss.specs.Signature.{Signature, signature}
 
 -- The node to which a signature of a digest M' leads under a key: from the digits of M' the signature's values climb to
--- the ends of their chains; the L-tree over these is the leaf; and from this leaf the path leads, node by node, to a
--- node of the path's height.
+-- the ends of their chains; the L-tree over these is the leaf; and from this leaf the path leads to the node.
 pub record LeadsTo (key : XmssPublic) (digest : List ℕ) (s : Signature) (node : List ℕ) : Type 0 where
   pub ends : List (List ℕ)
   pub climbed : ClimbTo key.seed s.index digest s.chains ends
-  pub nodes : List (List ℕ)
-  pub ascent : IsAscent (join_of key.seed) s.index (leaf_of key.seed s.index ends) s.path nodes
-  pub last : at nodes (length s.path) ≡ node
+  pub path : PathLeadsTo (join_of key.seed) s.index (leaf_of key.seed s.index ends) s.path node
 
 -- The signature has a value for each chain (3.1.1); its index is one of a leaf of the key's tree, and the path is
 -- as long as the tree is high; and as that of a digest it leads to the key's root.
@@ -51,12 +48,6 @@ Verdict key message bytes (Err LevelMismatch) = ⊥
 Verdict key message bytes (Err MessageRead) = (s : Signature) × Spells (signature key.tree) s bytes
 Verdict key message bytes (Err (RootMismatch level)) =
     (level ≡ 0) × ((s : Signature) × Spells (signature key.tree) s bytes × (IsValid key message s → ⊥))
-
--- what verification answers of a signature of the key's type, by the digest of what it signs
-abbrev pub DigestVerdict : {A : Type 0} → XmssPublic → List ℕ → Signature → Result A Refusal → Type 0
-DigestVerdict key digest s (Ok _) = IsValidFor key digest s
-DigestVerdict key digest s (Err (RootMismatch level)) = (level ≡ 0) × (IsValidFor key digest s → ⊥)
-DigestVerdict key digest s (Err other) = ⊥
 
 -- What becomes of the message: as of that of any tree, where no refusal says that types differ.
 abbrev pub LeavesMessage : {M A : Type 0} → Transition M → (M → Option (List ℕ)) → List ℕ → M → M → Result A Refusal

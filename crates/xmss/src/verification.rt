@@ -2,8 +2,8 @@
 
 ghost use Rattle.std.specs.Prelude.{◌≡◌, List, ℕ};
 ghost use Rattle.xmss.specs.View.{signature_of};
-ghost use Rattle.xmss.specs.Verification.{DigestVerdict, LeadsTo, LeavesMessage, Verdict};
-ghost use Rattle.typecodes.specs.Verdict.{Verifies};
+ghost use Rattle.xmss.specs.Verification.{IsValidFor, LeadsTo, LeavesMessage, Verdict};
+ghost use Rattle.typecodes.specs.Verdict.{DigestVerdict, Verifies};
 
 use crate::digest::message_digest_from;
 use crate::key::XmssPublic;
@@ -28,24 +28,22 @@ pub fn verify<M: Message>(
 {
     let view = XmssSigView::read(public.tree, signature).map_err(Refusal::Unreadable)?;
     match message_digest_from(view.randomizer, &public.root, view.index, message) {
-        Ok(digest) => verify_digest(public, &digest, &view),
+        Ok(digest) => view.verify_digest(public, &digest),
         Err(_) => Err(Refusal::MessageRead),
     }
 }
 
-// Whether the signature of a digest leads to the key's root (RFC 8391 4.1.10).
-fn verify_digest(
-    public: &XmssPublic,
-    digest: &[u8; 32],
-    view: &XmssSigView<'_>,
-) -> Result<(), Refusal>
-    requires { view.now.tree ≡ public.now.tree }
-    ensures { DigestVerdict public.now digest.now (signature_of view.now) result }
-{
-    if candidate(public, digest, view) == public.root {
-        Ok(())
-    } else {
-        Err(Refusal::RootMismatch(0))
+impl XmssSigView<'_> {
+    // Whether the signature of a digest leads to the key's root (RFC 8391 4.1.10).
+    fn verify_digest(&self, public: &XmssPublic, digest: &[u8; 32]) -> Result<(), Refusal>
+        requires { self.now.tree ≡ public.now.tree }
+        ensures { DigestVerdict (IsValidFor public.now digest.now (signature_of self.now)) 0 result }
+    {
+        if candidate(public, digest, self) == public.root {
+            Ok(())
+        } else {
+            Err(Refusal::RootMismatch(0))
+        }
     }
 }
 

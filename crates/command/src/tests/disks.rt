@@ -14,7 +14,7 @@ use std::{fs, io};
 // What a call of a file in memory does.
 #[derive(Clone, Copy)]
 enum Step {
-    // as many bytes as are asked, but at most so many
+    // as many bytes as are requested, but at most so many
     Part(usize),
     Interrupted,
     Fails,

@@ -4,9 +4,10 @@ use super::shelf::{Content, Shelf};
 use crate::files::{FileReader, Folder, Outlet, SignerFolder};
 use crate::refusal::Refusal;
 use crate::trace::Role;
-use sign_core::{SignFault, Signer, TapeSource};
-use state_file::{FileStore, MemoryDisk, OpenFault, Pick};
-use typecodes::{Name, Spec};
+use sign_core::{SignFault, Signer, Source, TapeSource};
+use state_file::{Disk, FileStore, MemoryDisk, OpenFault, Pick, Store};
+use std::alloc::Global;
+use typecodes::{Message, Name, Spec};
 
 // The key is drawn from it, and each run of `sign` draws from its beginning.
 const TAPE: [u8; 48] = [9; 48];
@@ -20,31 +21,50 @@ fn key_disk(rt: &HostRuntime) -> Option<MemoryDisk> {
     Some(signer.into_store().into_disk())
 }
 
+// The signer of the key on a disk.
+fn opened<D: Disk + Drop, R: Source + Drop>(
+    alloc: Global,
+    disk: D,
+    random: R,
+) -> Result<Signer<FileStore<D>, R>, Refusal> {
+    let store = match FileStore::open(disk) {
+        Ok(store) => store,
+        Err(refused) => return Err(Refusal::Opening(refused.fault)),
+    };
+    match Signer::open(alloc, store, random) {
+        Ok(signer) => Ok(signer),
+        Err(refused) => Err(Refusal::Signer(refused.fault)),
+    }
+}
+
+// The signature of a message under the name fw-1.
+fn signature_of<S: Store, R: Source, M: Message>(
+    alloc: Global,
+    signer: &mut Signer<S, R>,
+    message: &mut M,
+) -> Result<Vec<u8>, Refusal> {
+    let Ok(name) = Name::new(b"fw-1") else {
+        return Err(Refusal::OutOfMemory);
+    };
+    let mut signature = Vec::new(alloc);
+    match signer.sign(&name, message, &mut signature) {
+        Ok(()) => Ok(signature),
+        Err(fault) => Err(Refusal::Signer(fault)),
+    }
+}
+
 // Signs the message m under the name fw-1 with the key k, and writes the signature to s.
 fn sign_in<D: SignerFolder>(rt: &HostRuntime, folder: &mut D) -> Result<usize, Refusal> {
     let disk = folder.open_state("k")?;
     let mut file = folder.open(Role::Message, "m")?;
     let random = folder.open_random("r")?;
     folder.check_writable(Role::Signature, "s")?;
-    let store = match FileStore::open(disk) {
-        Ok(store) => store,
-        Err(refused) => return Err(Refusal::Opening(refused.fault)),
-    };
-    let mut signer = match Signer::open(rt.alloc(), store, random) {
-        Ok(signer) => signer,
-        Err(refused) => return Err(Refusal::Signer(refused.fault)),
-    };
-    let Ok(name) = Name::new(b"fw-1") else {
-        return Err(Refusal::OutOfMemory);
-    };
-    let mut signature = Vec::new(rt.alloc());
+    let mut signer = opened(rt.alloc(), disk, random)?;
     let mut message = FileReader {
         folder,
         file: &mut file,
     };
-    if let Err(fault) = signer.sign(&name, &mut message, &mut signature) {
-        return Err(Refusal::Signer(fault));
-    }
+    let signature = signature_of(rt.alloc(), &mut signer, &mut message)?;
     let FileReader { folder, .. } = message;
     folder.write(Role::Signature, "s", signature.as_slice())?;
     Ok(signature.len())

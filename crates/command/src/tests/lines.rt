@@ -1,4 +1,4 @@
-//! Lines, and what they ask for.
+//! Lines, and what they request.
 
 use super::place::{Place, run_in, run_words};
 use super::sample::Sample;

@@ -129,7 +129,7 @@ impl<'a> Shelf<'a> {
         }
     }
 
-    // What the path holds, which is noted.
+    // What is at the path, which is noted.
     fn find(&mut self, path: &str) -> Option<Content<'a>>
         ensures { self.new.trace ≡ self.old.trace }
     {

@@ -102,8 +102,8 @@ fn size(rt: &HostRuntime, folder: &Place) -> Option<usize> {
     Some(content(rt, folder, "k")?.len())
 }
 
-// Whether the file p holds a public key of H5/W8 with the first bytes of the tape.
-fn holds_the_key(rt: &HostRuntime, folder: &Place) -> Option<bool> {
+// Whether the file p has a public key of H5/W8 with the first bytes of the tape.
+fn has_the_key(rt: &HostRuntime, folder: &Place) -> Option<bool> {
     let key = content(rt, folder, "p")?;
     Some(key.starts_with(&[0, 0, 0, 5, 0, 0, 0, 4, 0, 1, 2]) && key.len() == 56)
 }
@@ -119,7 +119,7 @@ fn a_key_is_made_once(rt: HostRuntime) -> Result<(), Fail> {
     assert_eq!(rt; size(&rt, &folder), Some(257));
     let again = make(&rt, &folder, &tape);
     assert_eq!(rt; again, Err(Refusal::Preparing(FormatFault::KeyThere)));
-    assert!(rt; holds_the_key(&rt, &folder) == Some(true));
+    assert!(rt; has_the_key(&rt, &folder) == Some(true));
     folder.remove(&rt)
 }
 

@@ -1,7 +1,9 @@
 //! State files of any records, whose tags are right.
 
 use super::*;
-use state_file::{Bound, Extend, FileStore, Key, MemoryDisk, Pick, Record, Secret, Store, Version};
+use state_file::{
+    Bound, Extend, FileStore, Key, MemoryDisk, OpenFault, Pick, Record, Secret, Store, Version,
+};
 use typecodes::{LmsPair, LmsType, OtsType};
 
 // A record after the key: a leaf with a letter as its name, leaves that are retired, a tree of a level under a leaf of
@@ -76,6 +78,17 @@ pub(super) fn file_in(store: FileStore<MemoryDisk>) -> Option<Vec<u8>> {
 // A disk with the file of the key and these records after it.
 pub(super) fn filed(alloc: Global, entries: &[Entry]) -> Option<MemoryDisk> {
     Some(stored(alloc, entries)?.into_disk())
+}
+
+// The store of a disk, which is opened once more where the disk was refused memory.
+pub(super) fn opened_at_last(disk: MemoryDisk) -> Option<FileStore<MemoryDisk>> {
+    match FileStore::open(disk) {
+        Ok(store) => Some(store),
+        Err(refused) => match refused.fault {
+            OpenFault::DeviceFailed => FileStore::open(refused.given).ok(),
+            _ => None,
+        },
+    }
 }
 
 // The store of a file.

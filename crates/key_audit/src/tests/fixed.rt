@@ -4,8 +4,8 @@
 ghost use Rattle.std.specs.Prelude.{[], false, ⊤};
 ghost use Rattle.state_file.specs.Disk.{settled};
 
-use super::programs::{HSS, Known, LMS, XMSS, bytes_in};
-use super::vectors::{HSS_PUBLIC, LMS_PUBLIC, XMSS_PUBLIC};
+use super::programs::{HSS, Known, LMS, MODEL, bytes_in};
+use super::vectors::{HSS_PUBLIC, LMS_PUBLIC, MODEL_PUBLIC};
 use super::*;
 use hss::HssSigView;
 use lms::LmsSigView;
@@ -15,6 +15,10 @@ use std::io;
 use std::io::Write;
 use typecodes::{Count, Refusal, coef};
 use xmss::XmssSigView;
+
+mod writers;
+
+type InFile = Signer<FileStore<MemoryDisk>, Numbers>;
 
 // A disk in room that was made before, which says nothing of stops.
 #[derive(Drop)]
@@ -180,23 +184,30 @@ impl Write for Counter {
     }
 }
 
-// A key of two levels that has signed the byte 1 under a name.
-fn signed(alloc: Global) -> Option<Signer<FileStore<MemoryDisk>, Numbers>> {
+// A new key of two levels.
+fn created(alloc: Global) -> Option<InFile> {
     let spec = Spec::parse(TWO_LEVELS).ok()?;
     let store = FileStore::format(MemoryDisk::of(alloc, &[]).ok()?).ok()?;
-    let mut signer = Signer::create(alloc, spec, store, Numbers { next: 0 }).ok()?;
+    Signer::create(alloc, spec, store, Numbers { next: 0 }).ok()
+}
+
+// Signs a message of this byte under a name.
+fn sign_byte(signer: &mut InFile, name: &[u8], byte: u8, out: &mut Vec<u8>) -> Option<()> {
+    let name = Name::new(name).ok()?;
+    signer.sign(&name, &mut [byte].as_slice(), out).ok()
+}
+
+// A key of two levels that has signed the byte 1 under a name.
+fn signed(alloc: Global) -> Option<InFile> {
+    let mut signer = created(alloc)?;
     let mut out = Vec::new(alloc);
-    let name = Name::new(b"fw-1").ok()?;
-    signer.sign(&name, &mut [1].as_slice(), &mut out).ok()?;
+    sign_byte(&mut signer, b"fw-1", 1, &mut out)?;
     Some(signer)
 }
 
 // How many bytes are written for frames that are refused, and how their serving ends: another message under that name,
 // a name that is none, and that name with one byte of two that are announced.
-fn refused_frames(
-    alloc: Global,
-    signer: &mut Signer<FileStore<MemoryDisk>, Numbers>,
-) -> (usize, Result<u64, ServeFault>) {
+fn refused_frames(alloc: Global, signer: &mut InFile) -> (usize, Result<u64, ServeFault>) {
     let mut output = Counter { bytes: 0 };
     let mut input = b"\x04fw-1\0\0\0\x01\x02\0\0\0\0\0\x04fw-1\0\0\0\x02\x01".as_slice();
     let end = serve(alloc, signer, &mut input, &mut output);
@@ -204,7 +215,7 @@ fn refused_frames(
 }
 
 // Whether such a signer says what it has, and refuses what it should.
-fn is_refused(alloc: Global, signer: &mut Signer<FileStore<MemoryDisk>, Numbers>) -> Option<bool> {
+fn is_refused(alloc: Global, signer: &mut InFile) -> Option<bool> {
     let mut out = Vec::new(alloc);
     let name = Name::new(b"fw-1").ok()?;
     let changed = signer.sign(&name, &mut [2].as_slice(), &mut out);
@@ -232,15 +243,70 @@ fn other_requests_are_refused(rt: HostRuntime) {
     assert_eq!(rt; refused, Some(true));
 }
 
+// The signer of a key of two levels whose first lower tree has signed a name and was retired, so that a second one
+// replaced it at the next name: the signatures of both names, and an output with room for one of them.
+#[derive(Drop)]
+struct Replaced {
+    signer: InFile,
+    first: Vec<u8>,
+    second: Vec<u8>,
+    output: Vec<u8>,
+}
+
+fn with_a_new_tree(alloc: Global) -> Option<Replaced> {
+    let mut signer = created(alloc)?;
+    let mut first = Vec::new(alloc);
+    let mut second = Vec::new(alloc);
+    sign_byte(&mut signer, b"fw-1", 1, &mut first)?;
+    signer.retire(32).ok()?;
+    sign_byte(&mut signer, b"fw-2", 2, &mut second)?;
+    let output = Vec::with_capacity(alloc, 2644).ok()?;
+    Some(Replaced {
+        signer,
+        first,
+        second,
+        output,
+    })
+}
+
+// Whether both names have their signatures again, and no cache makes a leaf for that: the first name's tree has no
+// cache any more, and the leaf of the second name is in the block that its tree's cache keeps.
+fn are_repeated(replaced: &mut Replaced) -> Option<bool> {
+    let signer = &mut replaced.signer;
+    let output = &mut replaced.output;
+    let is_current = signer.left().as_slice() == [30, 31].as_slice();
+    let made = (signer.cache_leaves(0)?, signer.cache_leaves(1)?);
+    sign_byte(signer, b"fw-1", 1, output)?;
+    let is_first = *output == replaced.first;
+    sign_byte(signer, b"fw-2", 2, output)?;
+    let is_second = *output == replaced.second;
+    let is_made = (signer.cache_leaves(0)?, signer.cache_leaves(1)?) == made;
+    Some(is_current && is_first && is_second && is_made)
+}
+
+#[test]
+fn a_tree_is_replaced(rt: HostRuntime) {
+    assert!(rt; with_a_new_tree(rt.alloc()).is_some());
+}
+
+#[test]
+fn a_name_of_an_old_tree_is_repeated(rt: HostRuntime) {
+    let repeated = match with_a_new_tree(rt.alloc()) {
+        Some(mut replaced) => are_repeated(&mut replaced),
+        None => None,
+    };
+    assert_eq!(rt; repeated, Some(true));
+}
+
 // A public key, and a message with its signature.
 type Bytes = (Vec<u8>, Given);
 
-// One of each scheme, of another program.
+// One of each scheme, of other programs.
 fn known_of_each(alloc: Global) -> Option<[Bytes; 3]> {
     Some([
         known(alloc, LMS_PUBLIC, LMS[1])?,
         known(alloc, HSS_PUBLIC, HSS[0])?,
-        known(alloc, XMSS_PUBLIC, XMSS[1])?,
+        known(alloc, MODEL_PUBLIC, MODEL)?,
     ])
 }
 

@@ -2,6 +2,8 @@
 //! turn: a reply may then say so, or that the device failed. After that the file is opened again, and the request is
 //! answered as ever.
 
+use super::files::opened_at_last;
+use super::script::create_on;
 use super::*;
 use sign_core::{ServeFault, SignFault, serve, verify_any};
 use state_file::{FileStore, MemoryDisk, OpenFault};
@@ -58,39 +60,41 @@ fn new_output(alloc: Global) -> Option<Output> {
     Some(Output { taken })
 }
 
-// The disk of a new key.
-fn keyed(alloc: Global, spec: &str) -> Option<MemoryDisk> {
-    let spec = Spec::parse(spec).ok()?;
-    let store = FileStore::format(MemoryDisk::of(alloc, &[]).ok()?).ok()?;
-    let signer = Signer::create(alloc, spec, store, Numbers { next: 0 }).ok()?;
-    Some(signer.into_store().into_disk())
-}
-
-fn keyed_at_last(alloc: Global, spec: &str) -> Option<MemoryDisk> {
-    match keyed(alloc, spec) {
-        Some(disk) => Some(disk),
-        None => keyed(alloc, spec),
+// A disk without a byte, at the second try where memory is refused at the first.
+fn empty_disk(alloc: Global) -> Option<MemoryDisk> {
+    match MemoryDisk::of(alloc, &[]) {
+        Ok(disk) => Some(disk),
+        Err(_) => MemoryDisk::of(alloc, &[]).ok(),
     }
 }
 
-// The store of a disk, at the second try where the device fails at the first.
-fn store_of(disk: MemoryDisk) -> Option<FileStore<MemoryDisk>> {
+// The disk of a new key. Where memory was refused to its disk the place is opened again, and the key is made once more
+// if there is none.
+fn keyed(alloc: Global, spec: &str) -> Option<MemoryDisk> {
+    let (disk, is_made) = create_on(alloc, spec, empty_disk(alloc)?, 0)?;
+    if is_made {
+        return Some(disk);
+    }
     match FileStore::open(disk) {
-        Ok(store) => Some(store),
+        Ok(store) => Some(store.into_disk()),
         Err(refused) => match refused.fault {
-            OpenFault::DeviceFailed => FileStore::open(refused.given).ok(),
+            OpenFault::NoKey => {
+                let (disk, is_made) = create_on(alloc, spec, refused.given, 0)?;
+                if is_made { Some(disk) } else { None }
+            }
             _ => None,
         },
     }
 }
 
-// The signer of a disk, at the second try where memory is refused at the first. Its source begins with this number.
+// The signer of a disk, which is opened once more where memory is refused. Its source begins with this number.
 fn opened(alloc: Global, disk: MemoryDisk, next: u8) -> Option<InFile> {
-    match Signer::open(alloc, store_of(disk)?, Numbers { next }) {
+    match Signer::open(alloc, opened_at_last(disk)?, Numbers { next }) {
         Ok(signer) => Some(signer),
         Err(refused) => match refused.fault {
             SignFault::NoMemoryToOpen => {
                 let (store, random) = refused.given;
+                let store = opened_at_last(store.into_disk())?;
                 Signer::open(alloc, store, random).ok()
             }
             _ => None,
@@ -180,7 +184,7 @@ fn number_of(public: &AnyPublic, frame: &[u8], reply: &[u8]) -> Option<u8> {
 // How many of the frames are answered as they should be, before the first that isn't, and how many records there are
 // then. None where the first name has another signature in the end, after the file was opened again.
 fn answered(alloc: Global, spec: &str) -> Option<(usize, u32)> {
-    let mut signer = opened(alloc, keyed_at_last(alloc, spec)?, 50)?;
+    let mut signer = opened(alloc, keyed(alloc, spec)?, 50)?;
     let public = signer.public_key();
     let mut first = Vec::new(alloc);
     for (i, (frame, number, wanted)) in FRAMES.iter().enumerate() {

@@ -1,39 +1,48 @@
-//! Audits that are answered at the second try where memory is refused at the first. `tests/run` runs these with each
-//! growth of memory refused in turn.
+//! Audits, and checks of given signatures, that are answered at the second try where memory is refused at the first.
+//! `tests/run` runs these with each growth of memory refused in turn.
 
 use super::audits::{Audited, audited};
-use super::files::{Entry, stored};
+use super::files::{Entry, filed, opened_at_last};
 use super::*;
 use state_file::{FileStore, MemoryDisk};
 
-// What is answered to a store, at the second try where memory was refused at the first.
+type InFile = FileStore<MemoryDisk>;
+
+// What is answered to a store, and the store then. Where memory was refused the file is opened again, and audited once
+// more.
 fn audited_at_last(
     alloc: Global,
-    store: &mut FileStore<MemoryDisk>,
+    store: InFile,
     anchor: Option<Anchor>,
-) -> Option<Audited> {
-    match audited(alloc, store, anchor)? {
-        Err(AuditFault::OutOfMemory) => audited(alloc, store, anchor),
-        answer => Some(answer),
+) -> Option<(InFile, Audited)> {
+    let mut store = store;
+    let answer = audited(alloc, &mut store, anchor)?;
+    if answer != Err(AuditFault::OutOfMemory) {
+        return Some((store, answer));
     }
+    let mut store = opened_at_last(store.into_disk())?;
+    let answer = audited(alloc, &mut store, anchor)?;
+    Some((store, answer))
 }
 
-fn stored_at_last(alloc: Global, entries: &[Entry]) -> Option<FileStore<MemoryDisk>> {
-    match stored(alloc, entries) {
-        Some(store) => Some(store),
-        None => stored(alloc, entries),
-    }
+// The store of a file of these records, which is made at the second try where memory is refused at the first.
+fn opened(alloc: Global, entries: &[Entry]) -> Option<InFile> {
+    let disk = match filed(alloc, entries) {
+        Some(disk) => disk,
+        None => filed(alloc, entries)?,
+    };
+    opened_at_last(disk)
 }
 
 // What is answered to a file at last, and whether an anchor of more records is refused for that.
 fn audited_file(alloc: Global, entries: &[Entry]) -> Option<(Audited, bool)> {
-    let mut store = stored_at_last(alloc, entries)?;
+    let store = opened(alloc, entries)?;
     let beyond = Anchor {
         count: 9,
         tag: [0; 32],
     };
-    let first = audited_at_last(alloc, &mut store, None)?;
-    let second = audited_at_last(alloc, &mut store, Some(beyond))?;
+    let (store, first) = audited_at_last(alloc, store, None)?;
+    let (_store, second) = audited_at_last(alloc, store, Some(beyond))?;
     Some((first, second == Err(AuditFault::AnchorCount)))
 }
 
@@ -64,7 +73,7 @@ fn an_illegal_record_is_found_at_last(rt: HostRuntime) {
 // This fails where memory is refused in the audit, and there alone.
 #[test]
 fn legal_records_are_audited_at_first(rt: HostRuntime) {
-    let audited_at_first = match stored_at_last(rt.alloc(), &ENTRIES) {
+    let audited_at_first = match opened(rt.alloc(), &ENTRIES) {
         Some(mut store) => audited(rt.alloc(), &mut store, None),
         None => None,
     };

@@ -50,6 +50,8 @@ pub(super) const XMSS: [Known<'static>; 2] = [
     (XMSS_MESSAGE_1, XMSS_SIGNATURE_1),
 ];
 
+pub(super) const MODEL: Known<'static> = (MODEL_MESSAGE, MODEL_SIGNATURE);
+
 // One of them twice uses its leaf for one digest.
 #[test]
 fn signatures_of_other_programs_are_accepted(rt: HostRuntime) {

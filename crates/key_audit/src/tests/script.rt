@@ -62,9 +62,14 @@ fn open_on(alloc: Global, disk: MemoryDisk, next: u8) -> Result<InFile, (MemoryD
     }
 }
 
-// The disk after a key was made on it, and whether it was.
-fn create_on(alloc: Global, disk: MemoryDisk, next: u8) -> Option<(MemoryDisk, bool)> {
-    let spec = Spec::parse(TWO_LEVELS).ok()?;
+// The disk after a key was made on it, and whether it was. Its source begins with this number.
+pub(super) fn create_on(
+    alloc: Global,
+    spec: &str,
+    disk: MemoryDisk,
+    next: u8,
+) -> Option<(MemoryDisk, bool)> {
+    let spec = Spec::parse(spec).ok()?;
     let store = match FileStore::format(disk) {
         Ok(store) => store,
         Err(refused) => return Some((refused.given, false)),
@@ -117,7 +122,7 @@ fn live(
         Err((disk, false)) => Some((disk, None)),
         Err((disk, true)) => match doing {
             Step::Create => {
-                let (disk, is_made) = create_on(alloc, disk, next)?;
+                let (disk, is_made) = create_on(alloc, TWO_LEVELS, disk, next)?;
                 Some((disk, if is_made { Some(None) } else { None }))
             }
             _ => Some((disk, None)),

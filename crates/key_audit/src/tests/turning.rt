@@ -85,7 +85,7 @@ fn audited_turned(alloc: Global, entries: &[Entry], offset: u64) -> Option<(Audi
     None
 }
 
-// A slot that can't be read is reported, though the record before it is illegal, and however often it is asked. The
+// A slot that can't be read is reported, though the record before it is illegal, and however often it is loaded. The
 // fields of slot k begin at 256 * k + 1, and its tag at 256 * k + 224.
 #[test]
 fn unreadable_slots_are_reported(rt: HostRuntime) {

@@ -34,11 +34,24 @@ fn open<'a>(alloc: Global, start: Start<'a>) -> Option<InFile<'a>> {
     Signer::open(alloc, store, TapeSource::new(start.tape)).ok()
 }
 
+// Retires leaves, which isn't refused.
+fn retire<S: Store, R: Source>(signer: &mut Signer<S, R>, upto: u32) -> Option<()> {
+    signer.retire(upto).ok()
+}
+
 // The file of a new key, after so many of its leaves were retired.
 fn new_file(alloc: Global, text: &str, tape: &[u8], retired: u32) -> Option<Vec<u8>> {
     let mut signer = in_file(alloc, text, tape)?;
-    signer.retire(retired).ok()?;
+    retire(&mut signer, retired)?;
     file_in(signer.into_store())
+}
+
+// A key of one tree in this file, whose source gives what comes after the draws of the key.
+fn start_of<'a>(file: &'a [u8], tape: &'a [u8]) -> Start<'a> {
+    Start {
+        file,
+        tape: tape.get(48..).unwrap_or_default(),
+    }
 }
 
 // What an exchange came to: what was written, what it ended with, and the key's file then.

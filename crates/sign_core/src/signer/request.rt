@@ -113,7 +113,7 @@ impl<S: Store, R: Source> Signer<S, R> {
             (vec_capacity out.old) (answered_with result out.new.items) }
         ensures empty { OnErr result (out.new.items ≡ []) }
         ensures capacity { KeepsCapacity out.old out.new }
-        // A name that is bound changes nothing but caches, whatever the answer; with 21 and 27 nothing.
+        // A request of a name that is bound changes nothing but caches, and with 21 and 27 not even these.
         ensures repeat { IsSome (binding_in self.old.records name.now) →
             KeepsForRepeat self.old self.new (is_fault is_before_repeat result) }
     {

@@ -99,7 +99,7 @@ fn name_of(number: u8) -> [u8; 3] {
 }
 
 // What a request answers. None where a fault leaves bytes, or a signature doesn't verify.
-fn answer<S: Store, R: Source>(
+pub(crate) fn answer<S: Store, R: Source>(
     alloc: Global,
     signer: &mut Signer<S, R>,
     name: &[u8],
@@ -287,6 +287,23 @@ fn are_said<S: Store>(store: &mut S, from: u32, said: &[Said], tape: &[u8]) -> O
     Some(store.load(place).ok()?.is_none())
 }
 
+// What is done with a signer, which gives up its store then: the first of these calls that is answered otherwise, and
+// whether the records from a place on say this.
+fn calls_and_store<S: Store + Drop, R: Source + Drop>(
+    alloc: Global,
+    signer: Signer<S, R>,
+    calls: &[Call<'_>],
+    from: u32,
+    said: &[Said],
+    tape: &[u8],
+) -> Option<(usize, bool, S)> {
+    let mut signer = signer;
+    let count = first_other_call(alloc, &mut signer, calls)?;
+    let mut store = signer.into_store();
+    let is_said = are_said(&mut store, from, said, tape)?;
+    Some((count, is_said, store))
+}
+
 // A new key, what is done with it, and the records from a place on that its file has then, with its length.
 #[derive(Clone, Copy)]
 struct Script<'a> {
@@ -444,17 +461,25 @@ fn used_trees_begin_anew(rt: HostRuntime) {
 }
 
 // Whether a bound name has its first signature again, after these calls under names from 1 on; and how long that is.
+fn keeps_first<S: Store, R: Source>(
+    alloc: Global,
+    signer: &mut Signer<S, R>,
+    calls: &[Call<'_>],
+) -> Option<(bool, usize)> {
+    let first = answer(alloc, signer, &name_of(0), &[1])?.ok()?;
+    let count = first_other_call(alloc, signer, calls)?;
+    let again = answer(alloc, signer, &name_of(0), &[1])?.ok()?;
+    Some((count == calls.len() && first == again, first.len()))
+}
+
+// The same of a new key.
 fn keeps_its_first(
     alloc: Global,
     text: &str,
     tape: &[u8],
     calls: &[Call<'_>],
 ) -> Option<(bool, usize)> {
-    let mut signer = in_file(alloc, text, tape)?;
-    let first = answer(alloc, &mut signer, &name_of(0), &[1])?.ok()?;
-    let count = first_other_call(alloc, &mut signer, calls)?;
-    let again = answer(alloc, &mut signer, &name_of(0), &[1])?.ok()?;
-    Some((count == calls.len() && first == again, first.len()))
+    keeps_first(alloc, &mut in_file(alloc, text, tape)?, calls)
 }
 
 #[test]
@@ -476,13 +501,23 @@ fn a_name_has_one_signature(rt: HostRuntime) {
     );
 }
 
-// The file after the requests of one name, with these bytes as messages.
+// Requests of one name, with these bytes as messages, each of which is signed or refused.
+fn request_all<S: Store, R: Source>(
+    alloc: Global,
+    signer: &mut Signer<S, R>,
+    messages: &[u8],
+) -> Option<()> {
+    for message in messages {
+        answer(alloc, signer, b"fw-1", &[*message])?.err();
+    }
+    Some(())
+}
+
+// The file after them.
 fn after_requests(alloc: Global, messages: &[u8]) -> Option<Vec<u8>> {
     let tape = counting::<80>(0);
     let mut signer = in_file(alloc, LMS, &tape)?;
-    for message in messages {
-        answer(alloc, &mut signer, b"fw-1", &[*message])?.err();
-    }
+    request_all(alloc, &mut signer, messages)?;
     file_in(signer.into_store())
 }
 
@@ -543,31 +578,33 @@ fn records_without_room_change_nothing(rt: HostRuntime) {
     }
 }
 
-// The signature of the first name under a key of XMSS: whether it is that of leaf 0, and its length. None where the
-// records don't keep what was drawn.
-fn first_of_xmss(alloc: Global) -> Option<(bool, usize)> {
+// The signature of a new name: whether it is that of leaf 0, and so many leaves are left; and its length.
+fn signs_by_first_leaf<S: Store, R: Source>(
+    alloc: Global,
+    signer: &mut Signer<S, R>,
+    left: &[u32],
+) -> Option<(bool, usize)> {
+    let signature = answer(alloc, signer, &name_of(1), &[1])?.ok()?;
+    let is_first = signature.get(..4) == Some([0; 4].as_slice());
+    Some((
+        is_first && signer.left().as_slice() == left,
+        signature.len(),
+    ))
+}
+
+// The same of a new key of XMSS, and whether the records keep what was drawn.
+fn first_of_xmss(alloc: Global) -> Option<(bool, usize, bool)> {
     let tape = counting::<96>(0);
     let mut signer = in_file(alloc, XMSS, &tape)?;
-    let signature = answer(alloc, &mut signer, &name_of(1), &[1])?.ok()?;
-    if signer.left().as_slice() != [1023].as_slice() {
-        return None;
-    }
-    let mut store = signer.into_store();
-    if !are_said(
-        &mut store,
-        0,
-        &[Said::Key(0), Said::Bound(1, 0, None)],
-        &tape,
-    )? {
-        return None;
-    }
-    let is_first = signature.get(..4) == Some([0; 4].as_slice());
-    Some((is_first, signature.len()))
+    let (is_first, len) = signs_by_first_leaf(alloc, &mut signer, &[1023])?;
+    let said = [Said::Key(0), Said::Bound(1, 0, None)];
+    let is_said = are_said(&mut signer.into_store(), 0, &said, &tape)?;
+    Some((is_first, len, is_said))
 }
 
 #[test]
 fn an_xmss_key_signs_by_its_first_leaf(rt: HostRuntime) {
-    assert_eq!(rt; first_of_xmss(rt.alloc()), Some((true, 2500)));
+    assert_eq!(rt; first_of_xmss(rt.alloc()), Some((true, 2500, true)));
 }
 
 // A store with no key isn't opened, and one with a key gets no other. Both give back the store.

@@ -7,8 +7,8 @@ ghost use Rattle.state_file.specs.DiskCalls.{CountsFailures, OnlyReads};
 ghost use Rattle.state_file.specs.File.{IsSyncedFile, IsSyncedFile-prop, LeftLists, StandsFor, most_records, tag_at};
 ghost use Rattle.state_file.specs.Gates.{AddsSlot, slot_and_gate};
 ghost use Rattle.std.proofs.Common.{inl};
-ghost use Rattle.state_file.specs.Store.{Appends, CanFollow, Collects, Loads, ReadsTag, is_out_of_memory};
-ghost use Rattle.state_file.specs.Store.{is_device_failed, unreadable_slot};
+ghost use Rattle.state_file.specs.Store.{Appends, CanFollow, Collects, Loads, ReadsTag, WhileRunning};
+ghost use Rattle.state_file.specs.Store.{is_device_failed, is_out_of_memory, unreadable_slot};
 
 #[cfg(test)]
 mod tests;
@@ -35,8 +35,8 @@ pub struct FileStore<D: Disk> {
     unreadable: SlotList,
     ghost counted: { count ≡ length records },
     ghost few: { length records ≤ most_records },
-    ghost kept: { IsTrue (D.honest disk) → stopped ≡ false →
-        IsSyncedFile records tag (D.state disk) } by { Prim.hlevel IsSyncedFile-prop },
+    ghost kept: { WhileRunning (D.honest disk) stopped
+        (IsSyncedFile records tag (D.state disk)) } by { Prim.hlevel IsSyncedFile-prop },
 }
 
 impl<D: Disk + Drop> FileStore<D> {

@@ -66,7 +66,7 @@ pub returns-in-Err : goal.returns-in-Err
 returns-in-Err c =
     let is : c.args.name.now ≡ codes "retire" = c.in-retire.is in
     let found = found_of c.args.words.now in
-    no_retire_task _ _ c.in-Err.lack c.in-Err.ensures
+    no_retire_task _ _ c.in-Err.fault c.in-Err.ensures
     ∙ ap₂ retire_task (first_value-rows found (codes "STATE")) (first_value-rows found (codes "UPTO"))
     ∙ sym (ap (λ n. fixed_task_named n (rows_of found)) is)
 
@@ -81,7 +81,7 @@ pub returns-in-Err-of : goal.returns-in-Err-of
 returns-in-Err-of c =
     let is : c.args.name.now ≡ codes "audit" = c.in-audit.is in
     let found = found_of c.args.words.now in
-    no_audit_task _ _ _ c.in-Err-of.lack (same_audit (Err c.in-Err-of.lack) (first_value-rows found (codes "STATE")) (first_value-rows found (codes "count")) (first_value-rows found (codes "tag")) c.in-Err-of.ensures)
+    no_audit_task _ _ _ c.in-Err-of.fault (same_audit (Err c.in-Err-of.fault) (first_value-rows found (codes "STATE")) (first_value-rows found (codes "count")) (first_value-rows found (codes "tag")) c.in-Err-of.ensures)
     ∙ sym (ap (λ n. fixed_task_named n (rows_of found)) is)
 
 pub returns-in-Some-of-3 : goal.returns-in-Some-of-3

@@ -21,5 +21,5 @@ returns-in-Err c =
     let found = found_of c.in-Some.words.now in
     let met = subcommand_is c.args.matches.now c.in-Some.name.now (rows_of found) c.in-Some.ensures.name c.in-Some.ensures.rows in
     let says = subst (IsAuditGiven _ _) c.in-Err.is c.in_ok-words-in-text.ensures in
-    no_audit_given_task _ _ c.in-Err.lack (same_audit_given (Err c.in-Err.lack) (first_value-rows found (codes "PUBLIC")) (raw_values-rows found (codes "FILES")) says)
+    no_audit_given_task _ _ c.in-Err.fault (same_audit_given (Err c.in-Err.fault) (first_value-rows found (codes "PUBLIC")) (raw_values-rows found (codes "FILES")) says)
     ∙ sym (ap task_found met ∙ ap (λ n. task_named n (rows_of found)) is)

@@ -1,7 +1,7 @@
 use Rattle.std.proofs.Common.{ap, ◌∙◌, map, sym, subst}
 use Rattle.clap.specs.Words.{HasKind, fault_of, is_simple, is_simple_and_free, subcommand_of}
-use Rattle.command.specs.Line.{hbsign_app, task_found, task_or_lack}
-use Rattle.command.proofs.Finding.{handed_err, lacks_kind, or_others}
+use Rattle.command.specs.Line.{hbsign_app, task_found, task_or_fault}
+use Rattle.command.proofs.Finding.{handed_err, usage_kind_is, or_others}
 use Rattle.command.proofs.Walking.{simple, simple_and_free}
 use Rattle.command.proofs.line.read.Goals as goal
 
@@ -23,7 +23,7 @@ returns-in-Ok-clause-found g c =
     let words = map g.S.AsStr.text c.args.words.now in
     let built = c.in_ok-command.ensures in
     let rows = (c.in_ok-matches.ensures.ok.2 (ap is_simple built ∙ simple)).1 in
-    sym (ap task_found (rows ∙ ap (λ app. subcommand_of app words) built)) ∙ sym c.in_ok-request.ensures ∙ ap task_or_lack c.in-Ok.is
+    sym (ap task_found (rows ∙ ap (λ app. subcommand_of app words) built)) ∙ sym c.in_ok-request.ensures ∙ ap task_or_fault c.in-Ok.is
 
 pub returns-clause-err : goal.returns-clause-err
 returns-clause-err g c =
@@ -31,5 +31,5 @@ returns-clause-err g c =
     let built = c.in_ok-command.ensures in
     let none = ap (λ app. fault_of app words) (sym built) ∙ c.in_ok-matches.ensures.kinds (ap is_simple_and_free built ∙ simple_and_free) in
     let rows = (c.in_ok-matches.ensures.ok.2 (ap is_simple built ∙ simple)).1 in
-    let found = sym (ap task_found (rows ∙ ap (λ app. subcommand_of app words) built)) ∙ sym c.in_ok-request.ensures ∙ ap task_or_lack c.in-Err.is in
-    lacks_kind _ _ c.in-Err.lack c.in_ok-error-in-Err.field-0 none found (c.in_ok-error-in-Err.ensures.kind ∙ c.kind.ensures)
+    let found = sym (ap task_found (rows ∙ ap (λ app. subcommand_of app words) built)) ∙ sym c.in_ok-request.ensures ∙ ap task_or_fault c.in-Err.is in
+    usage_kind_is _ _ c.in-Err.fault c.in_ok-error-in-Err.field-0 none found (c.in_ok-error-in-Err.ensures.kind ∙ c.kind.ensures)

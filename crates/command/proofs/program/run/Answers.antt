@@ -1,7 +1,7 @@
 use Rattle.std.proofs.Common.{◌≡◌, inl, sym}
 use Rattle.command.specs.Line.{task_of}
 use Rattle.command.specs.Streams.{output_seen, streams, taken}
-use Rattle.command.proofs.ServeLines.{nothing_of_fault, replies_of_task}
+use Rattle.command.proofs.ServeLines.{errors_kept, nothing_of_fault, replies_of_task}
 use Rattle.command.proofs.program.run.Goals as goal
 
 pub returns-in-Ok-clause-runs : goal.returns-in-Ok-clause-runs
@@ -22,3 +22,7 @@ returns-in-Ok-clause-replies g c texts asks =
 pub returns-in-Err-clause-replies : goal.returns-in-Err-clause-replies
 returns-in-Err-clause-replies g c texts asks =
     inl (nothing_of_fault _ c.begins_with_serve.result c.in-Err.fault _ _ _ _ _ c.begins_with_serve.ensures texts asks c.in-Err.ensures.err c.explain.ensures.explains)
+
+pub returns-in-Err-clause-accepted : goal.returns-in-Err-clause-accepted
+returns-in-Err-clause-accepted g c none =
+    errors_kept _ c.begins_with_serve.result c.in-Err.fault _ _ _ _ _ c.begins_with_serve.ensures none c.in-Err.ensures.err c.explain.ensures.explains

@@ -23,14 +23,18 @@ at_end : (g : _) (c : goal.After-loop-k g)
 at_end g c = climb_end _ _ _ _ _ _ c.loop-k.invariant.climbed_to c.loop-k.auto.k-end c.loop-k-test.false
 
 pub returns-clause-last : goal.returns-clause-last
-returns-clause-last g c = (
-  climbed_nodes _ _ _ _,
-  climbed_is_ascent _ _ _ _,
-  at_end g c ∙ sym (climbed_nodes_at _ _ _ _ _ (omega arith)),
-)
+returns-clause-last g c =
+    let join = g.T.NodeHash.join_of c.args.tree.now in
+    let leaf = c.args.leaf.now in
+    let path = c.args.path.now in
+    record {
+      nodes = climbed_nodes join c.args.q leaf path;
+      ascent = climbed_is_ascent join c.args.q leaf path;
+      last = climbed_nodes_at join c.args.q leaf path (length path) (omega arith) ∙ sym (at_end g c);
+    }
 
 pub returns-clause-only : goal.returns-clause-only
-returns-clause-only g c = λ nodes ascent. at_end g c ∙ sym (ascent_at _ _ _ _ nodes _ ascent (omega arith))
+returns-clause-only g c = λ other led. sym led.last ∙ ascent_at _ _ _ _ led.nodes _ led.ascent (omega arith) ∙ sym (at_end g c)
 
 pub returns-clause-leads : goal.returns-clause-leads
 returns-clause-leads g c = λ leaves path_is leaf_is.

@@ -2,7 +2,7 @@ use Rattle.std.proofs.Common.{rules, arith, sym, ap, ◌∙◌, ◌≡◌, lengt
 use Rattle.std.specs.Prelude.{slice_index_or}
 use Rattle.std.proofs.lemmas.Grind.{pow_more}
 use Rattle.merkle.specs.Nodes.{nodes_under}
-use Rattle.merkle.proofs.Listing.{halves_inside, halves_joined, half_long, half_room, half_some, leaves_below}
+use Rattle.merkle.proofs.Listing.{halves_inside, nodes_over_halves, half_long, half_room, half_some, leaves_below}
 use Rattle.merkle.proofs.Listing.{nodes_one, one_written}
 use Rattle.merkle.proofs.nodes.+fill.Goals as goal
 
@@ -47,7 +47,7 @@ returns-clause-value g t c =
     let n = length c.args.into.now / 2 - 1 in
     let long = half_long (length c.args.into.now) c.args.depth c.requires.room (omega arith) in
     let some = half_some (length c.args.into.now) c.args.depth c.requires.room (omega arith) in
-    halves_joined leaf join c.args.base c.args.depth c.args.index n
+    nodes_over_halves leaf join c.args.base c.args.depth c.args.index n
     c.fill.new.into c.fill-2.new.into _ c.join.result (omega arith) (omega arith)
     c.fill.ensures.value
     (c.fill-2.ensures.value

@@ -3,7 +3,7 @@ use Rattle.std.specs.Prelude.{slice_index_or}
 use Rattle.std.proofs.lemmas.Grind.{pow_more}
 use Rattle.std.proofs.lemmas.Nat.{pow_pos}
 use Rattle.merkle.specs.Nodes.{nodes_under}
-use Rattle.merkle.proofs.Listing.{halves_inside, halves_joined, half_long, half_some, leaves_below, nodes_one}
+use Rattle.merkle.proofs.Listing.{halves_inside, nodes_over_halves, half_long, half_some, leaves_below, nodes_one}
 use Rattle.merkle.proofs.Listing.{one_written}
 use Rattle.merkle.proofs.nodes.+fill_from.Goals as goal
 
@@ -39,7 +39,7 @@ returns-clause-value g t c =
     let n = length c.args.into.now / 2 - 1 in
     let long = half_long (length c.args.into.now) c.args.depth c.requires.room (omega arith) in
     let some = half_some (length c.args.into.now) c.args.depth c.requires.room (omega arith) in
-    halves_joined leaf join c.args.base c.args.depth 0 n
+    nodes_over_halves leaf join c.args.base c.args.depth 0 n
     c.fill_from.new.into c.fill.new.into _ c.join.result (omega arith) (omega arith)
     c.fill_from.ensures.value
     (c.fill.ensures.value

@@ -1,10 +1,10 @@
 use Rattle.std.proofs.Common.{rules}
-use Rattle.sign_core.proofs.Exchanges.{answered_at, answered_frame, asks_stays, finish_stays, over_answered}
+use Rattle.sign_core.proofs.Exchanges.{after_answer, answered_at, answered_frame, asks_stays, finish_stays}
 use Rattle.sign_core.proofs.serving.answer.Goals as goal
 
 pub returns-clause-frame : goal.returns-clause-frame
 returns-clause-frame g c =
-    let asked = asks_stays _ (λ part. part.input.ghost_name) (λ old outcome new step. step.0) _ _ _ _ _ _ _ _ _ _ c.ask-reply.ensures.asks in
+    let same_request = asks_stays _ (λ part. part.input.ghost_name) (λ old outcome new step. step.0) _ _ _ _ _ _ _ _ _ _ c.ask-reply.ensures.asks in
     let finished = finish_stays _ (λ part. part.input.ghost_name) (λ old outcome new step. step.0) _ _ _ _ c.finish-is_whole.ensures in
     let frame = answered_frame g.S.Store g.R.Source _ g.I.Message (λ part. part.input.now) (λ part. part.left) (record { part = λ old outcome new step. step.1 })
     _ _ _ _ _ _ _ _ c.ask-reply.result c.finish-is_whole.result _ c.size_of.ensures.range c.ask-reply.ensures.capacity c.ask-reply.ensures.asks c.finish-is_whole.ensures in
@@ -13,4 +13,4 @@ returns-clause-frame g c =
 
 pub write_answer-written-requires : goal.write_answer-written-requires
 write_answer-written-requires g c =
-    over_answered g.S.Store g.R.Source _ _ _ _ _ _ _ _ _ c.finish-is_whole.result c.ask-reply.result c.ask-reply.ensures.asks c.finish-is_whole.ensures
+    after_answer g.S.Store g.R.Source _ _ _ _ _ _ _ _ _ c.finish-is_whole.result c.ask-reply.result c.ask-reply.ensures.asks c.finish-is_whole.ensures

@@ -1,6 +1,7 @@
 //! Inputs of every kind: the rows of the frames' rules, those that are cut, changed or fail, and those in pieces.
 
 use super::*;
+use crate::signer::tests::answer;
 
 // An input for a new key of which so many leaves were retired, what is written, and what the exchange ends with.
 const INPUTS: [(u32, &[u8], &[u8], Result<u64, ServeFault>); 12] = [
@@ -66,10 +67,7 @@ fn is_so(
 ) -> Option<bool> {
     let tape = counting::<80>(0);
     let file = new_file(alloc, LMS, &tape, retired)?;
-    let start = Start {
-        file: &file,
-        tape: &tape[48..],
-    };
+    let start = start_of(&file, &tape);
     let mut input = input_of(bytes, false);
     let came = served(alloc, start, &mut input, &mut taking_all(alloc))?;
     Some(came.output.as_slice() == output && came.end == end && came.file == file)
@@ -85,29 +83,13 @@ fn frames_are_replied_to_by_their_rules(rt: HostRuntime) {
 // Two requests of one name, with another message each.
 const CHANGED: &[u8] = b"\x04fw-1\0\0\0\x01\x01\x04fw-1\0\0\0\x01\x02";
 
-// The signature that a signer gives a name first.
-fn first_signature(alloc: Global, start: Start<'_>, name: &[u8], text: &[u8]) -> Option<Vec<u8>> {
-    let mut signer = open(alloc, start)?;
-    let mut out = Vec::new(alloc);
-    let mut message = text;
-    signer
-        .sign(&Name::new(name).ok()?, &mut message, &mut out)
-        .ok()?;
-    let mut again = text;
-    verify_any(&signer.public_key(), &mut again, &out).ok()?;
-    Some(out)
-}
-
 // Whether these requests, and the first one again, are replied to by the signature of the first message, by 21 and by
 // the same signature; and how long the file is then.
 fn is_changed_and_repeated(alloc: Global) -> Option<(bool, usize)> {
     let tape = counting::<80>(0);
     let file = new_file(alloc, LMS, &tape, 0)?;
-    let start = Start {
-        file: &file,
-        tape: &tape[48..],
-    };
-    let signature = first_signature(alloc, start, b"fw-1", &[1])?;
+    let start = start_of(&file, &tape);
+    let signature = answer(alloc, &mut open(alloc, start)?, b"fw-1", &[1])?.ok()?;
     let mut wanted = Vec::new(alloc);
     let signed: &[u8] = b"\0\0\0\x05\x0c";
     let changed: &[u8] = b"\x15\0\0\0\0";
@@ -186,10 +168,7 @@ const ENDS: [Result<u64, ServeFault>; 21] = [
 fn right_beginnings(alloc: Global) -> Option<usize> {
     let tape = counting::<80>(0);
     let file = new_file(alloc, CHEAP, &tape, 0)?;
-    let start = Start {
-        file: &file,
-        tape: &tape[48..],
-    };
+    let start = start_of(&file, &tape);
     for (len, end) in ENDS.iter().enumerate() {
         let bytes = CHANGED.get(..len)?;
         for (most, fails) in [
@@ -217,6 +196,66 @@ fn each_beginning_ends_by_its_frames(rt: HostRuntime) {
     assert_eq!(rt; right_beginnings(rt.alloc()), Some(21));
 }
 
+// An input that is interrupted without end after its bytes.
+#[derive(Drop)]
+struct Interrupted<'a> {
+    rest: &'a [u8],
+}
+
+impl Read for Interrupted<'_> {
+    fn read(&mut self, buffer: &mut [u8]) -> io::Result<usize> {
+        let n = buffer.len().min(self.rest.len());
+        if n == 0 {
+            return Err(io::Error::from(ErrorKind::Interrupted));
+        }
+        let (given, rest) = self.rest.split_at(n);
+        buffer[..n].copy_from_slice(given);
+        self.rest = rest;
+        Ok(n)
+    }
+}
+
+// What an exchange over such an input ends with; None where it isn't what the frames lead to where a read fails.
+fn end_of_interrupted(
+    alloc: Global,
+    start: Start<'_>,
+    bytes: &[u8],
+) -> Option<Result<u64, ServeFault>> {
+    let wanted = led_to(alloc, start, bytes, true)?;
+    let mut output = taking_all(alloc);
+    let mut signer = open(alloc, start)?;
+    let end = serve(
+        alloc,
+        &mut signer,
+        &mut Interrupted { rest: bytes },
+        &mut output,
+    );
+    let file = file_in(signer.into_store())?;
+    if output.taken != wanted.output || end != wanted.end || file != wanted.file {
+        return None;
+    }
+    Some(end)
+}
+
+// How many beginnings of the two requests end with 27 so.
+fn interrupted_beginnings(alloc: Global) -> Option<usize> {
+    let tape = counting::<80>(0);
+    let file = new_file(alloc, CHEAP, &tape, 0)?;
+    let start = start_of(&file, &tape);
+    for len in 0..CHANGED.len() {
+        if end_of_interrupted(alloc, start, CHANGED.get(..len)?)? != UNREAD {
+            return Some(len);
+        }
+    }
+    Some(CHANGED.len())
+}
+
+// Reads that are interrupted without end count as a failure, in each field of a frame and in a message.
+#[test]
+fn an_input_that_is_always_interrupted_ends(rt: HostRuntime) {
+    assert_eq!(rt; interrupted_beginnings(rt.alloc()), Some(20));
+}
+
 // What a byte is changed by: each bit alone, and to the edges of what names have.
 fn changed(byte: u8, number: u32) -> u8 {
     match [0x00, 0x05, 0x20, 0x21, 0x7e, 0x7f, 0x80, 0xff].get(number as usize) {
@@ -229,10 +268,7 @@ fn changed(byte: u8, number: u32) -> u8 {
 fn right_changes(alloc: Global) -> Option<usize> {
     let tape = counting::<80>(0);
     let file = new_file(alloc, CHEAP, &tape, 0)?;
-    let start = Start {
-        file: &file,
-        tape: &tape[48..],
-    };
+    let start = start_of(&file, &tape);
     let way = Way {
         most: usize::MAX,
         fails: false,
@@ -290,10 +326,7 @@ const WAYS: [(usize, bool, bool); 12] = [
 fn first_other_way(alloc: Global) -> Option<usize> {
     let tape = counting::<80>(0);
     let file = new_file(alloc, CHEAP, &tape, 31)?;
-    let start = Start {
-        file: &file,
-        tape: &tape[48..],
-    };
+    let start = start_of(&file, &tape);
     let frames = frames_of(alloc, &REQUESTS)?;
     for (i, (most, fails, interrupts)) in WAYS.iter().enumerate() {
         let way = Way {
@@ -314,38 +347,46 @@ fn frames_in_pieces_lead_to_the_same(rt: HostRuntime) {
     assert_eq!(rt; first_other_way(rt.alloc()), Some(12));
 }
 
-// The file of a key with a record of this slot changed: its root is another, though its tag is right.
-fn with_other_root(alloc: Global, start: Start<'_>, slot: u32) -> Option<Vec<u8>> {
-    let mut old = open(alloc, start)?.into_store();
+// Adds a record to a store, as its first one or after others.
+fn add<S: Store>(store: &mut S, added: &Record) -> Option<()> {
+    match (added, store.load(0)) {
+        (Record::Key(_), Ok(None)) | (_, Ok(Some(_))) => store.append(added).ok(),
+        _ => None,
+    }
+}
+
+// A record of a store; that of this slot has another root, though its tag will be right.
+fn with_other_root<S: Store>(store: &mut S, place: u32, slot: u32) -> Option<Record> {
+    let mut entry = store.load(place).ok()??;
+    match &mut entry {
+        Record::Key(key) if place == slot => key.root = [0; 32],
+        Record::Extend(extend) if place == slot => extend.root = [0; 32],
+        _ => {}
+    }
+    Some(entry)
+}
+
+// The file of a key with a record of this slot changed.
+fn changed_file(alloc: Global, old: FileStore<MemoryDisk>, slot: u32) -> Option<Vec<u8>> {
+    let mut old = old;
     let mut store = FileStore::format(MemoryDisk::of(alloc, &[]).ok()?).ok()?;
     for place in 0..old.count() {
-        let mut entry = old.load(place).ok()??;
-        match &mut entry {
-            Record::Key(key) if place == slot => key.root = [0; 32],
-            Record::Extend(extend) if place == slot => extend.root = [0; 32],
-            _ => {}
-        }
-        match (place, &entry, store.load(0)) {
-            (0, Record::Key(_), Ok(None)) | (_, _, Ok(Some(_))) => store.append(&entry).ok()?,
-            _ => return None,
-        }
+        add(&mut store, &with_other_root(&mut old, place, slot)?)?;
     }
     file_in(store)
 }
 
-// What requests of new names come to under a key of which such a root is another, and whether the file stays.
-fn of_other_root(alloc: Global, text: &str, slot: u32) -> Option<(Vec<u8>, bool)> {
+// The same of a new key after its first name.
+fn changed_after_a_name(alloc: Global, text: &str, slot: u32) -> Option<Vec<u8>> {
     let tape = counting::<240>(0);
     let mut signer = in_file(alloc, text, &tape)?;
-    let name = Name::new(b"fw-1").ok()?;
-    let mut out = Vec::new(alloc);
-    signer.sign(&name, &mut [1].as_slice(), &mut out).ok()?;
-    let file = file_in(signer.into_store())?;
-    let start = Start {
-        file: &file,
-        tape: &[],
-    };
-    let changed = with_other_root(alloc, start, slot)?;
+    answer(alloc, &mut signer, b"fw-1", &[1])?.ok()?;
+    changed_file(alloc, signer.into_store(), slot)
+}
+
+// What requests of new names come to under a key of which such a root is another, and whether the file stays.
+fn of_other_root(alloc: Global, text: &str, slot: u32) -> Option<(Vec<u8>, bool)> {
+    let changed = changed_after_a_name(alloc, text, slot)?;
     let start = Start {
         file: &changed,
         tape: &[],
@@ -358,12 +399,12 @@ fn of_other_root(alloc: Global, text: &str, slot: u32) -> Option<(Vec<u8>, bool)
 
 // The slot of the record is replied in four bytes.
 #[test]
-fn a_changed_root_is_told_with_its_slot(rt: HostRuntime) {
+fn a_changed_root_is_reported_with_its_slot(rt: HostRuntime) {
     for (text, slot, last) in [(CHEAP, 0, 0), ("hss:H5/W2,H5/W2", 1, 1)] {
         let wanted = [28, 0, 0, 0, 4, 0, 0, 0, last, 28, 0, 0, 0, 4, 0, 0, 0, last];
         let came = of_other_root(rt.alloc(), text, slot);
-        let is_told =
+        let is_reported =
             matches!(&came, Some((output, true)) if output.as_slice() == wanted.as_slice());
-        assert!(rt; is_told);
+        assert!(rt; is_reported);
     }
 }

@@ -1,5 +1,5 @@
-//! A long message takes no more memory than a short one, and serving takes none besides what signing takes, whatever
-//! the frames claim: each of these tests has as many growths of memory. They are counted from outside.
+//! A long message takes no more memory than a short one, and serving takes none besides what signing takes, however
+//! much the frames claim: each of these tests has as many growths of memory. They are counted from outside.
 
 use super::*;
 
@@ -31,14 +31,32 @@ impl Read for Parts<'_> {
     }
 }
 
-// An output that counts its bytes.
+// So many zeros.
+fn zeros(size: usize) -> Parts<'static> {
+    Parts {
+        head: &[],
+        zeros: size,
+        tail: &[],
+    }
+}
+
+// How long a reply with a signature of the key is.
+const REPLY: usize = 5 + 1292;
+
+// An output that keeps its first bytes, and counts all of them.
 #[derive(Drop)]
 struct Counter {
+    first: [u8; REPLY],
     bytes: usize,
 }
 
 impl Write for Counter {
     fn write(&mut self, bytes: &[u8]) -> io::Result<usize> {
+        if let Some(free) = self.first.get_mut(self.bytes..) {
+            for (kept, byte) in free.iter_mut().zip(bytes) {
+                *kept = *byte;
+            }
+        }
         self.bytes = self.bytes.wrapping_add(bytes.len());
         Ok(bytes.len())
     }
@@ -48,16 +66,12 @@ impl Write for Counter {
     }
 }
 
-// How long the signature of a message of so many zeros is.
+// How long the signature of a message of so many zeros is. None where it doesn't verify.
 fn signed(alloc: Global, signer: &mut InFile<'_>, size: usize) -> Option<usize> {
-    let mut message = Parts {
-        head: &[],
-        zeros: size,
-        tail: &[],
-    };
     let mut out = Vec::new(alloc);
     let name = Name::new(b"fw-1").ok()?;
-    signer.sign(&name, &mut message, &mut out).ok()?;
+    signer.sign(&name, &mut zeros(size), &mut out).ok()?;
+    verify_any(&signer.public_key(), &mut zeros(size), &out).ok()?;
     Some(out.len())
 }
 
@@ -74,10 +88,15 @@ fn signed_in_frame(alloc: Global, signer: &mut InFile<'_>, size: usize) -> Optio
         zeros: size,
         tail: CLAIMED,
     };
-    let mut output = Counter { bytes: 0 };
+    let mut output = Counter {
+        first: [0; REPLY],
+        bytes: 0,
+    };
     if serve(alloc, signer, &mut input, &mut output) != Err(ServeFault::MessageRead) {
         return None;
     }
+    let (_, signature) = output.first.split_first_chunk::<5>()?;
+    verify_any(&signer.public_key(), &mut zeros(size), signature).ok()?;
     output.bytes.checked_sub(15)
 }
 

@@ -30,12 +30,12 @@ fn first_of(input: &[u8]) -> Front<'_> {
         return Front::Cut;
     };
     let announced = u32::from_be_bytes(*announced) as usize;
-    let (message, behind) = rest.split_at(announced.min(rest.len()));
+    let (message, rest) = rest.split_at(announced.min(rest.len()));
     Front::Request(Frame {
         name,
         message,
         is_whole: message.len() == announced,
-        rest: behind,
+        rest,
     })
 }
 
@@ -47,7 +47,7 @@ fn reply(output: &mut Vec<u8>, number: u8, body: &[u8]) -> Option<()> {
     output.extend_from_slice(body).ok()
 }
 
-// Adds what is replied to a request.
+// Adds what is replied to a request. None where it is a signature that doesn't verify.
 fn answer(
     alloc: Global,
     signer: &mut InFile<'_>,
@@ -60,7 +60,11 @@ fn answer(
     let mut signature = Vec::new(alloc);
     let mut message = input_of(frame.message, !frame.is_whole);
     match signer.sign(&name, &mut message, &mut signature) {
-        Ok(()) => reply(output, 0, &signature),
+        Ok(()) => {
+            let mut text = frame.message;
+            verify_any(&signer.public_key(), &mut text, &signature).ok()?;
+            reply(output, 0, &signature)
+        }
         Err(SignFault::Damaged(slot)) => reply(output, 28, &slot.to_be_bytes()),
         Err(fault) => reply(output, fault.number(), &[]),
     }
@@ -112,7 +116,7 @@ pub(super) fn replies_to(
     let mut rest = input;
     for count in 0..u64::MAX {
         match take_first(alloc, signer, rest, fails, output)? {
-            Turn::Goes(behind) => rest = behind,
+            Turn::Goes(after) => rest = after,
             Turn::Ends(None) => return Some(Ok(count)),
             Turn::Ends(Some(fault)) => return Some(Err(fault)),
         }

@@ -102,14 +102,27 @@ fn ends_of(alloc: Global, start: Start<'_>) -> Option<(Vec<u8>, Vec<(usize, usiz
     Some((frames, ends))
 }
 
+// What an exchange over such a line ends with.
+fn end_over<'a>(
+    alloc: Global,
+    start: Start<'a>,
+    frames: &'a [u8],
+    line: &'a Line<'a>,
+) -> Option<Result<u64, ServeFault>> {
+    let mut client = Client {
+        line,
+        bytes: frames,
+    };
+    let mut replies = Replies { line };
+    let mut signer = open(alloc, start)?;
+    Some(serve(alloc, &mut signer, &mut client, &mut replies))
+}
+
 // What an exchange with a client that waits ends with, and whether all was sent and every reply passed on.
 fn with_client(alloc: Global) -> Option<(Result<u64, ServeFault>, bool)> {
     let tape = counting::<80>(0);
     let file = new_file(alloc, CHEAP, &tape, 31)?;
-    let start = Start {
-        file: &file,
-        tape: &tape[48..],
-    };
+    let start = start_of(&file, &tape);
     let (frames, ends) = ends_of(alloc, start)?;
     let line = Line {
         ends: &ends,
@@ -117,12 +130,7 @@ fn with_client(alloc: Global) -> Option<(Result<u64, ServeFault>, bool)> {
         taken: Cell::new(0),
         replies: Cell::new(0),
     };
-    let mut client = Client {
-        line: &line,
-        bytes: &frames,
-    };
-    let mut replies = Replies { line: &line };
-    let end = serve(alloc, &mut open(alloc, start)?, &mut client, &mut replies);
+    let end = end_over(alloc, start, &frames, &line)?;
     let all = (line.given.get(), line.taken.get());
     Some((end, ends.last() == Some(&all) && line.limits().is_none()))
 }

@@ -73,10 +73,7 @@ const REFUSED: &[u8] = b"\x01 \0\0\0\x01\x01\x04fw-1\0\0\0\x02\x01";
 fn cuts_as_it_should(alloc: Global, bytes: &[u8], most: usize, replies: u32) -> Option<bool> {
     let tape = counting::<112>(0);
     let file = new_file(alloc, CHEAP, &tape, 0)?;
-    let start = Start {
-        file: &file,
-        tape: &tape[48..],
-    };
+    let start = start_of(&file, &tape);
     let (writes, flushes, failed) = cut_by(alloc, start, bytes, most, Odd::Fails)?;
     let (_, _, without) = cut_by(alloc, start, bytes, most, Odd::TakesNothing)?;
     let (_, _, interrupted) = cut_by(alloc, start, bytes, most, Odd::IsInterrupted)?;
@@ -104,10 +101,7 @@ fn a_reply_that_can_not_be_written_ends_the_exchange(rt: HostRuntime) {
 fn is_the_same_by_bytes(alloc: Global) -> Option<bool> {
     let tape = counting::<112>(0);
     let file = new_file(alloc, LMS, &tape, 0)?;
-    let start = Start {
-        file: &file,
-        tape: &tape[48..],
-    };
+    let start = start_of(&file, &tape);
     let whole = led_to(alloc, start, REPLIED, false)?;
     let mut output = taking_all(alloc);
     output.most = 1;

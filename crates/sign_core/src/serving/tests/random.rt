@@ -83,32 +83,47 @@ fn written(
     Some(wanted.len())
 }
 
-// How many bytes are written over a thousand random inputs in a row, how many leaves are left then, and how long the
-// file is; None where two signers of one key come to something else.
-fn in_a_row(alloc: Global, seed: u64) -> Option<(usize, u32, usize)> {
-    let tape = counting::<4096>(0);
-    let file = new_file(alloc, CHEAP, &tape, 0)?;
-    let start = Start {
-        file: &file,
-        tape: &tape[48..],
-    };
-    let mut signer = open(alloc, start)?;
-    let mut other = open(alloc, start)?;
+// How many bytes are written over a thousand random inputs in a row; None where two signers of one key come to
+// something else.
+fn sum_written(
+    alloc: Global,
+    seed: u64,
+    signer: &mut InFile<'_>,
+    other: &mut InFile<'_>,
+) -> Option<usize> {
     let mut random = Random { state: seed };
     let mut sum = 0usize;
     for _ in 0..1000u32 {
-        sum = sum.checked_add(written(alloc, &mut random, &mut signer, &mut other)?)?;
+        sum = sum.checked_add(written(alloc, &mut random, signer, other)?)?;
     }
+    Some(sum)
+}
+
+// How many leaves a signer has left, and its file.
+fn left_and_file(signer: InFile<'_>) -> Option<(u32, Vec<u8>)> {
     let left = *signer.left().as_slice().first()?;
-    let file = file_in(signer.into_store())?;
-    if file_in(other.into_store())? != file {
+    Some((left, file_in(signer.into_store())?))
+}
+
+// How many bytes are written in such a row, how many leaves are left then, and how long the file is; None where the
+// other signer has others left.
+fn in_a_row(alloc: Global, seed: u64) -> Option<(usize, u32, usize)> {
+    let tape = counting::<4096>(0);
+    let file = new_file(alloc, CHEAP, &tape, 0)?;
+    let start = start_of(&file, &tape);
+    let mut signer = open(alloc, start)?;
+    let mut other = open(alloc, start)?;
+    let sum = sum_written(alloc, seed, &mut signer, &mut other)?;
+    let (left, file) = left_and_file(signer)?;
+    let (other_left, other_file) = left_and_file(other)?;
+    if other_left != left || other_file != file {
         return None;
     }
     Some((sum, left, file.len()))
 }
 
-// Of the 100,000 frames 213 are cut off whole. The others and 224 ends that are replied have a reply of 5 bytes each; 32
-// names are signed, and 219 repeated, with 4460 bytes. This was counted by the rules of frames and names alone.
+// Of the 100,000 frames 213 are cut off whole. The others and 224 ends that are replied have a reply of 5 bytes each;
+// 32 names are signed, and 219 repeated, with 4460 bytes. This was counted by the rules of frames and names alone.
 #[test]
 fn random_frames_are_in_step(rt: HostRuntime) {
     let wanted = 5 * (99_787 + 224) + (32 + 219) * 4460;

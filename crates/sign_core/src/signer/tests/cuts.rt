@@ -60,10 +60,10 @@ fn after_a_cut(
     said: &[Said],
 ) -> Option<(usize, bool)> {
     let store = cut_store(alloc, cut)?;
-    let mut signer = Signer::open(alloc, store, TapeSource::new(tape)).ok()?;
-    let count = first_other_call(alloc, &mut signer, calls)?;
-    let mut store = signer.into_store();
-    Some((count, are_said(&mut store, 2, said, &counting::<128>(0))?))
+    let signer = Signer::open(alloc, store, TapeSource::new(tape)).ok()?;
+    let drawn = counting::<128>(0);
+    let (count, is_said, _store) = calls_and_store(alloc, signer, calls, 2, said, &drawn)?;
+    Some((count, is_said))
 }
 
 // Where the record was left it is answered from that, and where it wasn't, the next name gets its leaf.
@@ -106,18 +106,17 @@ fn goes_on_with_the_tree(alloc: Global) -> Option<([usize; 2], bool, [u64; 2])> 
     let begin = counting::<128>(0);
     let rest = counting::<32>(128);
     let tape = counting::<160>(0);
-    let mut signer = in_file(alloc, TWO, &begin)?;
     let calls = [
         Call::Sign(1, 1, Some(SignFault::RandomFailed)),
         Call::Left(&[31, 32]),
     ];
-    let first = first_other_call(alloc, &mut signer, &calls)?;
-    let mut store = signer.into_store();
-    let is_left = are_said(&mut store, 1, &[Said::Extend(1, 0, 48)], &tape)?;
-    let (cut, mut signer) = goes_on_by(alloc, store, &rest)?;
-    let second = first_other_call(alloc, &mut signer, &[Call::Sign(2, 2, None)])?;
-    let mut store = signer.into_store();
-    let is_bound = are_said(&mut store, 2, &[Said::Bound(2, 0, Some(128))], &tape)?;
+    let tree = [Said::Extend(1, 0, 48)];
+    let signer = in_file(alloc, TWO, &begin)?;
+    let (first, is_left, store) = calls_and_store(alloc, signer, &calls, 1, &tree, &tape)?;
+    let calls = [Call::Sign(2, 2, None)];
+    let name = [Said::Bound(2, 0, Some(128))];
+    let (cut, signer) = goes_on_by(alloc, store, &rest)?;
+    let (second, is_bound, store) = calls_and_store(alloc, signer, &calls, 2, &name, &tape)?;
     let (whole, _signer) = goes_on_by(alloc, store, &[])?;
     Some(([first, second], is_left && is_bound, [cut, whole]))
 }
@@ -142,26 +141,37 @@ fn cut_file(alloc: Global, n: u32) -> Option<Option<MemoryDisk>> {
     let Ok(mut signer) = Signer::open(alloc, store, TapeSource::new(&tape)) else {
         return Some(None);
     };
-    if fault_of(alloc, &mut signer, &name_of(1), &[1])? != Some(SignFault::StoreFailed) {
+    let fails = Call::Sign(1, 1, Some(SignFault::StoreFailed));
+    if !is_answered(alloc, &mut signer, &fails)? {
         return Some(None);
     }
     Some(Some(signer.into_store().into_disk()))
 }
 
-// How many leaves a file opens with, and its length then and after one more name.
-fn goes_on_from(alloc: Global, disk: MemoryDisk) -> Option<(u32, u64, u64)> {
-    let tape = counting::<32>(0x60);
-    let store = FileStore::open(disk).ok()?;
-    let signer = Signer::open(alloc, store, TapeSource::new(&tape)).ok()?;
+// How many leaves a store opens with, and the store.
+fn left_in(alloc: Global, store: FileStore<MemoryDisk>) -> Option<(u32, FileStore<MemoryDisk>)> {
+    let signer = Signer::open(alloc, store, TapeSource::new(&[])).ok()?;
     let left = *signer.left().as_slice().first()?;
-    let mut disk = signer.into_store().into_disk();
-    let opened = disk.len().ok()?;
-    let store = FileStore::open(disk).ok()?;
+    Some((left, signer.into_store()))
+}
+
+// A store after one more name.
+fn with_a_name(alloc: Global, store: FileStore<MemoryDisk>) -> Option<FileStore<MemoryDisk>> {
+    let tape = counting::<32>(0x60);
     let mut signer = Signer::open(alloc, store, TapeSource::new(&tape)).ok()?;
-    if fault_of(alloc, &mut signer, &name_of(2), &[2])?.is_some() {
+    if !is_answered(alloc, &mut signer, &Call::Sign(2, 2, None))? {
         return None;
     }
-    Some((left, opened, signer.into_store().into_disk().len().ok()?))
+    Some(signer.into_store())
+}
+
+// How many leaves a file opens with, and its length then and after one more name.
+fn goes_on_from(alloc: Global, disk: MemoryDisk) -> Option<(u32, u64, u64)> {
+    let (left, store) = left_in(alloc, FileStore::open(disk).ok()?)?;
+    let mut disk = store.into_disk();
+    let opened = disk.len().ok()?;
+    let store = with_a_name(alloc, FileStore::open(disk).ok()?)?;
+    Some((left, opened, store.into_disk().len().ok()?))
 }
 
 // What a cut append leaves: the length of the file, and what it opens with where the disk goes on, and where the power

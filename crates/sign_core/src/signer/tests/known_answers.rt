@@ -66,8 +66,46 @@ fn message_of(alloc: Global, name: &str, number: u8, len: usize) -> Option<Vec<u
 // The file of a new key, where its public key is the known one.
 fn makes(alloc: Global, key: &Known<'_>) -> Option<MemoryDisk> {
     let tape = bytes_in(alloc, key.drawn)?;
+    let public = bytes_in(alloc, key.public)?;
     let signer = in_file(alloc, key.spec, &tape)?;
-    if signer.public_key().write().as_slice() != bytes_in(alloc, key.public)?.as_slice() {
+    if signer.public_key().write().as_slice() != public.as_slice() {
+        return None;
+    }
+    Some(signer.into_store().into_disk())
+}
+
+// Whether a message under the name of a number has the signature of this digest.
+fn signs_so<S: Store, R: Source>(
+    alloc: Global,
+    signer: &mut Signer<S, R>,
+    number: u8,
+    message: &[u8],
+    digest: &[u8],
+) -> Option<bool> {
+    let signature = answer(alloc, signer, &name_of(number), message)?.ok()?;
+    Some(Sha256::digest(&signature).as_slice() == digest)
+}
+
+// The file after such a name, with these bytes drawn for it.
+fn signed(
+    alloc: Global,
+    store: FileStore<MemoryDisk>,
+    tape: &[u8],
+    number: u8,
+    message: &[u8],
+    digest: &[u8],
+) -> Option<MemoryDisk> {
+    let mut signer = Signer::open(alloc, store, TapeSource::new(tape)).ok()?;
+    if !signs_so(alloc, &mut signer, number, message, digest)? {
+        return None;
+    }
+    Some(signer.into_store().into_disk())
+}
+
+// The file after leaves are retired.
+fn retired(alloc: Global, store: FileStore<MemoryDisk>, upto: u32) -> Option<MemoryDisk> {
+    let mut signer = Signer::open(alloc, store, TapeSource::new(&[])).ok()?;
+    if !is_answered(alloc, &mut signer, &Call::Retire(upto, None))? {
         return None;
     }
     Some(signer.into_store().into_disk())
@@ -86,18 +124,9 @@ fn goes_on(alloc: Global, disk: MemoryDisk, name: &str, step: &Step<'_>) -> Opti
             let tape = bytes_in(alloc, drawn)?;
             let message = message_of(alloc, name, *number, *len)?;
             let wanted = bytes_in(alloc, &[*digest])?;
-            let mut signer = Signer::open(alloc, store, TapeSource::new(&tape)).ok()?;
-            let signature = answer(alloc, &mut signer, &name_of(*number), &message)?.ok()?;
-            if Sha256::digest(&signature).as_slice() != wanted.as_slice() {
-                return None;
-            }
-            Some(signer.into_store().into_disk())
+            signed(alloc, store, &tape, *number, &message, &wanted)
         }
-        Step::Retire(upto) => {
-            let mut signer = Signer::open(alloc, store, TapeSource::new(&[])).ok()?;
-            signer.retire(*upto).ok()?;
-            Some(signer.into_store().into_disk())
-        }
+        Step::Retire(upto) => retired(alloc, store, *upto),
     }
 }
 

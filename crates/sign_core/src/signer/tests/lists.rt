@@ -220,24 +220,27 @@ fn faults_of_ledgers_have_numbers(rt: HostRuntime) {
     }
 }
 
-// What a new name and a Retire answer under a key whose root isn't that of its tree, and the length of its file then.
-fn of_other_root(alloc: Global) -> Option<(usize, u64)> {
+// What new names answer under a key whose root isn't that of its tree, whether its cache was made, and how long its
+// file is then.
+fn of_other_root(alloc: Global) -> Option<(usize, bool, u64)> {
     let tape = counting::<32>(0);
     let store = FileStore::open(filed(alloc, &[Entry::Bound(3, 0)])?).ok()?;
-    let mut signer = Signer::open(alloc, store, TapeSource::new(&tape)).ok()?;
     let damaged = Some(SignFault::Damaged(0));
     let calls = [
         Call::Sign(1, 1, damaged),
         Call::Sign(2, 2, damaged),
         Call::Left(&[28]),
     ];
+    let mut signer = Signer::open(alloc, store, TapeSource::new(&tape)).ok()?;
     let count = first_other_call(alloc, &mut signer, &calls)?;
-    Some((count, signer.into_store().into_disk().len().ok()?))
+    let has_cache = signer.cache_leaves(0).is_some();
+    let len = signer.into_store().into_disk().len().ok()?;
+    Some((count, has_cache, len))
 }
 
 #[test]
 fn a_changed_root_is_found(rt: HostRuntime) {
-    assert_eq!(rt; of_other_root(rt.alloc()), Some((3, 513)));
+    assert_eq!(rt; of_other_root(rt.alloc()), Some((3, true, 513)));
 }
 
 // A store of a key of two levels with a lower tree whose root and digest aren't those of its secrets. Under it a name

@@ -57,9 +57,13 @@ fn store_of(disk: MemoryDisk) -> Option<FileStore<MemoryDisk>> {
     }
 }
 
-// The signer of a store, whose source begins with this number.
-fn opened_on<S: Store + Drop>(alloc: Global, store: S, next: u8) -> Option<Signer<S, Numbers>> {
-    match Signer::open(alloc, store, Numbers { next }) {
+// The signer of a store, with this source.
+fn opened_by<S: Store + Drop, R: Source + Drop>(
+    alloc: Global,
+    store: S,
+    random: R,
+) -> Option<Signer<S, R>> {
+    match Signer::open(alloc, store, random) {
         Ok(signer) => Some(signer),
         Err(refused) => match refused.fault {
             SignFault::NoMemoryToOpen => {
@@ -69,6 +73,11 @@ fn opened_on<S: Store + Drop>(alloc: Global, store: S, next: u8) -> Option<Signe
             _ => None,
         },
     }
+}
+
+// The signer of a store, whose source begins with this number.
+fn opened_on<S: Store + Drop>(alloc: Global, store: S, next: u8) -> Option<Signer<S, Numbers>> {
+    opened_by(alloc, store, Numbers { next })
 }
 
 // Closes a signer, and opens its file again.
@@ -127,8 +136,37 @@ fn request<S: Store>(
     Some(answer)
 }
 
-// The signer after a request and its answer, at the second try where memory was refused at the first: then no name
-// was bound, and a signer whose store failed is closed until it is opened again.
+// Whether a name is bound.
+fn is_bound<S: Store>(signer: &Signer<S, Numbers>, name: &Name) -> bool {
+    signer.ledger.find(name).is_some()
+}
+
+// What a request answers first. None where a refusal of memory bound its name, or where a signer isn't closed whose
+// store failed.
+fn first_answer<S: Store>(
+    signer: &mut Signer<S, Numbers>,
+    name: &Name,
+    message: u8,
+    out: &mut Vec<u8>,
+) -> Option<Result<(), SignFault>> {
+    let was_bound = is_bound(signer, name);
+    let answer = request(signer, name, message, out)?;
+    let is_so = match answer {
+        Err(SignFault::OutOfMemory) => is_bound(signer, name) == was_bound,
+        Err(SignFault::StoreFailed) => {
+            request(signer, name, message, out)? == Err(SignFault::Stopped)
+        }
+        _ => true,
+    };
+    if !is_so {
+        return None;
+    }
+    Some(answer)
+}
+
+// The signer after a request and its answer. Where memory was refused no name was bound, and the answer is that of the
+// request that comes again when the file is opened again, with what the source gives next. Where the store failed the
+// signer is closed until then.
 fn answered(
     alloc: Global,
     signer: Numbered,
@@ -138,22 +176,19 @@ fn answered(
 ) -> Option<(Numbered, Result<(), SignFault>)> {
     let mut signer = signer;
     let name = Name::new(&name_of(number)).ok()?;
-    let was_bound = signer.ledger.find(&name).is_some();
-    let mut answer = request(&mut signer, &name, message, out)?;
-    if answer == Err(SignFault::OutOfMemory) {
-        if signer.ledger.find(&name).is_some() != was_bound {
-            return None;
-        }
-        answer = request(&mut signer, &name, message, out)?;
+    let was_bound = is_bound(&signer, &name);
+    let answer = first_answer(&mut signer, &name, message, out)?;
+    let next = match answer {
+        Err(SignFault::OutOfMemory) => signer.random.next,
+        Err(SignFault::StoreFailed) => 100,
+        _ => return Some((signer, answer)),
+    };
+    let mut signer = reopened(alloc, signer, next)?;
+    if answer == Err(SignFault::OutOfMemory) && is_bound(&signer, &name) != was_bound {
+        return None;
     }
-    if answer == Err(SignFault::StoreFailed) {
-        if request(&mut signer, &name, message, out)? != Err(SignFault::Stopped) {
-            return None;
-        }
-        signer = reopened(alloc, signer, 100)?;
-        answer = request(&mut signer, &name, message, out)?;
-    }
-    Some((signer, answer))
+    let again = request(&mut signer, &name, message, out)?;
+    Some((signer, again))
 }
 
 // The length of a signer's file.
@@ -181,15 +216,19 @@ fn one_tree_signs_at_last(rt: HostRuntime) {
     assert_eq!(rt; signs_and_repeats(rt.alloc()), Some(true));
 }
 
-// Whether the first name of a key makes its trees: how many leaves are left then, how long the signature is, and
-// the file.
-fn makes_trees(alloc: Global, text: &str, left: &[u32]) -> Option<(bool, usize, u64)> {
+// Whether a new name of a key is signed, and so many leaves are left when its file is opened again; and how long the
+// signature is, and the file.
+fn signs_anew(alloc: Global, signer: Numbered, left: &[u32]) -> Option<(bool, usize, u64)> {
     let mut out = Vec::new(alloc);
-    let signer = reopened(alloc, created(alloc, text)?, 50)?;
-    let (signer, signed) = answered(alloc, signer, 1, 1, &mut out)?;
+    let (signer, signed) = answered(alloc, signer, 40, 1, &mut out)?;
     let signer = reopened(alloc, signer, 150)?;
     let is_left = signer.left().as_slice() == left;
     Some((signed == Ok(()) && is_left, out.len(), len_of(signer)?))
+}
+
+// Whether the first name of a key makes its trees.
+fn makes_trees(alloc: Global, text: &str, left: &[u32]) -> Option<(bool, usize, u64)> {
+    signs_anew(alloc, reopened(alloc, created(alloc, text)?, 50)?, left)
 }
 
 #[test]
@@ -272,8 +311,8 @@ fn a_used_tree_is_replaced_at_last(rt: HostRuntime) {
 
 // What a request answers of a signer in memory, at the second try where memory was refused at the first: then no
 // name was bound. Whether it was refused after something was drawn, so by the store.
-fn answered_in_memory(
-    signer: &mut NumberedInMemory,
+fn answered_in_memory<S: Store>(
+    signer: &mut Signer<S, Numbers>,
     number: u8,
     out: &mut Vec<u8>,
 ) -> Option<(Result<(), SignFault>, bool)> {
@@ -283,7 +322,7 @@ fn answered_in_memory(
     if answer != Err(SignFault::OutOfMemory) {
         return Some((answer, false));
     }
-    if signer.ledger.find(&name).is_some() {
+    if is_bound(signer, &name) {
         return None;
     }
     let was_drawn = signer.random.next != next;
@@ -315,33 +354,47 @@ fn created_within(alloc: Global, text: &str, limit: u32) -> Option<MemoryStore> 
     }
 }
 
-// Ten names of a key in memory, after eight of which more leaves are retired: whether its store was refused memory
-// for a name, and whether for leaves. None where they aren't all recorded at last, or a refusal of another memory
-// draws anything.
-fn refused_in_memory_for(alloc: Global) -> Option<(bool, bool)> {
-    let mut out = Vec::new(alloc);
-    let mut signer = opened_on(alloc, created_in_memory(alloc, LMS)?, 50)?;
+// Whether memory was refused for a retirement of leaves, which comes again then.
+fn retires_again<S: Store>(signer: &mut Signer<S, Numbers>, upto: u32) -> Option<bool> {
+    if signer.retire(upto) != Err(SignFault::OutOfMemory) {
+        return Some(false);
+    }
+    signer.retire(upto).ok()?;
+    Some(true)
+}
+
+// Ten names of a key, after eight of which more leaves are retired: whether its store was refused memory for a name,
+// and whether for leaves. None where they aren't all recorded at last, or a refusal of another memory draws anything.
+fn refused_for<S: Store>(
+    signer: &mut Signer<S, Numbers>,
+    out: &mut Vec<u8>,
+) -> Option<(bool, bool)> {
     let mut is_name = false;
     let mut is_retire = false;
     for number in 0..10u8 {
-        let (answer, was_drawn) = answered_in_memory(&mut signer, number, &mut out)?;
+        let (answer, was_drawn) = answered_in_memory(signer, number, out)?;
         answer.ok()?;
         is_name = is_name || was_drawn;
         let upto = 3 * u32::from(number) + 3;
-        if number % 5 != 0 && signer.retire(upto) == Err(SignFault::OutOfMemory) {
-            is_retire = true;
-            signer.retire(upto).ok()?;
-        }
+        is_retire = (number % 5 != 0 && retires_again(signer, upto)?) || is_retire;
     }
     let drawn = if is_name { 61 } else { 60 };
     if signer.left().as_slice() != [2].as_slice() || signer.random.next != drawn {
         return None;
     }
+    Some((is_name, is_retire))
+}
+
+// The same of a new key in memory, which has these records then and no other.
+fn refused_in_memory_for(alloc: Global) -> Option<(bool, bool)> {
+    let mut out = Vec::new(alloc);
+    let mut signer = opened_on(alloc, created_in_memory(alloc, LMS)?, 50)?;
+    let refused = refused_for(&mut signer, &mut out)?;
     let mut store = signer.into_store();
     if store.load(18).ok()?.is_none() || store.load(19) != Ok(None) {
         return None;
     }
-    Some((is_name, is_retire))
+    Some(refused)
 }
 
 #[test]
@@ -363,13 +416,27 @@ fn leaves_are_retired_in_memory_at_first(rt: HostRuntime) {
     assert!(rt; refused == Some((false, false)) || refused == Some((true, false)));
 }
 
+// Adds a lower tree to a new key of two levels, and a name for each of the tree's leaves.
+fn add_named_tree<S: Store>(store: &mut S) -> Option<()> {
+    add_all(store, &[Entry::Extend(1, 0, 6)])?;
+    for number in 0..32u8 {
+        add_all(store, &[Entry::Bound(u32::from(number), number)])?;
+    }
+    Some(())
+}
+
 // A key of two levels in memory, whose lower tree has all its leaves named.
 fn named_tree(alloc: Global) -> Option<MemoryStore> {
     let mut store = created_in_memory(alloc, TWO)?;
-    add_all(&mut store, &[Entry::Extend(1, 0, 6)])?;
-    for number in 0..32u8 {
-        add_all(&mut store, &[Entry::Bound(u32::from(number), number)])?;
-    }
+    add_named_tree(&mut store)?;
+    Some(store)
+}
+
+// The same in a file.
+fn named_file(alloc: Global) -> Option<FileStore<MemoryDisk>> {
+    let place = FileStore::format(MemoryDisk::of(alloc, &[]).ok()?).ok()?;
+    let mut store = create_on(alloc, TWO, place)?.into_store();
+    add_named_tree(&mut store)?;
     Some(store)
 }
 
@@ -421,6 +488,21 @@ fn a_full_tree_is_replaced_at_last(rt: HostRuntime) {
         goes_on_anew(rt.alloc(), store, &[30, 31], 36),
         Some((true, 2644))
     );
+}
+
+// What the next name of a key in a file whose lower tree is full comes to.
+fn goes_on_in_a_file(alloc: Global) -> Option<(bool, usize, u64)> {
+    let store = match named_file(alloc) {
+        Some(store) => store,
+        None => named_file(alloc)?,
+    };
+    signs_anew(alloc, opened_on(alloc, store, 50)?, &[30, 31])
+}
+
+#[test]
+fn a_full_tree_in_a_file_is_replaced_at_last(rt: HostRuntime) {
+    let wanted = (true, 2644, 9217);
+    assert_eq!(rt; goes_on_in_a_file(rt.alloc()), Some(wanted));
 }
 
 #[test]
@@ -477,6 +559,51 @@ fn a_repeated_draw_is_found_at_last(rt: HostRuntime) {
     assert_eq!(rt; draws_again(rt.alloc()), Some(wanted));
 }
 
+// A new name of a key of two levels whose source ends after the draws of the lower tree, or at once where that tree is
+// recorded: the store after it, and the fault.
+fn ends_short(
+    alloc: Global,
+    store: FileStore<MemoryDisk>,
+) -> Option<(FileStore<MemoryDisk>, Option<SignFault>)> {
+    let tape = counting::<80>(48);
+    let used = if store.count() > 1 { tape.len() } else { 0 };
+    let mut signer = opened_by(alloc, store, TapeSource::new(tape.get(used..)?))?;
+    let fault = fault_of(alloc, &mut signer, &name_of(1), &[1])?;
+    Some((signer.into_store(), fault))
+}
+
+// The same at the second try where memory was refused or the store failed at the first, and the file opened again
+// between.
+fn ends_short_at_last(alloc: Global) -> Option<(FileStore<MemoryDisk>, Option<SignFault>)> {
+    let store = created(alloc, TWO)?.into_store();
+    let (store, fault) = ends_short(alloc, store)?;
+    match fault {
+        Some(SignFault::OutOfMemory) | Some(SignFault::StoreFailed) => {
+            ends_short(alloc, store_of(store.into_disk())?)
+        }
+        _ => Some((store, fault)),
+    }
+}
+
+// What such a name is answered, whether the leaves that are left are those of a new lower tree, and how long its file
+// is then; and what the next name comes to, whose source gives all.
+fn ends_and_goes_on(alloc: Global) -> Option<(Option<SignFault>, bool, u64, (bool, usize, u64))> {
+    let (store, fault) = ends_short_at_last(alloc)?;
+    let signer = opened_on(alloc, store_of(store.into_disk())?, 200)?;
+    let is_left = signer.left().as_slice() == [31, 32].as_slice();
+    let mut disk = signer.into_store().into_disk();
+    let len = disk.len().ok()?;
+    let signer = opened_on(alloc, store_of(disk)?, 200)?;
+    Some((fault, is_left, len, signs_anew(alloc, signer, &[31, 31])?))
+}
+
+// The lower tree stays, and the next name is bound to its first leaf.
+#[test]
+fn a_source_that_ends_is_answered_at_last(rt: HostRuntime) {
+    let wanted = (Some(SignFault::RandomFailed), true, 513, (true, 2644, 769));
+    assert_eq!(rt; ends_and_goes_on(rt.alloc()), Some(wanted));
+}
+
 // The signer of a key in memory, opened again after the append of its first name was cut, where its source begins
 // with the number 70.
 fn cut_name(alloc: Global, cut: Cut) -> Option<NumberedInMemory> {
@@ -495,27 +622,31 @@ fn cut_name(alloc: Global, cut: Cut) -> Option<NumberedInMemory> {
 
 // Whether a name that such a cut left is bound: it has a signature with nothing drawn, at the second try where memory
 // was refused at the first, and another message has none.
-fn is_bound_after_a_cut(alloc: Global) -> Option<bool> {
-    let mut out = Vec::new(alloc);
-    let mut signer = cut_name(alloc, Cut::New)?;
+fn is_repeated<S: Store>(signer: &mut Signer<S, Numbers>, out: &mut Vec<u8>) -> Option<bool> {
     let name = Name::new(&name_of(1)).ok()?;
-    let mut answer = request(&mut signer, &name, 1, &mut out)?;
+    let mut answer = request(signer, &name, 1, out)?;
     if answer == Err(SignFault::OutOfMemory) {
-        answer = request(&mut signer, &name, 1, &mut out)?;
+        answer = request(signer, &name, 1, out)?;
     }
-    let changed = request(&mut signer, &name, 2, &mut out)?;
+    let changed = request(signer, &name, 2, out)?;
     let is_kept = signer.random.next == 70 && signer.left().as_slice() == [31].as_slice();
     Some(answer == Ok(()) && changed == Err(SignFault::Changed) && is_kept)
 }
 
+fn is_bound_after_a_cut(alloc: Global) -> Option<bool> {
+    is_repeated(&mut cut_name(alloc, Cut::New)?, &mut Vec::new(alloc))
+}
+
 // Whether a name that such a cut didn't leave is free, and another name gets its leaf.
-fn is_free_after_a_cut(alloc: Global) -> Option<bool> {
-    let mut out = Vec::new(alloc);
-    let mut signer = cut_name(alloc, Cut::Old)?;
+fn is_given_anew<S: Store>(signer: &mut Signer<S, Numbers>, out: &mut Vec<u8>) -> Option<bool> {
     let is_free = signer.left().as_slice() == [32].as_slice();
-    let (answer, _) = answered_in_memory(&mut signer, 2, &mut out)?;
+    let (answer, _) = answered_in_memory(signer, 2, out)?;
     let is_left = signer.left().as_slice() == [31].as_slice();
     Some(is_free && answer == Ok(()) && is_left && out.get(..4) == Some([0; 4].as_slice()))
+}
+
+fn is_free_after_a_cut(alloc: Global) -> Option<bool> {
+    is_given_anew(&mut cut_name(alloc, Cut::Old)?, &mut Vec::new(alloc))
 }
 
 #[test]
@@ -532,15 +663,24 @@ fn other_root(alloc: Global) -> Option<MemoryStore> {
     }
 }
 
-// What the first request of a new name answers under such a key, and where memory is refused for it, the second.
-fn of_other_root_twice(alloc: Global) -> Option<(SignFault, Option<SignFault>)> {
-    let tape = counting::<32>(0);
-    let mut signer = Signer::open(alloc, other_root(alloc)?, TapeSource::new(&tape)).ok()?;
-    let first = fault_of(alloc, &mut signer, b"fw-1", &[1])??;
+// The fault of the first request of a name, and where memory is refused for it, of the second.
+fn fault_twice<S: Store, R: Source>(
+    alloc: Global,
+    signer: &mut Signer<S, R>,
+    name: &[u8],
+) -> Option<(SignFault, Option<SignFault>)> {
+    let first = fault_of(alloc, signer, name, &[1])??;
     if first != SignFault::OutOfMemory {
         return Some((first, None));
     }
-    Some((first, fault_of(alloc, &mut signer, b"fw-1", &[1])?))
+    Some((first, fault_of(alloc, signer, name, &[1])?))
+}
+
+// The faults of a new name under such a key.
+fn of_other_root_twice(alloc: Global) -> Option<(SignFault, Option<SignFault>)> {
+    let tape = counting::<32>(0);
+    let mut signer = Signer::open(alloc, other_root(alloc)?, TapeSource::new(&tape)).ok()?;
+    fault_twice(alloc, &mut signer, b"fw-1")
 }
 
 // Want of memory comes before what is wrong in the records, and the next request says that.
@@ -584,15 +724,10 @@ fn bound_under_other_root(alloc: Global) -> Option<MemoryStore> {
     }
 }
 
-// What the first request of a bound name answers under such a key, and where memory is refused for it, the second.
+// The faults of a bound name under such a key.
 fn of_bound_name_twice(alloc: Global) -> Option<(SignFault, Option<SignFault>)> {
-    let store = bound_under_other_root(alloc)?;
-    let mut signer = opened_on(alloc, store, 0)?;
-    let first = fault_of(alloc, &mut signer, &name_of(1), &[1])??;
-    if first != SignFault::OutOfMemory {
-        return Some((first, None));
-    }
-    Some((first, fault_of(alloc, &mut signer, &name_of(1), &[1])?))
+    let mut signer = opened_on(alloc, bound_under_other_root(alloc)?, 0)?;
+    fault_twice(alloc, &mut signer, &name_of(1))
 }
 
 // Under a bound name, too, want of memory comes before what is wrong in the records.

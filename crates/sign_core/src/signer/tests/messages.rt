@@ -35,6 +35,21 @@ fn fails_after<S: Store, R: Source>(
     Some(is_refused && signer.left().as_slice() == left)
 }
 
+// Whether messages that fail after each of these counts of bytes are refused so.
+fn all_fail<S: Store, R: Source>(
+    alloc: Global,
+    signer: &mut Signer<S, R>,
+    counts: &[usize],
+    left: &[u32],
+) -> Option<bool> {
+    for count in counts {
+        if !fails_after(alloc, signer, *count, left)? {
+            return Some(false);
+        }
+    }
+    Some(true)
+}
+
 // Whether messages of a key that fail after each of these counts of bytes leave so many leaves, and the first name
 // gets its signature then; and whether the key's store has these records then, from the second on.
 fn fails_after_each(
@@ -46,14 +61,10 @@ fn fails_after_each(
     said: &[Said],
 ) -> Option<(bool, bool)> {
     let mut signer = in_memory(alloc, text, MemoryStore::with_limit(alloc, 100), tape)?;
-    for count in counts {
-        if !fails_after(alloc, &mut signer, *count, left)? {
-            return Some((false, false));
-        }
-    }
-    let is_signed = is_answered(alloc, &mut signer, &Call::Sign(1, 0, None))?;
-    let mut store = signer.into_store();
-    Some((is_signed, are_said(&mut store, 1, said, tape)?))
+    let all_failed = all_fail(alloc, &mut signer, counts, left)?;
+    let calls = [Call::Sign(1, 0, None)];
+    let (count, is_said, _store) = calls_and_store(alloc, signer, &calls, 1, said, tape)?;
+    Some((all_failed && count == calls.len(), is_said))
 }
 
 // No failed message binds a name: each draws a C.
@@ -87,18 +98,27 @@ fn a_failed_message_uses_no_xmss_leaf(rt: HostRuntime) {
     assert_eq!(rt; answer, Some((true, true)));
 }
 
-// Whether a name that is bound keeps its signature after messages that fail.
+// Whether a name keeps its signature after messages that fail.
+fn keeps_after_failures<S: Store, R: Source>(
+    alloc: Global,
+    signer: &mut Signer<S, R>,
+    counts: &[usize],
+    left: &[u32],
+) -> Option<bool> {
+    let first = answer(alloc, signer, &name_of(1), &[0; 3])?.ok()?;
+    let all_failed = all_fail(alloc, signer, counts, left)?;
+    let again = answer(alloc, signer, &name_of(1), &[0; 3])?.ok()?;
+    Some(all_failed && first == again)
+}
+
+// The same of a new key, whose store has no record more then.
 fn keeps_its_signature(alloc: Global) -> Option<bool> {
     let tape = counting::<80>(0);
+    let counts = [0, 1, 2, 3, 4, 16_384, 16_385, 40_000];
     let mut signer = in_memory(alloc, LMS, MemoryStore::with_limit(alloc, 100), &tape)?;
-    let first = answer(alloc, &mut signer, &name_of(1), &[0; 3])?.ok()?;
-    for count in [0, 1, 2, 3, 4, 16_384, 16_385, 40_000] {
-        if !fails_after(alloc, &mut signer, count, &[31])? {
-            return Some(false);
-        }
-    }
-    let again = answer(alloc, &mut signer, &name_of(1), &[0; 3])?.ok()?;
-    Some(first == again && signer.store.load(2) == Ok(None))
+    let is_kept = keeps_after_failures(alloc, &mut signer, &counts, &[31])?;
+    let mut store = signer.into_store();
+    Some(is_kept && store.load(2) == Ok(None))
 }
 
 #[test]
@@ -129,9 +149,9 @@ impl Read for Pieces<'_> {
 }
 
 // The signature of a message that is given in pieces of this size.
-fn in_pieces(
+fn in_pieces<S: Store, R: Source>(
     alloc: Global,
-    signer: &mut InMemory<'_>,
+    signer: &mut Signer<S, R>,
     text: &[u8],
     size: usize,
 ) -> Option<Vec<u8>> {
@@ -148,18 +168,30 @@ fn in_pieces(
     Some(out)
 }
 
-// Whether a message has one signature, however it is cut.
+// Whether a message has the signature that it has in pieces of one byte, where its pieces have each of these sizes.
+fn is_one_in_pieces<S: Store, R: Source>(
+    alloc: Global,
+    signer: &mut Signer<S, R>,
+    text: &[u8],
+    sizes: &[usize],
+) -> Option<bool> {
+    let first = in_pieces(alloc, signer, text, 1)?;
+    for size in sizes {
+        if in_pieces(alloc, signer, text, *size)? != first {
+            return Some(false);
+        }
+    }
+    Some(true)
+}
+
+// Whether a message has one signature, however it is cut, and the store has no record more then.
 fn is_one_however_cut(alloc: Global) -> Option<bool> {
     let tape = counting::<80>(0);
     let text = counting::<200>(7);
     let mut signer = in_memory(alloc, LMS, MemoryStore::with_limit(alloc, 100), &tape)?;
-    let first = in_pieces(alloc, &mut signer, &text, 1)?;
-    for size in [63, 64, 65, 200, 1000] {
-        if in_pieces(alloc, &mut signer, &text, size)? != first {
-            return Some(false);
-        }
-    }
-    Some(signer.store.load(2) == Ok(None))
+    let is_one = is_one_in_pieces(alloc, &mut signer, &text, &[63, 64, 65, 200, 1000])?;
+    let mut store = signer.into_store();
+    Some(is_one && store.load(2) == Ok(None))
 }
 
 #[test]

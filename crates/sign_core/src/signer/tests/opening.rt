@@ -181,6 +181,7 @@ fn signs_after(alloc: Global, trees: u32, names: u8) -> Option<ArrayVec<u32, 8>>
         let mut message = b"m".as_slice();
         let name = Name::new(&name_of(number)).ok()?;
         signer.sign(&name, &mut message, &mut out).ok()?;
+        verify_any(&signer.public_key(), &mut b"m".as_slice(), &out).ok()?;
     }
     Some(signer.left())
 }

@@ -1,5 +1,5 @@
-use Rattle.xmss.proofs.Verdicts.{accepted, one_refusal, read_in_turn}
+use Rattle.xmss.proofs.Verdicts.{laws}
 use Rattle.xmss.proofs.laws.verdict_laws.Goals as goal
 
 pub returns : goal.returns
-returns c = record { accepted = accepted; one_refusal = one_refusal (Unit {0}); read_in_turn = read_in_turn (Unit {0}) }
+returns c = laws

@@ -1,5 +1,7 @@
 use Rattle.std.proofs.Common.{◌≡◌, ◌<◌, ◌^◌, ap, refl, rules, subst, ◌∙◌}
 use Rattle.typecodes.specs.Types.{chains_of, height_of}
+use Rattle.lms.specs.Verification.{LeadsTo}
+use Rattle.lms.specs.View.{signature_of}
 use Rattle.lms.proofs.signature.LmsSigView.verify_digest.Goals as goal
 
 -- the root is the key's: the signature is valid
@@ -13,7 +15,7 @@ returns-then-eq c =
       chains = view.chain_count ∙ ap (λ pair. chains_of pair.ots) types;
       leaf = subst (λ pair. view.q < 2 ^ height_of pair.tree) types view.inside;
       height = view.path_length ∙ ap (λ pair. height_of pair.tree) types;
-      leads = rw (← root) c.candidate.ensures.leads;
+      leads = subst (LeadsTo c.args.public.now c.args.digest.now (signature_of view)) root c.candidate.ensures.leads;
     }
 
 -- it is another: a valid signature would lead to the key's

@@ -2,7 +2,7 @@ use Rattle.std.proofs.Common.{arith, sym, ap, subst, ◌∙◌, ◌≡◌, ◌<�
 use Rattle.std.proofs.Math.Nat.{div-eq_of_lt}
 use Rattle.merkle.specs.Nodes.{nodes_under}
 use Rattle.merkle.specs.Cache.{block_height, block_nodes}
-use Rattle.merkle.proofs.Kept.{block_count, index_inside, path_joined, upper_count}
+use Rattle.merkle.proofs.Kept.{block_count, index_inside, whole_path, upper_count}
 use Rattle.merkle.proofs.Reading.{read_below}
 use Rattle.merkle.proofs.cache.PathCache.path_at.Goals as goal
 
@@ -51,7 +51,7 @@ returns-clause-value g c =
     = div-eq_of_lt (subst P (sym at) (index_inside height c.args.q c.requires.inside)) in
     let lower_long : length c.split_at_mut-lower.result.0.now ≡ b = omega arith in
     let upper_long : length c.split_at_mut-lower.result.1.now ≡ height - b = omega arith in
-    path_joined leaf join height c.args.q index c.read_path.new.into c.read_path-2.new.into
+    whole_path leaf join height c.args.q index c.read_path.new.into c.read_path-2.new.into
     (read_below leaf join 0 _ b c.args.q c.deref.result.now c.read_path.new.into lower_long
     (c.read_path.ensures leaf join 0)
     (c.deref.ensures.value ∙ ap (λ v. v.block) c.self-2.view_is ∙ c.keep.ensures.nodes.block_kept

@@ -13,8 +13,8 @@ invariant_of-self g c =
     e
     c.push.ensures.grows
 
-pub returns-in-Ok : goal.returns-in-Ok
-returns-in-Ok g c =
+pub returns-in-Ok-clause-adds : goal.returns-in-Ok-clause-adds
+returns-in-Ok-clause-adds g c =
     let i = c.self.inside in
     let e = c.in-Ok.ensures in
     adds_in_ok g.S.Store i.store c.append.new.store i.random i.ledger c.push.new.self i.is_open c.args.entry c.args.self.now c.self.view_is c.self.invariant.0
@@ -22,8 +22,8 @@ returns-in-Ok g c =
     e
     c.push.ensures.grows
 
-pub returns-in-Err : goal.returns-in-Err
-returns-in-Err g c =
+pub returns-in-Err-clause-adds : goal.returns-in-Err-clause-adds
+returns-in-Err-clause-adds g c =
     let i = c.self.inside in
     let e = c.in-Err.ensures in
     adds_in_err g.S.Store i.store c.append.new.store i.random i.ledger i.is_open (not c.closes.result) c.args.entry c.in-Err.fault c.args.self.now

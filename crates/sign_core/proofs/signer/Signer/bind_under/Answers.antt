@@ -76,7 +76,7 @@ returns-in_err-add g c key keyed =
     bound_below g.S.Store g.R.Source g.M.Message c.args.name.now i.store i.random c.draw.new.random i.ledger i.is_open c.args.message.now
     c.read_digest.new.message key (trees_in c.args.trees.now) c.args.self.now c.add.new.self c.args.above.now.items c.args.last bound text c.add.result
     (answered_with c.from_residual-in_err-add.result c.args.out.now) c.self.view_is c.requires.can.ready.is_open keyed (c.requires.stands key keyed)
-    (c.requires.bottom key keyed) c.copied.ensures refl digest_is c.in_ok-randomizer.ensures.drawn c.in_ok-randomizer.ensures.len bytes whole c.add.ensures
+    (c.requires.bottom key keyed) c.copied.ensures refl digest_is c.in_ok-randomizer.ensures.drawn c.in_ok-randomizer.ensures.len bytes whole c.add.ensures.adds
     (ap (λ a. answered_with a c.args.out.now) answer ∙ ap (λ a. answered_with a sig) (sym c.in_err-add.was))
 
 pub push-requires : goal.push-requires
@@ -111,7 +111,7 @@ write_chain-requires-clause-pairs g c other others =
     i.ledger.key first in
     let stands = subst (λ n. Stands i.ledger.key T i.ledger.records n c.args.above.now.items c.args.last) bottom standing in
     let own = key_of_added g.S.Store (view_of i.store c.draw.new.random i.ledger i.caches i.is_open) c.add.new.self _ c.add.result c.in_ok-add.field-0 i.ledger.key
-    c.key.result.now c.add.ensures c.in_ok-add.was first (ap (λ w. key_in w.records) (sym c.self-2.view_is) ∙ c.key.ensures.first) in
+    c.key.result.now c.add.ensures.adds c.in_ok-add.was first (ap (λ w. key_in w.records) (sym c.self-2.view_is) ∙ c.key.ensures.first) in
     standing_pairs i.ledger.records i.ledger.key T other c.args.above.now.items c.deref.result.now c.args.last c.signing.result these
     (ap (λ k. trees_of k.secret) (sym own) ∙ others) stands (c.deref.ensures.0 ∙ c.push.ensures.items) c.signing.ensures.secret
 
@@ -123,7 +123,7 @@ write_chain-requires-clause-trees g c =
     let (these, standing) = subst (λ w. UnderKey w.records (StandsIn T w.records c.args.above.now.items c.args.last)) (sym c.self.view_is) c.requires.stands
     i.ledger.key first in
     let own = key_of_added g.S.Store (view_of i.store c.draw.new.random i.ledger i.caches i.is_open) c.add.new.self _ c.add.result c.in_ok-add.field-0 i.ledger.key
-    c.key.result.now c.add.ensures c.in_ok-add.was first (ap (λ w. key_in w.records) (sym c.self-2.view_is) ∙ c.key.ensures.first) in
+    c.key.result.now c.add.ensures.adds c.in_ok-add.was first (ap (λ w. key_in w.records) (sym c.self-2.view_is) ∙ c.key.ensures.first) in
     (T, ap (λ k. trees_of k.secret) own ∙ these)
 
 pub returns : goal.returns
@@ -144,11 +144,11 @@ returns g c key keyed =
     } in
     let sig = signature_at key (records ++ BoundRecord bound ∷ []) (length records) bound in
     let own = key_of_added g.S.Store (view_of i.store c.draw.new.random i.ledger i.caches i.is_open) c.add.new.self _ c.add.result c.in_ok-add.field-0 key
-    c.key.result.now c.add.ensures c.in_ok-add.was first (ap (λ w. key_in w.records) (sym c.self-2.view_is) ∙ c.key.ensures.first) in
+    c.key.result.now c.add.ensures.adds c.in_ok-add.was first (ap (λ w. key_in w.records) (sym c.self-2.view_is) ∙ c.key.ensures.first) in
     let signs = standing_signs records key c.key.result.now T c.args.above.now.items c.deref.result.now c.args.last c.signing.result bound c.write_chain.new.into
     first own these stands (c.deref.ensures.0 ∙ c.push.ensures.items) c.signing.ensures.secret c.signing.ensures.signed c.write_chain.ensures in
     bound_below g.S.Store g.R.Source g.M.Message c.args.name.now i.store i.random c.draw.new.random i.ledger i.is_open c.args.message.now
     c.read_digest.new.message key T c.args.self.now c.add.new.self c.args.above.now.items c.args.last bound text c.add.result _ c.self.view_is
     c.requires.can.ready.is_open keyed (c.requires.stands key keyed) (c.requires.bottom key keyed) c.copied.ensures refl digest_is
-    c.in_ok-randomizer.ensures.drawn c.in_ok-randomizer.ensures.len bytes whole c.add.ensures
+    c.in_ok-randomizer.ensures.drawn c.in_ok-randomizer.ensures.len bytes whole c.add.ensures.adds
     (ap Ok signs ∙ ap (λ a. answered_with a sig) (sym c.in_ok-add.was))

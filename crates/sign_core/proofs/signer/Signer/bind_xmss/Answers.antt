@@ -112,7 +112,7 @@ returns-in_err-add g c key keyed =
     added_binds g.S.Store g.R.Source g.M.Message c.args.name.now v c.args.message.now c.read_xmss_digest.new.message key c.args.secret.now
     (c.requires.key key keyed) keyed c.xmss_link.result c.map_err.result c.in_ok-map_err.field-0 c.add.new.self bound text c.add.result
     (answered_with c.from_residual-in_err-add.result c.args.out.now) c.requires.can.ready.is_open c.map_err.ensures.cases c.in_ok-map_err.was
-    (λ rest. c.xmss_link.ensures.sound key rest (c.requires.key key keyed) (ap (λ k. k.root) (sym own))) whole_text is (subst (λ w. Adds g.S.Store w c.add.new.self (BoundRecord bound) c.add.result) same c.add.ensures)
+    (λ rest. c.xmss_link.ensures.sound key rest (c.requires.key key keyed) (ap (λ k. k.root) (sym own))) whole_text is (subst (λ w. Adds g.S.Store w c.add.new.self (BoundRecord bound) c.add.result) same c.add.ensures.adds)
     (ap (λ a. answered_with a c.args.out.now) answer ∙ ap (λ a. answered_with a sig) (sym c.in_err-add.was))
 
 pub returns : goal.returns
@@ -138,5 +138,5 @@ returns g c key keyed =
     added_binds g.S.Store g.R.Source g.M.Message c.args.name.now v c.args.message.now c.read_xmss_digest.new.message key c.args.secret.now
     (c.requires.key key keyed) keyed c.xmss_link.result c.map_err.result c.in_ok-map_err.field-0 c.add.new.self bound text c.add.result
     _ c.requires.can.ready.is_open c.map_err.ensures.cases c.in_ok-map_err.was
-    (λ rest. c.xmss_link.ensures.sound key rest (c.requires.key key keyed) (ap (λ k. k.root) (sym own))) whole_text is (subst (λ w. Adds g.S.Store w c.add.new.self (BoundRecord bound) c.add.result) same c.add.ensures)
+    (λ rest. c.xmss_link.ensures.sound key rest (c.requires.key key keyed) (ap (λ k. k.root) (sym own))) whole_text is (subst (λ w. Adds g.S.Store w c.add.new.self (BoundRecord bound) c.add.result) same c.add.ensures.adds)
     (ap Ok signs ∙ ap (λ a. answered_with a sig) (sym c.in_ok-add.was))

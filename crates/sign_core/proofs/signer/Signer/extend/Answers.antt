@@ -93,7 +93,7 @@ returns-in_err-add-clause-step g c key keyed =
     a.above.now.items a.last c.in_ok-identifier.field-0 c.pair.result c.public.result (c.len.result + 1) c.digest_of-digest.result c.in_ok-cache.made.root
     c.add.result c.self.view_is c.requires.ready.is_open (c.requires.stands key keyed) (omega (arith, c.len.ensures.value)) c.pair.ensures
     (c.public.ensures.made c.in_ok-cache.ensures.made ∙ ap public_of c.in_ok-cache.ensures.secret) c.digest_of-digest.ensures (sym c.public.ensures.root)
-    c.in_ok-identifier.ensures c.add.ensures in
+    c.in_ok-identifier.ensures c.add.ensures.adds in
     let fault : SignFault = c.in_err-add.field-0.0 in
     let failed : c.from_residual-in_err-add.result ≡ Err fault = search rules in
     let was : c.add.result ≡ Err fault = c.in_err-add.was in
@@ -118,7 +118,7 @@ returns-clause-step g c key keyed =
     a.above.now.items a.last c.in_ok-identifier.field-0 c.pair.result c.public.result (c.len.result + 1) c.digest_of-digest.result c.in_ok-cache.made.root
     c.add.result c.self.view_is c.requires.ready.is_open (c.requires.stands key keyed) (omega (arith, c.len.ensures.value)) c.pair.ensures
     (c.public.ensures.made c.in_ok-cache.ensures.made ∙ ap public_of c.in_ok-cache.ensures.secret) c.digest_of-digest.ensures (sym c.public.ensures.root)
-    c.in_ok-identifier.ensures c.add.ensures in
+    c.in_ok-identifier.ensures c.add.ensures.adds in
     let was : c.add.result ≡ Ok c.in_ok-add.field-0 = c.in_ok-add.was in
     subst (λ (r : Result (List ℕ) SignFault). Extends g.S.Store g.R.Source (length a.above.now.items + 1) a.self.now c.add.new.self r key)
     (ap (λ r. answered_with {B = List ℕ} r []) was) step
@@ -156,7 +156,7 @@ returns-clause-stands g c key keyed =
     c.signing.ensures.signed c.signing.ensures.made c.in_ok-cache.ensures.made (c.in_ok-cache.ensures.leaf) secret in
     let grown : c.add.new.self.records ≡ i.ledger.records ++ ExtendRecord extend ∷ [] =
     added_records g.S.Store (view_of i.store c.draw_tree.new.random i.ledger c.replace.new.self i.is_open) c.add.new.self (ExtendRecord extend) c.add.result c.in_ok-add.field-0
-    c.add.ensures c.in_ok-add.was in
+    c.add.ensures.adds c.in_ok-add.was in
     let next : key_in c.add.new.self.records ≡ Some i.ledger.key =
     ap key_in grown ∙ key_stays i.ledger.records (ExtendRecord extend ∷ []) i.ledger.key c.self.invariant.1 in
     let same : i.ledger.key ≡ key = same_Some _ _ (sym next ∙ keyed) in

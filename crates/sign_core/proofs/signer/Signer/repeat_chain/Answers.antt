@@ -10,7 +10,7 @@ use Rattle.sign_core.specs.Signing.{IsBindingOf, Repeats, UnderKey, WritesChain}
 use Rattle.sign_core.specs.Signing.{answered_with}
 use Rattle.sign_core.specs.Textbook.{trees_of}
 use Rattle.sign_core.proofs.ChainParts.{links_pairs, same_key}
-use Rattle.sign_core.proofs.Repeats.{bound_chain, chain_read, changed, damaged_chain, is_found, lacks_cache, lacks_room, linked_ok, links_signs, none_made, placed_late, same_size, signed_chain}
+use Rattle.sign_core.proofs.Repeats.{bound_chain, chain_read, changed, damaged_chain, is_found, lacks_cache, lacks_room, linked_ok, links_signs, none_made, damaged_after_caches, same_size, signed_chain}
 use Rattle.sign_core.proofs.LedgerReading.{key_levels}
 use Rattle.sign_core.proofs.Refusals.{never_such}
 use Rattle.sign_core.proofs.signer.Signer.repeat_chain.Goals as goal
@@ -170,4 +170,4 @@ returns-in_err-cache_bound-clause-early g c early =
 pub returns-in_err-map_err-clause-early : goal.returns-in_err-map_err-clause-early
 returns-in_err-map_err-clause-early g c early =
     let answer : c.from_residual-in_err-map_err.result ≡ Err c.in_err-map_err.field-0.0 = search rules in
-    placed_late c.push_chain.result c.map_err.result c.in_err-map_err.field-0.0 _ c.map_err.ensures.cases c.in_err-map_err.was answer early
+    damaged_after_caches c.push_chain.result c.map_err.result c.in_err-map_err.field-0.0 _ c.map_err.ensures.cases c.in_err-map_err.was answer early

@@ -8,7 +8,7 @@ use Rattle.sign_core.specs.Signing.{Repeats}
 use Rattle.sign_core.specs.Signing.{answered_with}
 use Rattle.sign_core.proofs.ChainParts.{same_key}
 use Rattle.sign_core.proofs.Refusals.{never_such}
-use Rattle.sign_core.proofs.Repeats.{bound_xmss_leaf, changed, damaged_xmss, is_found, lacks_cache, lacks_room, placed_late, same_size, signed_xmss, xmss_read}
+use Rattle.sign_core.proofs.Repeats.{bound_xmss_leaf, changed, damaged_xmss, is_found, lacks_cache, lacks_room, damaged_after_caches, same_size, signed_xmss, xmss_read}
 use Rattle.sign_core.proofs.signer.Signer.repeat_xmss.Goals as goal
 
 pub returns-then-ne-clause-step : goal.returns-then-ne-clause-step
@@ -115,4 +115,4 @@ returns-in_err-cache_xmss-clause-early g c early =
 pub returns-in_err-map_err-clause-early : goal.returns-in_err-map_err-clause-early
 returns-in_err-map_err-clause-early g c early =
     let answer : c.from_residual-in_err-map_err.result ≡ Err c.in_err-map_err.field-0.0 = search rules in
-    placed_late c.xmss_link.result c.map_err.result c.in_err-map_err.field-0.0 _ c.map_err.ensures.cases c.in_err-map_err.was answer early
+    damaged_after_caches c.xmss_link.result c.map_err.result c.in_err-map_err.field-0.0 _ c.map_err.ensures.cases c.in_err-map_err.was answer early

@@ -4,12 +4,12 @@ use Rattle.std.proofs.lemmas.Slice.Eq.{slice_eq-Decides}
 use Rattle.typecodes.specs.Types.{xmss_height_of}
 use Rattle.xmss.specs.Verification.{LeadsTo}
 use Rattle.xmss.specs.View.{signature_of}
-use Rattle.xmss.proofs.verification.verify_digest.Goals as goal
+use Rattle.xmss.proofs.signature.XmssSigView.verify_digest.Goals as goal
 
 -- the root is the key's: the signature is valid
 pub returns-then-eq : goal.returns-then-eq
 returns-then-eq c =
-    let view = c.args.view.now in
+    let view = c.args.self.now in
     let key = c.args.public.now in
     let decides = slice_eq-Decides Decides-eqb _ _ _ c.eq.ensures in
     record {
