@@ -30,11 +30,12 @@ import org.bouncycastle.pqc.crypto.xmss.XMSSSigner;
 /**
  * What Bouncy Castle says of signatures, and how long it takes. The first word is what is wanted.
  *
- * <p>verify: for each line of the input, the paths of a public key, a message and a signature with tabs between them, it
- * prints `verified` or `refused`. time-verify PUBLIC MESSAGE SIGNATURE HASHES: the milliseconds of a verification, and of
- * as many bare hashes of 55 bytes. time-sign lms:H10/W8 or xmss:10: the milliseconds of making a key, and of signing by it
- * as it is read from its bytes, at its first leaf and at its 500th. time-session SPEC COUNT, for lms:H10/W8, lms:H10/W4 and xmss:10:
- * the milliseconds of making a key, and of one of so many signatures by it as it is kept. Times are those of the processor.
+ * <p>verify: for each line of the input, the paths of a public key, a message and a signature with tabs between them,
+ * it prints `verified` or `refused`. time-verify PUBLIC MESSAGE SIGNATURE HASHES: the milliseconds of a verification,
+ * and of as many bare hashes of 55 bytes. time-sign lms:H10/W8 or xmss:10: the milliseconds of making a key, and of
+ * signing by it as it is read from its bytes, at its first leaf and at its 500th. time-session SPEC COUNT, for
+ * lms:H10/W8, lms:H10/W4 and xmss:10: the milliseconds of making a key, and of one of so many signatures by it as it
+ * is kept. Times are those of the processor.
  */
 public class BouncyCastle {
     static final byte[] MESSAGE = {1};
@@ -141,7 +142,8 @@ public class BouncyCastle {
 
         XmssSession() {
             XMSSKeyPairGenerator generator = new XMSSKeyPairGenerator();
-            generator.init(new XMSSKeyGenerationParameters(new XMSSParameters(10, new SHA256Digest()), new SecureRandom()));
+            XMSSParameters parameters = new XMSSParameters(10, new SHA256Digest());
+            generator.init(new XMSSKeyGenerationParameters(parameters, new SecureRandom()));
             signer.init(true, generator.generateKeyPair().getPrivate());
         }
 
@@ -174,7 +176,8 @@ public class BouncyCastle {
 
         static LMSPrivateKeyParameters generated(String spec) {
             LMSKeyPairGenerator generator = new LMSKeyPairGenerator();
-            LMOtsParameters oneTime = spec.endsWith("W4") ? LMOtsParameters.sha256_n32_w4 : LMOtsParameters.sha256_n32_w8;
+            LMOtsParameters oneTime =
+                spec.endsWith("W4") ? LMOtsParameters.sha256_n32_w4 : LMOtsParameters.sha256_n32_w8;
             LMSParameters parameters = new LMSParameters(LMSigParameters.lms_sha256_n32_h10, oneTime);
             generator.init(new LMSKeyGenerationParameters(parameters, new SecureRandom()));
             return (LMSPrivateKeyParameters) generator.generateKeyPair().getPrivate();
@@ -236,8 +239,10 @@ public class BouncyCastle {
             case 60 -> verifier(new HSSSigner(), HSSPublicKeyParameters.getInstance(key));
             default -> {
                 int[] heights = {0, 10, 16, 20};
-                XMSSParameters parameters = new XMSSParameters(heights[ByteBuffer.wrap(key).getInt()], new SHA256Digest());
-                yield verifier(new XMSSSigner(), new XMSSPublicKeyParameters.Builder(parameters).withPublicKey(key).build());
+                int height = heights[ByteBuffer.wrap(key).getInt()];
+                XMSSParameters parameters = new XMSSParameters(height, new SHA256Digest());
+                var read = new XMSSPublicKeyParameters.Builder(parameters).withPublicKey(key).build();
+                yield verifier(new XMSSSigner(), read);
             }
         };
     }

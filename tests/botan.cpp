@@ -1,9 +1,9 @@
 // What Botan 2 says of signatures of XMSS, and how long it takes. The first word is what is wanted:
 // verify: for each line of the input, the paths of a public key, a message and a signature with tabs between them, it
-// prints `verified` or `refused`. time-verify PUBLIC MESSAGE SIGNATURE: the milliseconds of a verification. time-sign: the
-// milliseconds of making a key of height 10, and of signing by it at its first leaf and at its 500th. time-session COUNT: the
-// milliseconds of making such a key, and of one of so many signatures by it as it is kept. Times are those of the
-// processor.
+// prints `verified` or `refused`. time-verify PUBLIC MESSAGE SIGNATURE: the milliseconds of a verification. time-sign:
+// the milliseconds of making a key of height 10, and of signing by it at its first leaf and at its 500th. time-session
+// COUNT: the milliseconds of making such a key, and of one of so many signatures by it as it is kept. Times are those
+// of the processor.
 #include <algorithm>
 #include <botan/auto_rng.h>
 #include <botan/pubkey.h>
@@ -50,7 +50,8 @@ static bool verifies(const std::string &key, const std::string &message, const s
 static void verify_lines()
 {
     std::string key, message, signature;
-    while (std::getline(std::cin, key, '\t') && std::getline(std::cin, message, '\t') && std::getline(std::cin, signature))
+    while (std::getline(std::cin, key, '\t') && std::getline(std::cin, message, '\t') &&
+           std::getline(std::cin, signature))
         std::puts(verifies(key, message, signature) ? "verified" : "refused");
 }
 
