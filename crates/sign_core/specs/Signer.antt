@@ -330,8 +330,8 @@ IsBottom records bottom = (key : Key) → key_in records ≡ Some key
     → (bottom.0 ≡ next_at key.secret records (bottom_of key.secret))
     × (bottom.1 ≡ leaves_of_current key.secret records (bottom_of key.secret))
 
--- A call of retire is a step of the world; it draws nothing, and memory and caches are as they were. Unless a record was
--- added or its append failed, so is all of the signer.
+-- A call of retire is a step of the world; it draws nothing, and memory and caches are as they were. Unless a record
+-- was added or its append failed, so is all of the signer.
 pub record Retires {S R : Type 0} (g : store.Ghosts S) (old new : View S R) (upto : ℕ)
     (answer : Result (Unit {0}) SignFault) : Type 0 where
   pub fate : Fate
