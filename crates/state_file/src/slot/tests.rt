@@ -7,9 +7,8 @@ use crate::slot::gate::{CLOSED, OPEN, is_open};
 use crate::slot::key::{begins_key, version};
 use crate::slot::record::{read_record, record_bytes};
 use crate::slot::tag::tag;
-use std::process::Abort;
 use std::test::Fail;
-use typecodes::{BadName, Levels, LmsPair, LmsType, Name, OtsType, XmssType};
+use typecodes::{Levels, LmsPair, LmsType, Name, OtsType, XmssType};
 
 // The bytes from one on, each one more.
 fn rising<const N: usize>(from: u8) -> [u8; N] {
@@ -22,124 +21,135 @@ fn rising<const N: usize>(from: u8) -> [u8; N] {
     bytes
 }
 
-const fn pair(tree: LmsType, ots: OtsType) -> LmsPair {
-    LmsPair { tree, ots }
-}
+// The levels of the HSS key.
+const PAIRS: [LmsPair; 3] = [
+    LmsPair {
+        tree: LmsType::H10,
+        ots: OtsType::W4,
+    },
+    LmsPair {
+        tree: LmsType::H25,
+        ots: OtsType::W1,
+    },
+    LmsPair {
+        tree: LmsType::H15,
+        ots: OtsType::W2,
+    },
+];
 
-fn lms_key() -> Record {
-    Record::Key(Key {
-        version: Version::One,
-        secret: Secret::Lms {
-            pair: pair(LmsType::H5, OtsType::W8),
-            identifier: rising(0x00),
-            seed: rising(0x10),
-        },
-        root: rising(0x30),
-    })
-}
-
-fn hss_key() -> Option<Record> {
-    let levels = Levels::new(&[
-        pair(LmsType::H10, OtsType::W4),
-        pair(LmsType::H25, OtsType::W1),
-        pair(LmsType::H15, OtsType::W2),
-    ])?;
+// The Key of each scheme that was drawn: LMS, HSS and XMSS.
+fn key(scheme: u32) -> Option<Record> {
+    let (secret, first_of_root) = match scheme {
+        0 => {
+            let pair = LmsPair {
+                tree: LmsType::H5,
+                ots: OtsType::W8,
+            };
+            let identifier = rising(0x00);
+            let seed = rising(0x10);
+            (
+                Secret::Lms {
+                    pair,
+                    identifier,
+                    seed,
+                },
+                0x30,
+            )
+        }
+        1 => {
+            let levels = Levels::new(&PAIRS)?;
+            let identifier = rising(0x80);
+            let seed = rising(0x90);
+            (
+                Secret::Hss {
+                    levels,
+                    identifier,
+                    seed,
+                },
+                0xb0,
+            )
+        }
+        2 => {
+            let secret = Secret::Xmss {
+                tree: XmssType::H16,
+                secret_seed: rising(0x20),
+                prf_key: rising(0x40),
+                public_seed: rising(0x60),
+            };
+            (secret, 0xf0)
+        }
+        _ => return None,
+    };
     Some(Record::Key(Key {
         version: Version::One,
-        secret: Secret::Hss {
-            levels,
-            identifier: rising(0x80),
-            seed: rising(0x90),
-        },
-        root: rising(0xb0),
+        secret,
+        root: rising(first_of_root),
     }))
 }
 
-fn xmss_key() -> Record {
-    Record::Key(Key {
-        version: Version::One,
-        secret: Secret::Xmss {
-            tree: XmssType::H16,
-            secret_seed: rising(0x20),
-            prf_key: rising(0x40),
-            public_seed: rising(0x60),
-        },
-        root: rising(0xf0),
+// Each record that was drawn, by its number.
+fn record(k: u32) -> Option<Record> {
+    Some(match k {
+        3 => Record::Extend(Extend {
+            level: 1,
+            parent_leaf: 0x0102_0304,
+            identifier: rising(0x01),
+            seed: rising(0x11),
+            randomizer: rising(0x31),
+            digest: rising(0x51),
+            root: rising(0x71),
+        }),
+        4 => Record::Bound(Bound {
+            name: Name::new(b"fw-1").ok()?,
+            leaf: 0x0a0b,
+            randomizer: rising(0xa0),
+            digest: rising(0xc0),
+        }),
+        5 => Record::Retire { upto: 0x0200_0001 },
+        6 => Record::Moved,
+        _ => return key(k),
     })
 }
 
-fn extend() -> Record {
-    Record::Extend(Extend {
-        level: 1,
-        parent_leaf: 0x0102_0304,
-        identifier: rising(0x01),
-        seed: rising(0x11),
-        randomizer: rising(0x31),
-        digest: rising(0x51),
-        root: rising(0x71),
-    })
-}
-
-fn bound() -> Result<Record, BadName> {
-    Ok(Record::Bound(Bound {
-        name: Name::new(b"fw-1")?,
-        leaf: 0x0a0b,
-        randomizer: rising(0xa0),
-        digest: rising(0xc0),
-    }))
-}
-
-// Whether the record has these bytes, and they are read as the record.
-fn is_drawn(entry: &Record, drawn: &[u8; 223]) -> bool {
-    record_bytes(entry) == *drawn && read_record(drawn) == Some(entry.copied())
-}
-
-// The first of these bytes of the record that can be another: they are still read as the record, or have its tag.
-fn first_free(entry: &Record, drawn: &[u8; 223]) -> Option<usize> {
+// Whether the record has these bytes, and they are read as the record; and the first of them that can be another, with
+// which they are still read as the record, or have its tag.
+fn is_drawn(k: u32, drawn: &[u8; 223]) -> Option<(bool, Option<usize>)> {
+    let entry = record(k)?;
+    let same = record_bytes(&entry) == *drawn && read_record(drawn) == Some(entry.copied());
     for offset in 0..223 {
         let mut other = *drawn;
         other[offset] ^= 0x5a;
         let same_tag = tag(&[0; 32], &other) == tag(&[0; 32], drawn);
         if same_tag || read_record(&other) == Some(entry.copied()) {
-            return Some(offset);
+            return Some((same, Some(offset)));
         }
     }
-    None
-}
-
-// The record has these bytes, which are read as the record; and no byte of them can be another.
-fn assert_drawn(rt: &impl Abort, entry: &Record, drawn: &[u8; 223]) {
-    assert_eq!(rt;
-        (is_drawn(entry, drawn), first_free(entry, drawn)),
-        (true, None)
-    );
+    Some((same, None))
 }
 
 #[test]
-fn each_kind_as_drawn(rt: HostRuntime) -> Result<(), Fail> {
-    assert_drawn(&rt, &lms_key(), &drawn::LMS_KEY);
-    assert_drawn(&rt, &hss_key().ok_or("levels")?, &drawn::HSS_KEY);
-    assert_drawn(&rt, &xmss_key(), &drawn::XMSS_KEY);
-    assert_drawn(&rt, &extend(), &drawn::EXTEND);
-    assert_drawn(&rt, &bound()?, &drawn::BOUND);
-    assert_drawn(&rt, &Record::Retire { upto: 0x0200_0001 }, &drawn::retire());
-    assert_drawn(&rt, &Record::Moved, &drawn::moved());
-    Ok(())
-}
-
-// Whether the bytes with one changed spell a record. Offsets are those of the whole slot.
-fn is_spelled_with(drawn: &[u8; 223], offset: usize, byte: u8) -> bool {
-    let mut other = *drawn;
-    if let Some(at) = other.get_mut(offset.wrapping_sub(1)) {
-        *at = byte;
+fn each_kind_as_drawn(rt: HostRuntime) {
+    for (k, drawn) in [
+        (0, &drawn::LMS_KEY),
+        (1, &drawn::HSS_KEY),
+        (2, &drawn::XMSS_KEY),
+        (3, &drawn::EXTEND),
+        (4, &drawn::BOUND),
+        (5, &drawn::RETIRE),
+        (6, &drawn::MOVED),
+    ] {
+        assert_eq!(rt; is_drawn(k, drawn), Some((true, None)));
     }
-    read_record(&other).is_some()
 }
 
-// The first offset of these where the bytes, with this one changed so, spell a record, or where they don't.
+// The first of these offsets of a slot at which its fields, with this one changed so, spell a record, or don't.
 fn first_offset(drawn: &[u8; 223], changes: &[(usize, u8)], spelled: bool) -> Option<usize> {
     for (offset, byte) in changes {
-        if is_spelled_with(drawn, *offset, *byte) == spelled {
+        let mut other = *drawn;
+        if let Some(at) = other.get_mut(offset.wrapping_sub(1)) {
+            *at = *byte;
+        }
+        if read_record(&other).is_some() == spelled {
             return Some(*offset);
         }
     }
@@ -227,36 +237,35 @@ const NO_BOUND: [(usize, u8); 10] = [
 // A new version, and unused bytes.
 const NO_MOVED: [(usize, u8); 6] = [(2, 1), (3, 0), (3, 1), (3, 3), (4, 1), (223, 1)];
 
-#[test]
-fn what_a_slot_may_not_contain(rt: HostRuntime) {
-    for (drawn, changes) in [
-        (&drawn::LMS_KEY, NO_KIND.as_slice()),
-        (&drawn::LMS_KEY, NO_KEY.as_slice()),
-        (&drawn::LMS_KEY, NO_SECRET.as_slice()),
-        (&drawn::HSS_KEY, NO_LEVELS.as_slice()),
-        (&drawn::XMSS_KEY, NO_XMSS.as_slice()),
-        (&drawn::BOUND, NO_BOUND.as_slice()),
-        (&drawn::moved(), NO_MOVED.as_slice()),
-        (&drawn::EXTEND, [(151, 1)].as_slice()),
-        (&drawn::retire(), [(6, 1)].as_slice()),
-    ] {
-        assert_eq!(rt; first_offset(drawn, changes, true), None);
-    }
-}
-
 // Which records a signer may stand on is another matter: levels, leaves and C are what they are.
+const EXTENDS: [(usize, u8); 3] = [(2, 0), (2, 255), (3, 255)];
+
+const BOUNDS: [(usize, u8); 4] = [(3, 0x21), (6, 0x7e), (67, 255), (71, 0)];
+
+const RETIRES: [(usize, u8); 2] = [(2, 0x80), (2, 0xff)];
+
+// HSS of one level has the fields of an LMS key.
+const ONE_LEVEL: [(usize, u8); 1] = [(12, 2)];
+
 #[test]
 fn what_a_slot_may_contain(rt: HostRuntime) {
-    let extend = [(2, 0), (2, 255), (3, 255)];
-    assert_eq!(rt; first_offset(&drawn::EXTEND, &extend, false), None);
-    let bound = [(3, 0x21), (6, 0x7e), (67, 255), (71, 0)];
-    assert_eq!(rt; first_offset(&drawn::BOUND, &bound, false), None);
-    assert_eq!(rt;
-        first_offset(&drawn::retire(), &[(2, 0x80), (2, 0xff)], false),
-        None
-    );
-    // HSS of one level has the fields of an LMS key
-    assert_eq!(rt; first_offset(&drawn::LMS_KEY, &[(12, 2)], false), None);
+    for (drawn, changes, spelled) in [
+        (&drawn::LMS_KEY, NO_KIND.as_slice(), false),
+        (&drawn::LMS_KEY, NO_KEY.as_slice(), false),
+        (&drawn::LMS_KEY, NO_SECRET.as_slice(), false),
+        (&drawn::HSS_KEY, NO_LEVELS.as_slice(), false),
+        (&drawn::XMSS_KEY, NO_XMSS.as_slice(), false),
+        (&drawn::BOUND, NO_BOUND.as_slice(), false),
+        (&drawn::MOVED, NO_MOVED.as_slice(), false),
+        (&drawn::EXTEND, [(151, 1)].as_slice(), false),
+        (&drawn::RETIRE, [(6, 1)].as_slice(), false),
+        (&drawn::EXTEND, EXTENDS.as_slice(), true),
+        (&drawn::BOUND, BOUNDS.as_slice(), true),
+        (&drawn::RETIRE, RETIRES.as_slice(), true),
+        (&drawn::LMS_KEY, ONE_LEVEL.as_slice(), true),
+    ] {
+        assert_eq!(rt; first_offset(drawn, changes, !spelled), None);
+    }
 }
 
 #[test]
@@ -278,7 +287,10 @@ fn names_of_each_length(rt: HostRuntime) -> Result<(), Fail> {
 
 #[test]
 fn levels_of_each_count(rt: HostRuntime) -> Result<(), Fail> {
-    let pairs = [pair(LmsType::H20, OtsType::W2); 9];
+    let pairs = [LmsPair {
+        tree: LmsType::H20,
+        ots: OtsType::W2,
+    }; 9];
     for count in 1..=8 {
         let levels = Levels::new(&pairs[..count]).ok_or("levels")?;
         let entry = Record::Key(Key {
@@ -302,9 +314,13 @@ fn tags_follow_each_other(rt: HostRuntime) {
     assert_eq!(rt; tag(&first, &drawn::BOUND), drawn::SECOND_TAG);
 }
 
-// Whether these fields begin as those of a Key, and their version, if it is known.
-fn known_by(fields: &[u8; 223]) -> (bool, Option<Version>) {
-    (begins_key(fields), version(fields))
+// Whether these fields, with one byte changed, begin as those of a Key, and their version, if it is known.
+fn known_with(fields: &[u8; 223], offset: usize, change: u8) -> (bool, Option<Version>) {
+    let mut other = *fields;
+    if let Some(byte) = other.get_mut(offset) {
+        *byte ^= change;
+    }
+    (begins_key(&other), version(&other))
 }
 
 #[test]
@@ -315,42 +331,28 @@ fn what_a_first_slot_is_known_by(rt: HostRuntime) {
         (&drawn::XMSS_KEY, (true, Some(Version::One))),
         (&drawn::BOUND, (false, None)),
     ] {
-        assert_eq!(rt; known_by(fields), wanted);
+        assert_eq!(rt; known_with(fields, 0, 0), wanted);
     }
-}
-
-// What the fields of a Key are known by, with one byte changed.
-fn known_with(offset: usize) -> (bool, Option<Version>) {
-    let mut other = drawn::LMS_KEY;
-    if let Some(byte) = other.get_mut(offset) {
-        *byte ^= 0x5a;
-    }
-    known_by(&other)
-}
-
-#[test]
-fn each_byte_that_a_first_slot_is_known_by(rt: HostRuntime) {
-    for offset in 0..9 {
-        assert_eq!(rt; known_with(offset), (false, Some(Version::One)));
-    }
-    for offset in 9..11 {
-        assert_eq!(rt; known_with(offset), (true, None));
+    for offset in 0..11 {
+        let wanted = if offset < 9 {
+            (false, Some(Version::One))
+        } else {
+            (true, None)
+        };
+        assert_eq!(rt; known_with(&drawn::LMS_KEY, offset, 0x5a), wanted);
     }
 }
 
 #[test]
-fn versions_and_their_codes(rt: HostRuntime) {
+fn codes_of_versions_and_gates(rt: HostRuntime) {
     for (code, wanted) in [(0, None), (1, Some(Version::One)), (2, None)] {
         assert_eq!(rt; Version::from_code(code), wanted);
     }
-    assert_eq!(rt; Version::One.code(), 1);
-}
-
-#[test]
-fn one_value_opens_a_gate(rt: HostRuntime) {
     for gate in 0..=255 {
         assert_eq!(rt; is_open(gate), gate == 0xa5);
     }
-    assert!(rt; is_open(OPEN));
-    assert!(rt; !is_open(CLOSED));
+    assert_eq!(rt;
+        (Version::One.code(), is_open(OPEN), is_open(CLOSED)),
+        (1, true, false)
+    );
 }

@@ -3,6 +3,7 @@
 use crate::samples::{is_loaded, record};
 use crate::*;
 use std::alloc::Global;
+use std::test::Fail;
 
 // The records of samples that are appended and loaded, by their numbers.
 const KEY: u32 = 0;
@@ -10,7 +11,6 @@ const KEY: u32 = 0;
 const BOUND: u32 = 2;
 
 // A call of a store in memory, and what it answers.
-#[derive(Clone, Copy)]
 enum Call {
     Append(u32, Result<(), StoreFault>),
     Load(u32, Result<Option<u32>, StoreFault>),
@@ -18,21 +18,70 @@ enum Call {
     Reopen,
 }
 
-// Appends the record of this number, and says whether the answer is this.
-fn appends(store: &mut MemoryStore, k: u32, wanted: Result<(), StoreFault>) -> bool {
-    match record(k) {
-        Some(entry) => store.append(&entry) == wanted,
-        None => false,
-    }
-}
+// A store of two records takes two.
+const TAKES_TWO: &[Call] = &[
+    Call::Load(0, Ok(None)),
+    Call::Append(KEY, Ok(())),
+    Call::Append(BOUND, Ok(())),
+    Call::Append(BOUND, Err(StoreFault::Full)),
+    Call::Load(0, Ok(Some(KEY))),
+    Call::Load(1, Ok(Some(BOUND))),
+    Call::Load(2, Ok(None)),
+    Call::Load(u32::MAX, Ok(None)),
+];
+
+// A cut that leaves the old records.
+const LEAVES_OLD: &[Call] = &[
+    Call::Append(KEY, Ok(())),
+    Call::CutAt(1, Cut::Old),
+    Call::Append(BOUND, Err(StoreFault::DeviceFailed)),
+    Call::Append(BOUND, Err(StoreFault::Stopped)),
+    Call::Load(0, Err(StoreFault::Stopped)),
+    Call::Reopen,
+    Call::Load(0, Ok(Some(KEY))),
+    Call::Load(1, Ok(None)),
+    Call::Append(BOUND, Ok(())),
+    Call::Load(1, Ok(Some(BOUND))),
+];
+
+// A cut that leaves the new record, too.
+const LEAVES_NEW: &[Call] = &[
+    Call::CutAt(2, Cut::New),
+    Call::Append(KEY, Ok(())),
+    Call::Append(BOUND, Err(StoreFault::DeviceFailed)),
+    Call::Load(1, Err(StoreFault::Stopped)),
+    Call::Reopen,
+    Call::Load(0, Ok(Some(KEY))),
+    Call::Load(1, Ok(Some(BOUND))),
+    Call::Load(2, Ok(None)),
+    Call::Append(KEY, Ok(())),
+    Call::Append(KEY, Err(StoreFault::Full)),
+];
+
+// A store that is full answers so and brings no cut nearer ..
+const FULL: &[Call] = &[
+    Call::CutAt(2, Cut::Old),
+    Call::Append(KEY, Ok(())),
+    Call::Append(KEY, Err(StoreFault::Full)),
+];
+
+// .. and a cut of the 0th append never comes.
+const NEVER_CUT: &[Call] = &[
+    Call::CutAt(1, Cut::Old),
+    Call::CutAt(0, Cut::Old),
+    Call::Append(KEY, Ok(())),
+];
 
 // Makes a call, and says whether the answer is this.
-fn answers(store: &mut MemoryStore, call: Call) -> bool {
+fn answers(store: &mut MemoryStore, call: &Call) -> bool {
     match call {
-        Call::Append(k, wanted) => appends(store, k, wanted),
-        Call::Load(k, wanted) => is_loaded(&store.load(k), wanted),
+        Call::Append(k, wanted) => match record(*k) {
+            Some(entry) => store.append(&entry) == *wanted,
+            None => false,
+        },
+        Call::Load(k, wanted) => is_loaded(&store.load(*k), *wanted),
         Call::CutAt(n, cut) => {
-            store.cut_at(n, cut);
+            store.cut_at(*n, *cut);
             true
         }
         Call::Reopen => {
@@ -46,7 +95,7 @@ fn answers(store: &mut MemoryStore, call: Call) -> bool {
 fn first_wrong(alloc: Global, limit: u32, calls: &[Call]) -> Option<usize> {
     let mut store = MemoryStore::with_limit(alloc, limit);
     for (k, call) in calls.iter().enumerate() {
-        if store.limit() != limit || !answers(&mut store, *call) {
+        if store.limit() != limit || !answers(&mut store, call) {
             return Some(k);
         }
     }
@@ -54,81 +103,20 @@ fn first_wrong(alloc: Global, limit: u32, calls: &[Call]) -> Option<usize> {
 }
 
 #[test]
-fn takes_as_many_as_its_limit(rt: HostRuntime) {
-    let calls = [
-        Call::Load(0, Ok(None)),
-        Call::Append(KEY, Ok(())),
-        Call::Append(BOUND, Ok(())),
-        Call::Append(BOUND, Err(StoreFault::Full)),
-        Call::Load(0, Ok(Some(KEY))),
-        Call::Load(1, Ok(Some(BOUND))),
-        Call::Load(2, Ok(None)),
-        Call::Load(u32::MAX, Ok(None)),
-    ];
-    assert_eq!(rt; first_wrong(rt.alloc(), 2, &calls), None);
-}
-
-#[test]
-fn cut_that_leaves_the_old_records(rt: HostRuntime) {
-    let calls = [
-        Call::Append(KEY, Ok(())),
-        Call::CutAt(1, Cut::Old),
-        Call::Append(BOUND, Err(StoreFault::DeviceFailed)),
-        Call::Append(BOUND, Err(StoreFault::Stopped)),
-        Call::Load(0, Err(StoreFault::Stopped)),
-        Call::Reopen,
-        Call::Load(0, Ok(Some(KEY))),
-        Call::Load(1, Ok(None)),
-        Call::Append(BOUND, Ok(())),
-        Call::Load(1, Ok(Some(BOUND))),
-    ];
-    assert_eq!(rt; first_wrong(rt.alloc(), 2, &calls), None);
-}
-
-#[test]
-fn cut_that_leaves_the_new_record(rt: HostRuntime) {
-    let calls = [
-        Call::CutAt(2, Cut::New),
-        Call::Append(KEY, Ok(())),
-        Call::Append(BOUND, Err(StoreFault::DeviceFailed)),
-        Call::Load(1, Err(StoreFault::Stopped)),
-        Call::Reopen,
-        Call::Load(0, Ok(Some(KEY))),
-        Call::Load(1, Ok(Some(BOUND))),
-        Call::Load(2, Ok(None)),
-        Call::Append(KEY, Ok(())),
-        Call::Append(KEY, Err(StoreFault::Full)),
-    ];
-    assert_eq!(rt; first_wrong(rt.alloc(), 3, &calls), None);
-}
-
-// A store that is full answers so and brings no cut nearer, and a cut of the 0th append never comes.
-#[test]
-fn appends_that_dont_reach_the_device(rt: HostRuntime) {
-    let full = [
-        Call::CutAt(2, Cut::Old),
-        Call::Append(KEY, Ok(())),
-        Call::Append(KEY, Err(StoreFault::Full)),
-    ];
-    assert_eq!(rt; first_wrong(rt.alloc(), 1, &full), None);
-    let never = [
-        Call::CutAt(1, Cut::Old),
-        Call::CutAt(0, Cut::Old),
-        Call::Append(KEY, Ok(())),
-    ];
-    assert_eq!(rt; first_wrong(rt.alloc(), 1, &never), None);
-}
-
-// Whether a fault is printed so.
-fn is_printed(alloc: Global, fault: StoreFault, text: &str) -> bool {
-    match format!(in alloc; "{fault}") {
-        Ok(printed) => printed.as_str() == text,
-        Err(_) => false,
+fn calls_are_answered(rt: HostRuntime) {
+    for (limit, calls) in [
+        (2, TAKES_TWO),
+        (2, LEAVES_OLD),
+        (3, LEAVES_NEW),
+        (1, FULL),
+        (1, NEVER_CUT),
+    ] {
+        assert_eq!(rt; first_wrong(rt.alloc(), limit, calls), None);
     }
 }
 
 #[test]
-fn faults_are_printed(rt: HostRuntime) {
+fn faults_are_printed(rt: HostRuntime) -> Result<(), Fail> {
     for (fault, text) in [
         (
             StoreFault::Stopped,
@@ -142,6 +130,8 @@ fn faults_are_printed(rt: HostRuntime) {
         (StoreFault::OutOfMemory, "out of memory"),
         (StoreFault::Full, "the store is full"),
     ] {
-        assert!(rt; is_printed(rt.alloc(), fault, text));
+        let printed = format!(in rt.alloc(); "{fault}")?;
+        assert_eq!(rt; printed.as_str(), text);
     }
+    Ok(())
 }

@@ -17,24 +17,20 @@ const PICKS: [Pick; 5] = [
     Pick::Fill(0xFF),
 ];
 
-// Appends a record. The first of a store is a Key, and else it isn't tried.
-fn append(store: &mut FileStore<MemoryDisk>, entry: &Record) -> Result<(), StoreFault> {
-    match entry {
-        Record::Key(_) => store.append(entry),
-        _ => {
-            if store.count() == 0 {
-                return Err(StoreFault::Damaged(0));
-            }
-            store.append(entry)
-        }
-    }
-}
-
-// Appends the next records of samples until there are so many, or one is refused.
-fn append_up_to(store: &mut FileStore<MemoryDisk>, count: u32) -> Result<(), StoreFault> {
+// Appends the next records of samples until there are so many, or one is refused. The first of a store is a Key, and
+// else it isn't tried.
+fn append_up_to<D: Disk + Drop>(store: &mut FileStore<D>, count: u32) -> Result<(), StoreFault> {
     for k in store.count()..count {
         match record(k) {
-            Some(entry) => append(store, &entry)?,
+            Some(entry) => match &entry {
+                Record::Key(_) => store.append(&entry)?,
+                _ => {
+                    if store.count() == 0 {
+                        return Err(StoreFault::Damaged(0));
+                    }
+                    store.append(&entry)?
+                }
+            },
             None => return Err(StoreFault::Full),
         }
     }
@@ -48,75 +44,103 @@ fn store_of(disk: MemoryDisk, count: u32) -> Option<FileStore<MemoryDisk>> {
     Some(store)
 }
 
-// The file of the first records.
+// The file of the first records: one byte, and 256 for each.
 fn file_of(alloc: Global, count: u32) -> Option<Vec<u8>> {
     let disk = MemoryDisk::of(alloc, &[]).ok()?;
     store_of(disk, count)?.into_disk().stop(Pick::Old).ok()
 }
 
-// Whether a store has the records of samples, and no other after them.
-fn has_records(store: &mut FileStore<MemoryDisk>) -> bool {
-    let count = store.count();
-    for k in 0..count {
-        if !is_loaded(&store.load(k), Ok(Some(k))) {
-            return false;
-        }
-    }
-    is_loaded(&store.load(count), Ok(None))
-}
-
-// What a disk opens with: how many records, if they are those of samples, or the fault.
+// What a disk opens with: how many records, if they are those of samples and no other comes after them, or the fault.
 fn opened(disk: MemoryDisk) -> Option<Result<u32, OpenFault>> {
     match FileStore::open(disk) {
         Ok(mut store) => {
-            if has_records(&mut store) {
-                Some(Ok(store.count()))
-            } else {
-                None
+            let count = store.count();
+            for k in 0..count {
+                if !is_loaded(&store.load(k), Ok(Some(k))) {
+                    return None;
+                }
             }
+            if !is_loaded(&store.load(count), Ok(None)) {
+                return None;
+            }
+            Some(Ok(count))
         }
         Err(refused) => Some(Err(refused.fault)),
     }
 }
 
-// The same of a content.
-fn opened_from(alloc: Global, content: &[u8]) -> Option<Result<u32, OpenFault>> {
-    opened(MemoryDisk::of(alloc, content).ok()?)
-}
-
-// Whether what a stop leaves by a pick opens so.
-fn leaves(alloc: Global, disk: &MemoryDisk, pick: Pick, wanted: Result<u32, OpenFault>) -> bool {
-    match disk.stop(pick) {
-        Ok(left) => opened_from(alloc, &left) == Some(wanted),
-        Err(_) => false,
-    }
-}
-
-// Whether what a stop leaves by any pick opens so.
-fn all_leave(alloc: Global, disk: &MemoryDisk, wanted: Result<u32, OpenFault>) -> bool {
-    for pick in PICKS {
-        if !leaves(alloc, disk, pick, wanted) {
-            return false;
+// Whether what a stop leaves by any of these picks opens so.
+fn leaves(
+    alloc: Global,
+    disk: &MemoryDisk,
+    picks: &[Pick],
+    wanted: Result<u32, OpenFault>,
+) -> Option<bool> {
+    for pick in picks {
+        let left = disk.stop(*pick).ok()?;
+        if opened(MemoryDisk::of(alloc, &left).ok()?)? != wanted {
+            return Some(false);
         }
     }
-    true
+    Some(true)
 }
 
-// Whether the file of so many records has this length and opens so.
-fn is_file(alloc: Global, count: u32, len: usize, wanted: Result<u32, OpenFault>) -> Option<bool> {
-    let file = file_of(alloc, count)?;
-    Some(file.len() == len && opened_from(alloc, &file)? == wanted)
+// A call of a store over a disk, and what it answers.
+#[derive(Drop)]
+enum Call {
+    // appends the next records of samples, up to so many
+    Append(u32, Result<(), StoreFault>),
+    Load(u32, Result<Option<u32>, StoreFault>),
+    Tag(u32, Result<[u8; 32], StoreFault>),
+    Count(u32),
+}
+
+// The disk of a store, after calls that it answered so.
+fn disk_after<D: Disk + Drop>(store: FileStore<D>, calls: &[Call]) -> Option<D> {
+    let mut store = store;
+    for call in calls {
+        let is_so = match call {
+            Call::Append(count, wanted) => append_up_to(&mut store, *count) == *wanted,
+            Call::Load(k, wanted) => is_loaded(&store.load(*k), *wanted),
+            Call::Tag(k, wanted) => *k < store.count() && store.tag_at(*k) == *wanted,
+            Call::Count(count) => store.count() == *count,
+        };
+        if !is_so || store.limit() != 2147483648 {
+            return None;
+        }
+    }
+    Some(store.into_disk())
+}
+
+// Two records are kept.
+const KEEPS_TWO: &[Call] = &[
+    Call::Load(0, Ok(None)),
+    Call::Append(2, Ok(())),
+    Call::Count(2),
+    Call::Load(0, Ok(Some(0))),
+    Call::Load(1, Ok(Some(1))),
+    Call::Load(2, Ok(None)),
+];
+
+// An append whose first call is refused stops the store.
+const STOPS: &[Call] = &[
+    Call::Append(1, Err(StoreFault::DeviceFailed)),
+    Call::Append(1, Err(StoreFault::Stopped)),
+    Call::Load(0, Err(StoreFault::Stopped)),
+];
+
+// How many bytes a disk has after these calls of a store over it, whose n-th call of the disk is refused.
+fn bytes_after(alloc: Global, n: u32, calls: &[Call]) -> Option<u64> {
+    let mut disk = MemoryDisk::of(alloc, &[]).ok()?;
+    disk.fail_at(n);
+    disk_after(store_of(disk, 0)?, calls)?.len().ok()
 }
 
 #[test]
-fn a_file_has_its_slots_and_one_byte(rt: HostRuntime) {
-    for (count, len, wanted) in [
-        (0, 1, Err(OpenFault::NoKey)),
-        (1, 257, Ok(1)),
-        (3, 769, Ok(3)),
-        (5, 1281, Ok(5)),
-    ] {
-        assert_eq!(rt; is_file(rt.alloc(), count, len, wanted), Some(true));
+fn calls_are_answered(rt: HostRuntime) {
+    // the fifth call of the disk is the first one of the append, a write of 256 bytes, of which half are there
+    for (n, calls, bytes) in [(0, KEEPS_TWO, 513), (5, STOPS, 129)] {
+        assert_eq!(rt; bytes_after(rt.alloc(), n, calls), Some(bytes));
     }
 }
 
@@ -128,33 +152,25 @@ fn tagged(previous: &[u8; 32], fields: &[u8]) -> [u8; 32] {
     hasher.finalize()
 }
 
-// The tags of the slots of a file of three records, each after the one before.
-fn three_tags(file: &[u8]) -> Option<[[u8; 32]; 3]> {
+// Whether a store over the file of three records gives its tags, each after the one before, until its disk fails.
+fn gives_tags(alloc: Global) -> Option<bool> {
+    let file = file_of(alloc, 3)?;
     let first = tagged(&[0; 32], file.get(1..224)?);
     let second = tagged(&first, file.get(257..480)?);
     let third = tagged(&second, file.get(513..736)?);
-    Some([first, second, third])
-}
-
-// Whether a store over the file of three records gives its tags, until its disk fails.
-fn gives_tags(alloc: Global) -> Option<bool> {
-    let file = file_of(alloc, 3)?;
-    let [first, second, third] = three_tags(&file)?;
     // two calls for the length, two for the Key, ten for three slots and the gate after them, and three tags
     let mut disk = MemoryDisk::of(alloc, &file).ok()?;
     disk.fail_at(18);
-    let mut store = FileStore::open(disk).ok()?;
-    if store.count() != 3 {
-        return Some(false);
-    }
-    Some(
-        store.tag_at(2) == Ok(third)
-            && store.tag_at(0) == Ok(first)
-            && store.tag_at(1) == Ok(second)
-            && store.tag_at(1) == Err(StoreFault::DeviceFailed)
-            && store.tag_at(1) == Err(StoreFault::Stopped)
-            && store.into_disk().stop(Pick::Fill(7)).ok()? == file,
-    )
+    let calls = [
+        Call::Count(3),
+        Call::Tag(2, Ok(third)),
+        Call::Tag(0, Ok(first)),
+        Call::Tag(1, Ok(second)),
+        Call::Tag(1, Err(StoreFault::DeviceFailed)),
+        Call::Tag(1, Err(StoreFault::Stopped)),
+    ];
+    let disk = disk_after(FileStore::open(disk).ok()?, &calls)?;
+    Some(disk.stop(Pick::Fill(7)).ok()? == file)
 }
 
 #[test]
@@ -165,12 +181,10 @@ fn tags_of_slots(rt: HostRuntime) {
 // A store of three records that is opened, and of one more that is opened again.
 fn goes_on_after_opening(alloc: Global) -> Option<bool> {
     let disk = MemoryDisk::of(alloc, &file_of(alloc, 3)?).ok()?;
-    let mut store = FileStore::open(disk).ok()?;
-    append_up_to(&mut store, 4).ok()?;
-    let mut store = FileStore::open(store.into_disk()).ok()?;
-    let four = store.count() == 4;
-    append_up_to(&mut store, 5).ok()?;
-    Some(four && opened(store.into_disk())? == Ok(5))
+    let disk = disk_after(FileStore::open(disk).ok()?, &[Call::Append(4, Ok(()))])?;
+    let calls = [Call::Count(4), Call::Append(5, Ok(()))];
+    let disk = disk_after(FileStore::open(disk).ok()?, &calls)?;
+    Some(opened(disk)? == Ok(5))
 }
 
 #[test]
@@ -178,40 +192,28 @@ fn records_are_added_to_what_was_opened(rt: HostRuntime) {
     assert_eq!(rt; goes_on_after_opening(rt.alloc()), Some(true));
 }
 
-// A disk of one byte has no key, and is prepared.
-fn one_byte_is_prepared(alloc: Global, byte: u8) -> Option<bool> {
-    let before = opened_from(alloc, &[byte])?;
-    let store = store_of(MemoryDisk::of(alloc, &[byte]).ok()?, 0)?;
-    let empty = store.count() == 0;
-    let left = store.into_disk().stop(Pick::Fill(0xA5)).ok()?;
-    Some(before == Err(OpenFault::NoKey) && empty && left.as_slice() == [0].as_slice())
-}
-
-#[test]
-fn a_file_of_one_byte_has_no_key(rt: HostRuntime) {
-    for byte in [0x37, 0xA5] {
-        assert_eq!(rt; one_byte_is_prepared(rt.alloc(), byte), Some(true));
-    }
-}
-
-// How preparing a content ends.
-fn format_answer(alloc: Global, content: &[u8]) -> Option<Result<(), FormatFault>> {
-    match FileStore::format(MemoryDisk::of(alloc, content).ok()?) {
-        Ok(_) => Some(Ok(())),
-        Err(refused) => Some(Err(refused.fault)),
-    }
-}
-
-// Whether the first bytes of the file of three records, with this first byte, are prepared so.
+// Whether the first bytes of the file of three records, with this first byte, are prepared so: of fewer than 257 bytes
+// the first becomes zero, and nothing else changes.
 fn is_prepared(
     alloc: Global,
     len: usize,
     first: u8,
     wanted: Result<(), FormatFault>,
 ) -> Option<bool> {
-    let mut file = file_of(alloc, 3)?;
-    *file.get_mut(0)? = first;
-    Some(format_answer(alloc, file.get(..len)?)? == wanted)
+    let mut content = file_of(alloc, 3)?;
+    content.truncate(len);
+    *content.get_mut(0)? = first;
+    let (disk, answer) = match FileStore::format(MemoryDisk::of(alloc, &content).ok()?) {
+        Ok(store) => {
+            let disk = disk_after(store, &[Call::Count(0)])?;
+            (disk, Ok(()))
+        }
+        Err(refused) => (refused.given, Err(refused.fault)),
+    };
+    if len < 257 {
+        *content.get_mut(0)? = 0;
+    }
+    Some(answer == wanted && disk.stop(Pick::Fill(0xA5)).ok()? == content)
 }
 
 #[test]
@@ -221,62 +223,58 @@ fn a_place_with_a_key_is_not_prepared(rt: HostRuntime) {
         (769, 0x37, Err(FormatFault::NotKeyFile)),
         (258, 0x37, Err(FormatFault::NotKeyFile)),
         (257, 0x37, Ok(())),
+        (1, 0x37, Ok(())),
+        (1, 0xA5, Ok(())),
     ] {
         assert_eq!(rt; is_prepared(rt.alloc(), len, first, wanted), Some(true));
     }
 }
 
-// What a content with one byte changed opens with.
+// What a file opens with, cut to a length or with zeros up to it, and with another byte at an offset.
 fn opened_with(
     alloc: Global,
     file: &[u8],
-    offset: usize,
-    byte: u8,
+    len: usize,
+    change: Option<(usize, u8)>,
 ) -> Option<Result<u32, OpenFault>> {
     let mut content = file.to_vec(alloc).ok()?;
-    *content.get_mut(offset)? = byte;
-    opened_from(alloc, &content)
+    content.resize(len, 0).ok()?;
+    if let Some((offset, byte)) = change {
+        *content.get_mut(offset)? = byte;
+    }
+    opened(MemoryDisk::of(alloc, &content).ok()?)
 }
 
-// What the file of three records opens with, with zeros up to a length and one byte changed.
-fn opened_at(alloc: Global, len: usize, offset: usize, byte: u8) -> Option<Result<u32, OpenFault>> {
-    let mut file = file_of(alloc, 3)?;
-    file.resize(len, 0).ok()?;
-    opened_with(alloc, &file, offset, byte)
+// The length of the file of so many records, and what it opens with once it is changed so.
+fn file_with(
+    alloc: Global,
+    count: u32,
+    len: usize,
+    change: Option<(usize, u8)>,
+) -> Option<(usize, Result<u32, OpenFault>)> {
+    let file = file_of(alloc, count)?;
+    Some((file.len(), opened_with(alloc, &file, len, change)?))
 }
 
+// A file has its slots and one byte; one of a single byte has no key, whatever this is; and a fourth slot of zeros, or
+// of less, is damaged where its gate is open and the one after it closed.
 #[test]
-fn gates_with_another_value(rt: HostRuntime) {
-    for value in [0x00, 0x37, 0xA4, 0xFF] {
-        for (gate, wanted) in [
-            (0, Err(OpenFault::NoKey)),
-            (1, Ok(1)),
-            (2, Ok(2)),
-            (3, Ok(3)),
-        ] {
-            assert_eq!(rt; opened_at(rt.alloc(), 769, 256 * gate, value), Some(wanted));
-        }
-    }
-    // the last one is a whole slot of zeros, and a closed gate after it
-    for len in [769, 800, 1025] {
+fn files_of_each_length(rt: HostRuntime) {
+    for (count, size, len, change, wanted) in [
+        (0, 1, 1, None, Err(OpenFault::NoKey)),
+        (1, 257, 257, None, Ok(1)),
+        (3, 769, 769, None, Ok(3)),
+        (5, 1281, 1281, None, Ok(5)),
+        (0, 1, 1, Some((0, 0x37)), Err(OpenFault::NoKey)),
+        (0, 1, 1, Some((0, 0xA5)), Err(OpenFault::NoKey)),
+        (3, 769, 769, Some((768, 0xA5)), Err(OpenFault::Damaged(3))),
+        (3, 769, 800, Some((768, 0xA5)), Err(OpenFault::Damaged(3))),
+        (3, 769, 1025, Some((768, 0xA5)), Err(OpenFault::Damaged(3))),
+    ] {
         assert_eq!(rt;
-            opened_at(rt.alloc(), len, 768, 0xA5),
-            Some(Err(OpenFault::Damaged(3)))
+            file_with(rt.alloc(), count, len, change),
+            Some((size, wanted))
         );
-    }
-}
-
-// What the file of three records opens with where this byte of it has another value.
-fn changed_at(offset: usize, value: u8) -> Option<Result<u32, OpenFault>> {
-    match (offset, value) {
-        (0, _) => Some(Err(OpenFault::NoKey)),
-        (1..=9, _) => Some(Err(OpenFault::NotKeyFile)),
-        (10 | 11, _) => Some(Err(OpenFault::Version)),
-        (256, _) => Some(Ok(1)),
-        (512, _) => Some(Ok(2)),
-        (768, 0xA5) => Some(Err(OpenFault::Damaged(3))),
-        (768, _) => Some(Ok(3)),
-        _ => Some(Err(OpenFault::Damaged(u32::try_from(offset / 256).ok()?))),
     }
 }
 
@@ -285,13 +283,19 @@ fn changed_at(offset: usize, value: u8) -> Option<Result<u32, OpenFault>> {
 fn first_that_opens_otherwise(alloc: Global) -> Option<Option<usize>> {
     let file = file_of(alloc, 3)?;
     for (offset, byte) in file.iter().enumerate() {
-        for value in [0x00, 0x37, 0xA5, 0xFF, *byte ^ 0x01, *byte ^ 0x5A] {
-            let wanted = if value == *byte {
-                Ok(3)
-            } else {
-                changed_at(offset, value)?
+        for value in [0x00, 0x37, 0xA4, 0xA5, 0xFF, *byte ^ 0x01, *byte ^ 0x5A] {
+            let wanted = match (offset, value) {
+                _ if value == *byte => Ok(3),
+                (0, _) => Err(OpenFault::NoKey),
+                (1..=9, _) => Err(OpenFault::NotKeyFile),
+                (10 | 11, _) => Err(OpenFault::Version),
+                (256, _) => Ok(1),
+                (512, _) => Ok(2),
+                (768, 0xA5) => Err(OpenFault::Damaged(3)),
+                (768, _) => Ok(3),
+                _ => Err(OpenFault::Damaged(u32::try_from(offset / 256).ok()?)),
             };
-            if opened_with(alloc, &file, offset, value)? != wanted {
+            if opened_with(alloc, &file, 769, Some((offset, value)))? != wanted {
                 return Some(Some(offset));
             }
         }
@@ -304,21 +308,17 @@ fn each_byte_of_a_file_changed(rt: HostRuntime) {
     assert_eq!(rt; first_that_opens_otherwise(rt.alloc()), Some(None));
 }
 
-// What a file of one slot opens with, which has these fields and their tag.
-fn opened_with_slot(alloc: Global, fields: &[u8; 223]) -> Option<Result<u32, OpenFault>> {
-    let mut content = Vec::new(alloc);
-    content.push(0xA5).ok()?;
-    content.extend_from_slice(fields).ok()?;
-    content.extend_from_slice(&tagged(&[0; 32], fields)).ok()?;
-    content.push(0).ok()?;
-    opened_from(alloc, &content)
-}
-
-// The same of the record of this number, with another value in byte 10 of its fields, which is the version's second.
+// What a file of one slot opens with, which has the fields of the record of this number and their tag, with another
+// value in byte 10 of the fields, which is the version's second.
 fn opened_with_record(alloc: Global, k: u32, value: u8) -> Option<Result<u32, OpenFault>> {
     let mut fields = record_bytes(&record(k)?);
     fields[10] = value;
-    opened_with_slot(alloc, &fields)
+    let mut content = Vec::new(alloc);
+    content.push(0xA5).ok()?;
+    content.extend_from_slice(&fields).ok()?;
+    content.extend_from_slice(&tagged(&[0; 32], &fields)).ok()?;
+    content.push(0).ok()?;
+    opened(MemoryDisk::of(alloc, &content).ok()?)
 }
 
 // A file begins with a Key of a known version, whatever its tags.
@@ -347,7 +347,7 @@ fn first_length_wrong(alloc: Global) -> Option<Option<usize>> {
             513..=768 => Err(OpenFault::Damaged(2)),
             _ => Ok(3),
         };
-        if opened_from(alloc, &file[..len])? != wanted {
+        if opened_with(alloc, &file, len, None)? != wanted {
             return Some(Some(len));
         }
     }
@@ -372,7 +372,7 @@ fn stop_leaves_no_key(alloc: Global, content: &[u8], call: u32) -> Option<bool> 
     } else {
         Ok(())
     };
-    Some(answer == wanted && all_leave(alloc, &disk, Err(OpenFault::NoKey)))
+    Some(answer == wanted && leaves(alloc, &disk, &PICKS, Err(OpenFault::NoKey))?)
 }
 
 #[test]
@@ -394,7 +394,7 @@ fn stop_leaves(alloc: Global, call: u32, counts: [u32; 5]) -> Option<bool> {
     }
     let disk = store.into_disk();
     for (pick, count) in PICKS.into_iter().zip(counts) {
-        if !leaves(alloc, &disk, pick, Ok(count)) {
+        if !leaves(alloc, &disk, &[pick], Ok(count))? {
             return Some(false);
         }
     }
@@ -416,89 +416,54 @@ fn a_stop_in_an_append_leaves_the_old_records_or_the_new(rt: HostRuntime) {
     }
 }
 
-// A disk on which the last sync of the third append was refused, if the store then answered 45 and 26.
-fn last_sync_refused(alloc: Global) -> Option<MemoryDisk> {
+// What a store over a disk answers whose last sync of the third append is refused.
+const LAST_SYNC_REFUSED: &[Call] = &[
+    Call::Append(3, Err(StoreFault::DeviceFailed)),
+    Call::Load(0, Err(StoreFault::Stopped)),
+    Call::Count(2),
+];
+
+// Whether what an opening shows stays, where before it a stop could leave less; or whether an opening whose sync is
+// refused shows nothing.
+fn opening_keeps(alloc: Global, refused: bool) -> Option<bool> {
     let mut disk = MemoryDisk::of(alloc, &[]).ok()?;
     disk.fail_at(16);
-    let mut store = store_of(disk, 2)?;
-    let failed = append_up_to(&mut store, 3) == Err(StoreFault::DeviceFailed);
-    let stopped = is_loaded(&store.load(0), Err(StoreFault::Stopped));
-    if failed && stopped && store.count() == 2 {
-        Some(store.into_disk())
-    } else {
-        None
+    let mut disk = disk_after(store_of(disk, 2)?, LAST_SYNC_REFUSED)?;
+    let before = leaves(alloc, &disk, &[Pick::Old], Ok(2))?;
+    if refused {
+        disk.fail_at(1);
+        return Some(before && opened(disk)? == Err(OpenFault::DeviceFailed));
     }
-}
-
-// Whether what an opening shows stays, where before it a stop could leave less; and whether an opening whose sync is
-// refused shows nothing.
-fn opening_keeps(alloc: Global) -> Option<bool> {
-    let disk = last_sync_refused(alloc)?;
-    let before = leaves(alloc, &disk, Pick::Old, Ok(2));
-    let store = FileStore::open(disk).ok()?;
-    let three = store.count() == 3;
-    let after = all_leave(alloc, &store.into_disk(), Ok(3));
-    let mut disk = last_sync_refused(alloc)?;
-    disk.fail_at(1);
-    Some(before && three && after && opened(disk)? == Err(OpenFault::DeviceFailed))
+    let disk = disk_after(FileStore::open(disk).ok()?, &[Call::Count(3)])?;
+    Some(before && leaves(alloc, &disk, &PICKS, Ok(3))?)
 }
 
 #[test]
 fn opening_syncs_what_it_shows(rt: HostRuntime) {
-    assert_eq!(rt; opening_keeps(rt.alloc()), Some(true));
-}
-
-// How a run of the script ended.
-#[derive(Drop)]
-struct Ended {
-    disk: MemoryDisk,
-    // how many appends were acknowledged
-    acknowledged: u32,
-    // whether no call was refused
-    whole: bool,
-}
-
-// Opens a disk and loads the last of five records.
-fn open_and_load(disk: MemoryDisk, acknowledged: u32) -> Ended {
-    match FileStore::open(disk) {
-        Ok(mut store) => {
-            let whole = is_loaded(&store.load(4), Ok(Some(4)));
-            Ended {
-                disk: store.into_disk(),
-                acknowledged,
-                whole,
-            }
-        }
-        Err(refused) => Ended {
-            disk: refused.given,
-            acknowledged,
-            whole: false,
-        },
+    for refused in [false, true] {
+        assert_eq!(rt; opening_keeps(rt.alloc(), refused), Some(true));
     }
 }
 
-// Prepares a place, appends five records, opens it and loads the last, until a call is refused.
-fn script(disk: MemoryDisk) -> Ended {
-    match FileStore::format(disk) {
+// Prepares a place, appends five records, opens it and loads the last, until a call is refused. Gives the disk, how
+// many appends were acknowledged, and whether no call was refused.
+fn script(disk: MemoryDisk) -> (MemoryDisk, u32, bool) {
+    let mut store = match FileStore::format(disk) {
+        Ok(store) => store,
+        Err(refused) => return (refused.given, 0, false),
+    };
+    let is_appended = append_up_to(&mut store, 5).is_ok();
+    let acknowledged = store.count();
+    let disk = store.into_disk();
+    if !is_appended {
+        return (disk, acknowledged, false);
+    }
+    match FileStore::open(disk) {
         Ok(mut store) => {
-            let appended = append_up_to(&mut store, 5).is_ok();
-            let acknowledged = store.count();
-            let disk = store.into_disk();
-            if appended {
-                open_and_load(disk, acknowledged)
-            } else {
-                Ended {
-                    disk,
-                    acknowledged,
-                    whole: false,
-                }
-            }
+            let is_whole = is_loaded(&store.load(4), Ok(Some(4)));
+            (store.into_disk(), acknowledged, is_whole)
         }
-        Err(refused) => Ended {
-            disk: refused.given,
-            acknowledged: 0,
-            whole: false,
-        },
+        Err(refused) => (refused.given, acknowledged, false),
     }
 }
 
@@ -521,18 +486,16 @@ fn run_to_the_nth_call(alloc: Global, n: u32, stops: bool) -> Option<bool> {
     } else {
         disk.fail_at(n);
     }
-    let mut ended = script(disk);
+    let (mut disk, acknowledged, is_whole) = script(disk);
     for pick in PICKS {
-        let left = ended.disk.stop(pick).ok()?;
-        if !stands_for(opened_from(alloc, &left), ended.acknowledged) {
+        let left = disk.stop(pick).ok()?;
+        if !stands_for(opened(MemoryDisk::of(alloc, &left).ok()?), acknowledged) {
             return None;
         }
     }
-    ended.disk.fail_at(0);
-    let whole = ended.whole;
-    let acknowledged = ended.acknowledged;
-    if stops || stands_for(opened(ended.disk), acknowledged) {
-        Some(whole)
+    disk.fail_at(0);
+    if stops || stands_for(opened(disk), acknowledged) {
+        Some(is_whole)
     } else {
         None
     }
@@ -548,36 +511,6 @@ fn each_call_fails_or_the_disk_stops_before_it(rt: HostRuntime) {
     }
 }
 
-// Whether a store of two records has them, its limit, and a disk of 513 bytes.
-fn keeps_two(alloc: Global) -> Option<bool> {
-    let mut store = store_of(MemoryDisk::of(alloc, &[]).ok()?, 0)?;
-    let none = is_loaded(&store.load(0), Ok(None));
-    append_up_to(&mut store, 2).ok()?;
-    let two = store.count() == 2 && has_records(&mut store) && store.limit() == 2147483648;
-    Some(none && two && store.into_disk().len() == Ok(513))
-}
-
-#[test]
-fn a_store_keeps_its_records(rt: HostRuntime) {
-    assert_eq!(rt; keeps_two(rt.alloc()), Some(true));
-}
-
-// Whether an append whose first call is refused stops the store.
-fn stops(alloc: Global) -> Option<bool> {
-    let mut disk = MemoryDisk::of(alloc, &[]).ok()?;
-    // format's four calls, and then the append's first
-    disk.fail_at(5);
-    let mut store = store_of(disk, 0)?;
-    let failed = append_up_to(&mut store, 1) == Err(StoreFault::DeviceFailed);
-    let stopped = append_up_to(&mut store, 1) == Err(StoreFault::Stopped);
-    Some(failed && stopped && is_loaded(&store.load(0), Err(StoreFault::Stopped)))
-}
-
-#[test]
-fn an_append_that_fails_stops_the_store(rt: HostRuntime) {
-    assert_eq!(rt; stops(rt.alloc()), Some(true));
-}
-
 // Whether the records of a file of three are loaded so, where the disk shows the byte at this offset otherwise once the
 // file was opened.
 fn loads_so(
@@ -585,16 +518,19 @@ fn loads_so(
     offset: u64,
     wanted: [Result<Option<u32>, StoreFault>; 3],
 ) -> Option<bool> {
-    let file = file_of(alloc, 3)?;
     // an opening reads two times for the Key, and ten times for three slots and the gate after them
-    let disk = TurningDisk::of(MemoryDisk::of(alloc, &file).ok()?, 12, offset);
-    let mut store = FileStore::open(disk).ok()?;
-    for k in 0..3 {
-        if !is_loaded(&store.load(k), wanted[k as usize]) {
-            return Some(false);
-        }
-    }
-    Some(true)
+    let disk = TurningDisk {
+        disk: MemoryDisk::of(alloc, &file_of(alloc, 3)?).ok()?,
+        reads: 12,
+        offset,
+    };
+    let [first, second, third] = wanted;
+    let calls = [
+        Call::Load(0, first),
+        Call::Load(1, second),
+        Call::Load(2, third),
+    ];
+    Some(disk_after(FileStore::open(disk).ok()?, &calls).is_some())
 }
 
 // A load compares the tag of its slot with that of its fields after the slot before, and doesn't read the gate.

@@ -4,24 +4,13 @@ ghost use Rattle.std.specs.Prelude.{false};
 
 use crate::*;
 
-/// A disk that isn't honest: after so many reads it shows one byte otherwise.
+/// A disk that isn't honest: it shows what another has, and after so many reads the byte at an offset otherwise.
 #[derive(Drop)]
 pub(super) struct TurningDisk {
-    disk: MemoryDisk,
+    pub(super) disk: MemoryDisk,
     // how many reads come before
-    reads: u32,
-    offset: u64,
-}
-
-impl TurningDisk {
-    /// A disk that shows what this one has, and after so many reads the byte at this offset otherwise.
-    pub(super) fn of(disk: MemoryDisk, reads: u32, offset: u64) -> Self {
-        TurningDisk {
-            disk,
-            reads,
-            offset,
-        }
-    }
+    pub(super) reads: u32,
+    pub(super) offset: u64,
 }
 
 impl Disk for TurningDisk {
