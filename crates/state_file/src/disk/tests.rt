@@ -97,26 +97,31 @@ const STOPS_FOR_GOOD: &[Step<'static>] = &[
 ];
 
 // Takes a step, and says whether all is as it says.
-fn take(disk: &mut MemoryDisk, step: &Step<'_>) -> Option<bool> {
+fn take(disk: &mut MemoryDisk, step: &Step<'_>) -> bool {
     match step {
-        Step::Len(wanted) => Some(disk.len() == *wanted),
+        Step::Len(wanted) => disk.len() == *wanted,
         Step::Read(at, wanted) => {
             let mut into = [0; 8];
-            let part = into.get_mut(..wanted.len())?;
-            Some(disk.read_at(*at, part) == Ok(()) && *part == **wanted)
+            match into.get_mut(..wanted.len()) {
+                Some(part) => disk.read_at(*at, part) == Ok(()) && *part == **wanted,
+                None => false,
+            }
         }
-        Step::ReadFails(at, fault) => Some(disk.read_at(*at, &mut [0; 2]) == Err(*fault)),
-        Step::Write(at, bytes, wanted) => Some(disk.write_at(*at, bytes) == *wanted),
-        Step::Sync(wanted) => Some(disk.sync() == *wanted),
+        Step::ReadFails(at, fault) => disk.read_at(*at, &mut [0; 2]) == Err(*fault),
+        Step::Write(at, bytes, wanted) => disk.write_at(*at, bytes) == *wanted,
+        Step::Sync(wanted) => disk.sync() == *wanted,
         Step::FailAt(n) => {
             disk.fail_at(*n);
-            Some(true)
+            true
         }
         Step::StopAt(n) => {
             disk.stop_at(*n);
-            Some(true)
+            true
         }
-        Step::Leaves(pick, wanted) => Some(disk.stop(*pick).ok()?.as_slice() == *wanted),
+        Step::Leaves(pick, wanted) => match disk.stop(*pick) {
+            Ok(left) => left.as_slice() == *wanted,
+            Err(_) => false,
+        },
     }
 }
 
@@ -124,26 +129,28 @@ fn take(disk: &mut MemoryDisk, step: &Step<'_>) -> Option<bool> {
 fn first_wrong(alloc: Global, bytes: &[u8], steps: &[Step<'_>]) -> Option<Option<usize>> {
     let mut disk = MemoryDisk::of(alloc, bytes).ok()?;
     for (k, step) in steps.iter().enumerate() {
-        if take(&mut disk, step) != Some(true) {
+        if !take(&mut disk, step) {
             return Some(Some(k));
         }
     }
     Some(None)
 }
 
+// The bytes of a disk, and steps on it.
+const RUNS: &[(&[u8], &[Step<'static>])] = &[
+    (&[1, 2, 3], READS),
+    (&[1, 2, 3], READS_WRITTEN),
+    (&[1], WRITES_PAST_THE_END),
+    (&[1, 2, 3], STOPS_UNSYNCED),
+    (&[1, 2, 3], STOPS_SYNCED),
+    (&[1, 2, 3], FAILS_IN_A_WRITE),
+    (&[1, 2, 3], FAILS_ONCE),
+    (&[1, 2, 3], STOPS_FOR_GOOD),
+];
+
 #[test]
 fn steps_are_taken(rt: HostRuntime) {
-    let three = [1, 2, 3];
-    for (bytes, steps) in [
-        (three.as_slice(), READS),
-        (three.as_slice(), READS_WRITTEN),
-        ([1].as_slice(), WRITES_PAST_THE_END),
-        (three.as_slice(), STOPS_UNSYNCED),
-        (three.as_slice(), STOPS_SYNCED),
-        (three.as_slice(), FAILS_IN_A_WRITE),
-        (three.as_slice(), FAILS_ONCE),
-        (three.as_slice(), STOPS_FOR_GOOD),
-    ] {
+    for (bytes, steps) in RUNS {
         assert_eq!(rt; first_wrong(rt.alloc(), bytes, steps), Some(None));
     }
 }

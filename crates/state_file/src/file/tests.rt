@@ -14,21 +14,16 @@ const fn one_slot() -> [u8; 257] {
     content
 }
 
-// Adds a second slot to a disk that stops before a call, and says whether each pick leaves so many open slots, one
-// after the other.
-fn adds_slot(alloc: Global, call: u32, counts: [usize; 4]) -> Option<bool> {
+// Adds a second slot to a disk that stops before a call, and says whether by each pick the first slot stands open, the
+// second one if it is to, and no third.
+fn adds_slot(alloc: Global, call: u32, second: [bool; 4]) -> Option<bool> {
     let mut disk = MemoryDisk::of(alloc, &one_slot()).ok()?;
     disk.stop_at(call);
     let added = add_slot(&mut disk, 1, &[2; 223], &[2; 32]).is_ok();
-    for (pick, count) in PICKS.into_iter().zip(counts) {
+    for (pick, wanted) in PICKS.into_iter().zip(second) {
         let left = disk.stop(pick).ok()?;
-        let mut open = 0;
-        for (k, gate) in left.iter().step_by(256).enumerate() {
-            if *gate == 0xA5 && open == k {
-                open = k.saturating_add(1);
-            }
-        }
-        if open != count {
+        let is_second = left.get(256) == Some(&0xA5);
+        if left.first() != Some(&0xA5) || is_second != wanted || left.get(512) == Some(&0xA5) {
             return Some(false);
         }
     }
@@ -37,15 +32,15 @@ fn adds_slot(alloc: Global, call: u32, counts: [usize; 4]) -> Option<bool> {
 
 #[test]
 fn a_stop_leaves_the_old_slots_or_the_new(rt: HostRuntime) {
-    // before which call the stop comes, and how many slots each pick leaves
-    for (call, counts) in [
-        (1, [1, 1, 1, 1]),
-        (2, [1, 1, 1, 1]),
-        (3, [1, 1, 1, 1]),
-        (4, [1, 2, 2, 1]),
-        (5, [2, 2, 2, 2]),
+    // before which call the stop comes, and whether each pick leaves the second slot
+    for (call, second) in [
+        (1, [false; 4]),
+        (2, [false; 4]),
+        (3, [false; 4]),
+        (4, [false, true, true, false]),
+        (5, [true; 4]),
     ] {
-        assert_eq!(rt; adds_slot(rt.alloc(), call, counts), Some(true));
+        assert_eq!(rt; adds_slot(rt.alloc(), call, second), Some(true));
     }
 }
 
