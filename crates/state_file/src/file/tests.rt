@@ -15,7 +15,7 @@ const fn one_slot() -> [u8; 257] {
 }
 
 // Adds a second slot to a disk that stops before a call, and says whether by each pick the first slot stands open, the
-// second one if it is to, and no third.
+// second one if it is to, and no third one after that.
 fn adds_slot(alloc: Global, call: u32, second: [bool; 4]) -> Option<bool> {
     let mut disk = MemoryDisk::of(alloc, &one_slot()).ok()?;
     disk.stop_at(call);
@@ -23,7 +23,8 @@ fn adds_slot(alloc: Global, call: u32, second: [bool; 4]) -> Option<bool> {
     for (pick, wanted) in PICKS.into_iter().zip(second) {
         let left = disk.stop(pick).ok()?;
         let is_second = left.get(256) == Some(&0xA5);
-        if left.first() != Some(&0xA5) || is_second != wanted || left.get(512) == Some(&0xA5) {
+        let is_third = is_second && left.get(512) == Some(&0xA5);
+        if left.first() != Some(&0xA5) || is_second != wanted || is_third {
             return Some(false);
         }
     }
