@@ -31,30 +31,20 @@ impl Sample {
         signature.extend_from_slice(&LEAF.to_be_bytes())?;
         signature.extend_from_slice(&4u32.to_be_bytes())?;
         signature.extend_from_slice(&RANDOMIZER)?;
-        push_chains(&mut signature, message)?;
+        // The 34 values y of the one-time signature (4.5).
+        for (i, digit) in (0u16..).zip(digits(message)) {
+            signature.extend_from_slice(&walk(LEAF, i, digit))?;
+        }
         signature.extend_from_slice(&5u32.to_be_bytes())?;
-        push_path(&mut signature, &nodes)?;
+        // The siblings from the leaf to below the root (5.4.1).
+        let mut node = 32 + LEAF as usize;
+        for _ in 0..5u8 {
+            let sibling = nodes.get(node ^ 1).copied().unwrap_or([0; 32]);
+            signature.extend_from_slice(&sibling)?;
+            node /= 2;
+        }
         Ok(Sample { public, signature })
     }
-}
-
-// The 34 values y of the one-time signature (4.5).
-fn push_chains(signature: &mut Vec<u8>, message: &[u8]) -> Result<(), AllocError> {
-    for (i, digit) in (0u16..).zip(digits(message)) {
-        signature.extend_from_slice(&walk(LEAF, i, digit))?;
-    }
-    Ok(())
-}
-
-// The siblings from the leaf to below the root (5.4.1).
-fn push_path(signature: &mut Vec<u8>, nodes: &[[u8; 32]; 64]) -> Result<(), AllocError> {
-    let mut node = 32 + LEAF as usize;
-    for _ in 0..5u8 {
-        let sibling = nodes.get(node ^ 1).copied().unwrap_or([0; 32]);
-        signature.extend_from_slice(&sibling)?;
-        node /= 2;
-    }
-    Ok(())
 }
 
 // H of the parts.
@@ -93,8 +83,8 @@ fn digits(message: &[u8]) -> [u8; 34] {
     digits
 }
 
-// K, the public hash of leaf q's one-time key (4.3).
-fn public_hash(q: u32) -> [u8; 32] {
+// Leaf q (5.3), as node 32 + q, of K, the public hash of its one-time key (4.3).
+fn leaf(q: u32) -> [u8; 32] {
     let mut hasher = Sha256::new();
     hasher.update(IDENTIFIER);
     hasher.update(q.to_be_bytes());
@@ -102,34 +92,20 @@ fn public_hash(q: u32) -> [u8; 32] {
     for i in 0..34u16 {
         hasher.update(walk(q, i, 255));
     }
-    hasher.finalize()
-}
-
-// Leaf q, as node 32 + q (5.3).
-fn leaf(q: u32) -> [u8; 32] {
     let number = (32 + u64::from(q)).to_be_bytes();
-    hash(&[&IDENTIFIER, &number[4..], &[0x82, 0x82], &public_hash(q)])
+    hash(&[&IDENTIFIER, &number[4..], &[0x82, 0x82], &hasher.finalize()])
 }
 
-// Node r, of its children (5.3).
-fn inner(r: u32, left: &[u8; 32], right: &[u8; 32]) -> [u8; 32] {
-    hash(&[&IDENTIFIER, &r.to_be_bytes(), &[0x83, 0x83], left, right])
-}
-
-// The tree's nodes by their numbers, from 1, the root, to 63.
+// The tree's nodes by their numbers, from 1, the root, to 63: each of its children, from the leaves on (5.3).
 fn nodes() -> [[u8; 32]; 64] {
-    let mut nodes = leaves();
-    for r in (1..32usize).rev() {
-        nodes[r] = inner(r as u32, &nodes[2 * r], &nodes[2 * r + 1]);
-    }
-    nodes
-}
-
-// The leaves at their numbers, 32 to 63, and zeros below.
-fn leaves() -> [[u8; 32]; 64] {
     let mut nodes = [[0; 32]; 64];
     for q in 0..32u32 {
         nodes[32 + q as usize] = leaf(q);
+    }
+    for r in (1..32usize).rev() {
+        let number = (r as u32).to_be_bytes();
+        let (left, right) = (nodes[2 * r], nodes[2 * r + 1]);
+        nodes[r] = hash(&[&IDENTIFIER, &number, &[0x83, 0x83], &left, &right]);
     }
     nodes
 }
