@@ -135,121 +135,115 @@ impl OffsetFile for PlannedFile<'_> {
     }
 }
 
-// A disk over a file that has these bytes and follows this plan.
-fn disk<'a>(
-    rt: &HostRuntime,
-    bytes: &[u8],
-    plan: &'a [Step],
-    end: Step,
-) -> Option<FileDisk<PlannedFile<'a>>> {
-    Some(FileDisk::new(PlannedFile {
-        content: MemoryDisk::of(rt.alloc(), bytes).ok()?,
+const WHOLE: Step = Step::Part(usize::MAX);
+
+// What a disk is asked for.
+#[derive(Clone, Copy)]
+enum Call {
+    // to write ten bytes at offset 2 of the bytes abcd
+    Write,
+    // to read four bytes at an offset of the bytes abcdef
+    Read(u64),
+    // the length of the bytes abcd, and then a sync
+    Sync,
+}
+
+// What the calls of the file do, what is asked, the length and what comes of the rest, and the bytes that are left of
+// the file, or that are read.
+type Case = (
+    &'static [Step],
+    Step,
+    Call,
+    (Result<u64, DiskFault>, Result<(), DiskFault>),
+    &'static [u8],
+);
+
+const PARTS: &[Step] = &[
+    Step::Part(3),
+    Step::Interrupted,
+    Step::Part(1),
+    Step::Interrupted,
+];
+
+const OTHER_PARTS: &[Step] = &[
+    Step::Part(1),
+    Step::Interrupted,
+    Step::Part(2),
+    Step::Interrupted,
+];
+
+const FAILING: &[Step] = &[Step::Part(3), Step::Interrupted, Step::Fails];
+
+const NOTHING: &[Step] = &[Step::Part(3), Step::Part(0)];
+
+const DONE: (Result<u64, DiskFault>, Result<(), DiskFault>) = (Ok(0), Ok(()));
+
+const BROKEN: (Result<u64, DiskFault>, Result<(), DiskFault>) = (Ok(0), Err(DiskFault::Failed));
+
+const PAST_END: (Result<u64, DiskFault>, Result<(), DiskFault>) = (Ok(0), Err(DiskFault::PastEnd));
+
+// A write goes on until all is written, and a read until all is read. A failure is reported.
+const CASES: &[Case] = &[
+    (&[], WHOLE, Call::Write, DONE, b"ab0123456789"),
+    (&[], Step::Part(1), Call::Write, DONE, b"ab0123456789"),
+    (PARTS, WHOLE, Call::Write, DONE, b"ab0123456789"),
+    (FAILING, WHOLE, Call::Write, BROKEN, b"ab012"),
+    (NOTHING, WHOLE, Call::Write, BROKEN, b"ab012"),
+    (&[], Step::Fails, Call::Write, BROKEN, b"abcd"),
+    (&[], Step::Interrupted, Call::Write, BROKEN, b"abcd"),
+    (&[], WHOLE, Call::Read(1), DONE, b"bcde"),
+    (OTHER_PARTS, WHOLE, Call::Read(2), DONE, b"cdef"),
+    (FAILING, WHOLE, Call::Read(1), BROKEN, b"bcd-"),
+    (OTHER_PARTS, WHOLE, Call::Read(3), PAST_END, b"def-"),
+    (&[], WHOLE, Call::Read(6), PAST_END, b"----"),
+    (&[], WHOLE, Call::Read(u64::MAX), PAST_END, b"----"),
+    (&[], WHOLE, Call::Sync, (Ok(4), Ok(())), b"abcd"),
+    (
+        &[],
+        Step::Fails,
+        Call::Sync,
+        (Err(DiskFault::Failed), Err(DiskFault::Failed)),
+        b"abcd",
+    ),
+];
+
+// Whether a case comes to what it says.
+fn is_right(rt: &HostRuntime, case: &Case) -> Option<bool> {
+    let (plan, end, call, answers, bytes) = *case;
+    let first = match call {
+        Call::Read(_) => b"abcdef".as_slice(),
+        _ => b"abcd",
+    };
+    let mut disk = FileDisk::new(PlannedFile {
+        content: MemoryDisk::of(rt.alloc(), first).ok()?,
         plan,
         end,
         trace: Trace::new(),
-    }))
-}
-
-const WHOLE: Step = Step::Part(usize::MAX);
-
-// Whether a write of ten bytes at offset 2 of a file of four answers so, and leaves the file so.
-fn writes(
-    rt: &HostRuntime,
-    plan: &[Step],
-    end: Step,
-    answer: Result<(), DiskFault>,
-    left: &[u8],
-) -> Option<bool> {
-    let mut disk = disk(rt, b"abcd", plan, end)?;
-    let written = disk.write_at(2, b"0123456789");
-    let content = disk.into_file().content.stop(Pick::New).ok()?;
-    Some(written == answer && content.as_slice() == left)
-}
-
-// Whether a read of so many bytes at an offset of a file of six answers so, and gives these.
-fn reads(
-    rt: &HostRuntime,
-    plan: &[Step],
-    at: u64,
-    answer: Result<(), DiskFault>,
-    given: &[u8; 4],
-) -> Option<bool> {
-    let mut disk = disk(rt, b"abcdef", plan, WHOLE)?;
+    });
     let mut into = *b"----";
-    let read = disk.read_at(at, &mut into);
-    Some(read == answer && into == *given)
+    let found = match call {
+        Call::Write => (Ok(0), disk.write_at(2, b"0123456789")),
+        Call::Read(at) => (Ok(0), disk.read_at(at, &mut into)),
+        Call::Sync => (disk.len(), disk.sync()),
+    };
+    let left = disk.into_file().content.stop(Pick::New).ok()?;
+    let has_bytes = match call {
+        Call::Read(_) => into.as_slice() == bytes && left.as_slice() == first,
+        _ => left.as_slice() == bytes,
+    };
+    Some(found == answers && has_bytes)
 }
 
 #[test]
-fn a_write_goes_on_until_all_is_written(rt: HostRuntime) {
-    let all = b"ab0123456789".as_slice();
-    let parts = [
-        Step::Part(3),
-        Step::Interrupted,
-        Step::Part(1),
-        Step::Interrupted,
-    ];
-    let failing = [Step::Part(3), Step::Interrupted, Step::Fails];
-    let nothing = [Step::Part(3), Step::Part(0)];
-    let broken = Err(DiskFault::Failed);
-    for (plan, end, answer, left) in [
-        ([].as_slice(), WHOLE, Ok(()), all),
-        (&[], Step::Part(1), Ok(()), all),
-        (&parts, WHOLE, Ok(()), all),
-        (&failing, WHOLE, broken, b"ab012"),
-        (&nothing, WHOLE, broken, b"ab012"),
-        (&[], Step::Fails, broken, b"abcd"),
-        (&[], Step::Interrupted, broken, b"abcd"),
-    ] {
-        assert_eq!(rt; writes(&rt, plan, end, answer, left), Some(true));
+fn calls_go_on_until_all_is_done(rt: HostRuntime) {
+    for (i, case) in CASES.iter().enumerate() {
+        assert_eq!(rt; is_right(&rt, case), Some(true), "{i}");
     }
-}
-
-#[test]
-fn a_read_goes_on_until_all_is_read(rt: HostRuntime) {
-    let parts = [
-        Step::Part(1),
-        Step::Interrupted,
-        Step::Part(2),
-        Step::Interrupted,
-    ];
-    let failing = [Step::Part(3), Step::Interrupted, Step::Fails];
-    for (plan, at, answer, given) in [
-        ([].as_slice(), 1, Ok(()), b"bcde"),
-        (&parts, 2, Ok(()), b"cdef"),
-        (&failing, 1, Err(DiskFault::Failed), b"bcd-"),
-        (&parts, 3, Err(DiskFault::PastEnd), b"def-"),
-        (&[], 6, Err(DiskFault::PastEnd), b"----"),
-        (&[], u64::MAX, Err(DiskFault::PastEnd), b"----"),
-    ] {
-        assert_eq!(rt; reads(&rt, plan, at, answer, given), Some(true));
-    }
-}
-
-// Whether the length and a sync are answered so.
-fn answers(
-    rt: &HostRuntime,
-    end: Step,
-    length: Result<u64, DiskFault>,
-    synced: Result<(), DiskFault>,
-) -> Option<bool> {
-    let mut disk = disk(rt, b"abcd", &[], end)?;
-    Some(disk.len() == length && disk.sync() == synced)
-}
-
-#[test]
-fn a_failure_is_reported(rt: HostRuntime) {
-    let failed = DiskFault::Failed;
-    assert_eq!(rt; answers(&rt, WHOLE, Ok(4), Ok(())), Some(true));
-    assert_eq!(rt;
-        answers(&rt, Step::Fails, Err(failed), Err(failed)),
-        Some(true)
-    );
 }
 
 #[test]
 fn a_file_of_the_machine_is_read_and_written(rt: HostRuntime) -> Result<(), Fail> {
-    let folder = Place::new(&rt, "disk")?;
+    let folder = Place::new(&rt, "disk").ok_or("no folder")?;
     let path = folder.path.join(rt.alloc(), "state")?;
     let Ok(file) = StateFile::open_or_make(&rt, path.as_str()) else {
         return Err(Fail::from("no state file"));
@@ -280,5 +274,5 @@ fn a_file_of_the_machine_is_read_and_written(rt: HostRuntime) -> Result<(), Fail
         fs::read(&rt, path.as_path())?.as_slice(),
         b"ab0123".as_slice()
     );
-    folder.remove(&rt)
+    Ok(folder.remove(&rt)?)
 }

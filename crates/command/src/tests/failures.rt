@@ -1,41 +1,72 @@
 //! Files, readers and outputs that fail.
 
-use super::key_lines::{folder_with_files, run_line};
-use super::place::{Place, run_words};
+use super::place::{Room, run_on};
 use super::sample::Sample;
-use super::shelf::{After, Content, verify, verify_to};
-use crate::line::ClapReader;
+use super::shelf::{After, Content, Shelf, verify};
+use super::steps::{Step, first_wrong_step};
 use crate::machine::Machine;
-use crate::output::Printer;
-use crate::program::run;
 use std::io;
-use std::io::Write;
 use std::test::Fail;
 
-#[test]
-fn refuses_a_file_that_is_missing_or_a_folder(rt: HostRuntime) -> Result<(), Fail> {
-    let folder = Place::new(&rt, "files")?;
-    let first = folder.verify(&rt, b"", b"", b"")?;
-    assert!(rt; first.is("refused 6 KeyLength of 0", 1));
-    let missing = folder.path.join(rt.alloc(), "missing")?;
-    for word in 1..4usize {
-        let mut line = folder.line();
-        line[word] = missing.as_str();
-        let outcome = run_words(&rt, line.as_slice());
-        assert!(rt; outcome.is("refused 53 FileFailed", 3), "{word}");
-    }
+// A file that is missing, or a folder, is refused.
+const MISSING: &[Step] = &[
+    Step::Puts("p", b""),
+    Step::Puts("m", b""),
+    Step::Puts("s", b""),
+    Step::Prints("verify @p @m @s", "refused 6 KeyLength of 0", 1, None),
+    Step::Prints("verify @missing @m @s", "refused 53 FileFailed", 3, None),
+    Step::Prints("verify @p @missing @s", "refused 53 FileFailed", 3, None),
+    Step::Prints("verify @p @m @missing", "refused 53 FileFailed", 3, None),
     // A folder is opened, and can't be read; the message isn't read where the key is none.
-    for (word, answer, status) in [
-        (1usize, "refused 53 FileFailed", 3),
-        (2, "refused 6 KeyLength of 0", 1),
-        (3, "refused 53 FileFailed", 3),
-    ] {
-        let mut line = folder.line();
-        line[word] = folder.path.as_str();
-        let outcome = run_words(&rt, line.as_slice());
-        assert!(rt; outcome.is(answer, status), "{word}");
+    Step::Prints("verify @ @m @s", "refused 53 FileFailed", 3, None),
+    Step::Prints("verify @p @ @s", "refused 6 KeyLength of 0", 1, None),
+    Step::Prints("verify @p @m @", "refused 53 FileFailed", 3, None),
+];
+
+// An output that takes one byte.
+const NARROW: &Room = &Room {
+    output: 1,
+    errors: usize::MAX,
+    is_stuck: false,
+};
+
+const BOTH_NARROW: &Room = &Room {
+    output: 1,
+    errors: 1,
+    is_stuck: false,
+};
+
+// Outputs that take every text, and can't pass it on.
+const STUCK: &Room = &Room {
+    output: usize::MAX,
+    errors: usize::MAX,
+    is_stuck: true,
+};
+
+// A reply that can't be written ends a serving, which is reported where errors are. What was bound stays bound.
+const REPLY_LOST: &[Step] = &[
+    Step::Prints(
+        "make @k @p lms:H5/W8 --random @r",
+        "public {p}",
+        0,
+        Some(257),
+    ),
+    Step::Serves(
+        "serve @k",
+        b"\x04fw-1\0\0\0\x01\x01\0\0\0\0\0",
+        NARROW,
+        b"refused 36 WriteFailed\n",
+        3,
+        Some(513),
+    ),
+    Step::Prints("sign @k fw-1 @m2 @s", "refused 21 Changed", 1, Some(513)),
+];
+
+#[test]
+fn failures_of_files_and_replies_are_reported(rt: HostRuntime) {
+    for (name, steps) in [("files", MISSING), ("serve-output", REPLY_LOST)] {
+        assert_eq!(rt; first_wrong_step(&rt, name, steps), None, "{name}");
     }
-    folder.remove(&rt)
 }
 
 const MEMORY: After = After::Failure(io::ErrorKind::OutOfMemory);
@@ -93,114 +124,35 @@ fn reports_a_message_that_fails_after_any_bytes(rt: HostRuntime) -> Result<(), F
     Ok(())
 }
 
-// Takes one byte, and then fails.
-#[derive(Drop)]
-struct Broken {
-    is_full: bool,
-}
-
-impl Write for Broken {
-    fn write(&mut self, buf: &[u8]) -> io::Result<usize> {
-        if self.is_full {
-            return Err(io::Error::from(io::ErrorKind::BrokenPipe));
-        }
-        self.is_full = true;
-        Ok(buf.len().min(1))
-    }
-
-    fn flush(&mut self) -> io::Result<()> {
-        Ok(())
-    }
-}
-
 #[test]
-fn ends_with_3_where_an_output_fails(rt: HostRuntime) -> Result<(), Fail> {
+fn ends_with_3_where_an_output_fails(rt: HostRuntime) {
     for (words, status) in [
         (
             ["verify", "/missing/a", "/missing/b", "/missing/c"].as_slice(),
             3,
         ),
-        (["--help"].as_slice(), 3),
-        (["--version"].as_slice(), 3),
-        (["--nonsense"].as_slice(), 2),
+        (&["--help"], 3),
+        (&["--version"], 3),
+        (&["--nonsense"], 2),
     ] {
-        let mut output = Printer::new(Broken { is_full: false });
-        let mut errors = Printer::new(Broken { is_full: false });
-        let mut input: &[u8] = &[];
-        let ended = run(
-            rt.alloc(),
-            &mut ClapReader::new(rt.alloc()),
-            &mut Machine::new(&rt),
-            words,
-            &mut input,
-            &mut output,
-            &mut errors,
-        );
-        assert_eq!(rt; ended, status, "{words:?}");
-    }
-    Ok(())
-}
-
-// A reply that can't be written ends a serving, which is reported where errors are. What was bound stays bound.
-#[test]
-fn serve_ends_where_its_output_fails(rt: HostRuntime) -> Result<(), Fail> {
-    let folder = folder_with_files(&rt, "serve-output")?;
-    let made = run_line(&rt, &folder, "make @k @p lms:H5/W8 --random @r")?;
-    assert_eq!(rt; made.status, 0);
-    let path = folder.path.join(rt.alloc(), "k")?;
-    let mut output = Printer::new(Broken { is_full: false });
-    let mut errors = Printer::new(Vec::new(rt.alloc()));
-    let mut input: &[u8] = b"\x04fw-1\0\0\0\x01\x01\0\0\0\0\0";
-    let status = run(
-        rt.alloc(),
-        &mut ClapReader::new(rt.alloc()),
-        &mut Machine::new(&rt),
-        &["serve", path.as_str()],
-        &mut input,
-        &mut output,
-        &mut errors,
-    );
-    assert_eq!(rt;
-        errors.writer.as_slice(),
-        b"refused 36 WriteFailed\n".as_slice()
-    );
-    assert_eq!(rt; status, 3);
-    let other = run_line(&rt, &folder, "sign @k fw-1 @m2 @s")?;
-    assert!(rt; other.is("refused 21 Changed", 1));
-    folder.remove(&rt)
-}
-
-// Takes every text, and can't pass it on.
-#[derive(Drop)]
-struct Stuck {
-    taken: Vec<u8>,
-}
-
-impl Write for Stuck {
-    fn write(&mut self, buf: &[u8]) -> io::Result<usize> {
-        self.taken.extend_from_slice(buf)?;
-        Ok(buf.len())
-    }
-
-    fn flush(&mut self) -> io::Result<()> {
-        Err(io::Error::from(io::ErrorKind::StorageFull))
+        let outcome = run_on(&rt, &mut Machine::new(&rt), words, &[], BOTH_NARROW);
+        assert_eq!(rt; outcome.status, status, "{words:?}");
     }
 }
 
 #[test]
 fn ends_with_3_where_an_output_fails_at_its_end(rt: HostRuntime) -> Result<(), Fail> {
     let Sample { public, signature } = Sample::new(rt.alloc(), b"a message")?;
-    let mut output = Printer::new(Stuck {
-        taken: Vec::new(rt.alloc()),
-    });
-    let status = verify_to(
-        &rt,
-        Content::of(&public),
-        Content::of(b"a message"),
-        Content::of(&signature),
-        &mut output,
+    let files = [
+        ("p", Content::of(&public)),
+        ("m", Content::of(b"a message")),
+        ("s", Content::of(&signature)),
+    ];
+    let mut shelf = Shelf::over(&rt, &files, None);
+    let outcome = run_on(&rt, &mut shelf, &["verify", "p", "m", "s"], &[], STUCK);
+    assert_eq!(rt;
+        (outcome.output.as_slice(), outcome.status),
+        (b"verified\n".as_slice(), 3)
     );
-    assert_eq!(rt; output.writer.taken.as_slice(), b"verified\n".as_slice());
-    assert_eq!(rt; status, 3);
     Ok(())
 }

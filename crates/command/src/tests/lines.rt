@@ -1,72 +1,58 @@
 //! Lines, and what they request.
 
-use super::place::{Place, run_in, run_words};
+use super::place::{has, run_in};
 use super::sample::Sample;
 use super::shelf::{Content, Shelf};
+use super::steps::{Step, first_wrong_step};
+use crate::machine::Machine;
 use std::test::Fail;
 
-#[test]
-fn takes_two_hyphens_before_the_files(rt: HostRuntime) -> Result<(), Fail> {
-    let folder = Place::new(&rt, "hyphens")?;
-    let Sample { public, signature } = Sample::new(rt.alloc(), b"a message")?;
-    let outcome = folder.verify(&rt, &public, b"a message", &signature)?;
-    assert!(rt; outcome.is("verified", 0));
-    let [verify, public, message, signature] = folder.line();
-    for (line, printed, status) in [
-        ([verify, "--", public, message, signature], "verified", 0),
-        ([verify, public, "--", message, signature], "verified", 0),
-        ([verify, public, message, signature, "--"], "verified", 0),
-        (
-            [verify, "--", message, public, signature],
-            "refused 6 KeyLength of 9",
-            1,
-        ),
-        (
-            [verify, "--", signature, message, public],
-            "refused 6 KeyLength of 1292",
-            1,
-        ),
-        (
-            [verify, public, "--", signature, message],
-            "refused 2 UnknownType at 4",
-            1,
-        ),
-    ] {
-        assert!(rt;
-            run_words(&rt, line.as_slice()).is(printed, status),
-            "{line:?}"
-        );
-    }
-    folder.remove(&rt)
-}
+// Two hyphens may come before the files.
+const HYPHENS: &[Step] = &[
+    Step::Samples(b"a message"),
+    Step::Prints("verify @p @m @s", "verified", 0, None),
+    Step::Prints("verify -- @p @m @s", "verified", 0, None),
+    Step::Prints("verify @p -- @m @s", "verified", 0, None),
+    Step::Prints("verify @p @m @s --", "verified", 0, None),
+    Step::Prints("verify -- @m @p @s", "refused 6 KeyLength of 9", 1, None),
+    Step::Prints("verify -- @s @m @p", "refused 6 KeyLength of 1292", 1, None),
+    Step::Prints("verify @p -- @s @m", "refused 2 UnknownType at 4", 1, None),
+];
+
+// A wrong line is explained, where errors are.
+const WRONG: &[Step] = &[
+    Step::Prints("", "..Usage: hbsign", 2, None),
+    Step::Prints("verify", "..Usage: hbsign", 2, None),
+    Step::Prints("verify a b", "..Usage: hbsign", 2, None),
+    Step::Prints("verify a b c d", "..Usage: hbsign", 2, None),
+    Step::Prints("verify a b c --nonsense", "..Usage: hbsign", 2, None),
+    Step::Prints("make", "..Usage: hbsign", 2, None),
+    Step::Prints("make k p", "..Usage: hbsign", 2, None),
+    Step::Prints("make k p lms:H5/W8 more", "..Usage: hbsign", 2, None),
+    Step::Prints("sign", "..Usage: hbsign", 2, None),
+    Step::Prints("sign k n m", "..Usage: hbsign", 2, None),
+    Step::Prints("sign k n m s more", "..Usage: hbsign", 2, None),
+    Step::Prints("retire", "..Usage: hbsign", 2, None),
+    Step::Prints("retire a", "..Usage: hbsign", 2, None),
+    Step::Prints("retire a 5 c", "..Usage: hbsign", 2, None),
+    Step::Prints("retire a five", "..Usage: hbsign", 2, None),
+    Step::Prints("--nonsense", "..Usage: hbsign", 2, None),
+];
+
+const VERSION: &[Step] = &[
+    Step::Prints("--version", "hbsign 0.1.0", 0, None),
+    Step::Prints("-V", "hbsign 0.1.0", 0, None),
+];
 
 #[test]
-fn explains_a_wrong_line(rt: HostRuntime) -> Result<(), Fail> {
-    for line in [
-        "",
-        "verify",
-        "verify a b",
-        "verify a b c d",
-        "verify a b c --nonsense",
-        "make",
-        "make k p",
-        "make k p lms:H5/W8 more",
-        "sign",
-        "sign k n m",
-        "sign k n m s more",
-        "retire",
-        "retire a",
-        "retire a 5 c",
-        "retire a five",
-        "--nonsense",
+fn lines_are_taken_or_explained(rt: HostRuntime) {
+    for (name, steps) in [
+        ("hyphens", HYPHENS),
+        ("wrong-lines", WRONG),
+        ("version", VERSION),
     ] {
-        let words: Vec<&str> = line.split_whitespace().collect(rt.alloc())?;
-        let outcome = run_words(&rt, &words);
-        assert!(rt; outcome.output.is_empty(), "{line}");
-        assert!(rt; has(&outcome.errors, b"Usage: hbsign"), "{line}");
-        assert_eq!(rt; outcome.status, 2, "{line}");
+        assert_eq!(rt; first_wrong_step(&rt, name, steps), None, "{name}");
     }
-    Ok(())
 }
 
 // What a text of help begins with, and what it names.
@@ -90,64 +76,91 @@ const AUDIT_GIVEN: &[u8] =
 const SERVE: &[u8] =
     b"Signs messages that come as requests on standard input, and replies on standard output\n\nUsage: hbsign serve";
 
-// The help of each command has an example of it.
-#[test]
-fn help_shows_an_example(rt: HostRuntime) -> Result<(), Fail> {
-    for name in [
-        "make",
-        "sign",
-        "verify",
-        "retire",
-        "audit",
-        "audit-given",
-        "serve",
-    ] {
-        let outcome = run_words(&rt, &[name, "--help"]);
-        let example = format!(in rt.alloc(); "\nExample:\n  $ hbsign {name} firmware.")?;
-        assert!(rt; has(&outcome.output, example.as_bytes()), "{name}");
-    }
-    Ok(())
-}
+// Lines that ask for help, how it begins, and the example that it has, which is of each command.
+const HELPS: &[(&str, &[u8], &[u8])] = &[
+    ("--help", PROGRAM, b"\n"),
+    ("-h", PROGRAM, b"\n"),
+    ("help", PROGRAM, b"\n"),
+    (
+        "help verify",
+        VERIFY,
+        b"\nExample:\n  $ hbsign verify firmware.",
+    ),
+    (
+        "verify --help",
+        VERIFY,
+        b"\nExample:\n  $ hbsign verify firmware.",
+    ),
+    (
+        "verify a --help b",
+        VERIFY,
+        b"\nExample:\n  $ hbsign verify firmware.",
+    ),
+    (
+        "make --help",
+        MAKE,
+        b"\nExample:\n  $ hbsign make firmware.",
+    ),
+    (
+        "sign --help",
+        SIGN,
+        b"\nExample:\n  $ hbsign sign firmware.",
+    ),
+    ("sign -h", SIGN, b"\nExample:\n  $ hbsign sign firmware."),
+    ("help sign", SIGN, b"\nExample:\n  $ hbsign sign firmware."),
+    (
+        "retire --help",
+        RETIRE,
+        b"\nExample:\n  $ hbsign retire firmware.",
+    ),
+    (
+        "help retire",
+        RETIRE,
+        b"\nExample:\n  $ hbsign retire firmware.",
+    ),
+    (
+        "audit --help",
+        AUDIT,
+        b"\nExample:\n  $ hbsign audit firmware.",
+    ),
+    (
+        "audit-given --help",
+        AUDIT_GIVEN,
+        b"\nExample:\n  $ hbsign audit-given firmware.",
+    ),
+    (
+        "audit-given -h",
+        AUDIT_GIVEN,
+        b"\nExample:\n  $ hbsign audit-given firmware.",
+    ),
+    (
+        "serve --help",
+        SERVE,
+        b"\nExample:\n  $ hbsign serve firmware.",
+    ),
+    (
+        "help serve",
+        SERVE,
+        b"\nExample:\n  $ hbsign serve firmware.",
+    ),
+];
 
 #[test]
 fn helps(rt: HostRuntime) -> Result<(), Fail> {
-    for (line, beginning) in [
-        ("--help", PROGRAM),
-        ("-h", PROGRAM),
-        ("help", PROGRAM),
-        ("help verify", VERIFY),
-        ("verify --help", VERIFY),
-        ("verify a --help b", VERIFY),
-        ("make --help", MAKE),
-        ("sign -h", SIGN),
-        ("help sign", SIGN),
-        ("retire --help", RETIRE),
-        ("help retire", RETIRE),
-        ("audit --help", AUDIT),
-        ("audit-given -h", AUDIT_GIVEN),
-        ("help serve", SERVE),
-    ] {
+    for (line, beginning, example) in HELPS {
         let words: Vec<&str> = line.split_whitespace().collect(rt.alloc())?;
-        let outcome = run_words(&rt, &words);
-        assert!(rt; outcome.output.starts_with(beginning), "{line}");
-        assert!(rt; has(&outcome.output, b"\n  -h, --help"), "{line}");
-        assert!(rt; !has(&outcome.output, b"\nverified"), "{line}");
-        assert!(rt; !has(&outcome.output, b"\nrefused"), "{line}");
-        assert!(rt; outcome.errors.is_empty(), "{line}");
-        assert_eq!(rt; outcome.status, 0, "{line}");
-    }
-    Ok(())
-}
-
-// Whether these bytes stand in a text.
-fn has(text: &[u8], bytes: &[u8]) -> bool {
-    !bytes.is_empty() && text.windows(bytes.len()).any(|window| window == bytes)
-}
-
-#[test]
-fn prints_its_version(rt: HostRuntime) -> Result<(), Fail> {
-    for word in ["--version", "-V"] {
-        assert!(rt; run_words(&rt, &[word]).is("hbsign 0.1.0", 0), "{word}");
+        let outcome = run_in(&rt, &mut Machine::new(&rt), &words);
+        let text = outcome.output.as_slice();
+        let is_right = text.starts_with(beginning)
+            && has(text, example)
+            && has(text, b"\n  -h, --help")
+            && !has(text, b"\nverified")
+            && !has(text, b"\nrefused");
+        assert_eq!(rt;
+            (is_right, outcome.errors.is_empty(), outcome.status),
+            (true, true, 0),
+            "{line}"
+        );
     }
     Ok(())
 }
@@ -194,7 +207,7 @@ fn opens_the_files_of_the_words_in_turn(rt: HostRuntime) -> Result<(), Fail> {
             b" key|",
         ),
     ] {
-        let mut shelf = Shelf::new(&rt, &files);
+        let mut shelf = Shelf::over(&rt, &files, None);
         assert!(rt;
             run_in(&rt, &mut shelf, &line).is(printed, status),
             "{line:?}"

@@ -2,63 +2,83 @@
 
 use crate::files::SignerFolder;
 use crate::line::ClapReader;
-use crate::machine::Machine;
 use crate::output::Printer;
 use crate::program::run;
+use std::convert::AsStr;
 use std::path::PathBuf;
-use std::test::Fail;
-use std::{env, fs, process};
+use std::{env, fs, io, process};
 
-// A folder of a test's own, with the three files of a line.
+// A folder of a test's own.
 #[derive(Drop)]
 pub struct Place {
     pub path: PathBuf,
-    public: PathBuf,
-    message: PathBuf,
-    signature: PathBuf,
 }
 
 impl Place {
-    pub fn new(rt: &HostRuntime, name: &str) -> Result<Place, Fail> {
+    pub fn new(rt: &HostRuntime, name: &str) -> Option<Place> {
         let alloc = rt.alloc();
         let id = process::id(rt.process());
-        let folder = format!(in alloc; "hbsign-{name}-{id}")?;
-        let path = env::temp_dir(rt)?.join(alloc, folder.as_str())?;
+        let folder = format!(in alloc; "hbsign-{name}-{id}").ok()?;
+        let path = env::temp_dir(rt).ok()?.join(alloc, folder.as_str()).ok()?;
         let _ = fs::remove_dir_all(rt, path.as_path());
-        fs::create_dir(rt, path.as_path())?;
-        Ok(Place {
-            public: path.join(alloc, "public")?,
-            message: path.join(alloc, "message")?,
-            signature: path.join(alloc, "signature")?,
-            path,
-        })
+        fs::create_dir(rt, path.as_path()).ok()?;
+        Some(Place { path })
     }
 
-    // Writes the files, and verifies them.
-    pub fn verify(
-        &self,
-        rt: &HostRuntime,
-        public: &[u8],
-        message: &[u8],
-        signature: &[u8],
-    ) -> Result<Outcome, Fail> {
-        fs::write(rt, self.public.as_path(), public)?;
-        fs::write(rt, self.message.as_path(), message)?;
-        fs::write(rt, self.signature.as_path(), signature)?;
-        Ok(run_words(rt, self.line().as_slice()))
+    // What a file of the folder has.
+    pub fn content(&self, rt: &HostRuntime, name: &str) -> Option<Vec<u8>> {
+        let path = self.path.join(rt.alloc(), name).ok()?;
+        fs::read(rt, path.as_path()).ok()
     }
 
-    pub fn line(&self) -> [&str; 4] {
-        [
-            "verify",
-            self.public.as_str(),
-            self.message.as_str(),
-            self.signature.as_str(),
-        ]
+    // Writes a file of the folder.
+    pub fn write(&self, rt: &HostRuntime, name: &str, bytes: &[u8]) -> Option<()> {
+        let path = self.path.join(rt.alloc(), name).ok()?;
+        fs::write(rt, path.as_path(), bytes).ok()
     }
 
-    pub fn remove(&self, rt: &HostRuntime) -> Result<(), Fail> {
-        fs::remove_dir_all(rt, self.path.as_path())?;
+    pub fn remove(&self, rt: &HostRuntime) -> io::Result<()> {
+        fs::remove_dir_all(rt, self.path.as_path())
+    }
+}
+
+// How many bytes the two outputs of a run take before they fail, and whether they can't pass on what they took.
+pub struct Room {
+    pub output: usize,
+    pub errors: usize,
+    pub is_stuck: bool,
+}
+
+// Outputs that take everything.
+pub const WIDE: &Room = &Room {
+    output: usize::MAX,
+    errors: usize::MAX,
+    is_stuck: false,
+};
+
+// What was written, to an output with so much room left.
+#[derive(Drop)]
+struct Taken {
+    bytes: Vec<u8>,
+    left: usize,
+    is_stuck: bool,
+}
+
+impl io::Write for Taken {
+    fn write(&mut self, buf: &[u8]) -> io::Result<usize> {
+        let n = buf.len().min(self.left);
+        if n == 0 && !buf.is_empty() {
+            return Err(io::Error::from(io::ErrorKind::BrokenPipe));
+        }
+        self.bytes.extend_from_slice(&buf[..n])?;
+        self.left -= n;
+        Ok(n)
+    }
+
+    fn flush(&mut self) -> io::Result<()> {
+        if self.is_stuck {
+            return Err(io::Error::from(io::ErrorKind::StorageFull));
+        }
         Ok(())
     }
 }
@@ -72,31 +92,50 @@ pub struct Outcome {
 }
 
 impl Outcome {
-    // Whether this line alone was written, on the output.
-    pub fn is(&self, line: &str, status: u8) -> bool {
-        self.output.strip_suffix(b"\n") == Some(line.as_bytes())
-            && self.errors.is_empty()
-            && self.status == status
+    // Whether this line alone was written, on the output. A text that ends in two dots is the beginning of what was
+    // written. Where there is no text, or one that begins with two dots, a wrong line was explained on the output for
+    // errors alone, and there this text stands.
+    pub fn is(&self, text: &str, status: u8) -> bool {
+        let is_right = if text.is_empty() {
+            self.output.is_empty() && !self.errors.is_empty()
+        } else if let Some(part) = text.strip_prefix("..") {
+            self.output.is_empty() && has(&self.errors, part.as_bytes())
+        } else if let Some(beginning) = text.strip_suffix("..") {
+            self.output.starts_with(beginning.as_bytes()) && self.errors.is_empty()
+        } else {
+            self.output.strip_suffix(b"\n") == Some(text.as_bytes()) && self.errors.is_empty()
+        };
+        is_right && self.status == status
     }
 }
 
-pub fn run_words(rt: &HostRuntime, words: &[&str]) -> Outcome {
-    run_in(rt, &mut Machine::new(rt), words)
+// Whether these bytes stand in a text.
+pub fn has(text: &[u8], bytes: &[u8]) -> bool {
+    !bytes.is_empty() && text.windows(bytes.len()).any(|window| window == bytes)
 }
 
 pub fn run_in<D: SignerFolder>(rt: &HostRuntime, folder: &mut D, words: &[&str]) -> Outcome {
-    run_on(rt, folder, words, &[])
+    run_on(rt, folder, words, &[], WIDE)
 }
 
-// The same, with these bytes on the input.
-pub fn run_on<D: SignerFolder>(
+// The same, with these bytes on the input, and so much room on the outputs.
+pub fn run_on<D: SignerFolder, S: AsStr>(
     rt: &HostRuntime,
     folder: &mut D,
-    words: &[&str],
+    words: &[S],
     bytes: &[u8],
+    room: &Room,
 ) -> Outcome {
-    let mut output = Printer::new(Vec::new(rt.alloc()));
-    let mut errors = Printer::new(Vec::new(rt.alloc()));
+    let mut output = Printer::new(Taken {
+        bytes: Vec::new(rt.alloc()),
+        left: room.output,
+        is_stuck: room.is_stuck,
+    });
+    let mut errors = Printer::new(Taken {
+        bytes: Vec::new(rt.alloc()),
+        left: room.errors,
+        is_stuck: room.is_stuck,
+    });
     let mut input = bytes;
     let status = run(
         rt.alloc(),
@@ -108,8 +147,8 @@ pub fn run_on<D: SignerFolder>(
         &mut errors,
     );
     Outcome {
-        output: output.writer,
-        errors: errors.writer,
+        output: output.writer.bytes,
+        errors: errors.writer.bytes,
         status,
     }
 }

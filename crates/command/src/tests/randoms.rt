@@ -60,10 +60,7 @@ fn gives_the_bytes_of_a_file_in_their_order(rt: HostRuntime) {
     ] {
         assert_eq!(rt; draws(after, size), (answers, true));
     }
-}
-
-#[test]
-fn gives_numbers_of_the_bytes_of_a_file(rt: HostRuntime) {
+    // The same bytes as numbers.
     let mut file = RandomFile::new(TAPE.as_slice());
     let numbers = (
         file.try_next_u32(),
@@ -86,7 +83,7 @@ fn first_two(rt: &HostRuntime, path: &str) -> Option<[u8; 2]> {
 
 #[test]
 fn begins_a_file_anew_in_each_run(rt: HostRuntime) -> Result<(), Fail> {
-    let folder = Place::new(&rt, "random")?;
+    let folder = Place::new(&rt, "random").ok_or("no folder")?;
     let path = folder.path.join(rt.alloc(), "r")?;
     assert_eq!(rt; first_two(&rt, path.as_str()), None);
     fs::write(&rt, path.as_path(), b"ab".as_slice())?;
@@ -95,5 +92,5 @@ fn begins_a_file_anew_in_each_run(rt: HostRuntime) -> Result<(), Fail> {
     }
     fs::write(&rt, path.as_path(), b"a".as_slice())?;
     assert_eq!(rt; first_two(&rt, path.as_str()), None);
-    folder.remove(&rt)
+    Ok(folder.remove(&rt)?)
 }

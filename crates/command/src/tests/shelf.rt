@@ -1,13 +1,8 @@
 //! Files in memory.
-ghost use Rattle.std.specs.Prelude.{◌≡◌, None, IfErr, ⊤};
-ghost use Rattle.command.specs.FileDisk.{IsStateRefusal};
+ghost use Rattle.std.specs.Prelude.{◌≡◌, None, ⊤};
 
-use super::lent_disk::LentDisk;
 use super::place::{Outcome, run_in};
 use crate::files::{Folder, OpenFile, Outlet, SignerFolder};
-use crate::line::ClapReader;
-use crate::output::{Output, Printer};
-use crate::program::run;
 use crate::random_file::RandomFile;
 use crate::refusal::Refusal;
 use crate::trace::{Event, Role, Trace, Traced};
@@ -37,34 +32,6 @@ pub enum After {
     Failure(io::ErrorKind),
 }
 
-impl After {
-    // How many bytes the next read gives at most, or that it is interrupted.
-    fn next(&mut self) -> io::Result<usize> {
-        let After::Pieces {
-            size,
-            step,
-            is_interrupted,
-        } = *self
-        else {
-            return Ok(usize::MAX);
-        };
-        if is_interrupted {
-            *self = After::Pieces {
-                size: size.wrapping_add(step) % 130 + 1,
-                step,
-                is_interrupted: false,
-            };
-            return Err(io::Error::from(io::ErrorKind::Interrupted));
-        }
-        *self = After::Pieces {
-            size,
-            step,
-            is_interrupted: true,
-        };
-        Ok(size)
-    }
-}
-
 impl<'a> Content<'a> {
     pub fn of(bytes: &'a [u8]) -> Content<'a> {
         Content {
@@ -76,8 +43,26 @@ impl<'a> Content<'a> {
 
 impl Read for Content<'_> {
     fn read(&mut self, buffer: &mut [u8]) -> io::Result<usize> {
+        let mut most = usize::MAX;
+        if let After::Pieces {
+            size,
+            step,
+            is_interrupted,
+        } = self.after
+        {
+            let next = size.wrapping_add(step) % 130 + 1;
+            self.after = After::Pieces {
+                size: if is_interrupted { next } else { size },
+                step,
+                is_interrupted: !is_interrupted,
+            };
+            if is_interrupted {
+                return Err(io::Error::from(io::ErrorKind::Interrupted));
+            }
+            most = size;
+        }
         let bytes = self.bytes;
-        let n = bytes.len().min(buffer.len()).min(self.after.next()?);
+        let n = bytes.len().min(buffer.len()).min(most);
         if n > 0 {
             buffer[..n].copy_from_slice(&bytes[..n]);
             self.bytes = &bytes[n..];
@@ -94,14 +79,12 @@ impl Read for Content<'_> {
     }
 }
 
-// Files in memory by their paths, and the paths that were opened. The state file is a disk that is lent once; it has
-// the path "k". No file can be written whose path begins with "missing/", and the disk is full for those that begin
-// with "full/".
+// Files in memory by their paths, and the paths of those that were opened. The state file has the path "k", and is
+// taken while it is open.
 #[derive(Drop)]
 pub struct Shelf<'a> {
     files: &'a [(&'a str, Content<'a>)],
-    state: Option<&'a mut MemoryDisk>,
-    pub is_locked: bool,
+    pub state: Option<MemoryDisk>,
     pub opened: Vec<u8>,
     // what was written: each path, and after it the bytes
     pub written: Vec<u8>,
@@ -109,20 +92,15 @@ pub struct Shelf<'a> {
 }
 
 impl<'a> Shelf<'a> {
-    pub fn new(rt: &HostRuntime, files: &'a [(&'a str, Content<'a>)]) -> Shelf<'a> {
-        Shelf::over(rt, files, None)
-    }
-
     // With this disk as the state file.
     pub fn over(
         rt: &HostRuntime,
         files: &'a [(&'a str, Content<'a>)],
-        state: Option<&'a mut MemoryDisk>,
+        state: Option<MemoryDisk>,
     ) -> Shelf<'a> {
         Shelf {
             files,
             state,
-            is_locked: false,
             opened: Vec::new(rt.alloc()),
             written: Vec::new(rt.alloc()),
             trace: Trace::new(),
@@ -133,48 +111,14 @@ impl<'a> Shelf<'a> {
     fn find(&mut self, path: &str) -> Option<Content<'a>>
         ensures { self.new.trace ≡ self.old.trace }
     {
-        self.note_path(path)?;
+        self.opened.extend_from_slice(path.as_bytes()).ok()?;
+        self.opened.push(b'|').ok()?;
         for (name, content) in self.files {
             if *name == path {
                 return Some(*content);
             }
         }
         None
-    }
-
-    // Notes that a path is opened.
-    fn note_path(&mut self, path: &str) -> Option<()>
-        ensures { self.new.trace ≡ self.old.trace }
-    {
-        self.opened.extend_from_slice(path.as_bytes()).ok()?;
-        self.opened.push(b'|').ok()
-    }
-
-    // The disk of the state file, which is lent once.
-    fn lend(&mut self, path: &str) -> Result<LentDisk<'a, MemoryDisk>, Refusal>
-        ensures trace { self.new.trace ≡ self.old.trace }
-        ensures err { IfErr result IsStateRefusal }
-    {
-        if self.is_locked {
-            return Err(Refusal::Locked);
-        }
-        if path != "k" || self.note_path(path).is_none() {
-            return Err(Refusal::FileFailed);
-        }
-        match self.state.take() {
-            Some(disk) => Ok(LentDisk { disk }),
-            None => Err(Refusal::FileFailed),
-        }
-    }
-
-    // Whether a path was opened.
-    fn has_opened(&self, path: &str) -> bool {
-        for opened in self.opened.as_slice().split(|byte| *byte == b'|') {
-            if opened == path.as_bytes() {
-                return true;
-            }
-        }
-        false
     }
 
     // Writes a path and after it these bytes to the list of what was written.
@@ -222,20 +166,12 @@ impl<'a> Folder for Shelf<'a> {
 
 impl Outlet for Shelf<'_> {
     fn check_writable(&mut self, role: Role, path: &str) -> Result<(), Refusal> {
-        if self.has_opened(path) || path.starts_with("missing/") {
-            self.trace.note(&Event::NotWritable(role, path));
-            return Err(Refusal::FileFailed);
-        }
         self.trace.note(&Event::Writable(role, path));
         Ok(())
     }
 
     fn write(&mut self, role: Role, path: &str, bytes: &[u8]) -> Result<(), Refusal> {
-        if self.has_opened(path)
-            || path.starts_with("missing/")
-            || path.starts_with("full/")
-            || self.note_written(path, bytes).is_none()
-        {
+        if self.note_written(path, bytes).is_none() {
             self.trace.note(&Event::NotWritten(role, path));
             return Err(Refusal::FileFailed);
         }
@@ -245,7 +181,7 @@ impl Outlet for Shelf<'_> {
 }
 
 impl<'a> SignerFolder for Shelf<'a> {
-    type Disk = LentDisk<'a, MemoryDisk>;
+    type Disk = MemoryDisk;
 
     type Random = RngSource<RandomFile<Content<'a>>>;
 
@@ -253,27 +189,29 @@ impl<'a> SignerFolder for Shelf<'a> {
 
     ghost is_closed = { λ _ _. ⊤ };
 
-    fn open_state(&mut self, path: &str) -> Result<LentDisk<'a, MemoryDisk>, Refusal> {
-        let opened = self.lend(path);
-        self.trace.note(&match &opened {
-            Ok(_) => Event::Opened(Role::State, path),
-            Err(Refusal::Locked) => Event::Locked(path),
-            Err(_) => Event::NotOpened(Role::State, path),
-        });
-        opened
+    fn open_state(&mut self, path: &str) -> Result<MemoryDisk, Refusal> {
+        let found = if path == "k" { self.state.take() } else { None };
+        match found {
+            Some(disk) => {
+                self.trace.note(&Event::Opened(Role::State, path));
+                Ok(disk)
+            }
+            None => {
+                self.trace.note(&Event::NotOpened(Role::State, path));
+                Err(Refusal::FileFailed)
+            }
+        }
     }
 
-    fn open_or_make_state(&mut self, path: &str) -> Result<LentDisk<'a, MemoryDisk>, Refusal> {
-        let opened = self.lend(path);
-        self.trace.note(&match &opened {
-            Ok(_) => Event::Made(path),
-            Err(Refusal::Locked) => Event::Locked(path),
-            Err(_) => Event::NotMade(path),
-        });
-        opened
+    // None is made here.
+    fn open_or_make_state(&mut self, path: &str) -> Result<MemoryDisk, Refusal> {
+        self.trace.note(&Event::NotMade(path));
+        Err(Refusal::FileFailed)
     }
 
-    fn close_state(&mut self, _disk: LentDisk<'a, MemoryDisk>) {}
+    fn close_state(&mut self, disk: MemoryDisk) {
+        self.state = Some(disk);
+    }
 
     fn open_random(&mut self, path: &str) -> Result<RngSource<RandomFile<Content<'a>>>, Refusal> {
         let found = self.find(path).ok_or(Refusal::FileFailed);
@@ -292,27 +230,9 @@ pub fn verify(
     signature: Content<'_>,
 ) -> Outcome {
     let files = [("p", public), ("m", message), ("s", signature)];
-    run_in(rt, &mut Shelf::new(rt, &files), &["verify", "p", "m", "s"])
-}
-
-// The exit status of verifying these, over this output.
-pub fn verify_to<O: Output>(
-    rt: &HostRuntime,
-    public: Content<'_>,
-    message: Content<'_>,
-    signature: Content<'_>,
-    output: &mut O,
-) -> u8 {
-    let files = [("p", public), ("m", message), ("s", signature)];
-    let mut errors = Printer::new(Vec::new(rt.alloc()));
-    let mut input: &[u8] = &[];
-    run(
-        rt.alloc(),
-        &mut ClapReader::new(rt.alloc()),
-        &mut Shelf::new(rt, &files),
+    run_in(
+        rt,
+        &mut Shelf::over(rt, &files, None),
         &["verify", "p", "m", "s"],
-        &mut input,
-        output,
-        &mut errors,
     )
 }

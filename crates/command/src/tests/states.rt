@@ -7,22 +7,21 @@ use std::fs;
 use std::os::unix::fs::PermissionsExt;
 use std::test::Fail;
 
-// Why the file of this path isn't opened, with leave to make it or without.
-fn refusal(rt: &HostRuntime, path: &str, is_made: bool) -> Option<Refusal> {
-    let opened = if is_made {
-        StateFile::open_or_make(rt, path)
-    } else {
-        StateFile::open(rt, path)
-    };
-    opened.err()
+// Why the file of this path isn't opened, without leave to make it and with it.
+fn refusals(rt: &HostRuntime, path: &str) -> (Option<Refusal>, Option<Refusal>) {
+    let opened = StateFile::open(rt, path).err();
+    (opened, StateFile::open_or_make(rt, path).err())
 }
 
+// A state file is made for its owner, and locked; and no other file is one.
 #[test]
-fn a_state_file_is_made_for_its_owner_and_locked(rt: HostRuntime) -> Result<(), Fail> {
-    let folder = Place::new(&rt, "state")?;
+fn state_files_are_opened_made_and_locked(rt: HostRuntime) -> Result<(), Fail> {
+    let folder = Place::new(&rt, "state").ok_or("no folder")?;
     let path = folder.path.join(rt.alloc(), "state")?;
     let path = path.as_str();
-    assert_eq!(rt; refusal(&rt, path, false), Some(Refusal::FileFailed));
+    let missing = folder.path.join(rt.alloc(), "missing/state")?;
+    let failed = Some(Refusal::FileFailed);
+    assert_eq!(rt; StateFile::open(&rt, path).err(), failed);
     let locked = StateFile::open_or_make(&rt, path);
     assert!(rt; locked.is_ok());
     let found = fs::metadata(&rt, path)?;
@@ -30,22 +29,17 @@ fn a_state_file_is_made_for_its_owner_and_locked(rt: HostRuntime) -> Result<(), 
         (found.len(), found.permissions().mode() & 0o777),
         (0, 0o600)
     );
-    assert_eq!(rt; refusal(&rt, path, false), Some(Refusal::Locked));
-    assert_eq!(rt; refusal(&rt, path, true), Some(Refusal::Locked));
+    let both = Some(Refusal::Locked);
+    assert_eq!(rt; refusals(&rt, path), (both, both));
     drop(locked);
-    assert_eq!(rt; refusal(&rt, path, false), None);
-    assert_eq!(rt; refusal(&rt, path, true), None);
-    folder.remove(&rt)
-}
-
-#[test]
-fn no_other_file_is_a_state_file(rt: HostRuntime) -> Result<(), Fail> {
-    let folder = Place::new(&rt, "states")?;
-    let missing = folder.path.join(rt.alloc(), "missing/state")?;
-    for path in [folder.path.as_str(), missing.as_str(), "/dev/null", ""] {
-        for is_made in [false, true] {
-            assert_eq!(rt; refusal(&rt, path, is_made), Some(Refusal::FileFailed));
-        }
+    for (path, refusal) in [
+        (path, None),
+        (folder.path.as_str(), failed),
+        (missing.as_str(), failed),
+        ("/dev/null", failed),
+        ("", failed),
+    ] {
+        assert_eq!(rt; refusals(&rt, path), (refusal, refusal), "{path}");
     }
-    folder.remove(&rt)
+    Ok(folder.remove(&rt)?)
 }

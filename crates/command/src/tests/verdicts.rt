@@ -1,161 +1,224 @@
 //! Keys and signatures that are judged.
 
-use super::place::Place;
 use super::sample::Sample;
 use super::shelf::{After, Content, verify};
+use super::steps::{Step, first_wrong_step};
 use std::io;
 use std::test::Fail;
 
-// A key of zeros with these types.
-fn zero_key(tree: u8, ots: u8) -> [u8; 56] {
-    let mut key = [0; 56];
-    key[3] = tree;
-    key[7] = ots;
-    key
-}
+// Keys and signatures of zeros with the types of H5/W8, or of no scheme, of another one, or of another length, and a
+// key of nine levels.
+const REFUSALS: &[Step] = &[
+    Step::Puts("m", b""),
+    Step::Puts("none", b""),
+    Step::Turns("none", "key", 56, &[(3, 0, 5), (7, 0, 4)]),
+    Step::Turns("none", "key-5-9", 56, &[(3, 0, 5), (7, 0, 9)]),
+    Step::Turns("none", "zeros-56", 56, &[]),
+    Step::Turns("none", "zeros-57", 57, &[]),
+    Step::Turns("none", "zeros-60", 60, &[]),
+    Step::Turns("none", "zeros-68", 68, &[]),
+    Step::Turns(
+        "none",
+        "nine-levels",
+        60,
+        &[(3, 0, 9), (7, 0, 5), (11, 0, 4)],
+    ),
+    Step::Turns("none", "sig", 1292, &[(7, 0, 4), (1131, 0, 5)]),
+    Step::Turns("sig", "sig-9-5", 1292, &[(7, 0, 9)]),
+    Step::Turns("sig", "sig-4-4", 1292, &[(1131, 0, 4)]),
+    Step::Prints("verify @key @m @none", "refused 1 Truncated at 0", 1, None),
+    Step::Prints(
+        "verify @key @m @sig",
+        "refused 12 RootMismatch level 0",
+        1,
+        None,
+    ),
+    Step::Prints(
+        "verify @key @m @sig-9-5",
+        "refused 2 UnknownType at 4",
+        1,
+        None,
+    ),
+    Step::Prints(
+        "verify @key @m @sig-4-4",
+        "refused 2 UnknownType at 1128",
+        1,
+        None,
+    ),
+    Step::Prints(
+        "verify @key-5-9 @m @sig",
+        "refused 2 UnknownType at 4",
+        1,
+        None,
+    ),
+    Step::Prints(
+        "verify @key-5-9 @m @none",
+        "refused 2 UnknownType at 4",
+        1,
+        None,
+    ),
+    Step::Prints(
+        "verify @zeros-56 @m @sig",
+        "refused 2 UnknownType at 0",
+        1,
+        None,
+    ),
+    Step::Prints(
+        "verify @zeros-60 @m @sig",
+        "refused 3 LevelCount at 0",
+        1,
+        None,
+    ),
+    Step::Prints(
+        "verify @nine-levels @m @none",
+        "refused 3 LevelCount at 0",
+        1,
+        None,
+    ),
+    Step::Prints(
+        "verify @zeros-68 @m @sig",
+        "refused 2 UnknownType at 0",
+        1,
+        None,
+    ),
+    Step::Prints(
+        "verify @zeros-57 @m @sig",
+        "refused 6 KeyLength of 57",
+        1,
+        None,
+    ),
+    Step::Prints(
+        "verify @zeros-57 @m @none",
+        "refused 6 KeyLength of 57",
+        1,
+        None,
+    ),
+    Step::Prints("verify @none @m @sig", "refused 6 KeyLength of 0", 1, None),
+];
 
-// A signature of zeros with these types.
-fn zero_signature(ots: u8, tree: u8) -> [u8; 1292] {
-    let mut signature = [0; 1292];
-    signature[7] = ots;
-    signature[1131] = tree;
-    signature
-}
+// A signature of zeros for H5/W4, whose key has H5/W8: 4 + (4 + 32 + 67 * 32) + 4 + 5 * 32 bytes. And signatures for
+// H10/W8, with the leaf that would come after the last one, and with the last.
+const TYPES: &[Step] = &[
+    Step::Puts("m", b""),
+    Step::Puts("none", b""),
+    Step::Turns("none", "key-5-4", 56, &[(3, 0, 5), (7, 0, 4)]),
+    Step::Turns("none", "key-6-4", 56, &[(3, 0, 6), (7, 0, 4)]),
+    Step::Turns("none", "width-4", 2348, &[(7, 0, 3), (2187, 0, 5)]),
+    Step::Turns(
+        "none",
+        "leaf-1024",
+        1452,
+        &[(2, 0, 4), (7, 0, 4), (1131, 0, 6)],
+    ),
+    Step::Turns(
+        "none",
+        "leaf-1023",
+        1452,
+        &[(2, 0, 3), (3, 0, 255), (7, 0, 4), (1131, 0, 6)],
+    ),
+    Step::Prints(
+        "verify @key-5-4 @m @width-4",
+        "refused 10 TypeMismatch level 0",
+        1,
+        None,
+    ),
+    Step::Prints(
+        "verify @key-6-4 @m @leaf-1024",
+        "refused 4 LeafOutOfRange at 0",
+        1,
+        None,
+    ),
+    Step::Prints(
+        "verify @key-6-4 @m @leaf-1023",
+        "refused 12 RootMismatch level 0",
+        1,
+        None,
+    ),
+];
+
+// A signature is verified, and its neighbours are refused: of another message, cut, with a byte more, with the last
+// leaf, and with one of no tree.
+const NEIGHBOURS: &[Step] = &[
+    Step::Samples(b"a message"),
+    Step::Puts("other", b"a massage"),
+    Step::Turns("s", "cut", 1291, &[]),
+    Step::Turns("s", "longer", 1293, &[]),
+    Step::Turns("s", "last", 1292, &[(3, 0, 31)]),
+    Step::Turns("s", "outside", 1292, &[(3, 0, 32)]),
+    Step::Prints("verify @p @m @s", "verified", 0, None),
+    Step::Prints(
+        "verify @p @other @s",
+        "refused 12 RootMismatch level 0",
+        1,
+        None,
+    ),
+    Step::Prints("verify @p @m @cut", "refused 1 Truncated at 1260", 1, None),
+    Step::Prints(
+        "verify @p @m @longer",
+        "refused 5 Trailing at 1292",
+        1,
+        None,
+    ),
+    Step::Prints(
+        "verify @p @m @last",
+        "refused 12 RootMismatch level 0",
+        1,
+        None,
+    ),
+    Step::Prints(
+        "verify @p @m @outside",
+        "refused 4 LeafOutOfRange at 0",
+        1,
+        None,
+    ),
+    Step::Same("{s}", "{s:0:1292}"),
+];
 
 #[test]
-fn refuses_keys_and_signatures(rt: HostRuntime) -> Result<(), Fail> {
-    let folder = Place::new(&rt, "refusals")?;
-    let key = zero_key(5, 4);
-    let zeros = zero_signature(4, 5);
-    for (public, signature, line) in [
-        (key.as_slice(), [].as_slice(), "refused 1 Truncated at 0"),
-        (&key, zeros.as_slice(), "refused 12 RootMismatch level 0"),
-        (
-            &key,
-            zero_signature(9, 5).as_slice(),
-            "refused 2 UnknownType at 4",
-        ),
-        (
-            &key,
-            zero_signature(4, 4).as_slice(),
-            "refused 2 UnknownType at 1128",
-        ),
-        (&zero_key(5, 9), &zeros, "refused 2 UnknownType at 4"),
-        (&zero_key(5, 9), &[], "refused 2 UnknownType at 4"),
-        (&[0; 56], &zeros, "refused 2 UnknownType at 0"),
-        (&[0; 60], &zeros, "refused 3 LevelCount at 0"),
-        (&key_of_nine_levels(), &[], "refused 3 LevelCount at 0"),
-        (&[0; 68], &zeros, "refused 2 UnknownType at 0"),
-        (&[0; 57], &zeros, "refused 6 KeyLength of 57"),
-        (&[0; 57], &[], "refused 6 KeyLength of 57"),
-        (&[], &zeros, "refused 6 KeyLength of 0"),
+fn files_are_judged(rt: HostRuntime) {
+    for (name, steps) in [
+        ("refusals", REFUSALS),
+        ("types", TYPES),
+        ("neighbours", NEIGHBOURS),
     ] {
-        let outcome = folder.verify(&rt, public, b"", signature)?;
-        assert!(rt; outcome.is(line, 1), "{line}");
+        assert_eq!(rt; first_wrong_step(&rt, name, steps), None, "{name}");
     }
-    folder.remove(&rt)
 }
 
-// Nine levels, the top key's types, and zeros.
-fn key_of_nine_levels() -> [u8; 60] {
-    let mut key = [0; 60];
-    key[3] = 9;
-    key[7] = 5;
-    key[11] = 4;
-    key
-}
-
-// A signature of zeros for H5/W4, whose key has H5/W8: 4 + (4 + 32 + 67 * 32) + 4 + 5 * 32 bytes.
-fn signature_of_another_width() -> [u8; 2348] {
-    let mut signature = [0; 2348];
-    signature[7] = 3;
-    signature[2187] = 5;
-    signature
-}
-
-// A signature of zeros for H10/W8, with the leaf 256 * high + low.
-fn signature_of_height_10(high: u8, low: u8) -> [u8; 1452] {
-    let mut signature = [0; 1452];
-    signature[2] = high;
-    signature[3] = low;
-    signature[7] = 4;
-    signature[1131] = 6;
-    signature
-}
-
+// No more of a signature is read than decides. Reads of a message that are interrupted without end count as a failure.
 #[test]
-fn refuses_another_type_and_a_leaf_of_no_tree(rt: HostRuntime) -> Result<(), Fail> {
-    let folder = Place::new(&rt, "types")?;
-    for (public, signature, line) in [
-        (
-            zero_key(5, 4),
-            signature_of_another_width().as_slice(),
-            "refused 10 TypeMismatch level 0",
-        ),
-        (
-            zero_key(6, 4),
-            signature_of_height_10(4, 0).as_slice(),
-            "refused 4 LeafOutOfRange at 0",
-        ),
-        (
-            zero_key(6, 4),
-            signature_of_height_10(3, 255).as_slice(),
-            "refused 12 RootMismatch level 0",
-        ),
-    ] {
-        let outcome = folder.verify(&rt, &public, b"", signature)?;
-        assert!(rt; outcome.is(line, 1), "{line}");
-    }
-    folder.remove(&rt)
-}
-
-#[test]
-fn verifies_a_signature_and_refuses_its_neighbours(rt: HostRuntime) -> Result<(), Fail> {
-    let folder = Place::new(&rt, "neighbours")?;
+fn reads_that_never_end_are_ended(rt: HostRuntime) -> Result<(), Fail> {
     let Sample { public, signature } = Sample::new(rt.alloc(), b"a message")?;
-    let valid = signature.as_slice();
-    let mut longer = signature.clone()?;
-    longer.push(0)?;
-    let last = with_leaf(&signature, 31)?;
-    let outside = with_leaf(&signature, 32)?;
-    let cut = valid.get(..1291).unwrap_or(b"");
-    for (message, signature, line, status) in [
-        (b"a message".as_slice(), valid, "verified", 0),
-        (b"a massage", valid, "refused 12 RootMismatch level 0", 1),
-        (b"a message", cut, "refused 1 Truncated at 1260", 1),
-        (b"a message", &longer, "refused 5 Trailing at 1292", 1),
-        (b"a message", &last, "refused 12 RootMismatch level 0", 1),
-        (b"a message", &outside, "refused 4 LeafOutOfRange at 0", 1),
+    for (message, after_message, after, line, status) in [
+        (
+            b"a message".as_slice(),
+            After::End,
+            After::Zeros,
+            "refused 5 Trailing at 1292",
+            1,
+        ),
+        (
+            b"a mess",
+            After::Failure(io::ErrorKind::Interrupted),
+            After::End,
+            "refused 14 MessageRead",
+            3,
+        ),
     ] {
-        let outcome = folder.verify(&rt, &public, message, signature)?;
+        let outcome = verify(
+            &rt,
+            Content::of(&public),
+            Content {
+                bytes: message,
+                after: after_message,
+            },
+            Content {
+                bytes: &signature,
+                after,
+            },
+        );
         assert!(rt; outcome.is(line, status), "{line}");
     }
-    folder.remove(&rt)
-}
-
-// The signature with another leaf.
-fn with_leaf(signature: &Vec<u8>, leaf: u8) -> Result<Vec<u8>, Fail> {
-    let mut signature = signature.clone()?;
-    if let Some(byte) = signature.get_mut(3) {
-        *byte = leaf;
-    }
-    Ok(signature)
-}
-
-#[test]
-fn reads_no_more_of_a_signature_than_decides(rt: HostRuntime) -> Result<(), Fail> {
-    let Sample { public, signature } = Sample::new(rt.alloc(), b"a message")?;
-    let endless = Content {
-        bytes: &signature,
-        after: After::Zeros,
-    };
-    let outcome = verify(
-        &rt,
-        Content::of(&public),
-        Content::of(b"a message"),
-        endless,
-    );
-    assert!(rt; outcome.is("refused 5 Trailing at 1292", 1));
     Ok(())
 }
 
@@ -202,23 +265,5 @@ fn pieces_of_any_size_lead_to_one_verdict(rt: HostRuntime) -> Result<(), Fail> {
             assert!(rt; outcome.is(answer, status), "{size}");
         }
     }
-    Ok(())
-}
-
-// Reads that are interrupted without end count as a failure.
-#[test]
-fn a_message_that_is_always_interrupted_ends(rt: HostRuntime) -> Result<(), Fail> {
-    let Sample { public, signature } = Sample::new(rt.alloc(), b"a message")?;
-    let interrupted = Content {
-        bytes: b"a mess",
-        after: After::Failure(io::ErrorKind::Interrupted),
-    };
-    let outcome = verify(
-        &rt,
-        Content::of(&public),
-        interrupted,
-        Content::of(&signature),
-    );
-    assert!(rt; outcome.is("refused 14 MessageRead", 3));
     Ok(())
 }
