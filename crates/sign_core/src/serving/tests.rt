@@ -34,16 +34,13 @@ fn open<'a>(alloc: Global, start: Start<'a>) -> Option<InFile<'a>> {
     Signer::open(alloc, store, TapeSource::new(start.tape)).ok()
 }
 
-// Retires leaves, which isn't refused.
-fn retire<S: Store, R: Source>(signer: &mut Signer<S, R>, upto: u32) -> Option<()> {
-    signer.retire(upto).ok()
-}
-
 // The file of a new key, after so many of its leaves were retired.
 fn new_file(alloc: Global, text: &str, tape: &[u8], retired: u32) -> Option<Vec<u8>> {
     let mut signer = in_file(alloc, text, tape)?;
-    retire(&mut signer, retired)?;
-    file_in(signer.into_store())
+    match signer.retire(retired) {
+        Ok(()) => file_in(signer.into_store()),
+        Err(_) => None,
+    }
 }
 
 // A key of one tree in this file, whose source gives what comes after the draws of the key.
@@ -63,13 +60,14 @@ struct Exchange {
 }
 
 // An input, of which a read gives at most so many bytes. It ends after them or fails there. Where it interrupts, it
-// does so once before each read.
+// does so once before each read; where it is stuck, without end after its bytes.
 #[derive(Drop)]
 struct Input<'a> {
     rest: &'a [u8],
     most: usize,
     fails: bool,
     interrupts: bool,
+    is_stuck: bool,
     is_interrupted: bool,
 }
 
@@ -80,6 +78,9 @@ impl Read for Input<'_> {
             return Err(io::Error::from(ErrorKind::Interrupted));
         }
         let n = self.most.min(buffer.len()).min(self.rest.len());
+        if n == 0 && self.is_stuck {
+            return Err(io::Error::from(ErrorKind::Interrupted));
+        }
         if n == 0 && self.fails {
             return Err(io::Error::from(ErrorKind::BrokenPipe));
         }
@@ -97,6 +98,7 @@ fn input_of(bytes: &[u8], fails: bool) -> Input<'_> {
         most: usize::MAX,
         fails,
         interrupts: false,
+        is_stuck: false,
         is_interrupted: false,
     }
 }

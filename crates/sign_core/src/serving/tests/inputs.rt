@@ -83,26 +83,40 @@ fn frames_are_replied_to_by_their_rules(rt: HostRuntime) {
 // Two requests of one name, with another message each.
 const CHANGED: &[u8] = b"\x04fw-1\0\0\0\x01\x01\x04fw-1\0\0\0\x01\x02";
 
+// The first signature of a signer, and its store then.
+fn signed_first<S: Store + Drop, R: Source + Drop>(
+    alloc: Global,
+    signer: Signer<S, R>,
+) -> Option<(Vec<u8>, S)> {
+    let mut signer = signer;
+    let signature = answer(alloc, &mut signer, b"fw-1", &[1])?.ok()?;
+    Some((signature, signer.into_store()))
+}
+
+// These parts, one after the other.
+fn joined(alloc: Global, parts: &[&[u8]]) -> Option<Vec<u8>> {
+    let mut whole = Vec::new(alloc);
+    for part in parts {
+        whole.extend_from_slice(part).ok()?;
+    }
+    Some(whole)
+}
+
 // Whether these requests, and the first one again, are replied to by the signature of the first message, by 21 and by
 // the same signature; and how long the file is then.
 fn is_changed_and_repeated(alloc: Global) -> Option<(bool, usize)> {
     let tape = counting::<80>(0);
     let file = new_file(alloc, LMS, &tape, 0)?;
     let start = start_of(&file, &tape);
-    let signature = answer(alloc, &mut open(alloc, start)?, b"fw-1", &[1])?.ok()?;
-    let mut wanted = Vec::new(alloc);
+    let (signature, _store) = signed_first(alloc, open(alloc, start)?)?;
     let signed: &[u8] = b"\0\0\0\x05\x0c";
     let changed: &[u8] = b"\x15\0\0\0\0";
-    for part in [signed, &signature, changed, signed, &signature] {
-        wanted.extend_from_slice(part).ok()?;
-    }
+    let wanted = joined(alloc, &[signed, &signature, changed, signed, &signature])?;
     let frames = frames_of(alloc, &[(b"fw-1", 1, 1), (b"fw-1", 1, 2), (b"fw-1", 1, 1)])?;
-    if !frames.starts_with(CHANGED) {
-        return None;
-    }
     let mut input = input_of(&frames, false);
     let came = served(alloc, start, &mut input, &mut taking_all(alloc))?;
-    Some((came.output == wanted && came.end == Ok(3), came.file.len()))
+    let is_so = frames.starts_with(CHANGED) && came.output == wanted && came.end == Ok(3);
+    Some((is_so, came.file.len()))
 }
 
 #[test]
@@ -116,6 +130,7 @@ struct Way {
     most: usize,
     fails: bool,
     interrupts: bool,
+    is_stuck: bool,
 }
 
 // What an exchange over an input ends with; None where it doesn't come to what its frames lead to.
@@ -129,6 +144,7 @@ fn end_of(
     let mut input = input_of(bytes, way.fails);
     input.most = way.most;
     input.interrupts = way.interrupts;
+    input.is_stuck = way.is_stuck;
     if served(alloc, start, &mut input, &mut taking_all(alloc))? != wanted {
         return None;
     }
@@ -164,25 +180,50 @@ const ENDS: [Result<u64, ServeFault>; 21] = [
     Ok(2),
 ];
 
-// How many beginnings end so, whole and by single bytes; and with 27 where reads fail after them.
+// Each beginning is given whole and by single bytes, and again where reads fail after it, or are interrupted without
+// end. These count as a failure, in each field of a frame and in a message.
+const BEGINNINGS: [Way; 5] = [
+    Way {
+        most: usize::MAX,
+        fails: false,
+        interrupts: false,
+        is_stuck: false,
+    },
+    Way {
+        most: 1,
+        fails: false,
+        interrupts: true,
+        is_stuck: false,
+    },
+    Way {
+        most: usize::MAX,
+        fails: true,
+        interrupts: false,
+        is_stuck: false,
+    },
+    Way {
+        most: 1,
+        fails: true,
+        interrupts: true,
+        is_stuck: false,
+    },
+    Way {
+        most: usize::MAX,
+        fails: true,
+        interrupts: false,
+        is_stuck: true,
+    },
+];
+
+// How many beginnings end so; and with 27 where reads fail after them.
 fn right_beginnings(alloc: Global) -> Option<usize> {
     let tape = counting::<80>(0);
     let file = new_file(alloc, CHEAP, &tape, 0)?;
     let start = start_of(&file, &tape);
     for (len, end) in ENDS.iter().enumerate() {
         let bytes = CHANGED.get(..len)?;
-        for (most, fails) in [
-            (usize::MAX, false),
-            (1, false),
-            (usize::MAX, true),
-            (1, true),
-        ] {
-            let way = Way {
-                most,
-                fails,
-                interrupts: most == 1,
-            };
-            let wanted = if fails { UNREAD } else { *end };
+        for way in BEGINNINGS {
+            let wanted = if way.fails { UNREAD } else { *end };
             if end_of(alloc, start, bytes, way)? != wanted {
                 return Some(len);
             }
@@ -196,91 +237,24 @@ fn each_beginning_ends_by_its_frames(rt: HostRuntime) {
     assert_eq!(rt; right_beginnings(rt.alloc()), Some(21));
 }
 
-// An input that is interrupted without end after its bytes.
-#[derive(Drop)]
-struct Interrupted<'a> {
-    rest: &'a [u8],
-}
-
-impl Read for Interrupted<'_> {
-    fn read(&mut self, buffer: &mut [u8]) -> io::Result<usize> {
-        let n = buffer.len().min(self.rest.len());
-        if n == 0 {
-            return Err(io::Error::from(ErrorKind::Interrupted));
-        }
-        let (given, rest) = self.rest.split_at(n);
-        buffer[..n].copy_from_slice(given);
-        self.rest = rest;
-        Ok(n)
-    }
-}
-
-// What an exchange over such an input ends with; None where it isn't what the frames lead to where a read fails.
-fn end_of_interrupted(
-    alloc: Global,
-    start: Start<'_>,
-    bytes: &[u8],
-) -> Option<Result<u64, ServeFault>> {
-    let wanted = led_to(alloc, start, bytes, true)?;
-    let mut output = taking_all(alloc);
-    let mut signer = open(alloc, start)?;
-    let end = serve(
-        alloc,
-        &mut signer,
-        &mut Interrupted { rest: bytes },
-        &mut output,
-    );
-    let file = file_in(signer.into_store())?;
-    if output.taken != wanted.output || end != wanted.end || file != wanted.file {
-        return None;
-    }
-    Some(end)
-}
-
-// How many beginnings of the two requests end with 27 so.
-fn interrupted_beginnings(alloc: Global) -> Option<usize> {
-    let tape = counting::<80>(0);
-    let file = new_file(alloc, CHEAP, &tape, 0)?;
-    let start = start_of(&file, &tape);
-    for len in 0..CHANGED.len() {
-        if end_of_interrupted(alloc, start, CHANGED.get(..len)?)? != UNREAD {
-            return Some(len);
-        }
-    }
-    Some(CHANGED.len())
-}
-
-// Reads that are interrupted without end count as a failure, in each field of a frame and in a message.
-#[test]
-fn an_input_that_is_always_interrupted_ends(rt: HostRuntime) {
-    assert_eq!(rt; interrupted_beginnings(rt.alloc()), Some(20));
-}
-
-// What a byte is changed by: each bit alone, and to the edges of what names have.
-fn changed(byte: u8, number: u32) -> u8 {
-    match [0x00, 0x05, 0x20, 0x21, 0x7e, 0x7f, 0x80, 0xff].get(number as usize) {
-        Some(value) => *value,
-        None => byte ^ (1 << (number % 8)),
-    }
-}
+// What a byte is changed to, besides each change of a single bit: the edges of what names have.
+const EDGES: [u8; 8] = [0x00, 0x05, 0x20, 0x21, 0x7e, 0x7f, 0x80, 0xff];
 
 // How many changes of single bytes of the two requests come to what the frames lead to then.
 fn right_changes(alloc: Global) -> Option<usize> {
     let tape = counting::<80>(0);
     let file = new_file(alloc, CHEAP, &tape, 0)?;
     let start = start_of(&file, &tape);
-    let way = Way {
-        most: usize::MAX,
-        fails: false,
-        interrupts: false,
-    };
     let mut count = 0usize;
     for place in 0..CHANGED.len() {
         for number in 0..16u32 {
             let mut bytes = Vec::from_slice(alloc, CHANGED).ok()?;
             let byte = bytes.get_mut(place)?;
-            *byte = changed(*byte, number);
-            if end_of(alloc, start, &bytes, way).is_none() {
+            *byte = match EDGES.get(number as usize) {
+                Some(value) => *value,
+                None => *byte ^ (1 << (number % 8)),
+            };
+            if end_of(alloc, start, &bytes, BEGINNINGS[0]).is_none() {
                 return Some(count);
             }
             count = count.checked_add(1)?;
@@ -333,6 +307,7 @@ fn first_other_way(alloc: Global) -> Option<usize> {
             most: *most,
             fails: *fails,
             interrupts: *interrupts,
+            is_stuck: false,
         };
         let wanted = if *fails { UNREAD } else { Ok(6) };
         if end_of(alloc, start, &frames, way)? != wanted {
@@ -347,41 +322,32 @@ fn frames_in_pieces_lead_to_the_same(rt: HostRuntime) {
     assert_eq!(rt; first_other_way(rt.alloc()), Some(12));
 }
 
-// Adds a record to a store, as its first one or after others.
-fn add<S: Store>(store: &mut S, added: &Record) -> Option<()> {
-    match (added, store.load(0)) {
-        (Record::Key(_), Ok(None)) | (_, Ok(Some(_))) => store.append(added).ok(),
-        _ => None,
+// Copies the records of a store to an empty one. That of this slot gets another root, though its tag will be right.
+fn copy_changed<S: Store, T: Store>(old: &mut S, new: &mut T, slot: u32) -> Option<()> {
+    for place in 0..u32::MAX {
+        let Some(mut entry) = old.load(place).ok()? else {
+            return Some(());
+        };
+        match &mut entry {
+            Record::Key(key) if place == slot => key.root = [0; 32],
+            Record::Extend(extend) if place == slot => extend.root = [0; 32],
+            _ => {}
+        }
+        match (&entry, new.load(0)) {
+            (Record::Key(_), Ok(None)) | (_, Ok(Some(_))) => new.append(&entry).ok()?,
+            _ => return None,
+        }
     }
+    None
 }
 
-// A record of a store; that of this slot has another root, though its tag will be right.
-fn with_other_root<S: Store>(store: &mut S, place: u32, slot: u32) -> Option<Record> {
-    let mut entry = store.load(place).ok()??;
-    match &mut entry {
-        Record::Key(key) if place == slot => key.root = [0; 32],
-        Record::Extend(extend) if place == slot => extend.root = [0; 32],
-        _ => {}
-    }
-    Some(entry)
-}
-
-// The file of a key with a record of this slot changed.
-fn changed_file(alloc: Global, old: FileStore<MemoryDisk>, slot: u32) -> Option<Vec<u8>> {
-    let mut old = old;
-    let mut store = FileStore::format(MemoryDisk::of(alloc, &[]).ok()?).ok()?;
-    for place in 0..old.count() {
-        add(&mut store, &with_other_root(&mut old, place, slot)?)?;
-    }
-    file_in(store)
-}
-
-// The same of a new key after its first name.
+// The file of a new key after its first name, with a record of this slot changed.
 fn changed_after_a_name(alloc: Global, text: &str, slot: u32) -> Option<Vec<u8>> {
     let tape = counting::<240>(0);
-    let mut signer = in_file(alloc, text, &tape)?;
-    answer(alloc, &mut signer, b"fw-1", &[1])?.ok()?;
-    changed_file(alloc, signer.into_store(), slot)
+    let (_signature, mut old) = signed_first(alloc, in_file(alloc, text, &tape)?)?;
+    let mut store = FileStore::format(MemoryDisk::of(alloc, &[]).ok()?).ok()?;
+    copy_changed(&mut old, &mut store, slot)?;
+    file_in(store)
 }
 
 // What requests of new names come to under a key of which such a root is another, and whether the file stays.

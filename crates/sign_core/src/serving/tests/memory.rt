@@ -67,7 +67,11 @@ impl Write for Counter {
 }
 
 // How long the signature of a message of so many zeros is. None where it doesn't verify.
-fn signed(alloc: Global, signer: &mut InFile<'_>, size: usize) -> Option<usize> {
+fn signed<S: Store, R: Source>(
+    alloc: Global,
+    signer: &mut Signer<S, R>,
+    size: usize,
+) -> Option<usize> {
     let mut out = Vec::new(alloc);
     let name = Name::new(b"fw-1").ok()?;
     signer.sign(&name, &mut zeros(size), &mut out).ok()?;
@@ -79,7 +83,11 @@ fn signed(alloc: Global, signer: &mut InFile<'_>, size: usize) -> Option<usize> 
 const CLAIMED: &[u8] = b"\x04fw-1\0\0\0\x01\x01\0\xff\xff\xff\xffabc";
 
 // The same by an exchange of frames, of which others follow that claim more bytes than come.
-fn signed_in_frame(alloc: Global, signer: &mut InFile<'_>, size: usize) -> Option<usize> {
+fn signed_in_frame<S: Store, R: Source>(
+    alloc: Global,
+    signer: &mut Signer<S, R>,
+    size: usize,
+) -> Option<usize> {
     let mut head = *b"\x04fw-1\0\0\0\0";
     let (_, announced) = head.split_last_chunk_mut::<4>()?;
     *announced = u32::try_from(size).ok()?.to_be_bytes();

@@ -11,27 +11,14 @@ struct Frame<'a> {
     rest: &'a [u8],
 }
 
-// How an input begins: it is at its end, or ends before the message of a frame, or begins with a request.
-#[derive(Clone, Copy)]
-enum Front<'a> {
-    End,
-    Cut,
-    Request(Frame<'a>),
-}
-
-fn first_of(input: &[u8]) -> Front<'_> {
-    let Some((size, rest)) = input.split_first() else {
-        return Front::End;
-    };
-    let Some((name, rest)) = rest.split_at_checked(usize::from(*size)) else {
-        return Front::Cut;
-    };
-    let Some((announced, rest)) = rest.split_first_chunk::<4>() else {
-        return Front::Cut;
-    };
+// The request that an input begins with; None where it ends before the message of a frame.
+fn first_of(input: &[u8]) -> Option<Frame<'_>> {
+    let (size, rest) = input.split_first()?;
+    let (name, rest) = rest.split_at_checked(usize::from(*size))?;
+    let (announced, rest) = rest.split_first_chunk::<4>()?;
     let announced = u32::from_be_bytes(*announced) as usize;
     let (message, rest) = rest.split_at(announced.min(rest.len()));
-    Front::Request(Frame {
+    Some(Frame {
         name,
         message,
         is_whole: message.len() == announced,
@@ -48,9 +35,9 @@ fn reply(output: &mut Vec<u8>, number: u8, body: &[u8]) -> Option<()> {
 }
 
 // Adds what is replied to a request. None where it is a signature that doesn't verify.
-fn answer(
+fn answer<S: Store, R: Source>(
     alloc: Global,
-    signer: &mut InFile<'_>,
+    signer: &mut Signer<S, R>,
     frame: &Frame<'_>,
     output: &mut Vec<u8>,
 ) -> Option<()> {
@@ -70,58 +57,50 @@ fn answer(
     }
 }
 
-// What comes after the first frame of an input, or what the exchange ends with.
-#[derive(Clone, Copy)]
-enum Turn<'a> {
-    Goes(&'a [u8]),
-    Ends(Option<ServeFault>),
-}
-
-// Adds the reply to the first frame of an input, after which reads fail, or there is its end.
-fn take_first<'a>(
+// What an input, after which reads fail, or there is its end, leads to with a signer: what is written, and what the
+// exchange ends with.
+pub(super) fn replies_to<S: Store, R: Source>(
     alloc: Global,
-    signer: &mut InFile<'_>,
-    input: &'a [u8],
-    fails: bool,
-    output: &mut Vec<u8>,
-) -> Option<Turn<'a>> {
-    match first_of(input) {
-        Front::Request(frame) => {
-            answer(alloc, signer, &frame, output)?;
-            if frame.is_whole {
-                return Some(Turn::Goes(frame.rest));
-            }
-            Some(Turn::Ends(Some(ServeFault::MessageRead)))
-        }
-        Front::End | Front::Cut if fails => {
-            reply(output, 27, &[])?;
-            Some(Turn::Ends(Some(ServeFault::MessageRead)))
-        }
-        Front::End => Some(Turn::Ends(None)),
-        Front::Cut => {
-            reply(output, 35, &[])?;
-            Some(Turn::Ends(Some(ServeFault::FrameCut)))
-        }
-    }
-}
-
-// What an input leads to with a signer: what is written, and what the exchange ends with.
-pub(super) fn replies_to(
-    alloc: Global,
-    signer: &mut InFile<'_>,
+    signer: &mut Signer<S, R>,
     input: &[u8],
     fails: bool,
     output: &mut Vec<u8>,
 ) -> Option<Result<u64, ServeFault>> {
     let mut rest = input;
     for count in 0..u64::MAX {
-        match take_first(alloc, signer, rest, fails, output)? {
-            Turn::Goes(after) => rest = after,
-            Turn::Ends(None) => return Some(Ok(count)),
-            Turn::Ends(Some(fault)) => return Some(Err(fault)),
+        match first_of(rest) {
+            Some(frame) => {
+                answer(alloc, signer, &frame, output)?;
+                if !frame.is_whole {
+                    return Some(Err(ServeFault::MessageRead));
+                }
+                rest = frame.rest;
+            }
+            None if fails => {
+                reply(output, 27, &[])?;
+                return Some(Err(ServeFault::MessageRead));
+            }
+            None if rest.is_empty() => return Some(Ok(count)),
+            None => {
+                reply(output, 35, &[])?;
+                return Some(Err(ServeFault::FrameCut));
+            }
         }
     }
     None
+}
+
+// The same, and the store then.
+fn led_with<S: Store + Drop, R: Source + Drop>(
+    alloc: Global,
+    signer: Signer<S, R>,
+    input: &[u8],
+    fails: bool,
+    output: &mut Vec<u8>,
+) -> Option<(Result<u64, ServeFault>, S)> {
+    let mut signer = signer;
+    let end = replies_to(alloc, &mut signer, input, fails, output)?;
+    Some((end, signer.into_store()))
 }
 
 // What an exchange over an input must come to.
@@ -131,9 +110,8 @@ pub(super) fn led_to(
     input: &[u8],
     fails: bool,
 ) -> Option<Exchange> {
-    let mut signer = open(alloc, start)?;
     let mut output = Vec::new(alloc);
-    let end = replies_to(alloc, &mut signer, input, fails, &mut output)?;
-    let file = file_in(signer.into_store())?;
+    let (end, store) = led_with(alloc, open(alloc, start)?, input, fails, &mut output)?;
+    let file = file_in(store)?;
     Some(Exchange { output, end, file })
 }
