@@ -26,28 +26,39 @@ impl Source for Numbers {
     }
 }
 
-type Numbered = Signer<FileStore<MemoryDisk>, Numbers>;
-
-type NumberedInMemory = Signer<MemoryStore, Numbers>;
-
-fn empty_disk(alloc: Global) -> Option<MemoryDisk> {
-    match MemoryDisk::of(alloc, &[]) {
-        Ok(disk) => Some(disk),
-        Err(_) => MemoryDisk::of(alloc, &[]).ok(),
-    }
+// What is done with a key: its file, which is so long, is closed, and opened again with a source that begins with this
+// number, or with the first byte of the I of a key of more levels; a request of the name of a number with a message of
+// one byte, whose signature is so long, or its fault; one that is answered by the signature of the one before it;
+// leaves that are retired, and what this answers; how many leaves are left.
+#[derive(Clone, Copy)]
+enum Step<'a> {
+    Reopen(u64, u8),
+    ReopenByKey(u64),
+    Sign(u8, u8, Result<usize, SignFault>),
+    Repeat(u8, u8, Result<usize, SignFault>),
+    Retire(u32, Option<SignFault>),
+    Left(&'a [u32]),
 }
 
-fn formatted(disk: MemoryDisk) -> Option<FileStore<MemoryDisk>> {
-    match FileStore::format(disk) {
-        Ok(store) => Some(store),
-        Err(refused) => match refused.fault {
-            FormatFault::DeviceFailed => FileStore::format(refused.given).ok(),
-            FormatFault::NotKeyFile | FormatFault::KeyThere => None,
-        },
-    }
+// Where the steps of a key stand: the next one, and the number that its source gives next. Where that step comes again
+// after a refusal of memory, whether its name was bound before it.
+#[derive(Clone, Copy)]
+struct Place {
+    step: usize,
+    next: u8,
+    is_again: bool,
+    was_bound: Option<bool>,
 }
 
-fn store_of(disk: MemoryDisk) -> Option<FileStore<MemoryDisk>> {
+// The place before the first step.
+const BEGIN: Place = Place {
+    step: 0,
+    next: 50,
+    is_again: false,
+    was_bound: None,
+};
+
+fn store_of<D: Disk + Drop>(disk: D) -> Option<FileStore<D>> {
     match FileStore::open(disk) {
         Ok(store) => Some(store),
         Err(refused) => match refused.fault {
@@ -75,266 +86,351 @@ fn opened_by<S: Store + Drop, R: Source + Drop>(
     }
 }
 
-// The signer of a store, whose source begins with this number.
-fn opened_on<S: Store + Drop>(alloc: Global, store: S, next: u8) -> Option<Signer<S, Numbers>> {
-    opened_by(alloc, store, Numbers { next })
-}
-
-// Closes a signer, and opens its file again.
-fn reopened(alloc: Global, signer: Numbered, next: u8) -> Option<Numbered> {
-    opened_on(alloc, store_of(signer.into_store().into_disk())?, next)
-}
-
-fn create_on(alloc: Global, text: &str, store: FileStore<MemoryDisk>) -> Option<Numbered> {
+// The file of a new key in a formatted file, with this number drawn first.
+fn keyed<D: Disk + Drop>(alloc: Global, text: &str, store: FileStore<D>) -> Option<D> {
     let spec = Spec::parse(text).ok()?;
-    Signer::create(alloc, spec, store, Numbers { next: 10 }).ok()
-}
-
-// The key after its create was refused for the device: the one that stands, or a new one.
-fn created_after(alloc: Global, text: &str, disk: MemoryDisk) -> Option<Numbered> {
-    match FileStore::open(disk) {
-        Ok(store) => Signer::open(alloc, store, Numbers { next: 10 }).ok(),
-        Err(refused) => match refused.fault {
-            OpenFault::NoKey => create_on(alloc, text, FileStore::format(refused.given).ok()?),
-            _ => None,
-        },
+    match Signer::create(alloc, spec, store, Numbers { next: 10 }) {
+        Ok(signer) => Some(signer.into_store().into_disk()),
+        Err(_) => None,
     }
 }
 
-// A new key in a new file.
-fn created(alloc: Global, text: &str) -> Option<Numbered> {
-    let store = formatted(empty_disk(alloc)?)?;
+// The file of a new key in this file. After a create that was refused for the device, it's the key that stands, or a
+// new one.
+fn created<D: Disk + Drop>(alloc: Global, text: &str, disk: D) -> Option<D> {
     let spec = Spec::parse(text).ok()?;
-    match Signer::create(alloc, spec, store, Numbers { next: 0 }) {
-        Ok(signer) => Some(signer),
+    let store = match FileStore::format(disk) {
+        Ok(store) => store,
+        Err(refused) => match refused.fault {
+            FormatFault::DeviceFailed => FileStore::format(refused.given).ok()?,
+            FormatFault::NotKeyFile | FormatFault::KeyThere => return None,
+        },
+    };
+    let (fault, store) = match Signer::create(alloc, spec, store, Numbers { next: 0 }) {
+        Ok(signer) => return Some(signer.into_store().into_disk()),
         Err(refused) => {
             let (store, _) = refused.given;
-            match refused.fault {
-                SignFault::OutOfMemory => create_on(alloc, text, store),
-                SignFault::StoreFailed => created_after(alloc, text, store.into_disk()),
-                _ => None,
-            }
+            (refused.fault, store)
         }
+    };
+    match fault {
+        SignFault::OutOfMemory => keyed(alloc, text, store),
+        SignFault::StoreFailed => match FileStore::open(store.into_disk()) {
+            Ok(store) => Some(store.into_disk()),
+            Err(refused) => match refused.fault {
+                OpenFault::NoKey => keyed(alloc, text, FileStore::format(refused.given).ok()?),
+                _ => None,
+            },
+        },
+        _ => None,
     }
 }
 
-// A request of one byte, which leaves no byte where it is refused.
+// What a request of one byte answers, with the length of its signature. It leaves no byte where it is refused.
 fn request<S: Store>(
     signer: &mut Signer<S, Numbers>,
     name: &Name,
     message: u8,
     out: &mut Vec<u8>,
-) -> Option<Result<(), SignFault>> {
-    let answer = signer.sign(name, &mut [message].as_slice(), out);
-    let is_kept = match answer {
-        Ok(()) => verify_any(&signer.public_key(), &mut [message].as_slice(), out).is_ok(),
-        Err(_) => out.is_empty(),
-    };
-    if !is_kept {
-        return None;
-    }
-    Some(answer)
-}
-
-// Whether a name is bound.
-fn is_bound<S: Store>(signer: &Signer<S, Numbers>, name: &Name) -> bool {
-    signer.ledger.find(name).is_some()
-}
-
-// What a request answers first. None where a refusal of memory bound its name, or where a signer isn't closed whose
-// store failed.
-fn first_answer<S: Store>(
-    signer: &mut Signer<S, Numbers>,
-    name: &Name,
-    message: u8,
-    out: &mut Vec<u8>,
-) -> Option<Result<(), SignFault>> {
-    let was_bound = is_bound(signer, name);
-    let answer = request(signer, name, message, out)?;
-    let is_so = match answer {
-        Err(SignFault::OutOfMemory) => is_bound(signer, name) == was_bound,
-        Err(SignFault::StoreFailed) => {
-            request(signer, name, message, out)? == Err(SignFault::Stopped)
+) -> Option<Result<usize, SignFault>> {
+    match signer.sign(name, &mut [message].as_slice(), out) {
+        Ok(()) => {
+            verify_any(&signer.public_key(), &mut [message].as_slice(), out).ok()?;
+            Some(Ok(out.len()))
         }
-        _ => true,
-    };
-    if !is_so {
-        return None;
+        Err(fault) => {
+            if !out.is_empty() {
+                return None;
+            }
+            Some(Err(fault))
+        }
     }
-    Some(answer)
 }
 
-// The signer after a request and its answer. Where memory was refused no name was bound, and the answer is that of the
-// request that comes again when the file is opened again, with what the source gives next. Where the store failed the
-// signer is closed until then.
-fn answered(
-    alloc: Global,
-    signer: Numbered,
-    number: u8,
-    message: u8,
+// Whether the file is closed and opened again after a request, and the place then. Where memory was refused no name
+// was bound, and the request comes again with what the source gives next. Where the store failed the signer is closed
+// until then. None where a request is answered otherwise, or refused a second time.
+fn requested<S: Store>(
+    signer: &mut Signer<S, Numbers>,
+    (number, message, wanted): (u8, u8, Result<usize, SignFault>),
+    place: Place,
     out: &mut Vec<u8>,
-) -> Option<(Numbered, Result<(), SignFault>)> {
-    let mut signer = signer;
+) -> Option<(bool, Place)> {
     let name = Name::new(&name_of(number)).ok()?;
-    let was_bound = is_bound(&signer, &name);
-    let answer = first_answer(&mut signer, &name, message, out)?;
-    let next = match answer {
-        Err(SignFault::OutOfMemory) => signer.random.next,
-        Err(SignFault::StoreFailed) => 100,
-        _ => return Some((signer, answer)),
-    };
-    let mut signer = reopened(alloc, signer, next)?;
-    if answer == Err(SignFault::OutOfMemory) && is_bound(&signer, &name) != was_bound {
+    let was_bound = signer.ledger.find(&name).is_some();
+    if place.was_bound.is_some() && place.was_bound != Some(was_bound) {
         return None;
     }
-    let again = request(&mut signer, &name, message, out)?;
-    Some((signer, again))
+    let answer = request(signer, &name, message, out)?;
+    if answer == wanted {
+        let step = place.step.checked_add(1)?;
+        return Some((false, Place { step, ..BEGIN }));
+    }
+    let (next, kept) = match answer {
+        Err(SignFault::OutOfMemory) => (signer.random.next, Some(was_bound)),
+        Err(SignFault::StoreFailed) => (100, None),
+        _ => return None,
+    };
+    let is_so = match kept {
+        Some(_) => signer.ledger.find(&name).is_some() == was_bound,
+        None => request(signer, &name, message, out)? == Err(SignFault::Stopped),
+    };
+    if place.is_again || !is_so {
+        return None;
+    }
+    let step = place.step;
+    Some((
+        true,
+        Place {
+            step,
+            next,
+            is_again: true,
+            was_bound: kept,
+        },
+    ))
 }
 
-// The length of a signer's file.
-fn len_of(signer: Numbered) -> Option<u64> {
-    signer.into_store().into_disk().len().ok()
+// The same of leaves that are retired.
+fn retired<S: Store>(
+    signer: &mut Signer<S, Numbers>,
+    upto: u32,
+    wanted: Option<SignFault>,
+    place: Place,
+) -> Option<(bool, Place)> {
+    let fault = signer.retire(upto).err();
+    if fault == wanted {
+        let step = place.step.checked_add(1)?;
+        return Some((false, Place { step, ..BEGIN }));
+    }
+    let next = match fault {
+        Some(SignFault::OutOfMemory) => signer.random.next,
+        Some(SignFault::StoreFailed) if signer.retire(upto) == Err(SignFault::Stopped) => 100,
+        _ => return None,
+    };
+    if place.is_again {
+        return None;
+    }
+    Some((
+        true,
+        Place {
+            next,
+            is_again: true,
+            ..place
+        },
+    ))
 }
 
-// Whether a key of one tree signs, repeats and refuses, closed and opened again between.
-fn signs_and_repeats(alloc: Global) -> Option<bool> {
-    let mut first = Vec::new(alloc);
-    let mut second = Vec::new(alloc);
-    let mut third = Vec::new(alloc);
-    let signer = reopened(alloc, created(alloc, LMS)?, 50)?;
-    let (signer, signed) = answered(alloc, signer, 1, 1, &mut first)?;
-    let signer = reopened(alloc, signer, 60)?;
-    let (signer, repeated) = answered(alloc, signer, 1, 1, &mut second)?;
-    let (signer, changed) = answered(alloc, signer, 1, 2, &mut third)?;
-    let is_signed = signed == Ok(()) && repeated == Ok(()) && first == second;
-    let is_refused = changed == Err(SignFault::Changed);
-    Some(is_signed && is_refused && first.len() == 1292 && len_of(signer)? == 513)
+// The same of a step.
+fn taken<S: Store>(
+    alloc: Global,
+    signer: &mut Signer<S, Numbers>,
+    step: &Step<'_>,
+    place: Place,
+    out: &mut Vec<u8>,
+) -> Option<(bool, Place)> {
+    let next = match step {
+        Step::Sign(number, message, wanted) => {
+            return requested(signer, (*number, *message, *wanted), place, out);
+        }
+        Step::Repeat(number, message, wanted) => {
+            let mut again = Vec::new(alloc);
+            let asked = (*number, *message, *wanted);
+            let (is_closed, after) = requested(signer, asked, place, &mut again)?;
+            if !is_closed && again != *out {
+                return None;
+            }
+            return Some((is_closed, after));
+        }
+        Step::Retire(upto, wanted) => return retired(signer, *upto, *wanted, place),
+        Step::Left(counts) if signer.left().as_slice() != *counts => return None,
+        Step::Left(_) => 0,
+        Step::Reopen(_, next) => *next,
+        Step::ReopenByKey(_) => *signer.public_key().write().as_slice().get(12)?,
+    };
+    let is_closed = !matches!(step, Step::Left(_));
+    let step = place.step.checked_add(1)?;
+    Some((
+        is_closed,
+        Place {
+            step,
+            next,
+            ..BEGIN
+        },
+    ))
 }
+
+// The store of a key after the steps from a place on, up to the next one for which its file is opened again.
+fn goes_on<S: Store + Drop>(
+    alloc: Global,
+    store: S,
+    steps: &[Step<'_>],
+    place: Place,
+    out: &mut Vec<u8>,
+) -> Option<(S, Place)> {
+    let mut signer = opened_by(alloc, store, Numbers { next: place.next })?;
+    let mut at = place;
+    for step in steps.get(place.step..)? {
+        let (is_closed, after) = taken(alloc, &mut signer, step, at, out)?;
+        // a file takes no memory where leaves of it are retired
+        if after.is_again && after.next != 100 && matches!(step, Step::Retire(_, _)) {
+            return None;
+        }
+        at = after;
+        if is_closed {
+            break;
+        }
+    }
+    Some((signer.into_store(), at))
+}
+
+// How long a key's file is after these steps. None where one of them comes to something else at last.
+fn len_after<D: Disk + Drop>(alloc: Global, disk: D, steps: &[Step<'_>]) -> Option<u64> {
+    let mut out = Vec::new(alloc);
+    let mut disk = disk;
+    let mut place = BEGIN;
+    for _ in 0..=steps.len() {
+        let (store, after) = goes_on(alloc, store_of(disk)?, steps, place, &mut out)?;
+        disk = store.into_disk();
+        let len = disk.len().ok()?;
+        if after.step == steps.len() {
+            return Some(len);
+        }
+        match steps.get(after.step.checked_sub(1)?) {
+            Some(Step::Reopen(wanted, _)) | Some(Step::ReopenByKey(wanted))
+                if !after.is_again && len != *wanted => return None,
+            _ => place = after,
+        }
+    }
+    None
+}
+
+// The same of a new key.
+fn len_of_new(alloc: Global, text: &str, steps: &[Step<'_>]) -> Option<u64> {
+    let disk = match MemoryDisk::of(alloc, &[]) {
+        Ok(disk) => disk,
+        Err(_) => MemoryDisk::of(alloc, &[]).ok()?,
+    };
+    len_after(alloc, created(alloc, text, disk)?, steps)
+}
+
+// A request, its repeat and a changed message, where the file is closed and opened again between.
+const ONE_TREE: [Step; 5] = [
+    Step::Reopen(257, 50),
+    Step::Sign(1, 1, Ok(1292)),
+    Step::Reopen(513, 60),
+    Step::Repeat(1, 1, Ok(1292)),
+    Step::Sign(1, 2, Err(SignFault::Changed)),
+];
 
 #[test]
 fn one_tree_signs_at_last(rt: HostRuntime) {
-    assert_eq!(rt; signs_and_repeats(rt.alloc()), Some(true));
+    assert_eq!(rt; len_of_new(rt.alloc(), LMS, &ONE_TREE), Some(513));
 }
 
-// Whether a new name of a key is signed, and so many leaves are left when its file is opened again; and how long the
-// signature is, and the file.
-fn signs_anew(alloc: Global, signer: Numbered, left: &[u32]) -> Option<(bool, usize, u64)> {
-    let mut out = Vec::new(alloc);
-    let (signer, signed) = answered(alloc, signer, 40, 1, &mut out)?;
-    let signer = reopened(alloc, signer, 150)?;
-    let is_left = signer.left().as_slice() == left;
-    Some((signed == Ok(()) && is_left, out.len(), len_of(signer)?))
-}
-
-// Whether the first name of a key makes its trees.
-fn makes_trees(alloc: Global, text: &str, left: &[u32]) -> Option<(bool, usize, u64)> {
-    signs_anew(alloc, reopened(alloc, created(alloc, text)?, 50)?, left)
-}
+// The first name of a key makes its trees.
+const TWO_LEVELS: [Step; 4] = [
+    Step::Reopen(257, 50),
+    Step::Sign(40, 1, Ok(2644)),
+    Step::Reopen(769, 150),
+    Step::Left(&[31, 31]),
+];
 
 #[test]
 fn two_levels_sign_at_last(rt: HostRuntime) {
-    assert_eq!(rt;
-        makes_trees(rt.alloc(), TWO, &[31, 31]),
-        Some((true, 2644, 769))
-    );
+    assert_eq!(rt; len_of_new(rt.alloc(), TWO, &TWO_LEVELS), Some(769));
 }
+
+const THREE_LEVELS: [Step; 4] = [
+    Step::Reopen(257, 50),
+    Step::Sign(40, 1, Ok(3992)),
+    Step::Reopen(1025, 150),
+    Step::Left(&[31, 31, 31]),
+];
 
 #[test]
 fn three_levels_sign_at_last(rt: HostRuntime) {
-    assert_eq!(rt;
-        makes_trees(rt.alloc(), THREE, &[31, 31, 31]),
-        Some((true, 3992, 1025))
-    );
+    assert_eq!(rt; len_of_new(rt.alloc(), THREE, &THREE_LEVELS), Some(1025));
 }
+
+const OF_XMSS: [Step; 4] = [
+    Step::Reopen(257, 50),
+    Step::Sign(40, 1, Ok(2500)),
+    Step::Reopen(513, 150),
+    Step::Left(&[1023]),
+];
 
 #[test]
 fn an_xmss_key_signs_at_last(rt: HostRuntime) {
-    assert_eq!(rt;
-        makes_trees(rt.alloc(), XMSS, &[1023]),
-        Some((true, 2500, 513))
-    );
+    assert_eq!(rt; len_of_new(rt.alloc(), XMSS, &OF_XMSS), Some(513));
 }
 
-// The signer after its leaves are retired, at the second try where the store failed at the first.
-fn retired(
-    alloc: Global,
-    signer: Numbered,
-    upto: u32,
-) -> Option<(Numbered, Result<(), SignFault>)> {
-    let mut signer = signer;
-    let mut answer = signer.retire(upto);
-    if answer == Err(SignFault::StoreFailed) {
-        if signer.retire(upto) != Err(SignFault::Stopped) {
-            return None;
-        }
-        signer = reopened(alloc, signer, 100)?;
-        answer = signer.retire(upto);
-    }
-    Some((signer, answer))
-}
-
-// Whether retired leaves stay so, in a file of two records.
-fn retires_at_last(alloc: Global) -> Option<bool> {
-    let mut out = Vec::new(alloc);
-    let signer = reopened(alloc, created(alloc, LMS)?, 50)?;
-    let (signer, beyond) = retired(alloc, signer, 33)?;
-    let (signer, all) = retired(alloc, signer, 32)?;
-    let signer = reopened(alloc, signer, 60)?;
-    let (signer, signed) = answered(alloc, signer, 1, 1, &mut out)?;
-    let (signer, again) = retired(alloc, signer, 5)?;
-    let is_refused = beyond == Err(SignFault::RetireRange) && signed == Err(SignFault::Exhausted);
-    Some(is_refused && all == Ok(()) && again == Ok(()) && len_of(signer)? == 513)
-}
+// Retired leaves stay so, in a file of two records.
+const RETIRED: [Step; 6] = [
+    Step::Reopen(257, 50),
+    Step::Retire(33, Some(SignFault::RetireRange)),
+    Step::Retire(32, None),
+    Step::Reopen(513, 60),
+    Step::Sign(1, 1, Err(SignFault::Exhausted)),
+    Step::Retire(5, None),
+];
 
 #[test]
 fn leaves_are_retired_at_last(rt: HostRuntime) {
-    assert_eq!(rt; retires_at_last(rt.alloc()), Some(true));
+    assert_eq!(rt; len_of_new(rt.alloc(), LMS, &RETIRED), Some(513));
 }
 
-// Whether a new name of a key of two levels, whose lower tree is used up, makes another one.
-fn replaces_the_lower_tree(alloc: Global) -> Option<bool> {
-    let mut out = Vec::new(alloc);
-    let signer = reopened(alloc, created(alloc, TWO)?, 50)?;
-    let (signer, first) = answered(alloc, signer, 1, 1, &mut out)?;
-    let (signer, used) = retired(alloc, signer, 32)?;
-    let signer = reopened(alloc, signer, 60)?;
-    let (signer, second) = answered(alloc, signer, 2, 2, &mut out)?;
-    let is_answered = first == Ok(()) && used == Ok(()) && second == Ok(());
-    let is_left = signer.left().as_slice() == [30, 31].as_slice();
-    Some(is_answered && is_left && out.len() == 2644 && len_of(signer)? == 1537)
-}
+// A new name of a key of two levels, whose lower tree is used up, makes another one.
+const USED: [Step; 6] = [
+    Step::Reopen(257, 50),
+    Step::Sign(1, 1, Ok(2644)),
+    Step::Retire(32, None),
+    Step::Reopen(1025, 60),
+    Step::Sign(2, 2, Ok(2644)),
+    Step::Left(&[30, 31]),
+];
 
 #[test]
 fn a_used_tree_is_replaced_at_last(rt: HostRuntime) {
-    assert_eq!(rt; replaces_the_lower_tree(rt.alloc()), Some(true));
+    assert_eq!(rt; len_of_new(rt.alloc(), TWO, &USED), Some(1537));
 }
 
-// What a request answers of a signer in memory, at the second try where memory was refused at the first: then no
-// name was bound. Whether it was refused after something was drawn, so by the store.
-fn answered_in_memory<S: Store>(
+// The source gives the key's I again.
+const AGAIN: [Step; 2] = [
+    Step::ReopenByKey(257),
+    Step::Sign(1, 1, Err(SignFault::RandomRepeated)),
+];
+
+#[test]
+fn a_repeated_draw_is_found_at_last(rt: HostRuntime) {
+    assert_eq!(rt; len_of_new(rt.alloc(), TWO, &AGAIN), Some(257));
+}
+
+// What steps of a key in memory come to, each of which comes again at once where memory was refused: whether its store
+// was refused memory for a name, so after something was drawn, and whether for leaves; and the number that its source
+// gives next.
+fn refused_in<S: Store>(
+    alloc: Global,
     signer: &mut Signer<S, Numbers>,
-    number: u8,
+    steps: &[Step<'_>],
     out: &mut Vec<u8>,
-) -> Option<(Result<(), SignFault>, bool)> {
-    let name = Name::new(&name_of(number)).ok()?;
-    let next = signer.random.next;
-    let answer = request(signer, &name, 1, out)?;
-    if answer != Err(SignFault::OutOfMemory) {
-        return Some((answer, false));
+) -> Option<(bool, bool, u8)> {
+    let mut is_name = false;
+    let mut is_retire = false;
+    for step in steps {
+        let next = signer.random.next;
+        let (is_refused, place) = taken(alloc, signer, step, BEGIN, out)?;
+        if is_refused {
+            is_name = is_name || place.next != next;
+            is_retire = is_retire || matches!(step, Step::Retire(_, _));
+            if taken(alloc, signer, step, place, out)?.0 {
+                return None;
+            }
+        }
     }
-    if is_bound(signer, &name) {
-        return None;
-    }
-    let was_drawn = signer.random.next != next;
-    Some((request(signer, &name, 1, out)?, was_drawn))
+    Some((is_name, is_retire, signer.random.next))
 }
 
-// A new key in memory, at the second try where memory was refused at the first.
-fn created_in_memory(alloc: Global, text: &str) -> Option<MemoryStore> {
-    created_within(alloc, text, 200)
-}
-
-// The same in a store that takes so many records.
+// A new key in memory, in a store that takes so many records, at the second try where memory was refused at the first.
 fn created_within(alloc: Global, text: &str, limit: u32) -> Option<MemoryStore> {
     let tape = [7; 48];
     let store = MemoryStore::with_limit(alloc, limit);
@@ -354,47 +450,67 @@ fn created_within(alloc: Global, text: &str, limit: u32) -> Option<MemoryStore> 
     }
 }
 
-// Whether memory was refused for a retirement of leaves, which comes again then.
-fn retires_again<S: Store>(signer: &mut Signer<S, Numbers>, upto: u32) -> Option<bool> {
-    if signer.retire(upto) != Err(SignFault::OutOfMemory) {
-        return Some(false);
-    }
-    signer.retire(upto).ok()?;
-    Some(true)
-}
-
-// Ten names of a key, after eight of which more leaves are retired: whether its store was refused memory for a name,
-// and whether for leaves. None where they aren't all recorded at last, or a refusal of another memory draws anything.
-fn refused_for<S: Store>(
-    signer: &mut Signer<S, Numbers>,
+// The same of these steps of the key in a store, which is opened for them with a source that begins with this number;
+// and the store then.
+fn refused_to<S: Store + Drop>(
+    alloc: Global,
+    store: S,
+    next: u8,
+    steps: &[Step<'_>],
     out: &mut Vec<u8>,
-) -> Option<(bool, bool)> {
-    let mut is_name = false;
-    let mut is_retire = false;
-    for number in 0..10u8 {
-        let (answer, was_drawn) = answered_in_memory(signer, number, out)?;
-        answer.ok()?;
-        is_name = is_name || was_drawn;
-        let upto = 3 * u32::from(number) + 3;
-        is_retire = (number % 5 != 0 && retires_again(signer, upto)?) || is_retire;
-    }
-    let drawn = if is_name { 61 } else { 60 };
-    if signer.left().as_slice() != [2].as_slice() || signer.random.next != drawn {
-        return None;
-    }
-    Some((is_name, is_retire))
+) -> Option<(S, (bool, bool, u8))> {
+    let mut signer = opened_by(alloc, store, Numbers { next })?;
+    let refused = refused_in(alloc, &mut signer, steps, out)?;
+    Some((signer.into_store(), refused))
 }
 
-// The same of a new key in memory, which has these records then and no other.
-fn refused_in_memory_for(alloc: Global) -> Option<(bool, bool)> {
-    let mut out = Vec::new(alloc);
-    let mut signer = opened_on(alloc, created_in_memory(alloc, LMS)?, 50)?;
-    let refused = refused_for(&mut signer, &mut out)?;
-    let mut store = signer.into_store();
-    if store.load(18).ok()?.is_none() || store.load(19) != Ok(None) {
+// The same, where the store has so many records then.
+fn refused_with<S: Store + Drop>(
+    alloc: Global,
+    store: S,
+    steps: &[Step<'_>],
+    records: u32,
+) -> Option<(bool, bool, u8)> {
+    let (mut store, refused) = refused_to(alloc, store, 50, steps, &mut Vec::new(alloc))?;
+    if store.load(records.checked_sub(1)?).ok()?.is_none() || store.load(records) != Ok(None) {
         return None;
     }
     Some(refused)
+}
+
+// Ten names of a key, after eight of which more leaves are retired.
+const TEN: [Step; 19] = [
+    Step::Sign(0, 1, Ok(1292)),
+    Step::Sign(1, 1, Ok(1292)),
+    Step::Retire(6, None),
+    Step::Sign(2, 1, Ok(1292)),
+    Step::Retire(9, None),
+    Step::Sign(3, 1, Ok(1292)),
+    Step::Retire(12, None),
+    Step::Sign(4, 1, Ok(1292)),
+    Step::Retire(15, None),
+    Step::Sign(5, 1, Ok(1292)),
+    Step::Sign(6, 1, Ok(1292)),
+    Step::Retire(21, None),
+    Step::Sign(7, 1, Ok(1292)),
+    Step::Retire(24, None),
+    Step::Sign(8, 1, Ok(1292)),
+    Step::Retire(27, None),
+    Step::Sign(9, 1, Ok(1292)),
+    Step::Retire(30, None),
+    Step::Left(&[2]),
+];
+
+// Whether the store of a new key in memory is refused memory for one of these names, and whether for leaves. None where
+// they aren't all recorded at last, or a refusal of another memory draws anything.
+fn refused_in_memory_for(alloc: Global) -> Option<(bool, bool)> {
+    let store = created_within(alloc, LMS, 200)?;
+    let (is_name, is_retire, next) = refused_with(alloc, store, &TEN, 19)?;
+    let drawn = if is_name { 61 } else { 60 };
+    if next != drawn {
+        return None;
+    }
+    Some((is_name, is_retire))
 }
 
 #[test]
@@ -416,250 +532,223 @@ fn leaves_are_retired_in_memory_at_first(rt: HostRuntime) {
     assert!(rt; refused == Some((false, false)) || refused == Some((true, false)));
 }
 
-// Adds a lower tree to a new key of two levels, and a name for each of the tree's leaves.
-fn add_named_tree<S: Store>(store: &mut S) -> Option<()> {
+// Adds a lower tree to the store of a new key of two levels, and a name for each of the tree's leaves. To that of a key
+// of three levels, a tree of the second level, and for each of its leaves one below it, which is used up.
+fn fill_trees<S: Store>(store: &mut S, text: &str) -> Option<()> {
     add_all(store, &[Entry::Extend(1, 0, 6)])?;
     for number in 0..32u8 {
-        add_all(store, &[Entry::Bound(u32::from(number), number)])?;
+        let leaf = u32::from(number);
+        let tree = [
+            Entry::Extend(2, leaf, 100 + number),
+            Entry::Bound(0, number),
+            Entry::Retire(32),
+        ];
+        if text == THREE {
+            add_all(store, &tree)?;
+        } else {
+            add_all(store, &[Entry::Bound(leaf, number)])?;
+        }
     }
     Some(())
 }
 
-// A key of two levels in memory, whose lower tree has all its leaves named.
-fn named_tree(alloc: Global) -> Option<MemoryStore> {
-    let mut store = created_in_memory(alloc, TWO)?;
-    add_named_tree(&mut store)?;
+// The store in memory of a key whose trees below the first level are full.
+fn full_trees(alloc: Global, text: &str) -> Option<MemoryStore> {
+    let mut store = created_within(alloc, text, 200)?;
+    fill_trees(&mut store, text)?;
     Some(store)
 }
 
-// The same in a file.
-fn named_file(alloc: Global) -> Option<FileStore<MemoryDisk>> {
-    let place = FileStore::format(MemoryDisk::of(alloc, &[]).ok()?).ok()?;
-    let mut store = create_on(alloc, TWO, place)?.into_store();
-    add_named_tree(&mut store)?;
-    Some(store)
-}
-
-// A key of three levels in memory, whose trees of the two lower levels are used up.
-fn used_trees(alloc: Global) -> Option<MemoryStore> {
-    let mut store = created_in_memory(alloc, THREE)?;
-    add_all(&mut store, &[Entry::Extend(1, 0, 6)])?;
-    for number in 0..32u8 {
-        let tree = [
-            Entry::Extend(2, u32::from(number), 100 + number),
-            Entry::Bound(0, number),
-            Entry::Retire(32),
-        ];
-        add_all(&mut store, &tree)?;
+// Whether the next name of such a key begins new trees and leaves so many records, at the second try where memory was
+// refused for the records before it.
+fn begins_trees(alloc: Global, text: &str, steps: &[Step<'_>], records: u32) -> bool {
+    let store = match full_trees(alloc, text) {
+        Some(store) => Some(store),
+        None => full_trees(alloc, text),
+    };
+    match store {
+        Some(store) => refused_with(alloc, store, steps, records).is_some(),
+        None => false,
     }
-    Some(store)
 }
 
-// The signer of such a key after a new name, and the length of its signature.
-fn named_next(alloc: Global, store: Option<MemoryStore>) -> Option<(NumberedInMemory, usize)> {
-    let mut out = Vec::new(alloc);
-    let mut signer = opened_on(alloc, store?, 50)?;
-    let (answer, _) = answered_in_memory(&mut signer, 40, &mut out)?;
-    answer.ok()?;
-    Some((signer, out.len()))
-}
-
-// Whether the new name of such a key leaves so many leaves, and so many records.
-fn goes_on_anew(
-    alloc: Global,
-    store: Option<MemoryStore>,
-    left: &[u32],
-    records: u32,
-) -> Option<(bool, usize)> {
-    let (signer, len) = named_next(alloc, store)?;
-    let is_left = signer.left().as_slice() == left;
-    let mut store = signer.into_store();
-    let is_last = store.load(records.checked_sub(1)?).ok()?.is_some();
-    Some((is_left && is_last && store.load(records) == Ok(None), len))
-}
+const NEXT_OF_TWO: [Step; 2] = [Step::Sign(40, 1, Ok(2644)), Step::Left(&[30, 31])];
 
 #[test]
 fn a_full_tree_is_replaced_at_last(rt: HostRuntime) {
-    let store = match named_tree(rt.alloc()) {
-        Some(store) => Some(store),
-        None => named_tree(rt.alloc()),
-    };
-    assert_eq!(rt;
-        goes_on_anew(rt.alloc(), store, &[30, 31], 36),
-        Some((true, 2644))
-    );
+    assert!(rt; begins_trees(rt.alloc(), TWO, &NEXT_OF_TWO, 36));
 }
 
-// What the next name of a key in a file whose lower tree is full comes to.
-fn goes_on_in_a_file(alloc: Global) -> Option<(bool, usize, u64)> {
-    let store = match named_file(alloc) {
-        Some(store) => store,
-        None => named_file(alloc)?,
-    };
-    signs_anew(alloc, opened_on(alloc, store, 50)?, &[30, 31])
-}
-
-#[test]
-fn a_full_tree_in_a_file_is_replaced_at_last(rt: HostRuntime) {
-    let wanted = (true, 2644, 9217);
-    assert_eq!(rt; goes_on_in_a_file(rt.alloc()), Some(wanted));
-}
+const NEXT_OF_THREE: [Step; 2] = [Step::Sign(40, 1, Ok(3992)), Step::Left(&[30, 31, 31])];
 
 #[test]
 fn used_trees_begin_anew_at_last(rt: HostRuntime) {
-    let store = match used_trees(rt.alloc()) {
-        Some(store) => Some(store),
-        None => used_trees(rt.alloc()),
-    };
-    assert_eq!(rt;
-        goes_on_anew(rt.alloc(), store, &[30, 31, 31], 101),
-        Some((true, 3992))
-    );
+    assert!(rt; begins_trees(rt.alloc(), THREE, &NEXT_OF_THREE, 101));
 }
 
-// What a first name answers under a key of two levels whose store takes two records, where it wants a tree and the
-// binding, and how many leaves are left.
-fn wants_more_than_fits(alloc: Global) -> Option<(Result<(), SignFault>, bool)> {
-    let mut out = Vec::new(alloc);
-    let mut signer = opened_on(alloc, created_within(alloc, TWO, 2)?, 50)?;
-    let (answer, _) = answered_in_memory(&mut signer, 1, &mut out)?;
-    let is_left = signer.left().as_slice() == [32, 0].as_slice();
-    let mut store = signer.into_store();
-    Some((answer, is_left && store.load(1) == Ok(None)))
+// The file of a key of two levels whose lower tree is full.
+fn full_file(alloc: Global) -> Option<MemoryDisk> {
+    let place = FileStore::format(MemoryDisk::of(alloc, &[]).ok()?).ok()?;
+    let mut store = store_of(keyed(alloc, TWO, place)?)?;
+    fill_trees(&mut store, TWO)?;
+    Some(store.into_disk())
 }
+
+// Its next name makes another tree.
+const NEXT_IN_A_FILE: [Step; 3] = [
+    Step::Sign(40, 1, Ok(2644)),
+    Step::Reopen(9217, 150),
+    Step::Left(&[30, 31]),
+];
+
+#[test]
+fn a_full_tree_in_a_file_is_replaced_at_last(rt: HostRuntime) {
+    let disk = match full_file(rt.alloc()) {
+        Some(disk) => Some(disk),
+        None => full_file(rt.alloc()),
+    };
+    let len = match disk {
+        Some(disk) => len_after(rt.alloc(), disk, &NEXT_IN_A_FILE),
+        None => None,
+    };
+    assert_eq!(rt; len, Some(9217));
+}
+
+// A first name under a key of two levels wants a tree and the binding, where the store takes two records in all.
+const WANTS_TWO: [Step; 2] = [
+    Step::Sign(1, 1, Err(SignFault::LedgerFull)),
+    Step::Left(&[32, 0]),
+];
 
 #[test]
 fn a_full_store_is_found_at_last(rt: HostRuntime) {
-    let wanted = (Err(SignFault::LedgerFull), true);
-    assert_eq!(rt; wants_more_than_fits(rt.alloc()), Some(wanted));
-}
-
-// The first byte of the I of a key of more levels.
-fn first_of_identifier(signer: &Numbered) -> Option<u8> {
-    match &signer.ledger.key().secret {
-        Secret::Hss { identifier, .. } => identifier.first().copied(),
-        Secret::Lms { .. } | Secret::Xmss { .. } => None,
-    }
-}
-
-// What a first name answers under a key of two levels whose source gives the key's I again, and the length of the
-// file then.
-fn draws_again(alloc: Global) -> Option<(Result<(), SignFault>, u64)> {
-    let mut out = Vec::new(alloc);
-    let signer = created(alloc, TWO)?;
-    let next = first_of_identifier(&signer)?;
-    let signer = reopened(alloc, signer, next)?;
-    let (signer, answer) = answered(alloc, signer, 1, 1, &mut out)?;
-    Some((answer, len_of(signer)?))
-}
-
-#[test]
-fn a_repeated_draw_is_found_at_last(rt: HostRuntime) {
-    let wanted = (Err(SignFault::RandomRepeated), 257);
-    assert_eq!(rt; draws_again(rt.alloc()), Some(wanted));
+    let found = match created_within(rt.alloc(), TWO, 2) {
+        Some(store) => refused_with(rt.alloc(), store, &WANTS_TWO, 1),
+        None => None,
+    };
+    assert!(rt; found.is_some());
 }
 
 // A new name of a key of two levels whose source ends after the draws of the lower tree, or at once where that tree is
 // recorded: the store after it, and the fault.
-fn ends_short(
-    alloc: Global,
-    store: FileStore<MemoryDisk>,
-) -> Option<(FileStore<MemoryDisk>, Option<SignFault>)> {
+fn ends_short<S: Store + Drop>(alloc: Global, store: S) -> Option<(S, Option<SignFault>)> {
+    let mut store = store;
     let tape = counting::<80>(48);
-    let used = if store.count() > 1 { tape.len() } else { 0 };
+    let used = if store.load(1).ok()?.is_some() {
+        tape.len()
+    } else {
+        0
+    };
     let mut signer = opened_by(alloc, store, TapeSource::new(tape.get(used..)?))?;
     let fault = fault_of(alloc, &mut signer, &name_of(1), &[1])?;
     Some((signer.into_store(), fault))
 }
 
-// The same at the second try where memory was refused or the store failed at the first, and the file opened again
-// between.
-fn ends_short_at_last(alloc: Global) -> Option<(FileStore<MemoryDisk>, Option<SignFault>)> {
-    let store = created(alloc, TWO)?.into_store();
-    let (store, fault) = ends_short(alloc, store)?;
+// The same of a key in a file, at the second try where memory was refused or the store failed at the first, and the
+// file opened again between.
+fn ends_short_at_last<D: Disk + Drop>(alloc: Global, disk: D) -> Option<(D, Option<SignFault>)> {
+    let (store, fault) = ends_short(alloc, store_of(disk)?)?;
+    let disk = store.into_disk();
     match fault {
         Some(SignFault::OutOfMemory) | Some(SignFault::StoreFailed) => {
-            ends_short(alloc, store_of(store.into_disk())?)
+            let (store, fault) = ends_short(alloc, store_of(disk)?)?;
+            Some((store.into_disk(), fault))
         }
-        _ => Some((store, fault)),
+        _ => Some((disk, fault)),
     }
 }
 
-// What such a name is answered, whether the leaves that are left are those of a new lower tree, and how long its file
-// is then; and what the next name comes to, whose source gives all.
-fn ends_and_goes_on(alloc: Global) -> Option<(Option<SignFault>, bool, u64, (bool, usize, u64))> {
-    let (store, fault) = ends_short_at_last(alloc)?;
-    let signer = opened_on(alloc, store_of(store.into_disk())?, 200)?;
-    let is_left = signer.left().as_slice() == [31, 32].as_slice();
-    let mut disk = signer.into_store().into_disk();
-    let len = disk.len().ok()?;
-    let signer = opened_on(alloc, store_of(disk)?, 200)?;
-    Some((fault, is_left, len, signs_anew(alloc, signer, &[31, 31])?))
+// The lower tree stays, and the next name, whose source gives all, is bound to its first leaf.
+const GOES_ON: [Step; 6] = [
+    Step::Reopen(513, 200),
+    Step::Left(&[31, 32]),
+    Step::Reopen(513, 200),
+    Step::Sign(40, 1, Ok(2644)),
+    Step::Reopen(769, 150),
+    Step::Left(&[31, 31]),
+];
+
+// What such a name is answered under a new key, and the length of the file after the next one.
+fn ends_and_goes_on(alloc: Global) -> Option<(Option<SignFault>, u64)> {
+    let disk = match MemoryDisk::of(alloc, &[]) {
+        Ok(disk) => disk,
+        Err(_) => MemoryDisk::of(alloc, &[]).ok()?,
+    };
+    let (disk, fault) = ends_short_at_last(alloc, created(alloc, TWO, disk)?)?;
+    Some((fault, len_after(alloc, disk, &GOES_ON)?))
 }
 
-// The lower tree stays, and the next name is bound to its first leaf.
 #[test]
 fn a_source_that_ends_is_answered_at_last(rt: HostRuntime) {
-    let wanted = (Some(SignFault::RandomFailed), true, 513, (true, 2644, 769));
+    let wanted = (Some(SignFault::RandomFailed), 769);
     assert_eq!(rt; ends_and_goes_on(rt.alloc()), Some(wanted));
 }
 
-// The signer of a key in memory, opened again after the append of its first name was cut, where its source begins
-// with the number 70.
-fn cut_name(alloc: Global, cut: Cut) -> Option<NumberedInMemory> {
+// What a key in memory is asked whose append of a name was cut, and left the record: the name has its signature with
+// nothing drawn, and another message has none. Where the record wasn't left the name is free, and another one gets its
+// leaf.
+const CUT: [Step; 1] = [Step::Sign(1, 1, Err(SignFault::StoreFailed))];
+
+const BOUND: [Step; 3] = [
+    Step::Sign(1, 1, Ok(1292)),
+    Step::Sign(1, 2, Err(SignFault::Changed)),
+    Step::Left(&[31]),
+];
+
+const FREE: [Step; 3] = [
+    Step::Left(&[32]),
+    Step::Sign(2, 1, Ok(1292)),
+    Step::Left(&[31]),
+];
+
+// Whether these steps draw nothing after such a cut, and whether the last of them that was signed is of the first leaf.
+fn after_a_cut(alloc: Global, cut: Cut, steps: &[Step<'_>]) -> Option<(bool, bool)> {
     let mut out = Vec::new(alloc);
-    let mut store = created_in_memory(alloc, LMS)?;
+    let mut store = created_within(alloc, LMS, 200)?;
     store.cut_at(1, cut);
-    let mut signer = opened_on(alloc, store, 50)?;
-    let (answer, _) = answered_in_memory(&mut signer, 1, &mut out)?;
-    if answer != Err(SignFault::StoreFailed) {
-        return None;
-    }
-    let mut store = signer.into_store();
+    let (mut store, _) = refused_to(alloc, store, 50, &CUT, &mut out)?;
     store.reopen();
-    opened_on(alloc, store, 70)
-}
-
-// Whether a name that such a cut left is bound: it has a signature with nothing drawn, at the second try where memory
-// was refused at the first, and another message has none.
-fn is_repeated<S: Store>(signer: &mut Signer<S, Numbers>, out: &mut Vec<u8>) -> Option<bool> {
-    let name = Name::new(&name_of(1)).ok()?;
-    let mut answer = request(signer, &name, 1, out)?;
-    if answer == Err(SignFault::OutOfMemory) {
-        answer = request(signer, &name, 1, out)?;
-    }
-    let changed = request(signer, &name, 2, out)?;
-    let is_kept = signer.random.next == 70 && signer.left().as_slice() == [31].as_slice();
-    Some(answer == Ok(()) && changed == Err(SignFault::Changed) && is_kept)
-}
-
-fn is_bound_after_a_cut(alloc: Global) -> Option<bool> {
-    is_repeated(&mut cut_name(alloc, Cut::New)?, &mut Vec::new(alloc))
-}
-
-// Whether a name that such a cut didn't leave is free, and another name gets its leaf.
-fn is_given_anew<S: Store>(signer: &mut Signer<S, Numbers>, out: &mut Vec<u8>) -> Option<bool> {
-    let is_free = signer.left().as_slice() == [32].as_slice();
-    let (answer, _) = answered_in_memory(signer, 2, out)?;
-    let is_left = signer.left().as_slice() == [31].as_slice();
-    Some(is_free && answer == Ok(()) && is_left && out.get(..4) == Some([0; 4].as_slice()))
-}
-
-fn is_free_after_a_cut(alloc: Global) -> Option<bool> {
-    is_given_anew(&mut cut_name(alloc, Cut::Old)?, &mut Vec::new(alloc))
+    let (_store, (_, _, next)) = refused_to(alloc, store, 70, steps, &mut out)?;
+    Some((next == 70, out.get(..4) == Some([0; 4].as_slice())))
 }
 
 #[test]
 fn a_cut_name_is_answered_at_last(rt: HostRuntime) {
-    assert_eq!(rt; is_bound_after_a_cut(rt.alloc()), Some(true));
-    assert_eq!(rt; is_free_after_a_cut(rt.alloc()), Some(true));
+    let left = after_a_cut(rt.alloc(), Cut::New, &BOUND);
+    assert_eq!(rt; left, Some((true, false)));
+    let not_left = after_a_cut(rt.alloc(), Cut::Old, &FREE);
+    assert_eq!(rt; not_left, Some((false, true)));
 }
 
-// A store of a key whose root isn't that of its tree.
-fn other_root(alloc: Global) -> Option<MemoryStore> {
-    match listed(alloc, &[]) {
-        Some(store) => Some(store),
-        None => listed(alloc, &[]),
+// A store of a key whose root isn't that of its tree; where that is wanted, with a name that is bound to the digest of
+// the byte 1.
+fn other_root(alloc: Global, is_bound: bool) -> Option<MemoryStore> {
+    let mut store = match listed(alloc, &[]) {
+        Some(store) => store,
+        None => listed(alloc, &[])?,
+    };
+    if !is_bound {
+        return Some(store);
+    }
+    let one_time = LmOts {
+        identifier: [1; 16],
+        leaf: 0,
+    };
+    let bound = Record::Bound(Bound {
+        name: Name::new(&name_of(1)).ok()?,
+        leaf: 0,
+        randomizer: [4; 32],
+        digest: one_time.message_digest(&[4; 32], &[1]),
+    });
+    match store.load(0) {
+        Ok(Some(_)) => match store.append(&bound) {
+            Ok(()) => Some(store),
+            Err(_) => {
+                store.append(&bound).ok()?;
+                Some(store)
+            }
+        },
+        _ => None,
     }
 }
 
@@ -676,72 +765,45 @@ fn fault_twice<S: Store, R: Source>(
     Some((first, fault_of(alloc, signer, name, &[1])?))
 }
 
-// The faults of a new name under such a key.
-fn of_other_root_twice(alloc: Global) -> Option<(SignFault, Option<SignFault>)> {
+// The faults of a new name under such a key, or of the bound one.
+fn faults_of(alloc: Global, is_bound: bool) -> Option<(SignFault, Option<SignFault>)> {
     let tape = counting::<32>(0);
-    let mut signer = Signer::open(alloc, other_root(alloc)?, TapeSource::new(&tape)).ok()?;
-    fault_twice(alloc, &mut signer, b"fw-1")
+    let bound = name_of(1);
+    let name: &[u8] = if is_bound { &bound } else { b"fw-1" };
+    let mut signer = opened_by(alloc, other_root(alloc, is_bound)?, TapeSource::new(&tape))?;
+    fault_twice(alloc, &mut signer, name)
 }
+
+// What is found of such a root, and what the second request answers where memory is refused for the first.
+const FOUND: Option<(SignFault, Option<SignFault>)> = Some((SignFault::Damaged(0), None));
+
+const FOUND_THEN: Option<(SignFault, Option<SignFault>)> = Some((
+    SignFault::OutOfMemory,
+    Some(SignFault::Damaged(0)),
+));
 
 // Want of memory comes before what is wrong in the records, and the next request says that.
 #[test]
 fn a_changed_root_is_found_at_last(rt: HostRuntime) {
-    let found = SignFault::Damaged(0);
-    let answers = of_other_root_twice(rt.alloc());
-    let is_second = answers == Some((SignFault::OutOfMemory, Some(found)));
-    assert!(rt; is_second || answers == Some((found, None)));
+    let faults = faults_of(rt.alloc(), false);
+    assert!(rt; faults == FOUND_THEN || faults == FOUND);
 }
 
 // This one passes only where no growth of the first request is refused.
 #[test]
 fn a_changed_root_is_found_at_first(rt: HostRuntime) {
-    let found = (SignFault::Damaged(0), None);
-    assert_eq!(rt; of_other_root_twice(rt.alloc()), Some(found));
-}
-
-// A store of a key whose root isn't that of its tree, and a name that is bound to the digest of the byte 1.
-fn bound_under_other_root(alloc: Global) -> Option<MemoryStore> {
-    let one_time = LmOts {
-        identifier: [1; 16],
-        leaf: 0,
-    };
-    let bound = Record::Bound(Bound {
-        name: Name::new(&name_of(1)).ok()?,
-        leaf: 0,
-        randomizer: [4; 32],
-        digest: one_time.message_digest(&[4; 32], &[1]),
-    });
-    let mut store = other_root(alloc)?;
-    match store.load(0) {
-        Ok(Some(_)) => match store.append(&bound) {
-            Ok(()) => Some(store),
-            Err(_) => {
-                store.append(&bound).ok()?;
-                Some(store)
-            }
-        },
-        _ => None,
-    }
-}
-
-// The faults of a bound name under such a key.
-fn of_bound_name_twice(alloc: Global) -> Option<(SignFault, Option<SignFault>)> {
-    let mut signer = opened_on(alloc, bound_under_other_root(alloc)?, 0)?;
-    fault_twice(alloc, &mut signer, &name_of(1))
+    assert_eq!(rt; faults_of(rt.alloc(), false), FOUND);
 }
 
 // Under a bound name, too, want of memory comes before what is wrong in the records.
 #[test]
 fn a_changed_root_of_a_bound_name_is_found_at_last(rt: HostRuntime) {
-    let found = SignFault::Damaged(0);
-    let answers = of_bound_name_twice(rt.alloc());
-    let is_second = answers == Some((SignFault::OutOfMemory, Some(found)));
-    assert!(rt; is_second || answers == Some((found, None)));
+    let faults = faults_of(rt.alloc(), true);
+    assert!(rt; faults == FOUND_THEN || faults == FOUND);
 }
 
 // This one passes only where no growth of the first request is refused.
 #[test]
 fn a_changed_root_of_a_bound_name_is_found_at_first(rt: HostRuntime) {
-    let found = (SignFault::Damaged(0), None);
-    assert_eq!(rt; of_bound_name_twice(rt.alloc()), Some(found));
+    assert_eq!(rt; faults_of(rt.alloc(), true), FOUND);
 }
