@@ -56,17 +56,19 @@ fn signed(
     let mut message = message;
     let mut signature = Vec::new(rt.alloc());
     let random = TapeSource::new(random);
-    match sign(
+    let (disk, answer) = sign(
         rt.alloc(),
         disk,
         random,
         &name,
         &mut message,
         &mut signature,
-    ) {
-        (disk, Ok(())) => Some((disk, Ok(signature.len()))),
-        (disk, Err(refusal)) => Some((disk, Err(refusal))),
-    }
+    );
+    let size = match answer {
+        Ok(()) => Ok(signature.len()),
+        Err(refusal) => Err(refusal),
+    };
+    Some((disk, size))
 }
 
 // Whether these requests in turn come to what they say, on a disk without bytes.
