@@ -2,7 +2,7 @@
 
 use crate::*;
 use sign_core::{AnyPublic, Signer, Source, SourceFault, TapeSource};
-use state_file::MemoryStore;
+use state_file::{FileStore, MemoryDisk, MemoryStore, Store};
 use std::alloc::Global;
 use typecodes::{Name, Spec};
 
@@ -13,6 +13,7 @@ mod frames;
 mod long;
 mod memory;
 mod programs;
+mod room;
 mod script;
 mod turning;
 mod vectors;
@@ -37,116 +38,166 @@ impl Source for Numbers {
     }
 }
 
-// Random bytes, of which those after the first ones are the signer's own.
-fn tape(shared: usize, own: u8) -> [u8; 256] {
-    let shared = shared.min(256);
-    let mut bytes = [own; 256];
-    bytes[..shared].copy_from_slice(&[7; 256][..shared]);
-    bytes
+type InFile = Signer<FileStore<MemoryDisk>, Numbers>;
+
+// The signer of a new key in a file.
+fn created(alloc: Global, spec: &str) -> Option<InFile> {
+    let spec = Spec::parse(spec).ok()?;
+    let store = FileStore::format(MemoryDisk::of(alloc, &[]).ok()?).ok()?;
+    Signer::create(alloc, spec, store, Numbers { next: 0 }).ok()
 }
 
-// Signs messages of a byte each under names of their own, with a key that is made of the first random bytes.
-fn sign(alloc: Global, spec: &str, tape: &[u8], texts: &[u8]) -> Option<(AnyPublic, Vec<Given>)> {
+// Signs a message of this byte under a name.
+fn sign_byte<S: Store, R: Source>(
+    signer: &mut Signer<S, R>,
+    name: &[u8],
+    byte: u8,
+    out: &mut Vec<u8>,
+) -> Option<()> {
+    let name = Name::new(name).ok()?;
+    signer.sign(&name, &mut [byte].as_slice(), out).ok()
+}
+
+// A letter and its signature under its own name.
+fn signature_of<S: Store, R: Source>(
+    alloc: Global,
+    signer: &mut Signer<S, R>,
+    letter: u8,
+) -> Option<Given> {
+    let mut message = Vec::new(alloc);
+    message.push(letter).ok()?;
+    let mut signature = Vec::new(alloc);
+    sign_byte(signer, &[letter], letter, &mut signature)?;
+    Some(Given { message, signature })
+}
+
+// Signs letters, each under its own name, with a key that is made of the first random bytes.
+fn sign(alloc: Global, spec: &str, tape: &[u8], letters: &[u8]) -> Option<(AnyPublic, Vec<Given>)> {
+    let spec = Spec::parse(spec).ok()?;
     let store = MemoryStore::with_limit(alloc, 100);
-    let made = Signer::create(alloc, Spec::parse(spec).ok()?, store, TapeSource::new(tape));
-    let mut signer = made.ok()?;
+    let mut signer = Signer::create(alloc, spec, store, TapeSource::new(tape)).ok()?;
     let mut given = Vec::new(alloc);
-    for text in texts {
-        let name = Name::new(&[*text]).ok()?;
-        let mut message = Vec::new(alloc);
-        message.push(*text).ok()?;
-        let mut signature = Vec::new(alloc);
-        signer
-            .sign(&name, &mut message.as_slice(), &mut signature)
-            .ok()?;
-        given.push(Given { message, signature }).ok()?;
+    for letter in letters {
+        given.push(signature_of(alloc, &mut signer, *letter)?).ok()?;
     }
     Some((signer.public_key(), given))
 }
 
+// A key, how many random bytes two copies of it share, and the letters that each of them signs.
+type Copies = (&'static str, usize, &'static [u8], &'static [u8]);
+
 // The signatures of two copies of a key, those of the first copy first.
-fn copies(
-    alloc: Global,
-    spec: &str,
-    shared: usize,
-    first: &[u8],
-    second: &[u8],
-) -> Option<(AnyPublic, Vec<Given>)> {
-    let (public, mut given) = sign(alloc, spec, &tape(shared, 1), first)?;
-    let (_, others) = sign(alloc, spec, &tape(shared, 2), second)?;
+fn signatures_of(alloc: Global, copies: Copies) -> Option<(AnyPublic, Vec<Given>)> {
+    let (spec, shared, first, second) = copies;
+    let mut tape = [7; 256];
+    tape.get_mut(shared..)?.fill(1);
+    let (public, mut given) = sign(alloc, spec, &tape, first)?;
+    tape.get_mut(shared..)?.fill(2);
+    let (_, others) = sign(alloc, spec, &tape, second)?;
     for other in others {
         given.push(other).ok()?;
     }
     Some((public, given))
 }
 
-// What a check answers to the signatures of two copies of a key.
+// What a check answers to the signatures of two copies of a key, of which the one at a place may get another message:
+// at first, or at the second try where memory is refused at the first. The signatures are made at the second try where
+// memory is refused at the first.
 fn check_copies(
     alloc: Global,
-    spec: &str,
-    shared: usize,
-    first: &[u8],
-    second: &[u8],
+    copies: Copies,
+    changed: Option<usize>,
+    at_first: bool,
 ) -> Option<Result<(), GivenFault>> {
-    let (public, given) = copies(alloc, spec, shared, first, second)?;
+    let (public, mut given) = match signatures_of(alloc, copies) {
+        Some(both) => both,
+        None => signatures_of(alloc, copies)?,
+    };
+    if let Some(place) = changed {
+        given.get_mut(place)?.message.push(1).ok()?;
+    }
+    let answer = check_given(alloc, &public, &given);
+    if at_first || answer != Err(GivenFault::OutOfMemory) {
+        return Some(answer);
+    }
     Some(check_given(alloc, &public, &given))
 }
+
+const ONE_TREE: &str = "lms:H5/W8";
 
 const TWO_LEVELS: &str = "hss:H5/W8,H5/W8";
 
-// A key, how many random bytes its copies share, what each copy signs, and the answer.
-const COPIES: [(&str, usize, &[u8], &[u8], Result<(), GivenFault>); 7] = [
-    ("lms:H5/W8", 80, b"a", b"a", Ok(())),
+// Copies of a key, the place of the signature that gets another message, and the answer.
+const COPIES: [(Copies, Option<usize>, Result<(), GivenFault>); 10] = [
+    ((ONE_TREE, 80, b"a", b"a"), None, Ok(())),
     (
-        "lms:H5/W8",
-        48,
-        b"a",
-        b"a",
+        (ONE_TREE, 48, b"a", b"a"),
+        None,
         Err(GivenFault::LeafTwice(0, 1)),
     ),
     (
-        "lms:H5/W8",
-        80,
-        b"ab",
-        b"acd",
+        (ONE_TREE, 80, b"ab", b"acd"),
+        None,
         Err(GivenFault::LeafTwice(1, 3)),
     ),
-    ("lms:H5/W8", 48, b"abc", b"", Ok(())),
-    (TWO_LEVELS, 48, b"ab", b"", Ok(())),
-    (TWO_LEVELS, 48, b"a", b"a", Err(GivenFault::LeafTwice(0, 1))),
-    ("xmss:10", 96, b"a", b"b", Err(GivenFault::LeafTwice(0, 1))),
+    ((ONE_TREE, 48, b"abc", b""), None, Ok(())),
+    ((TWO_LEVELS, 48, b"ab", b""), None, Ok(())),
+    (
+        (TWO_LEVELS, 48, b"a", b"a"),
+        None,
+        Err(GivenFault::LeafTwice(0, 1)),
+    ),
+    (
+        ("xmss:10", 96, b"a", b"b"),
+        None,
+        Err(GivenFault::LeafTwice(0, 1)),
+    ),
+    (
+        (ONE_TREE, 80, b"abc", b""),
+        Some(0),
+        Err(GivenFault::NotValid(0)),
+    ),
+    (
+        (ONE_TREE, 80, b"abc", b""),
+        Some(1),
+        Err(GivenFault::NotValid(1)),
+    ),
+    (
+        (ONE_TREE, 80, b"abc", b""),
+        Some(2),
+        Err(GivenFault::NotValid(2)),
+    ),
 ];
 
 #[test]
-fn copies_of_a_key_are_found(rt: HostRuntime) {
-    for (spec, shared, first, second, wanted) in COPIES {
+fn copies_and_changed_messages_are_found(rt: HostRuntime) {
+    for (copies, changed, wanted) in COPIES {
         assert_eq!(rt;
-            check_copies(rt.alloc(), spec, shared, first, second),
+            check_copies(rt.alloc(), copies, changed, true),
             Some(wanted)
-        );
-    }
-}
-
-// What a check answers to three signatures, of which this one has another message.
-fn check_changed(alloc: Global, changed: usize) -> Option<Result<(), GivenFault>> {
-    let (public, mut given) = sign(alloc, "lms:H5/W8", &tape(80, 1), b"abc")?;
-    given.get_mut(changed)?.message.push(1).ok()?;
-    Some(check_given(alloc, &public, &given))
-}
-
-#[test]
-fn signatures_that_arent_valid_are_found(rt: HostRuntime) {
-    for place in 0..3usize {
-        assert_eq!(rt;
-            check_changed(rt.alloc(), place),
-            Some(Err(GivenFault::NotValid(place)))
         );
     }
 }
 
 #[test]
 fn faults_have_numbers(rt: HostRuntime) {
-    assert_eq!(rt; GivenFault::NotValid(1).number(), 60);
-    assert_eq!(rt; GivenFault::LeafTwice(1, 2).number(), 61);
-    assert_eq!(rt; GivenFault::OutOfMemory.number(), 46);
+    for (fault, number) in [
+        (GivenFault::NotValid(1), 60),
+        (GivenFault::LeafTwice(1, 2), 61),
+        (GivenFault::OutOfMemory, 46),
+    ] {
+        assert_eq!(rt; fault.number(), number);
+    }
+    for (fault, number) in [
+        (AuditFault::Stopped, 26),
+        (AuditFault::NoKey, 40),
+        (AuditFault::Damaged(1), 43),
+        (AuditFault::Illegal(1), 44),
+        (AuditFault::DeviceFailed, 45),
+        (AuditFault::OutOfMemory, 46),
+        (AuditFault::AnchorCount, 47),
+        (AuditFault::AnchorTag, 48),
+    ] {
+        assert_eq!(rt; fault.number(), number);
+    }
 }

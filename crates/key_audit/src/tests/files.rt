@@ -1,14 +1,11 @@
 //! State files of any records, whose tags are right.
 
 use super::*;
-use state_file::{
-    Bound, Extend, FileStore, Key, MemoryDisk, OpenFault, Pick, Record, Secret, Store, Version,
-};
+use state_file::{Bound, Extend, Key, OpenFault, Record, Secret, Version};
 use typecodes::{LmsPair, LmsType, OtsType};
 
 // A record after the key: a leaf with a letter as its name, leaves that are retired, a tree of a level under a leaf of
 // the level above, a key and a Moved.
-#[derive(Clone, Copy)]
 pub(super) enum Entry {
     Bound(u32, u8),
     Retire(u32),
@@ -17,13 +14,13 @@ pub(super) enum Entry {
     Moved,
 }
 
-// A key of one tree of 32 leaves, whose root isn't that of its tree.
-pub(super) fn key() -> Key {
+// A key of one tree, whose root isn't that of its tree.
+pub(super) fn key(tree: LmsType) -> Key {
     Key {
         version: Version::One,
         secret: Secret::Lms {
             pair: LmsPair {
-                tree: LmsType::H5,
+                tree,
                 ots: OtsType::W8,
             },
             identifier: [1; 16],
@@ -33,51 +30,37 @@ pub(super) fn key() -> Key {
     }
 }
 
-fn record_of(entry: Entry) -> Option<Record> {
-    Some(match entry {
-        Entry::Bound(leaf, letter) => Record::Bound(Bound {
-            name: Name::new(&[letter]).ok()?,
-            leaf,
-            randomizer: [4; 32],
-            digest: [5; 32],
-        }),
-        Entry::Retire(upto) => Record::Retire { upto },
-        Entry::Extend(level, parent_leaf) => Record::Extend(Extend {
-            level,
-            parent_leaf,
-            identifier: [6; 16],
-            seed: [7; 32],
-            randomizer: [8; 32],
-            digest: [9; 32],
-            root: [10; 32],
-        }),
-        Entry::Key => Record::Key(key()),
-        Entry::Moved => Record::Moved,
-    })
-}
-
-// A store of the key and these records after it.
+// A store of a key of 32 leaves and these records after it.
 pub(super) fn stored(alloc: Global, entries: &[Entry]) -> Option<FileStore<MemoryDisk>> {
     let mut store = FileStore::format(MemoryDisk::of(alloc, &[]).ok()?).ok()?;
-    store.append(&Record::Key(key())).ok()?;
+    store.append(&Record::Key(key(LmsType::H5))).ok()?;
     for entry in entries {
-        let added = record_of(*entry)?;
+        let added = match entry {
+            Entry::Bound(leaf, letter) => Record::Bound(Bound {
+                name: Name::new(&[*letter]).ok()?,
+                leaf: *leaf,
+                randomizer: [4; 32],
+                digest: [5; 32],
+            }),
+            Entry::Retire(upto) => Record::Retire { upto: *upto },
+            Entry::Extend(level, parent_leaf) => Record::Extend(Extend {
+                level: *level,
+                parent_leaf: *parent_leaf,
+                identifier: [6; 16],
+                seed: [7; 32],
+                randomizer: [8; 32],
+                digest: [9; 32],
+                root: [10; 32],
+            }),
+            Entry::Key => Record::Key(key(LmsType::H5)),
+            Entry::Moved => Record::Moved,
+        };
         match store.load(0) {
             Ok(Some(_)) => store.append(&added).ok()?,
             _ => return None,
         }
     }
     Some(store)
-}
-
-// The file of a store.
-pub(super) fn file_in(store: FileStore<MemoryDisk>) -> Option<Vec<u8>> {
-    store.into_disk().stop(Pick::New).ok()
-}
-
-// A disk with the file of the key and these records after it.
-pub(super) fn filed(alloc: Global, entries: &[Entry]) -> Option<MemoryDisk> {
-    Some(stored(alloc, entries)?.into_disk())
 }
 
 // The store of a disk, which is opened once more where the disk was refused memory.
@@ -96,10 +79,11 @@ pub(super) fn store_in(alloc: Global, file: &[u8]) -> Option<FileStore<MemoryDis
     FileStore::open(MemoryDisk::of(alloc, file).ok()?).ok()
 }
 
-// The tag that stands in a slot of a file.
-pub(super) fn tag_in(file: &[u8], slot: usize) -> Option<[u8; 32]> {
-    let slots = file.as_chunks::<256>().0;
+// The anchor of a file when it had so many records, or one that counts none, with the first slot's tag.
+pub(super) fn anchor_in(file: &[u8], count: usize) -> Option<Anchor> {
+    let slot = count.saturating_sub(1);
     let mut tag = [0; 32];
-    tag.copy_from_slice(slots.get(slot)?.get(224..)?);
-    Some(tag)
+    tag.copy_from_slice(file.as_chunks::<256>().0.get(slot)?.get(224..)?);
+    let count = u32::try_from(count).ok()?;
+    Some(Anchor { count, tag })
 }

@@ -6,11 +6,7 @@ use super::files::opened_at_last;
 use super::script::create_on;
 use super::*;
 use sign_core::{ServeFault, SignFault, serve, verify_any};
-use state_file::{FileStore, MemoryDisk, OpenFault};
-use std::io;
-use std::io::Write;
-
-type InFile = Signer<FileStore<MemoryDisk>, Numbers>;
+use state_file::OpenFault;
 
 // A frame, the number of its reply, and how its serving ends.
 type Served = (&'static [u8], u8, Result<u64, ServeFault>);
@@ -34,44 +30,14 @@ const STORE_FAILED: &[u8] = &[25, 0, 0, 0, 0];
 
 const STOPPED: &[u8] = &[26, 0, 0, 0, 0];
 
-// An output in room that was made before.
-#[derive(Drop)]
-struct Output {
-    taken: Vec<u8>,
-}
-
-impl Write for Output {
-    fn write(&mut self, bytes: &[u8]) -> io::Result<usize> {
-        self.taken.extend_from_slice(bytes)?;
-        Ok(bytes.len())
-    }
-
-    fn flush(&mut self) -> io::Result<()> {
-        Ok(())
-    }
-}
-
-// The output of a reply, whose room is made at the second try where memory is refused at the first.
-fn new_output(alloc: Global) -> Option<Output> {
-    let taken = match Vec::with_capacity(alloc, 3000) {
-        Ok(taken) => taken,
-        Err(_) => Vec::with_capacity(alloc, 3000).ok()?,
-    };
-    Some(Output { taken })
-}
-
-// A disk without a byte, at the second try where memory is refused at the first.
-fn empty_disk(alloc: Global) -> Option<MemoryDisk> {
-    match MemoryDisk::of(alloc, &[]) {
-        Ok(disk) => Some(disk),
-        Err(_) => MemoryDisk::of(alloc, &[]).ok(),
-    }
-}
-
-// The disk of a new key. Where memory was refused to its disk the place is opened again, and the key is made once more
-// if there is none.
+// The disk of a new key, which is made at the second try where memory is refused at the first. Where memory was refused
+// to the disk itself the place is opened again, and the key is made once more if there is none.
 fn keyed(alloc: Global, spec: &str) -> Option<MemoryDisk> {
-    let (disk, is_made) = create_on(alloc, spec, empty_disk(alloc)?, 0)?;
+    let empty = match MemoryDisk::of(alloc, &[]) {
+        Ok(disk) => disk,
+        Err(_) => MemoryDisk::of(alloc, &[]).ok()?,
+    };
+    let (disk, is_made) = create_on(alloc, spec, empty, 0)?;
     if is_made {
         return Some(disk);
     }
@@ -102,12 +68,8 @@ fn opened(alloc: Global, disk: MemoryDisk, next: u8) -> Option<InFile> {
     }
 }
 
-fn reopened(alloc: Global, signer: InFile, next: u8) -> Option<InFile> {
-    opened(alloc, signer.into_store().into_disk(), next)
-}
-
 // How many leaves of the lowest tree have signed, where one at least of its 32 is left.
-fn signed_leaves(signer: &InFile) -> Option<u32> {
+fn signed_leaves<S: Store, R: Source>(signer: &Signer<S, R>) -> Option<u32> {
     let left = signer.left();
     match left.as_slice().last()? {
         0 => Some(0),
@@ -115,35 +77,25 @@ fn signed_leaves(signer: &InFile) -> Option<u32> {
     }
 }
 
-// The reply to a frame, and how its serving ends.
-fn reply_to(
+// The reply to a frame, whose room is made at the second try where memory is refused at the first, and how its serving
+// ends.
+fn reply_to<S: Store, R: Source>(
     alloc: Global,
-    signer: &mut InFile,
+    signer: &mut Signer<S, R>,
     frame: &[u8],
 ) -> Option<(Vec<u8>, Result<u64, ServeFault>)> {
-    let mut output = new_output(alloc)?;
+    let mut output = match Vec::with_capacity(alloc, 3000) {
+        Ok(output) => output,
+        Err(_) => Vec::with_capacity(alloc, 3000).ok()?,
+    };
     let mut input = frame;
     let end = serve(alloc, signer, &mut input, &mut output);
-    Some((output.taken, end))
+    Some((output, end))
 }
 
-// The same once more, after the file was opened again: no name was bound before.
-fn reply_again(
-    alloc: Global,
-    signer: InFile,
-    frame: &[u8],
-    signed: u32,
-) -> Option<(InFile, Vec<u8>, Result<u64, ServeFault>)> {
-    let mut signer = reopened(alloc, signer, 100)?;
-    if signed_leaves(&signer)? != signed {
-        return None;
-    }
-    let (reply, end) = reply_to(alloc, &mut signer, frame)?;
-    Some((signer, reply, end))
-}
-
-// A signer after a frame, the reply, and how its serving ends; where memory was refused, of the second try. A signer
-// whose device failed is closed until then, and may have bound the name.
+// A signer after a frame, the reply, and how its serving ends; where memory was refused, of the second try, after the
+// file was opened again: no name was bound before. A signer whose device failed is closed until then, and may have
+// bound the name.
 fn served(
     alloc: Global,
     signer: InFile,
@@ -152,16 +104,17 @@ fn served(
     let mut signer = signer;
     let signed = signed_leaves(&signer)?;
     let (reply, end) = reply_to(alloc, &mut signer, frame)?;
-    if reply.as_slice() == OUT_OF_MEMORY {
-        return reply_again(alloc, signer, frame, signed);
-    }
-    if reply.as_slice() != STORE_FAILED {
+    let is_closed = reply.as_slice() == STORE_FAILED;
+    if reply.as_slice() != OUT_OF_MEMORY && !is_closed {
         return Some((signer, reply, end));
     }
-    if reply_to(alloc, &mut signer, frame)?.0.as_slice() != STOPPED {
+    if is_closed && reply_to(alloc, &mut signer, frame)?.0.as_slice() != STOPPED {
         return None;
     }
-    let mut signer = reopened(alloc, signer, 100)?;
+    let mut signer = opened(alloc, signer.into_store().into_disk(), 100)?;
+    if !is_closed && signed_leaves(&signer)? != signed {
+        return None;
+    }
     let (reply, end) = reply_to(alloc, &mut signer, frame)?;
     Some((signer, reply, end))
 }
@@ -198,7 +151,7 @@ fn answered(alloc: Global, spec: &str) -> Option<(usize, u32)> {
             first = reply;
         }
     }
-    let signer = reopened(alloc, signer, 150)?;
+    let signer = opened(alloc, signer.into_store().into_disk(), 150)?;
     let (signer, reply, _) = served(alloc, signer, FRAMES[0].0)?;
     if reply != first {
         return None;
@@ -208,7 +161,7 @@ fn answered(alloc: Global, spec: &str) -> Option<(usize, u32)> {
 
 #[test]
 fn one_tree_serves_at_last(rt: HostRuntime) {
-    assert_eq!(rt; answered(rt.alloc(), "lms:H5/W8"), Some((7, 3)));
+    assert_eq!(rt; answered(rt.alloc(), ONE_TREE), Some((7, 3)));
 }
 
 #[test]

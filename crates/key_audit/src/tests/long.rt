@@ -1,49 +1,28 @@
 //! Audits of long lists. `tests/bench` shows the times of these.
 
 use super::audits::audited;
-use super::files::{file_in, store_in};
+use super::files::{key, store_in};
 use super::*;
-use state_file::{Bound, FileStore, Key, MemoryDisk, Record, Secret, Store, Version};
-use typecodes::{LmsPair, LmsType, OtsType};
+use state_file::{Bound, Pick, Record};
+use typecodes::LmsType;
 
-// A key of 2^20 leaves.
-fn tall_key() -> Key {
-    Key {
-        version: Version::One,
-        secret: Secret::Lms {
-            pair: LmsPair {
-                tree: LmsType::H20,
-                ots: OtsType::W8,
-            },
-            identifier: [1; 16],
-            seed: [2; 32],
-        },
-        root: [3; 32],
-    }
-}
-
-// A leaf whose name is its number, in three characters.
-fn bound_at(leaf: u32) -> Option<Record> {
-    let low = (leaf % 64) as u8;
-    let middle = (leaf / 64 % 64) as u8;
-    let high = (leaf / 4096 % 64) as u8;
-    Some(Record::Bound(Bound {
-        name: Name::new(&[0x30 + high, 0x30 + middle, 0x30 + low]).ok()?,
-        leaf,
-        randomizer: [4; 32],
-        digest: [5; 32],
-    }))
-}
-
-// A store of a key and a name for each of its first leaves, so many records in all. A disk in memory keeps the content
-// of each sync, so that a new one is taken now and then.
+// A store of a key of 2^20 leaves and a name for each of its first ones, so many records in all: a leaf's name is its
+// number, in three characters. A disk in memory keeps the content of each sync, so that a new one is taken now and then.
 fn long_file(alloc: Global, count: u32) -> Option<FileStore<MemoryDisk>> {
     let mut store = FileStore::format(MemoryDisk::of(alloc, &[]).ok()?).ok()?;
-    store.append(&Record::Key(tall_key())).ok()?;
-    for leaf in 1..count {
-        let added = bound_at(leaf - 1)?;
-        if leaf % 128 == 0 {
-            store = store_in(alloc, &file_in(store)?)?;
+    store.append(&Record::Key(key(LmsType::H20))).ok()?;
+    for leaf in 0..count.saturating_sub(1) {
+        let low = (leaf % 64) as u8;
+        let middle = (leaf / 64 % 64) as u8;
+        let high = (leaf / 4096 % 64) as u8;
+        let added = Record::Bound(Bound {
+            name: Name::new(&[0x30 + high, 0x30 + middle, 0x30 + low]).ok()?,
+            leaf,
+            randomizer: [4; 32],
+            digest: [5; 32],
+        });
+        if leaf % 128 == 127 {
+            store = store_in(alloc, &store.into_disk().stop(Pick::New).ok()?)?;
         }
         match store.load(0) {
             Ok(Some(_)) => store.append(&added).ok()?,

@@ -16,80 +16,120 @@ pub(super) fn bytes_in(alloc: Global, parts: &[&str]) -> Option<Vec<u8>> {
 }
 
 // A message and its signature.
-pub(super) type Known<'a> = (&'a str, &'a [&'a str]);
+type Known<'a> = (&'a str, &'a [&'a str]);
 
-// What a check answers to signatures that are given in this order.
+// A public key, and what was signed with it.
+pub(super) type Signed<'a> = (&'a [&'a str], &'a [Known<'a>]);
+
+// The other message, which is the last one, was signed with the leaf of the second signature.
+pub(super) const LMS: Signed<'static> = (
+    LMS_PUBLIC,
+    &[
+        (LMS_MESSAGE_0, LMS_SIGNATURE_0),
+        (LMS_MESSAGE_1, LMS_SIGNATURE_1),
+        (LMS_OTHER_MESSAGE, LMS_OTHER_SIGNATURE),
+    ],
+);
+
+pub(super) const HSS: Signed<'static> = (
+    HSS_PUBLIC,
+    &[
+        (HSS_MESSAGE_0, HSS_SIGNATURE_0),
+        (HSS_MESSAGE_1, HSS_SIGNATURE_1),
+    ],
+);
+
+const XMSS: Signed<'static> = (
+    XMSS_PUBLIC,
+    &[
+        (XMSS_MESSAGE_0, XMSS_SIGNATURE_0),
+        (XMSS_MESSAGE_1, XMSS_SIGNATURE_1),
+    ],
+);
+
+pub(super) const MODEL: Signed<'static> = (MODEL_PUBLIC, &[(MODEL_MESSAGE, MODEL_SIGNATURE)]);
+
+// One of the messages that were signed, by its place, with the signature of another, or its own.
+pub(super) fn given_of(
+    alloc: Global,
+    signed: Signed<'_>,
+    message: usize,
+    signature: usize,
+) -> Option<Given> {
+    let (_, known) = signed;
+    let message = bytes_in(alloc, &[known.get(message)?.0])?;
+    let signature = bytes_in(alloc, known.get(signature)?.1)?;
+    Some(Given { message, signature })
+}
+
+// Whose signatures are checked.
+enum Scheme {
+    Lms,
+    Hss,
+    Xmss,
+}
+
+// The key of a scheme, and what was signed with it.
+fn signed_with(scheme: &Scheme) -> Signed<'static> {
+    match scheme {
+        Scheme::Lms => LMS,
+        Scheme::Hss => HSS,
+        Scheme::Xmss => XMSS,
+    }
+}
+
+// What a check answers to signatures that are given in this order, each with the message of a place.
 fn check_known(
     alloc: Global,
-    public: &[&str],
-    known: &[Known<'_>],
+    signed: Signed<'_>,
+    order: &[(usize, usize)],
 ) -> Option<Result<(), GivenFault>> {
-    let public = AnyPublic::read(&bytes_in(alloc, public)?).ok()?;
+    let public = AnyPublic::read(&bytes_in(alloc, signed.0)?).ok()?;
     let mut given = Vec::new(alloc);
-    for (message, signature) in known {
-        let message = bytes_in(alloc, &[*message])?;
-        let signature = bytes_in(alloc, signature)?;
-        given.push(Given { message, signature }).ok()?;
+    for (message, signature) in order {
+        given
+            .push(given_of(alloc, signed, *message, *signature)?)
+            .ok()?;
     }
     Some(check_given(alloc, &public, &given))
 }
 
-pub(super) const LMS: [Known<'static>; 3] = [
-    (LMS_MESSAGE_0, LMS_SIGNATURE_0),
-    (LMS_MESSAGE_1, LMS_SIGNATURE_1),
-    (LMS_OTHER_MESSAGE, LMS_OTHER_SIGNATURE),
+// What is given of a key, each by the places of a message and a signature, and the answer: a signature that is given
+// twice uses its leaf for one digest; a leaf that signed two digests is found; and a signature isn't one of another
+// message.
+const CHECKS: &[(Scheme, &[(usize, usize)], Result<(), GivenFault>)] = &[
+    (Scheme::Lms, &[(0, 0), (1, 1), (0, 0)], Ok(())),
+    (Scheme::Lms, &[(0, 0), (2, 2), (0, 0)], Ok(())),
+    (Scheme::Hss, &[(0, 0), (1, 1), (0, 0)], Ok(())),
+    (Scheme::Xmss, &[(0, 0), (1, 1), (0, 0)], Ok(())),
+    (
+        Scheme::Lms,
+        &[(0, 0), (1, 1), (2, 2)],
+        Err(GivenFault::LeafTwice(1, 2)),
+    ),
+    (
+        Scheme::Lms,
+        &[(2, 2), (0, 0), (1, 1)],
+        Err(GivenFault::LeafTwice(0, 2)),
+    ),
+    (
+        Scheme::Lms,
+        &[(0, 0), (2, 2), (1, 1)],
+        Err(GivenFault::LeafTwice(1, 2)),
+    ),
+    (Scheme::Lms, &[(0, 0), (0, 1)], Err(GivenFault::NotValid(1))),
+    (Scheme::Hss, &[(0, 0), (0, 1)], Err(GivenFault::NotValid(1))),
+    (
+        Scheme::Xmss,
+        &[(0, 0), (0, 1)],
+        Err(GivenFault::NotValid(1)),
+    ),
 ];
 
-pub(super) const HSS: [Known<'static>; 2] = [
-    (HSS_MESSAGE_0, HSS_SIGNATURE_0),
-    (HSS_MESSAGE_1, HSS_SIGNATURE_1),
-];
-
-pub(super) const XMSS: [Known<'static>; 2] = [
-    (XMSS_MESSAGE_0, XMSS_SIGNATURE_0),
-    (XMSS_MESSAGE_1, XMSS_SIGNATURE_1),
-];
-
-pub(super) const MODEL: Known<'static> = (MODEL_MESSAGE, MODEL_SIGNATURE);
-
-// One of them twice uses its leaf for one digest.
 #[test]
-fn signatures_of_other_programs_are_accepted(rt: HostRuntime) {
-    for (public, [first, second]) in [
-        (LMS_PUBLIC, [LMS[0], LMS[1]]),
-        (LMS_PUBLIC, [LMS[0], LMS[2]]),
-        (HSS_PUBLIC, HSS),
-        (XMSS_PUBLIC, XMSS),
-    ] {
-        assert_eq!(rt;
-            check_known(rt.alloc(), public, &[first, second, first]),
-            Some(Ok(()))
-        );
-    }
-}
-
-// The other message was signed with the leaf of the second signature.
-#[test]
-fn a_leaf_of_another_program_is_found(rt: HostRuntime) {
-    for (given, first, second) in [([0, 1, 2], 1, 2), ([2, 0, 1], 0, 2), ([0, 2, 1], 1, 2)] {
-        let known = [LMS[given[0]], LMS[given[1]], LMS[given[2]]];
-        assert_eq!(rt;
-            check_known(rt.alloc(), LMS_PUBLIC, &known),
-            Some(Err(GivenFault::LeafTwice(first, second)))
-        );
-    }
-}
-
-#[test]
-fn messages_of_other_programs_are_compared(rt: HostRuntime) {
-    for (public, [first, second]) in [
-        (LMS_PUBLIC, [LMS[0], LMS[1]]),
-        (HSS_PUBLIC, HSS),
-        (XMSS_PUBLIC, XMSS),
-    ] {
-        assert_eq!(rt;
-            check_known(rt.alloc(), public, &[first, (first.0, second.1)]),
-            Some(Err(GivenFault::NotValid(1)))
-        );
+fn signatures_of_other_programs_are_checked(rt: HostRuntime) {
+    for (scheme, order, wanted) in CHECKS {
+        let signed = signed_with(scheme);
+        assert_eq!(rt; check_known(rt.alloc(), signed, order), Some(*wanted));
     }
 }

@@ -1,13 +1,12 @@
 //! A key of two levels whose disk fails, or stops, at each of its calls in turn. What that leaves is audited, and the
 //! script is run again with the same names and messages: no leaf signs twice, and no name has two signatures.
 
-use super::files::tag_in;
+use super::files::anchor_in;
 use super::*;
-use state_file::{FileStore, MemoryDisk, OpenFault, Pick};
+use state_file::{OpenFault, Pick};
 
 // What is done in one life of the disk, after which the signer is closed: the key is made, a letter is signed as its
 // own name, or leaves are retired.
-#[derive(Clone, Copy)]
 enum Step {
     Create,
     Sign(u8),
@@ -23,15 +22,6 @@ const SCRIPT: [Step; 6] = [
     Step::Sign(b'd'),
 ];
 
-// What happens at a call of the disk: it is refused, or the power goes before it.
-#[derive(Clone, Copy)]
-enum Mishap {
-    Fails,
-    Stops,
-}
-
-const MISHAPS: [Mishap; 2] = [Mishap::Fails, Mishap::Stops];
-
 const PICKS: [Pick; 5] = [
     Pick::Old,
     Pick::New,
@@ -39,8 +29,6 @@ const PICKS: [Pick; 5] = [
     Pick::Fill(0x00),
     Pick::Fill(0xFF),
 ];
-
-type InFile = Signer<FileStore<MemoryDisk>, Numbers>;
 
 // A step that came to its end, with the signature that it gave.
 type Done = Option<Given>;
@@ -83,25 +71,17 @@ pub(super) fn create_on(
     }
 }
 
-// The signature of a letter under its own name, if it is given.
-fn signature_of(alloc: Global, signer: &mut InFile, letter: u8) -> Option<Given> {
-    let mut message = Vec::new(alloc);
-    message.push(letter).ok()?;
-    let mut signature = Vec::new(alloc);
-    let name = Name::new(&[letter]).ok()?;
-    signer
-        .sign(&name, &mut [letter].as_slice(), &mut signature)
-        .ok()?;
-    Some(Given { message, signature })
-}
-
 // What a step gives, if it comes to its end.
-fn do_step(alloc: Global, signer: &mut InFile, doing: Step) -> Option<Done> {
+fn do_step<S: Store, R: Source>(
+    alloc: Global,
+    signer: &mut Signer<S, R>,
+    doing: &Step,
+) -> Option<Done> {
     match doing {
         Step::Create => Some(None),
-        Step::Sign(letter) => Some(Some(signature_of(alloc, signer, letter)?)),
+        Step::Sign(letter) => Some(Some(signature_of(alloc, signer, *letter)?)),
         Step::Retire(upto) => {
-            signer.retire(upto).ok()?;
+            signer.retire(*upto).ok()?;
             Some(None)
         }
     }
@@ -111,7 +91,7 @@ fn do_step(alloc: Global, signer: &mut InFile, doing: Step) -> Option<Done> {
 fn live(
     alloc: Global,
     disk: MemoryDisk,
-    doing: Step,
+    doing: &Step,
     next: u8,
 ) -> Option<(MemoryDisk, Option<Done>)> {
     match open_on(alloc, disk, next) {
@@ -130,234 +110,128 @@ fn live(
     }
 }
 
-// A disk with these bytes to which the mishap comes at this call.
-fn disk_with(alloc: Global, file: &[u8], mishap: Mishap, call: u32) -> Option<MemoryDisk> {
-    let mut disk = MemoryDisk::of(alloc, file).ok()?;
-    match mishap {
-        Mishap::Fails => disk.fail_at(call),
-        Mishap::Stops => disk.stop_at(call),
-    }
-    Some(disk)
-}
-
-// The contents that a disk may have after a mishap: those that a stop then leaves, of which one is what a read gives.
-fn left_by(alloc: Global, disk: &MemoryDisk) -> Option<Vec<Vec<u8>>> {
-    let mut files = Vec::new(alloc);
-    for pick in PICKS {
-        files.push(disk.stop(pick).ok()?).ok()?;
-    }
-    Some(files)
-}
-
-// The steps of the script, whose signatures are added to those that were given before. Each comes to its end.
-fn go_on(alloc: Global, disk: MemoryDisk, next: u8, given: &mut Vec<Given>) -> Option<MemoryDisk> {
-    let mut disk = disk;
-    for (i, doing) in SCRIPT.iter().enumerate() {
-        let (after, done) = live(alloc, disk, *doing, next.wrapping_add(8 * i as u8))?;
-        if let Some(given_now) = done? {
-            given.push(given_now).ok()?;
-        }
-        disk = after;
-    }
-    Some(disk)
-}
-
-// A run without a mishap: the file before each step, and all signatures in their order.
+// A run without a mishap: the file before each step and how many signatures were given before it, and these signatures.
 #[derive(Drop)]
 struct Run {
-    files: Vec<Vec<u8>>,
+    files: Vec<(Vec<u8>, usize)>,
     given: Vec<Given>,
 }
 
-fn run_well(alloc: Global) -> Option<Run> {
+// The steps of the script, each of which comes to its end, after some signatures that were given before. Their sources
+// begin with this number, and with one more by 8 for each.
+fn run_script(
+    alloc: Global,
+    disk: MemoryDisk,
+    next: u8,
+    before: &[Given],
+) -> Option<(MemoryDisk, Run)> {
     let mut files = Vec::new(alloc);
     let mut given = Vec::new(alloc);
-    let mut disk = MemoryDisk::of(alloc, &[]).ok()?;
+    for earlier in before {
+        let message = earlier.message.clone().ok()?;
+        let signature = earlier.signature.clone().ok()?;
+        given.push(Given { message, signature }).ok()?;
+    }
+    let mut disk = disk;
     for (i, doing) in SCRIPT.iter().enumerate() {
-        files.push(disk.stop(Pick::New).ok()?).ok()?;
-        let (after, done) = live(alloc, disk, *doing, 8 * i as u8)?;
+        files.push((disk.stop(Pick::New).ok()?, given.len())).ok()?;
+        let (after, done) = live(alloc, disk, doing, next.wrapping_add(8 * i as u8))?;
         if let Some(given_now) = done? {
             given.push(given_now).ok()?;
         }
         disk = after;
     }
-    Some(Run { files, given })
+    Some((disk, Run { files, given }))
 }
 
-// The signatures that were given before a step.
-fn given_before(alloc: Global, well: &Run, place: usize) -> Option<Vec<Given>> {
-    let mut given = Vec::new(alloc);
-    let mut all = well.given.iter();
-    for doing in SCRIPT.get(..place)? {
-        if let Step::Sign(_) = doing {
-            let earlier = all.next()?;
-            let message = earlier.message.clone().ok()?;
-            let signature = earlier.signature.clone().ok()?;
-            given.push(Given { message, signature }).ok()?;
-        }
-    }
-    Some(given)
-}
-
-// Whether signatures of one message are one.
-fn are_one_each(given: &[Given]) -> bool {
-    for a in given {
-        for b in given {
-            if a.message == b.message && a.signature != b.signature {
-                return false;
-            }
-        }
-    }
-    true
-}
-
-// What an audit of a disk answers, also where it has no key.
-fn report_on(
-    alloc: Global,
-    disk: MemoryDisk,
-    anchor: Option<Anchor>,
-) -> Option<Result<Report, AuditFault>> {
-    match FileStore::open(disk) {
-        Ok(mut store) => Some(audit(alloc, &mut store, anchor)),
-        Err(refused) => match refused.fault {
-            OpenFault::NoKey => Some(Err(AuditFault::NoKey)),
-            _ => None,
-        },
-    }
-}
-
-// The anchor of a file, if it has a key.
-fn anchor_of(file: &[u8]) -> Option<Anchor> {
-    let slots = file.len() / 256;
-    let tag = tag_in(file, slots.checked_sub(1)?)?;
-    Some(Anchor {
-        count: u32::try_from(slots).ok()?,
-        tag,
-    })
-}
-
-// Whether an audit accepts a file, or finds no key where none was before.
-fn is_audited(alloc: Global, file: &[u8], anchor: Option<Anchor>) -> Option<bool> {
-    let report = report_on(alloc, MemoryDisk::of(alloc, file).ok()?, anchor)?;
-    Some(match report {
-        Ok(_) => true,
-        Err(fault) => fault == AuditFault::NoKey && anchor.is_none(),
-    })
-}
-
-// The contents that a mishap at a call of a reopening may leave of a file; None where the opening comes to its end.
-fn files_after_opening(
-    alloc: Global,
-    file: &[u8],
-    mishap: Mishap,
-    call: u32,
-) -> Option<Option<Vec<Vec<u8>>>> {
-    match open_on(alloc, disk_with(alloc, file, mishap, call)?, 0) {
-        Ok(_) => Some(None),
-        Err((_, true)) => Some(None),
-        Err((disk, false)) => Some(Some(left_by(alloc, &disk)?)),
-    }
-}
-
-// Whether a mishap at any call of a reopening leaves the file as it is.
-fn lasts(alloc: Global, file: &Vec<u8>, mishap: Mishap) -> Option<bool> {
+// Whether a mishap at any call of a reopening, which is refused or before which the power goes, leaves the file as it
+// is.
+fn lasts(alloc: Global, file: &Vec<u8>, stops: bool) -> Option<bool> {
     for call in 1..200u32 {
-        match files_after_opening(alloc, file, mishap, call)? {
-            Some(left) => {
-                for other in left {
-                    if other != *file {
+        let mut disk = MemoryDisk::of(alloc, file).ok()?;
+        if stops {
+            disk.stop_at(call);
+        } else {
+            disk.fail_at(call);
+        }
+        match open_on(alloc, disk, 0) {
+            Err((disk, false)) => {
+                for pick in PICKS {
+                    if disk.stop(pick).ok()? != *file {
                         return Some(false);
                     }
                 }
             }
-            None => return Some(true),
+            _ => return Some(true),
         }
     }
     None
 }
 
 // Whether the whole script comes to its end on a file, with the report that is wanted then, and all signatures, those
-// of before, too, are those of a key whose leaves sign once.
-fn ends_well(alloc: Global, file: &[u8], before: Vec<Given>) -> Option<bool> {
-    let mut given = before;
-    let disk = go_on(alloc, MemoryDisk::of(alloc, file).ok()?, 128, &mut given)?;
-    let report = report_on(alloc, disk, None)?.ok()?;
-    let is_reported = report.records == 7 && report.left.as_slice() == [31, 21].as_slice();
-    Some(is_reported && are_one_each(&given) && check_given(alloc, &report.public, &given).is_ok())
-}
-
-// The contents that a mishap at a call of a step may leave; None where the step comes to its end.
-fn files_after(
-    alloc: Global,
-    well: &Run,
-    place: usize,
-    mishap: Mishap,
-    call: u32,
-) -> Option<Option<Vec<Vec<u8>>>> {
-    let disk = disk_with(alloc, well.files.get(place)?, mishap, call)?;
-    let (disk, done) = live(alloc, disk, *SCRIPT.get(place)?, 8 * place as u8)?;
-    if done.is_some() {
-        return Some(None);
-    }
-    Some(Some(left_by(alloc, &disk)?))
-}
-
-// Whether each of these contents is audited, lasts where the reopening of it has a mishap, too, and goes on well, where
-// that wasn't seen of it before.
-fn go_on_well(
-    alloc: Global,
-    well: &Run,
-    place: usize,
-    files: Vec<Vec<u8>>,
-    seen: &mut Vec<Vec<u8>>,
-) -> Option<bool> {
-    let anchor = anchor_of(well.files.get(place)?);
-    for file in files {
-        if !seen.contains(&file) {
-            let before = given_before(alloc, well, place)?;
-            if !is_audited(alloc, &file, anchor)?
-                || !lasts(alloc, &file, Mishap::Fails)?
-                || !lasts(alloc, &file, Mishap::Stops)?
-                || !ends_well(alloc, &file, before)?
-            {
+// of before, too, are those of a key whose leaves sign once, and signatures of one message are one.
+fn ends_well(alloc: Global, file: &[u8], before: &[Given]) -> Option<bool> {
+    let (disk, well) = run_script(alloc, MemoryDisk::of(alloc, file).ok()?, 128, before)?;
+    for a in &well.given {
+        for b in &well.given {
+            if a.message == b.message && a.signature != b.signature {
                 return Some(false);
             }
-            seen.push(file).ok()?;
         }
     }
-    Some(true)
+    let report = audit(alloc, &mut FileStore::open(disk).ok()?, None).ok()?;
+    let is_reported = report.records == 7 && report.left.as_slice() == [31, 21].as_slice();
+    Some(is_reported && check_given(alloc, &report.public, &well.given).is_ok())
 }
 
-// Whether each mishap at a call of a step is survived; None where the step comes to its end.
-fn is_survived(
-    alloc: Global,
-    well: &Run,
-    place: usize,
-    call: u32,
-    seen: &mut Vec<Vec<u8>>,
-) -> Option<Option<bool>> {
-    for mishap in MISHAPS {
-        match files_after(alloc, well, place, mishap, call)? {
-            Some(files) => {
-                if !go_on_well(alloc, well, place, files, seen)? {
-                    return Some(Some(false));
-                }
-            }
-            None => return Some(None),
-        }
+// Whether an audit accepts a content that a mishap in a step left, or finds no key where none was before.
+fn is_audited(alloc: Global, content: &[u8], anchor: Option<Anchor>) -> Option<bool> {
+    match FileStore::open(MemoryDisk::of(alloc, content).ok()?) {
+        Ok(mut store) => match audit(alloc, &mut store, anchor) {
+            Ok(_) => Some(true),
+            Err(fault) => Some(fault == AuditFault::NoKey && anchor.is_none()),
+        },
+        Err(refused) => match refused.fault {
+            OpenFault::NoKey => Some(anchor.is_none()),
+            _ => None,
+        },
     }
-    Some(Some(true))
 }
 
-// How many calls of the disk a step makes, where each mishap at any of them is survived.
+// How many calls of the disk a step makes, where each mishap at any of them is survived, which is refused or before
+// which the power goes: each content that it may leave is audited, lasts where the reopening of it has a mishap, too,
+// and goes on well, where that wasn't seen of it before.
 fn survives(alloc: Global, place: usize) -> Option<u32> {
-    let well = run_well(alloc)?;
+    let (_, well) = run_script(alloc, MemoryDisk::of(alloc, &[]).ok()?, 0, &[])?;
+    let (file, count) = well.files.get(place)?;
+    let anchor = anchor_in(file, file.len() / 256);
+    let before = well.given.get(..*count)?;
     let mut seen = Vec::new(alloc);
     for call in 1..100u32 {
-        match is_survived(alloc, &well, place, call, &mut seen)? {
-            Some(true) => {}
-            Some(false) => return None,
-            None => return Some(call - 1),
+        for stops in [false, true] {
+            let mut disk = MemoryDisk::of(alloc, file).ok()?;
+            if stops {
+                disk.stop_at(call);
+            } else {
+                disk.fail_at(call);
+            }
+            let (disk, done) = live(alloc, disk, SCRIPT.get(place)?, 8 * place as u8)?;
+            if done.is_some() {
+                return Some(call - 1);
+            }
+            for pick in PICKS {
+                let left = disk.stop(pick).ok()?;
+                if !seen.contains(&left) {
+                    if !is_audited(alloc, &left, anchor)?
+                        || !lasts(alloc, &left, false)?
+                        || !lasts(alloc, &left, true)?
+                        || !ends_well(alloc, &left, before)?
+                    {
+                        return None;
+                    }
+                    seen.push(left).ok()?;
+                }
+            }
         }
     }
     None
