@@ -2,7 +2,7 @@
 
 use super::place::{Room, run_on};
 use super::sample::Sample;
-use super::shelf::{After, Content, Shelf, verify};
+use super::shelf::{After, Content, verify, verify_on};
 use super::steps::{Step, first_wrong_step};
 use crate::machine::Machine;
 use std::io;
@@ -143,13 +143,13 @@ fn ends_with_3_where_an_output_fails(rt: HostRuntime) {
 #[test]
 fn ends_with_3_where_an_output_fails_at_its_end(rt: HostRuntime) -> Result<(), Fail> {
     let Sample { public, signature } = Sample::new(rt.alloc(), b"a message")?;
-    let files = [
-        ("p", Content::of(&public)),
-        ("m", Content::of(b"a message")),
-        ("s", Content::of(&signature)),
-    ];
-    let mut shelf = Shelf::over(&rt, &files, None);
-    let outcome = run_on(&rt, &mut shelf, &["verify", "p", "m", "s"], &[], STUCK);
+    let outcome = verify_on(
+        &rt,
+        Content::of(&public),
+        Content::of(b"a message"),
+        Content::of(&signature),
+        STUCK,
+    );
     assert_eq!(rt;
         (outcome.output.as_slice(), outcome.status),
         (b"verified\n".as_slice(), 3)

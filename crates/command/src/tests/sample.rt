@@ -96,16 +96,25 @@ fn leaf(q: u32) -> [u8; 32] {
     hash(&[&IDENTIFIER, &number[4..], &[0x82, 0x82], &hasher.finalize()])
 }
 
-// The tree's nodes by their numbers, from 1, the root, to 63: each of its children, from the leaves on (5.3).
+// Node r, of its children (5.3).
+fn inner(r: u32, left: &[u8; 32], right: &[u8; 32]) -> [u8; 32] {
+    hash(&[&IDENTIFIER, &r.to_be_bytes(), &[0x83, 0x83], left, right])
+}
+
+// The tree's nodes by their numbers, from 1, the root, to 63.
 fn nodes() -> [[u8; 32]; 64] {
+    let mut nodes = leaves();
+    for r in (1..32usize).rev() {
+        nodes[r] = inner(r as u32, &nodes[2 * r], &nodes[2 * r + 1]);
+    }
+    nodes
+}
+
+// The leaves at their numbers, 32 to 63, and zeros below.
+fn leaves() -> [[u8; 32]; 64] {
     let mut nodes = [[0; 32]; 64];
     for q in 0..32u32 {
         nodes[32 + q as usize] = leaf(q);
-    }
-    for r in (1..32usize).rev() {
-        let number = (r as u32).to_be_bytes();
-        let (left, right) = (nodes[2 * r], nodes[2 * r + 1]);
-        nodes[r] = hash(&[&IDENTIFIER, &number, &[0x83, 0x83], &left, &right]);
     }
     nodes
 }

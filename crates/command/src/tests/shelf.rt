@@ -1,7 +1,7 @@
 //! Files in memory.
 ghost use Rattle.std.specs.Prelude.{◌≡◌, None, ⊤};
 
-use super::place::{Outcome, run_in};
+use super::place::{Outcome, Room, WIDE, run_on};
 use crate::files::{Folder, OpenFile, Outlet, SignerFolder};
 use crate::random_file::RandomFile;
 use crate::refusal::Refusal;
@@ -229,10 +229,23 @@ pub fn verify(
     message: Content<'_>,
     signature: Content<'_>,
 ) -> Outcome {
+    verify_on(rt, public, message, signature, WIDE)
+}
+
+// The same, with so much room on the outputs.
+pub fn verify_on(
+    rt: &HostRuntime,
+    public: Content<'_>,
+    message: Content<'_>,
+    signature: Content<'_>,
+    room: &Room,
+) -> Outcome {
     let files = [("p", public), ("m", message), ("s", signature)];
-    run_in(
+    run_on(
         rt,
         &mut Shelf::over(rt, &files, None),
         &["verify", "p", "m", "s"],
+        &[],
+        room,
     )
 }
