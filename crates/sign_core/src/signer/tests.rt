@@ -53,9 +53,10 @@ fn in_blocks<const N: usize>() -> [u8; N] {
 
 // A new key in a new file.
 pub(crate) fn in_file<'a>(alloc: Global, text: &str, tape: &'a [u8]) -> Option<InFile<'a>> {
+    let spec = Spec::parse(text).ok()?;
     let disk = MemoryDisk::of(alloc, &[]).ok()?;
     let store = FileStore::format(disk).ok()?;
-    Signer::create(alloc, Spec::parse(text).ok()?, store, TapeSource::new(tape)).ok()
+    Signer::create(alloc, spec, store, TapeSource::new(tape)).ok()
 }
 
 // A new key in a store in memory.
