@@ -295,7 +295,11 @@ fn len_after<D: Disk + Drop>(alloc: Global, disk: D, steps: &[Step<'_>]) -> Opti
         if after.step == steps.len() {
             return Some(len);
         }
-        match steps.get(after.step.checked_sub(1)?) {
+        let passed = match after.step.checked_sub(1) {
+            Some(before) => steps.get(before),
+            None => None,
+        };
+        match passed {
             Some(Step::Reopen(wanted, _)) | Some(Step::ReopenByKey(wanted))
                 if !after.is_again && len != *wanted => return None,
             _ => place = after,
