@@ -62,8 +62,8 @@ fn a_key_is_made_in_a_room(rt: HostRuntime) {
 // The signatures of two names, and an output with room for one of them.
 type Signatures = (Vec<u8>, Vec<u8>, Vec<u8>);
 
-// Signs the byte 1 under a name: its signature. Where the tree that did so is to be replaced, its leaves are retired, and
-// the byte 2 is signed under a second name: that signature, too, and the output.
+// Signs the byte 1 under a name: its signature. Where the tree that did so is to be replaced, its leaves are retired,
+// and the byte 2 is signed under a second name: that signature, too, and the output.
 fn sign_names<S: Store, R: Source>(
     alloc: Global,
     signer: &mut Signer<S, R>,

@@ -7,7 +7,8 @@ use state_file::{Bound, Pick, Record};
 use typecodes::LmsType;
 
 // A store of a key of 2^20 leaves and a name for each of its first ones, so many records in all: a leaf's name is its
-// number, in three characters. A disk in memory keeps the content of each sync, so that a new one is taken now and then.
+// number, in three characters. A disk in memory keeps the content of each sync, so that a new one is taken now and
+// then.
 fn long_file(alloc: Global, count: u32) -> Option<FileStore<MemoryDisk>> {
     let mut store = FileStore::format(MemoryDisk::of(alloc, &[]).ok()?).ok()?;
     store.append(&Record::Key(key(LmsType::H20))).ok()?;
