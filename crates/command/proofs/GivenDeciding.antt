@@ -7,7 +7,7 @@ use Rattle.key_audit.specs.declared.given.GivenFault.TheVariants.{LeafTwice, Not
 use Rattle.key_audit.specs.Given.{AreValid, Checks, IsTwice, IsValidGiven, UseLeafTwice, Uses}
 use Rattle.sign_core.specs.declared.key.AnyPublic.{AnyPublic}
 use Rattle.sign_core.specs.declared.key.KeyFault.{KeyFault}
-use Rattle.sign_core.specs.Once.{Verifies}
+use Rattle.sign_core.specs.Once.{IsValidUnder}
 use Rattle.sign_core.specs.Uses.{LeafUse, MakesUses}
 use Rattle.command.specs.declared.answer.Done.{Done}
 use Rattle.command.specs.declared.refusal.Refusal.{Refusal}
@@ -18,7 +18,7 @@ use Rattle.command.proofs.Deciding.{more_than_the_greatest, verdict_decided, ver
 -- ---- one signature
 
 -- the first bytes of a valid signature are all of it
-all_of_valid : (key : AnyPublic) (message bytes : List ℕ) → Verifies key message bytes → take decisive bytes ≡ bytes
+all_of_valid : (key : AnyPublic) (message bytes : List ℕ) → IsValidUnder key message bytes → take decisive bytes ≡ bytes
 all_of_valid key message bytes valid =
     take_all decisive bytes (omega (arith, verified_short key message bytes valid, more_than_the_greatest))
 
@@ -26,8 +26,8 @@ all_of_valid key message bytes valid =
 valid_whole : (key : AnyPublic) (whole first : Given) → BeginsGiven whole first → IsValidGiven key first → IsValidGiven key whole
 valid_whole key whole first (message, signature) valid = record {
   verifies = verdict_decided {A = ⊤} decisive key whole.message.items whole.signature.items (Ok tt) more_than_the_greatest
-      (subst (λ m. Verifies key m (take decisive whole.signature.items)) message
-      (subst (λ s. Verifies key first.message.items s) signature valid.verifies));
+      (subst (λ m. IsValidUnder key m (take decisive whole.signature.items)) message
+      (subst (λ s. IsValidUnder key first.message.items s) signature valid.verifies));
   short = subst (λ m. length m < 2 ^ 60) message valid.short;
 }
 
@@ -36,8 +36,9 @@ same_bytes key whole first (message, signature) valid = signature ∙ all_of_val
 
 valid_first : (key : AnyPublic) (whole first : Given) → BeginsGiven whole first → IsValidGiven key whole → IsValidGiven key first
 valid_first key whole first begins valid = record {
-  verifies = subst (λ m. Verifies key m first.signature.items) (sym begins.0)
-      (subst (λ s. Verifies key whole.message.items s) (sym (same_bytes key whole first begins valid)) valid.verifies);
+  verifies = subst (λ m. IsValidUnder key m first.signature.items) (sym begins.0)
+      (subst (λ s. IsValidUnder key whole.message.items s) (sym (same_bytes key whole first begins valid))
+      valid.verifies);
   short = subst (λ m. length m < 2 ^ 60) (sym begins.0) valid.short;
 }
 

@@ -11,7 +11,7 @@ use Rattle.xmss.proofs.Verdicts.{accepted as xmss_accepted}
 use Rattle.sign_core.specs.declared.key.AnyPublic.{AnyPublic}
 use Rattle.sign_core.specs.declared.key.AnyPublic.TheVariants.{Lms, Hss, Xmss}
 use Rattle.sign_core.specs.Key.{KeyLeavesMessage, KeyVerdict}
-use Rattle.sign_core.specs.Once.{Verifies}
+use Rattle.sign_core.specs.Once.{IsValidUnder}
 use Rattle.key_audit.specs.declared.given.Given.{Given}
 use Rattle.key_audit.specs.declared.in_memory.InMemory.{InMemory}
 use Rattle.key_audit.specs.Given.{IsValidGiven}
@@ -67,21 +67,21 @@ was-short (Lms key) text old new x leaves = leaves.short
 was-short (Hss key) text old new x leaves = leaves.short
 was-short (Xmss key) text old new x leaves = leaves.short
 
-same-answer : (public : AnyPublic) (text bytes : List ℕ) (x : Unit {0}) → KeyVerdict public text bytes (Ok x) → Verifies public text bytes
+same-answer : (public : AnyPublic) (text bytes : List ℕ) (x : Unit {0}) → KeyVerdict public text bytes (Ok x) → IsValidUnder public text bytes
 same-answer (Lms key) text bytes x verdict = verdict
 same-answer (Hss key) text bytes x verdict = verdict
 same-answer (Xmss key) text bytes x verdict = verdict
 
 -- a valid signature is refused by nothing else
 only-unread : (public : AnyPublic) (text bytes : List ℕ) (result : Result (Unit {0}) Refusal) → KeyVerdict public text bytes result
-    → result ≢ Err MessageRead → Verifies public text bytes → IsOk result
+    → result ≢ Err MessageRead → IsValidUnder public text bytes → IsOk result
 only-unread (Lms key) text bytes result verdict read (s, spelled, valid) = lms_accepted key text bytes result verdict read s spelled valid
 only-unread (Hss key) text bytes result verdict read (s, spelled, valid) = hss_accepted key text bytes result verdict read s spelled valid
 only-unread (Xmss key) text bytes result verdict read (s, spelled, valid) = xmss_accepted key text bytes result verdict read s spelled valid
 
 judged : (public : AnyPublic) (text bytes : List ℕ) (old new : InMemory) (result : Result (Unit {0}) Refusal) → text ≡ old.rest.now
     → KeyVerdict public text bytes result → KeyLeavesMessage GivesNext rest_of public text old new result
-    → (IsOk result → Verifies public text bytes × (length text < 2 ^ 60)) × (Verifies public text bytes → length text < 2 ^ 60 → IsOk result)
+    → (IsOk result → IsValidUnder public text bytes × (length text < 2 ^ 60)) × (IsValidUnder public text bytes → length text < 2 ^ 60 → IsOk result)
 judged public text bytes old new (Ok x) whole verdict leaves =
     (λ _. (same-answer public text bytes x verdict, was-short public text old new x leaves), λ verifies short. refl)
 judged public text bytes old new (Err refusal) whole verdict leaves = (
@@ -105,10 +105,10 @@ judges public given text bytes old new result whole is_message is_signature verd
     let (ok, back) = judged public text bytes old new result whole verdict leaves in
     let same : text ≡ given.message.items = whole ∙ is_message in (
       λ is. let (verifies, short) = ok is in record {
-        verifies = subst (λ t. Verifies public t given.signature.items) same (subst (Verifies public text) is_signature verifies);
+        verifies = subst (λ t. IsValidUnder public t given.signature.items) same (subst (IsValidUnder public text) is_signature verifies);
         short = subst (λ (t : List ℕ). length t < 2 ^ 60) same short;
       },
       λ valid. back
-          (subst (Verifies public text) (sym is_signature) (subst (λ t. Verifies public t given.signature.items) (sym same) valid.verifies))
+          (subst (IsValidUnder public text) (sym is_signature) (subst (λ t. IsValidUnder public t given.signature.items) (sym same) valid.verifies))
           (subst (λ (t : List ℕ). length t < 2 ^ 60) (sym same) valid.short),
     )

@@ -13,7 +13,7 @@ use Rattle.xmss.specs.declared.key.XmssPublic.{XmssPublic}
 use Rattle.xmss.specs.Signature.{Signature as XmssSignature, signature as xmss_signature}
 use Rattle.sign_core.specs.declared.key.AnyPublic.{AnyPublic}
 use Rattle.sign_core.specs.declared.key.AnyPublic.TheVariants.{Lms, Hss, Xmss}
-use Rattle.sign_core.specs.Once.{Verifies}
+use Rattle.sign_core.specs.Once.{IsValidUnder}
 use Rattle.hss.specs.Signature.{Signature, key_at, level_count, message_at, signature as hss_signature, signature_at}
 use Rattle.sign_core.specs.Uses.{LeafUse as Use, lms_use}
 use Rattle.key_audit.specs.declared.uses.LeafUse.{LeafUse}
@@ -48,20 +48,20 @@ level_count_of top message s level uses key above = ap length above.items ∙ le
 
 -- ---- a key of each scheme
 
-pub unread_lms : (public : AnyPublic) (key : LmsPublic) (message bytes : List ℕ) (fault : ReadFault) → public ≡ Lms key → Verifies public message bytes
+pub unread_lms : (public : AnyPublic) (key : LmsPublic) (message bytes : List ℕ) (fault : ReadFault) → public ≡ Lms key → IsValidUnder public message bytes
     → HasFault lms_signature bytes 0 fault → ⊥
 unread_lms public key message bytes fault is verifies faulty =
-    let (s, spelled, valid) = subst (λ p. Verifies p message bytes) is verifies in no_value lms_signature s bytes 0 fault spelled faulty
+    let (s, spelled, valid) = subst (λ p. IsValidUnder p message bytes) is verifies in no_value lms_signature s bytes 0 fault spelled faulty
 
-pub unread_hss : (public : AnyPublic) (key : HssPublic) (message bytes : List ℕ) (fault : ReadFault) → public ≡ Hss key → Verifies public message bytes
+pub unread_hss : (public : AnyPublic) (key : HssPublic) (message bytes : List ℕ) (fault : ReadFault) → public ≡ Hss key → IsValidUnder public message bytes
     → HasFault hss_signature bytes 0 fault → ⊥
 unread_hss public key message bytes fault is verifies faulty =
-    let (s, spelled, valid) = subst (λ p. Verifies p message bytes) is verifies in no_value hss_signature s bytes 0 fault spelled faulty
+    let (s, spelled, valid) = subst (λ p. IsValidUnder p message bytes) is verifies in no_value hss_signature s bytes 0 fault spelled faulty
 
-pub unread_xmss : (public : AnyPublic) (key : XmssPublic) (message bytes : List ℕ) (fault : ReadFault) → public ≡ Xmss key → Verifies public message bytes
+pub unread_xmss : (public : AnyPublic) (key : XmssPublic) (message bytes : List ℕ) (fault : ReadFault) → public ≡ Xmss key → IsValidUnder public message bytes
     → HasFault (xmss_signature key.tree) bytes 0 fault → ⊥
 unread_xmss public key message bytes fault is verifies faulty =
-    let (s, spelled, valid) = subst (λ p. Verifies p message bytes) is verifies in no_value (xmss_signature key.tree) s bytes 0 fault spelled faulty
+    let (s, spelled, valid) = subst (λ p. IsValidUnder p message bytes) is verifies in no_value (xmss_signature key.tree) s bytes 0 fault spelled faulty
 
 pub lms_made : (public : AnyPublic) (key : LmsPublic) (message bytes : List ℕ) (s : LmsSignature) (kept : List LeafUse) → public ≡ Lms key
     → Spells lms_signature s bytes → kept ≡ kept_use (lms_use key message s) ∷ [] → AreUsesOf public message bytes kept

@@ -2,7 +2,7 @@
 -- digests, and what a check of them answers.
 use Rattle.std.specs.Prelude.{◌≡◌, ◌≢◌, ℕ, ◌<◌, ◌^◌, List, length, slice_get, Some, Result, Ok, Err, Contains}
 use Rattle.sign_core.specs.declared.key.AnyPublic.{AnyPublic}
-use Rattle.sign_core.specs.Once.{IsOneLeaf, Verifies}
+use Rattle.sign_core.specs.Once.{IsOneLeaf, IsValidUnder}
 use Rattle.sign_core.specs.Uses.{LeafUse, MakesUses}
 use Rattle.key_audit.specs.declared.given.Given.{Given}
 use Rattle.key_audit.specs.declared.given.GivenFault.{GivenFault}
@@ -12,7 +12,7 @@ use Rattle.key_audit.specs.declared.given.GivenFault.TheVariants.{NotValid, Leaf
 
 -- It signs its message under the key, and the message has fewer than 2^60 bytes, as every one that is signed.
 pub record IsValidGiven (public : AnyPublic) (given : Given) : Type 0 where
-  pub verifies : Verifies public given.message.items given.signature.items
+  pub verifies : IsValidUnder public given.message.items given.signature.items
   pub short : length given.message.items < 2 ^ 60
 
 -- It makes this use of a leaf, at one of its levels.

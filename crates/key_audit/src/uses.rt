@@ -1,7 +1,7 @@
 //! Which leaves a signature uses, and for which digests.
 
 ghost use Rattle.std.specs.Prelude.{◌≡◌, ◌∷◌, [], map};
-ghost use Rattle.sign_core.specs.Once.{Verifies};
+ghost use Rattle.sign_core.specs.Once.{IsValidUnder};
 ghost use Rattle.sign_core.specs.Uses as spec;
 ghost use Rattle.std.specs.List.{range_with_len};
 ghost use Rattle.lms.specs.View.{signature_of as lms_signature_of};
@@ -27,7 +27,7 @@ pub(crate) struct LeafUse {
 
 /// The uses that a valid signature makes, one at each level, from the top down.
 pub(crate) fn uses_of(public: &AnyPublic, message: &[u8], signature: &[u8]) -> ArrayVec<LeafUse, 8>
-    requires { Verifies public.now message.now signature.now }
+    requires { IsValidUnder public.now message.now signature.now }
     ensures { AreUsesOf public.now message.now signature.now result.items }
 {
     match public {

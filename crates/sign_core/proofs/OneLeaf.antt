@@ -11,7 +11,7 @@ use Rattle.state_file.specs.declared.record.Secret.{Secret}
 use Rattle.state_file.specs.declared.record.Secret.TheVariants.{Lms, Hss, Xmss}
 use Rattle.sign_core.specs.declared.key.AnyPublic.{AnyPublic}
 use Rattle.sign_core.specs.Records.{binding_in, key_in}
-use Rattle.sign_core.specs.Once.{IsBoundTo, IsLast, IsOneLeaf, IsRecorded, Verifies, WereHanded, public_in_world, public_of_key}
+use Rattle.sign_core.specs.Once.{IsBoundTo, IsLast, IsOneLeaf, IsRecorded, IsValidUnder, WereHanded, public_in_world, public_of_key}
 use Rattle.sign_core.specs.Uses.{LeafUse, MakesUses}
 use Rattle.sign_core.specs.World.{Handed, World}
 use Rattle.sign_core.specs.Textbook.{AreSound, public_in, signature_at}
@@ -186,7 +186,7 @@ one_signature records x y is_x is_y name =
 
 -- and each is valid
 pub handed_valid : (world : World) (x : Handed) → IsKept world.state.records world.handed → Contains world.handed x
-    → (public : AnyPublic) × (public_in_world world ≡ Some public) × Verifies public x.message x.signature
+    → (public : AnyPublic) × (public_in_world world ≡ Some public) × IsValidUnder public x.message x.signature
 handed_valid world x kept there =
     let records = world.state.records in
     let is = kept.recorded x there in
@@ -194,4 +194,4 @@ handed_valid world x kept there =
     let (public, is_public) = public_made is.key.secret is.key.root (key_has_sizes records is.key kept.sizes keyed) in
     let proven = all_valid records is.key x.name x.message is.k is.bound public
     (sound_with records world.handed is.key kept keyed) kept.sizes is.is_bound is_public in
-    (public, ap public_of_key keyed ∙ is_public, subst (Verifies public x.message) (sym is.signature) proven)
+    (public, ap public_of_key keyed ∙ is_public, subst (IsValidUnder public x.message) (sym is.signature) proven)

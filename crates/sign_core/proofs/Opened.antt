@@ -19,8 +19,8 @@ use Rattle.sign_core.specs.declared.fault.SignFault.TheVariants.{RandomRepeated,
 use Rattle.sign_core.specs.declared.fault.SignFault.TheVariants.{Moved as MovedAway}
 use Rattle.sign_core.specs.Records.{are_same, binding_in, deepest, first_illegal, free_at, has_identifier, has_moved, has_randomizer, key_in}
 use Rattle.sign_core.specs.Records.{leaves_of_current, next_at, wanted_count}
-use Rattle.sign_core.specs.Once.{AllEvents, AreDraws, AreFields, IsBoundTo, IsEvent, IsTreeDraw, Reopens, Verifies, public_of_key, tree_sizes}
-use Rattle.sign_core.specs.Opened.{AreWellFormed, IsValidUnder, OpenedLaw}
+use Rattle.sign_core.specs.Once.{AllEvents, AreDraws, AreFields, IsBoundTo, IsEvent, IsTreeDraw, IsValidUnder, Reopens, public_of_key, tree_sizes}
+use Rattle.sign_core.specs.Opened.{AreWellFormed, IsValidOver, OpenedLaw}
 use Rattle.sign_core.specs.World.{Chance, Creation, Draw, Event, Fate, Handed, Opening, Outcome, State, World, acked, after, appended}
 use Rattle.sign_core.specs.World.{begun, bound_anew, bound_sound, bound_with, create, created_after, cut_new, cut_old, drawing, extended, extended_by, extended_with}
 use Rattle.sign_core.specs.World.{first_draw, fulfilled, handed_with, later_draws, new_bound, no_memory, open_on, opened_by, opened_on, published}
@@ -48,17 +48,17 @@ of_key records are =
 -- ---- outcomes of a request
 
 same_valid : (public : AnyPublic) (message other own signature : List ℕ) → Some message ≡ Some other
-    → ◌≡◌ {A = Result (List ℕ) SignFault} (Ok own) (Ok signature) → Verifies public message own → Verifies public other signature
+    → ◌≡◌ {A = Result (List ℕ) SignFault} (Ok own) (Ok signature) → IsValidUnder public message own → IsValidUnder public other signature
 same_valid public message other own signature read is valid =
     let one : message ≡ other = cc in
     let two : own ≡ signature = cc in
-    subst (λ m. Verifies public m signature) one (subst (Verifies public message) two valid)
+    subst (λ m. IsValidUnder public m signature) one (subst (IsValidUnder public message) two valid)
 
 module _ (key : Key) (public : AnyPublic) (is_public : public_in key ≡ Some public) where
   -- The outcome leaves legal records, and what it answers is a valid signature of what was read.
   abbrev pub Fits : (given : Option (List ℕ)) → Outcome (List ℕ) → Type 0
   Fits given outcome = AreOf key outcome.state.records
-      × ((message signature : List ℕ) → given ≡ Some message → outcome.answer ≡ Ok signature → Verifies public message signature)
+      × ((message signature : List ℕ) → given ≡ Some message → outcome.answer ≡ Ok signature → IsValidUnder public message signature)
 
   fits_refused : (given : Option (List ℕ)) (state : State) (fault : SignFault) → AreOf key state.records → Fits given (refused state fault)
   fits_refused given state fault are = (are, λ message signature read is. absurd (cc))
@@ -272,15 +272,16 @@ stays_retired key limit state upto fate are =
 -- What is kept: the records are legal and of the key, and what was handed out is valid.
 record IsRight (key : Key) (public : AnyPublic) (world : World) : Type 0 where
   are : AreOf key world.state.records
-  valid : (x : Handed) → Contains world.handed x → Verifies public x.message x.signature
+  valid : (x : Handed) → Contains world.handed x → IsValidUnder public x.message x.signature
 
 handed_right : (public : AnyPublic) (handed : List Handed) (name : List ℕ) (given : Option (List ℕ)) (answer : Result (List ℕ) SignFault)
-    → ((message signature : List ℕ) → given ≡ Some message → answer ≡ Ok signature → Verifies public message signature)
-    → ((x : Handed) → Contains handed x → Verifies public x.message x.signature)
-    → (x : Handed) → Contains (handed ++ handed_with name given answer) x → Verifies public x.message x.signature
+    → ((message signature : List ℕ) → given ≡ Some message → answer ≡ Ok signature
+    → IsValidUnder public message signature)
+    → ((x : Handed) → Contains handed x → IsValidUnder public x.message x.signature)
+    → (x : Handed) → Contains (handed ++ handed_with name given answer) x → IsValidUnder public x.message x.signature
 handed_right public handed name (Some message) (Ok signature) fits old x there = elim (Contains-push_cases handed _ x there) [
   | inl before ↦ old x before
-  | inr it ↦ subst (λ (y : Handed). Verifies public y.message y.signature) it (fits message signature refl refl)
+  | inr it ↦ subst (λ (y : Handed). IsValidUnder public y.message y.signature) it (fits message signature refl refl)
 ]
 handed_right public handed name None (Ok signature) fits old x there = old x (subst (λ l. Contains l x) (append-nil handed) there)
 handed_right public handed name (Some message) (Err fault) fits old x there = old x (subst (λ l. Contains l x) (append-nil handed) there)
@@ -315,7 +316,7 @@ right_along key public is limit world (event ∷ events) all right =
 unfoldable pub silent : State → World
 silent state = record { state = state; handed = [] }
 
-none_handed : (public : AnyPublic) (handed : List Handed) → handed ≡ [] → (x : Handed) → Contains handed x → Verifies public x.message x.signature
+none_handed : (public : AnyPublic) (handed : List Handed) → handed ≡ [] → (x : Handed) → Contains handed x → IsValidUnder public x.message x.signature
 none_handed public [] empty x (k, within, at) = absurd (omega arith)
 none_handed public (y ∷ rest) empty x there = absurd (cc)
 
@@ -336,7 +337,7 @@ stays_legal limit world event can sized =
     subst (λ (s : State). AreWellFormed s.records) (after_state limit world event) (record { legal = right.are.legal; sizes = right.are.sizes })
 
 request_valid : (limit : ℕ) (state : State) (name message signature : List ℕ) (chance : Chance) → AreWellFormed state.records → AreDraws chance
-    → chance.given ≡ Some message → (requested limit state name chance).answer ≡ Ok signature → IsValidUnder state.records message signature
+    → chance.given ≡ Some message → (requested limit state name chance).answer ≡ Ok signature → IsValidOver state.records message signature
 request_valid limit state name message signature chance sized drawn given answers =
     let (key, are) = of_key state.records sized in
     let (public, is) = public_made key.secret key.root (key_has_sizes state.records key are.sizes are.keyed) in
@@ -344,7 +345,7 @@ request_valid limit state name message signature chance sized drawn given answer
     record { public = public; keyed = ap public_of_key are.keyed ∙ is; verifies = fits message signature given answers }
 
 run_valid : (limit : ℕ) (world : World) (events : List Event) (x : Handed) → AreWellFormed world.state.records → world.handed ≡ [] → AllEvents events
-    → Contains (run limit world events).handed x → IsValidUnder world.state.records x.message x.signature
+    → Contains (run limit world events).handed x → IsValidOver world.state.records x.message x.signature
 run_valid limit world events x sized empty all there =
     let (key, are) = of_key world.state.records sized in
     let (public, is) = public_made key.secret key.root (key_has_sizes world.state.records key are.sizes are.keyed) in

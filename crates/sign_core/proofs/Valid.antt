@@ -34,7 +34,7 @@ use Rattle.state_file.specs.declared.record.Secret.TheVariants.{Lms, Hss, Xmss}
 use Rattle.sign_core.specs.declared.key.AnyPublic.{AnyPublic}
 use Rattle.sign_core.specs.declared.key.AnyPublic.TheVariants.{Lms as AnyLms, Hss as AnyHss, Xmss as AnyXmss}
 use Rattle.sign_core.specs.Records.{current, key_in}
-use Rattle.sign_core.specs.Once.{IsBoundTo, Verifies}
+use Rattle.sign_core.specs.Once.{IsBoundTo, IsValidUnder}
 use Rattle.sign_core.specs.Textbook.{AllHaveSizes, AreSound, Trees, chain, damaged_in, digest_at, is_sound_at, is_sound_record, lms_public_in}
 use Rattle.sign_core.specs.Textbook.{lms_secret, public_by, public_in, root_by, signature_at, signing_of_bound, signings_above, tree_before}
 use Rattle.sign_core.specs.Textbook.{xmss_secret}
@@ -102,7 +102,7 @@ key_with version secret root = record { version = version; secret = secret; root
 
 lms_checked : (records : List Record) (version : Version) (pair : LmsPair) (identifier seed root message : List ℕ) (k : ℕ) (bound : Bound)
     → IsSoundlyBound records (key_with version (Lms pair identifier seed) root) message k bound
-    → Verifies (AnyLms (lms_public_in pair identifier root)) message (signature_at (key_with version (Lms pair identifier seed) root) records k bound)
+    → IsValidUnder (AnyLms (lms_public_in pair identifier root)) message (signature_at (key_with version (Lms pair identifier seed) root) records k bound)
 lms_checked records version pair identifier seed root message k bound is =
     let secret = lms_secret pair identifier seed in
     let (has_tree, inside, randomizer) = is.fits k (BoundRecord bound) is.stands in
@@ -118,7 +118,7 @@ lms_checked records version pair identifier seed root message k bound is =
 
 xmss_checked : (records : List Record) (version : Version) (tree : XmssType) (secret_seed prf_key public_seed root message : List ℕ) (k : ℕ) (bound : Bound)
     → IsSoundlyBound records (key_with version (Xmss tree secret_seed prf_key public_seed) root) message k bound
-    → Verifies (AnyXmss (record { tree = tree; root = root; seed = public_seed })) message
+    → IsValidUnder (AnyXmss (record { tree = tree; root = root; seed = public_seed })) message
     (signature_at (key_with version (Xmss tree secret_seed prf_key public_seed) root) records k bound)
 xmss_checked records version tree secret_seed prf_key public_seed root message k bound is =
     let secret = xmss_secret tree secret_seed prf_key public_seed in
@@ -197,7 +197,7 @@ hss_public_is trees records above bottom message levels public count is links va
 
 hss_checked : (records : List Record) (version : Version) (pair : LmsPair) (rest : List LmsPair) (identifier seed root message : List ℕ) (k : ℕ) (bound : Bound)
     → IsSoundlyBound records (key_with version (Hss (pair ∷ rest) identifier seed) root) message k bound
-    → Verifies (AnyHss (record { levels = length (pair ∷ rest); top = lms_public_in pair identifier root })) message
+    → IsValidUnder (AnyHss (record { levels = length (pair ∷ rest); top = lms_public_in pair identifier root })) message
     (signature_at (key_with version (Hss (pair ∷ rest) identifier seed) root) records k bound)
 hss_checked records version pair rest identifier seed root message k bound is =
     let trees = hss_trees pair rest identifier seed in
@@ -217,24 +217,25 @@ hss_checked records version pair rest identifier seed root message k bound is =
 
 checked_by : (records : List Record) (version : Version) (secret : Secret) (root message : List ℕ) (k : ℕ) (bound : Bound) (public : AnyPublic)
     → IsSoundlyBound records (key_with version secret root) message k bound → public_by secret root ≡ Some public
-    → Verifies public message (signature_at (key_with version secret root) records k bound)
+    → IsValidUnder public message (signature_at (key_with version secret root) records k bound)
 checked_by records version (Lms pair identifier seed) root message k bound public is is_public =
-    subst (λ p. Verifies p message (signature_at (key_with version (Lms pair identifier seed) root) records k bound))
+    subst (λ p. IsValidUnder p message
+    (signature_at (key_with version (Lms pair identifier seed) root) records k bound))
     (same_Some (AnyLms (lms_public_in pair identifier root)) public is_public) (lms_checked records version pair identifier seed root message k bound is)
 checked_by records version (Hss [] identifier seed) root message k bound public is is_public = absurd (cc)
 checked_by records version (Hss (pair ∷ rest) identifier seed) root message k bound public is is_public =
-    subst (λ p. Verifies p message (signature_at (key_with version (Hss (pair ∷ rest) identifier seed) root) records k bound))
+    subst (λ p. IsValidUnder p message (signature_at (key_with version (Hss (pair ∷ rest) identifier seed) root) records k bound))
     (same_Some (AnyHss (record { levels = length (pair ∷ rest); top = lms_public_in pair identifier root })) public is_public)
     (hss_checked records version pair rest identifier seed root message k bound is)
 checked_by records version (Xmss tree secret_seed prf_key public_seed) root message k bound public is is_public =
-    subst (λ p. Verifies p message (signature_at (key_with version (Xmss tree secret_seed prf_key public_seed) root) records k bound))
+    subst (λ p. IsValidUnder p message (signature_at (key_with version (Xmss tree secret_seed prf_key public_seed) root) records k bound))
     (same_Some (AnyXmss (record { tree = tree; root = root; seed = public_seed })) public is_public)
     (xmss_checked records version tree secret_seed prf_key public_seed root message k bound is)
 
 -- The textbook signature of a binding is valid for each message of its digest, if the chain of its trees is sound.
 pub checked : (records : List Record) (key : Key) (name message : List ℕ) (k : ℕ) (bound : Bound) (public : AnyPublic) → IsLegal records → AllHaveSizes records
     → IsBoundTo records key name message k bound → damaged_in key (bottom_of key.secret) records (tree_before (bottom_of key.secret) records k) ≡ None
-    → public_in key ≡ Some public → Verifies public message (signature_at key records k bound)
+    → public_in key ≡ Some public → IsValidUnder public message (signature_at key records k bound)
 checked records key name message k bound public legal sizes is sound is_public =
     checked_by records key.version key.secret key.root message k bound public (soundly_bound records key name message k bound legal sizes is sound) is_public
 
@@ -253,7 +254,7 @@ undamaged records key level tree sound keyed =
 -- so all their textbook signatures are valid
 pub all_valid : (records : List Record) (key : Key) (name message : List ℕ) (k : ℕ) (bound : Bound) (public : AnyPublic) → AreSound records
     → AllHaveSizes records
-    → IsBoundTo records key name message k bound → public_in key ≡ Some public → Verifies public message (signature_at key records k bound)
+    → IsBoundTo records key name message k bound → public_in key ≡ Some public → IsValidUnder public message (signature_at key records k bound)
 all_valid records key name message k bound public sound sizes is is_public =
     checked records key name message k bound public sound.legal sizes is
     (undamaged records key (bottom_of key.secret) (tree_before (bottom_of key.secret) records k) sound is.keyed) is_public

@@ -112,8 +112,8 @@ pub record AreComplete (secret : Secret) (trees : ℕ) (chance : Chance) : Type 
 -- ---- what was handed out
 
 -- The bytes are a valid signature of the message under the key.
-abbrev pub Verifies : AnyPublic → (message bytes : List ℕ) → Type 0
-Verifies public message bytes = KeyVerdict {A = Unit {0}} public message bytes (Ok tt)
+abbrev pub IsValidUnder : AnyPublic → (message bytes : List ℕ) → Type 0
+IsValidUnder public message bytes = KeyVerdict {A = Unit {0}} public message bytes (Ok tt)
 
 -- A name is bound to the digest of this message under the bound leaf and C.
 pub record IsBoundTo (records : List Record) (key : Key) (name message : List ℕ) (k : ℕ) (bound : Bound) : Type 0 where
@@ -251,7 +251,7 @@ pub record IsOnce (limit : ℕ) (world : World) : Type 0 where
   pub recorded : (x : Handed) → Contains world.handed x → IsRecorded world.state.records x
   -- and is valid for its message under the key
   pub valid : (x : Handed) → Contains world.handed x
-      → (public : AnyPublic) × (public_in_world world ≡ Some public) × Verifies public x.message x.signature
+      → (public : AnyPublic) × (public_in_world world ≡ Some public) × IsValidUnder public x.message x.signature
   -- what a request answers is handed out
   pub counted : (name message signature : List ℕ) (chance : Chance) → chance.given ≡ Some message
       → (requested limit world.state name chance).answer ≡ Ok signature

@@ -6,7 +6,7 @@ use Rattle.state_file.specs.declared.record.Bound.{Bound}
 use Rattle.state_file.specs.declared.record.Key.{Key}
 use Rattle.state_file.specs.declared.record.Record.{Record}
 use Rattle.sign_core.specs.declared.key.AnyPublic.{AnyPublic}
-use Rattle.sign_core.specs.Once.{AllEvents, AreDraws, IsEvent, Reopens, Verifies, public_of_key}
+use Rattle.sign_core.specs.Once.{AllEvents, AreDraws, IsEvent, IsValidUnder, Reopens, public_of_key}
 use Rattle.sign_core.specs.declared.fault.SignFault.TheVariants.{Damaged}
 use Rattle.sign_core.specs.Records.{binding_in, deepest, key_in}
 use Rattle.sign_core.specs.Textbook.{AllHaveSizes, chain, is_sound_at, tree_before}
@@ -17,11 +17,11 @@ pub record AreWellFormed (records : List Record) : Type 0 where
   pub legal : IsLegal records
   pub sizes : AllHaveSizes records
 
--- Under the public key of record 0 these bytes are a valid signature of the message.
-pub record IsValidUnder (records : List Record) (message signature : List ℕ) : Type 0 where
+-- Over these records the bytes are a valid signature of the message: under the public key of record 0.
+pub record IsValidOver (records : List Record) (message signature : List ℕ) : Type 0 where
   pub public : AnyPublic
   pub keyed : public_of_key (key_in records) ≡ Some public
-  pub verifies : Verifies public message signature
+  pub verifies : IsValidUnder public message signature
 
 -- Of the chain of trees from the Key's down to this one, this record is the first, from the top, that isn't sound.
 pub record IsFirstDamaged (key : Key) (records : List Record) (level tree slot : ℕ) : Type 0 where
@@ -52,11 +52,11 @@ pub record OpenedLaw : Type 0 where
   -- a signature that a request gives, under a new name or a bound one, is valid for the message that was read
   pub valid : (limit : ℕ) (state : State) (name message signature : List ℕ) (chance : Chance)
       → AreWellFormed state.records → AreDraws chance → chance.given ≡ Some message
-      → (requested limit state name chance).answer ≡ Ok signature → IsValidUnder state.records message signature
+      → (requested limit state name chance).answer ≡ Ok signature → IsValidOver state.records message signature
   -- and so is each that any events from there on hand out
   pub handed : (limit : ℕ) (world : World) (events : List Event) (x : Handed)
       → AreWellFormed world.state.records → world.handed ≡ [] → AllEvents events
-      → Contains (run limit world events).handed x → IsValidUnder world.state.records x.message x.signature
+      → Contains (run limit world events).handed x → IsValidOver world.state.records x.message x.signature
   -- 28 names the first damaged record of the name's chain, from the top down, and changes nothing
   pub damaged : (limit : ℕ) (state : State) (name : List ℕ) (chance : Chance) (key : Key) (slot : ℕ)
       → key_in state.records ≡ Some key → (requested limit state name chance).answer ≡ Err (Damaged slot)

@@ -13,7 +13,7 @@ ghost use Rattle.state_file.specs.Laws.{IsCurrent, IsLegal, bottom_of, identifie
 ghost use Rattle.sign_core.specs.declared.key.AnyPublic.{AnyPublic};
 ghost use Rattle.sign_core.specs.Records.{IsNext, binding_in, current, deepest, first_illegal, free_at};
 ghost use Rattle.sign_core.specs.Records.{has_identifier, key_in, next_in};
-ghost use Rattle.sign_core.specs.Once.{CutLaw, IsBoundTo, LastingLaw, OnceLaw, SoundLaw, StopLaw, Verifies};
+ghost use Rattle.sign_core.specs.Once.{CutLaw, IsBoundTo, IsValidUnder, LastingLaw, OnceLaw, SoundLaw, StopLaw};
 ghost use Rattle.sign_core.specs.AfterRefusal.{AfterRefusalLaw};
 ghost use Rattle.sign_core.specs.Calls.{CallsLaw, StoppedLaw};
 ghost use Rattle.sign_core.specs.Lives.{LivesLaw};
@@ -67,11 +67,11 @@ pub fn textbook_laws()
     ensures valid { (records : List Record) (key : Key) (name message : List ℕ) (k : ℕ) (bound : Bound)
         (public : AnyPublic) →
         AreSound records → AllHaveSizes records → IsBoundTo records key name message k bound →
-        public_in key ≡ Some public → Verifies public message (signature_at key records k bound) }
+        public_in key ≡ Some public → IsValidUnder public message (signature_at key records k bound) }
     ensures checked { (records : List Record) (key : Key) (name message : List ℕ) (k : ℕ) (bound : Bound)
         (public : AnyPublic) → IsLegal records → AllHaveSizes records → IsBoundTo records key name message k bound →
         damaged_in key (bottom_of key.secret) records (tree_before (bottom_of key.secret) records k) ≡ None →
-        public_in key ≡ Some public → Verifies public message (signature_at key records k bound) }
+        public_in key ≡ Some public → IsValidUnder public message (signature_at key records k bound) }
     ensures undamaged { (records : List Record) (key : Key) (level tree : ℕ) → AreSound records →
         key_in records ≡ Some key → damaged_in key level records tree ≡ None }
 {}
