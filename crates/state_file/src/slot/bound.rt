@@ -1,9 +1,9 @@
 //! The record of a name bound to a leaf: how it is read and written.
 
-ghost use Rattle.std.specs.Prelude.{◌≡◌, ◌<◌, ◌≤◌, ◌+◌, ◌^◌, true, false, length, MatchOption, OnOk};
+ghost use Rattle.std.specs.Prelude.{◌≡◌, ◌<◌, ◌≤◌, ◌+◌, ◌^◌, true, false, length, MatchOption};
 ghost use Rattle.arrayvec.specs.ArrayVec.{array_vec_len};
 ghost use Rattle.typecodes.specs.Cursor.{read, Gives};
-ghost use Rattle.state_file.specs.Fields.{AppendsSpelling};
+ghost use Rattle.state_file.specs.Fields.{Advances, Puts};
 ghost use Rattle.state_file.specs.Slot.{are_visible, bound_fields, name_field};
 
 use crate::record::{Bound, Record};
@@ -29,8 +29,7 @@ fn read_name(cursor: &mut Cursor<'_>) -> Result<Name, ReadFault>
     requires { cursor.old.place + 65 < 2 ^ 32 }
     ensures read { Gives (λ name. (name, cursor.new.place)) result
         (read name_field cursor.old.bytes.now cursor.old.place) }
-    ensures len { OnOk result (cursor.new.place ≡ cursor.old.place + 65) }
-    ensures bytes { cursor.new.bytes ≡ cursor.old.bytes }
+    ensures passes { Advances 65 result cursor.old cursor.new }
 {
     let count = u32::from(read_byte_within(cursor, 1, 64)?);
     let place = cursor.place;
@@ -42,8 +41,7 @@ fn read_name(cursor: &mut Cursor<'_>) -> Result<Name, ReadFault>
 
 fn put_name(out: &mut Fields, name: &Name)
     requires { array_vec_len out.old + 65 ≤ 223 }
-    ensures writes { AppendsSpelling name_field name.now out.old.items out.new.items }
-    ensures len { array_vec_len out.new ≡ array_vec_len out.old + 65 }
+    ensures { Puts 65 name_field name.now out.old out.new }
 {
     let bytes = name.as_bytes();
     put_byte_within(out, bytes.len() as u8, 1, 64);
@@ -57,8 +55,7 @@ pub(crate) fn read_bound(cursor: &mut Cursor<'_>) -> Result<Record, ReadFault>
     requires { cursor.old.place + 222 < 2 ^ 32 }
     ensures read { Gives (λ entry. (entry, cursor.new.place)) result
         (read bound_fields cursor.old.bytes.now cursor.old.place) }
-    ensures len { OnOk result (cursor.new.place ≡ cursor.old.place + 222) }
-    ensures bytes { cursor.new.bytes ≡ cursor.old.bytes }
+    ensures passes { Advances 222 result cursor.old cursor.new }
 {
     let bound = Bound {
         name: read_name(cursor)?,
@@ -72,8 +69,7 @@ pub(crate) fn read_bound(cursor: &mut Cursor<'_>) -> Result<Record, ReadFault>
 
 pub(crate) fn put_bound(out: &mut Fields, bound: &Bound)
     requires { array_vec_len out.old + 222 ≤ 223 }
-    ensures writes { AppendsSpelling bound_fields (Record.Bound bound.now) out.old.items out.new.items }
-    ensures len { array_vec_len out.new ≡ array_vec_len out.old + 222 }
+    ensures { Puts 222 bound_fields (Record.Bound bound.now) out.old out.new }
 {
     put_name(out, &bound.name);
     put_number(out, bound.leaf);

@@ -1,9 +1,9 @@
 //! The record of a new tree of HSS: how it is read and written.
 
-ghost use Rattle.std.specs.Prelude.{◌≡◌, ◌<◌, ◌≤◌, ◌+◌, ◌^◌, OnOk};
+ghost use Rattle.std.specs.Prelude.{◌<◌, ◌≤◌, ◌+◌, ◌^◌};
 ghost use Rattle.arrayvec.specs.ArrayVec.{array_vec_len};
 ghost use Rattle.typecodes.specs.Cursor.{read, Gives};
-ghost use Rattle.state_file.specs.Fields.{AppendsSpelling};
+ghost use Rattle.state_file.specs.Fields.{Advances, Puts};
 ghost use Rattle.state_file.specs.Slot.{extend_fields};
 
 use crate::record::{Extend, Record};
@@ -18,8 +18,7 @@ pub(crate) fn read_extend(cursor: &mut Cursor<'_>) -> Result<Record, ReadFault>
     requires { cursor.old.place + 222 < 2 ^ 32 }
     ensures read { Gives (λ entry. (entry, cursor.new.place)) result
         (read extend_fields cursor.old.bytes.now cursor.old.place) }
-    ensures len { OnOk result (cursor.new.place ≡ cursor.old.place + 222) }
-    ensures bytes { cursor.new.bytes ≡ cursor.old.bytes }
+    ensures passes { Advances 222 result cursor.old cursor.new }
 {
     let extend = Extend {
         level: read_byte(cursor)?,
@@ -36,8 +35,7 @@ pub(crate) fn read_extend(cursor: &mut Cursor<'_>) -> Result<Record, ReadFault>
 
 pub(crate) fn put_extend(out: &mut Fields, extend: &Extend)
     requires { array_vec_len out.old + 222 ≤ 223 }
-    ensures writes { AppendsSpelling extend_fields (Record.Extend extend.now) out.old.items out.new.items }
-    ensures len { array_vec_len out.new ≡ array_vec_len out.old + 222 }
+    ensures { Puts 222 extend_fields (Record.Extend extend.now) out.old out.new }
 {
     put_byte(out, extend.level);
     put_number(out, extend.parent_leaf);

@@ -1,12 +1,12 @@
 //! The fields of slots, beside those of every layout: each is read and written here. Where a fault leaves the cursor
 //! isn't said.
 
-ghost use Rattle.std.specs.Prelude.{◌≡◌, ◌==◌, ◌<◌, ◌≤◌, ◌+◌, ◌++◌, ◌^◌, length, IfOk, OnOk};
+ghost use Rattle.std.specs.Prelude.{◌≡◌, ◌==◌, ◌<◌, ◌≤◌, ◌+◌, ◌++◌, ◌^◌, length, IfOk};
 ghost use Rattle.std.specs.List.{list_all};
 ghost use Rattle.arrayvec.specs.ArrayVec.{array_vec_len};
 ghost use Rattle.typecodes.specs.Fields.{block, number};
 ghost use Rattle.typecodes.specs.Cursor.{read, Gives};
-ghost use Rattle.state_file.specs.Fields.{AppendsSpelling};
+ghost use Rattle.state_file.specs.Fields.{Advances, Puts};
 ghost use Rattle.state_file.specs.Slot.{byte, byte_within, exactly, zeros};
 
 use arrayvec::ArrayVec;
@@ -29,8 +29,7 @@ pub(crate) fn no_record(place: u32) -> ReadFault
 pub(crate) fn read_byte(cursor: &mut Cursor<'_>) -> Result<u8, ReadFault>
     requires { cursor.old.place + 1 < 2 ^ 32 }
     ensures read { Gives (λ n. (n, cursor.new.place)) result (read byte cursor.old.bytes.now cursor.old.place) }
-    ensures len { OnOk result (cursor.new.place ≡ cursor.old.place + 1) }
-    ensures bytes { cursor.new.bytes ≡ cursor.old.bytes }
+    ensures passes { Advances 1 result cursor.old cursor.new }
 {
     let [byte] = *cursor.array::<1>()?;
     Ok(byte)
@@ -40,8 +39,7 @@ pub(crate) fn read_byte(cursor: &mut Cursor<'_>) -> Result<u8, ReadFault>
 pub(crate) fn put(out: &mut Fields, bytes: &[u8])
     requires { array_vec_len out.old + length bytes.now ≤ 223 }
     ensures items { out.new.items ≡ out.old.items ++ bytes.now }
-    ensures len { array_vec_len out.new ≡ array_vec_len out.old + length bytes.now }
-    ensures block { AppendsSpelling (block (length bytes.now)) bytes.now out.old.items out.new.items }
+    ensures block { Puts (length bytes.now) (block (length bytes.now)) bytes.now out.old out.new }
 {
     if out.try_extend_from_slice(bytes).is_err() {
         unreachable!()
@@ -51,8 +49,7 @@ pub(crate) fn put(out: &mut Fields, bytes: &[u8])
 /// Appends an array.
 pub(crate) fn put_array<const N: usize>(out: &mut Fields, bytes: &[u8; N])
     requires { array_vec_len out.old + N ≤ 223 }
-    ensures writes { AppendsSpelling (block N) bytes.now out.old.items out.new.items }
-    ensures len { array_vec_len out.new ≡ array_vec_len out.old + N }
+    ensures { Puts N (block N) bytes.now out.old out.new }
 {
     put(out, bytes);
 }
@@ -60,8 +57,7 @@ pub(crate) fn put_array<const N: usize>(out: &mut Fields, bytes: &[u8; N])
 /// Appends a byte.
 pub(crate) fn put_byte(out: &mut Fields, n: u8)
     requires { array_vec_len out.old + 1 ≤ 223 }
-    ensures writes { AppendsSpelling byte n out.old.items out.new.items }
-    ensures len { array_vec_len out.new ≡ array_vec_len out.old + 1 }
+    ensures { Puts 1 byte n out.old out.new }
 {
     put(out, &[n]);
 }
@@ -78,8 +74,7 @@ pub(crate) fn read_byte_within(
         (read (byte_within least most) cursor.old.bytes.now cursor.old.place) }
     ensures least { IfOk result (λ n. least ≤ n) }
     ensures most { IfOk result (λ n. n ≤ most) }
-    ensures len { OnOk result (cursor.new.place ≡ cursor.old.place + 1) }
-    ensures bytes { cursor.new.bytes ≡ cursor.old.bytes }
+    ensures passes { Advances 1 result cursor.old cursor.new }
 {
     let place = cursor.place;
     let byte = read_byte(cursor)?;
@@ -94,8 +89,7 @@ pub(crate) fn put_byte_within(out: &mut Fields, n: u8, least: u8, most: u8)
     requires least { least ≤ n }
     requires most { n ≤ most }
     requires room { array_vec_len out.old + 1 ≤ 223 }
-    ensures writes { AppendsSpelling (byte_within least most) n out.old.items out.new.items }
-    ensures len { array_vec_len out.new ≡ array_vec_len out.old + 1 }
+    ensures { Puts 1 (byte_within least most) n out.old out.new }
 {
     put_byte(out, n);
 }
@@ -106,8 +100,7 @@ pub(crate) fn read_exactly(cursor: &mut Cursor<'_>, expected: &[u8]) -> Result<(
     requires { cursor.old.place + length expected.now < 2 ^ 32 }
     ensures read { Gives (λ u. (u, cursor.new.place)) result
         (read (exactly (length expected.now) expected.now) cursor.old.bytes.now cursor.old.place) }
-    ensures len { OnOk result (cursor.new.place ≡ cursor.old.place + length expected.now) }
-    ensures bytes { cursor.new.bytes ≡ cursor.old.bytes }
+    ensures passes { Advances (length expected.now) result cursor.old cursor.new }
 {
     let place = cursor.place;
     if cursor.block(expected.len() as u32)? == expected {
@@ -120,8 +113,7 @@ pub(crate) fn read_exactly(cursor: &mut Cursor<'_>, expected: &[u8]) -> Result<(
 /// Appends bytes that are known.
 pub(crate) fn put_exactly(out: &mut Fields, bytes: &[u8])
     requires { array_vec_len out.old + length bytes.now ≤ 223 }
-    ensures writes { AppendsSpelling (exactly (length bytes.now) bytes.now) tt out.old.items out.new.items }
-    ensures len { array_vec_len out.new ≡ array_vec_len out.old + length bytes.now }
+    ensures { Puts (length bytes.now) (exactly (length bytes.now) bytes.now) tt out.old out.new }
 {
     put(out, bytes);
 }
@@ -138,8 +130,7 @@ fn are_zero(bytes: &[u8]) -> bool
 pub(crate) fn read_zeros(cursor: &mut Cursor<'_>, n: u32) -> Result<(), ReadFault>
     requires { cursor.old.place + n < 2 ^ 32 }
     ensures read { Gives (λ u. (u, cursor.new.place)) result (read (zeros n) cursor.old.bytes.now cursor.old.place) }
-    ensures len { OnOk result (cursor.new.place ≡ cursor.old.place + n) }
-    ensures bytes { cursor.new.bytes ≡ cursor.old.bytes }
+    ensures passes { Advances n result cursor.old cursor.new }
 {
     let place = cursor.place;
     if are_zero(cursor.block(n)?) {
@@ -152,8 +143,7 @@ pub(crate) fn read_zeros(cursor: &mut Cursor<'_>, n: u32) -> Result<(), ReadFaul
 /// Appends n zeros.
 pub(crate) fn put_zeros(out: &mut Fields, n: usize)
     requires { array_vec_len out.old + n ≤ 223 }
-    ensures writes { AppendsSpelling (zeros n) tt out.old.items out.new.items }
-    ensures len { array_vec_len out.new ≡ array_vec_len out.old + n }
+    ensures { Puts n (zeros n) tt out.old out.new }
 {
     put(out, &[0; 223][..n]);
 }
@@ -161,8 +151,7 @@ pub(crate) fn put_zeros(out: &mut Fields, n: usize)
 /// Appends a number of 4 bytes.
 pub(crate) fn put_number(out: &mut Fields, n: u32)
     requires { array_vec_len out.old + 4 ≤ 223 }
-    ensures writes { AppendsSpelling number n out.old.items out.new.items }
-    ensures len { array_vec_len out.new ≡ array_vec_len out.old + 4 }
+    ensures { Puts 4 number n out.old out.new }
 {
     put(out, &n.to_be_bytes());
 }

@@ -1,9 +1,9 @@
 //! The record of a key: how it is known, read and written.
 
-ghost use Rattle.std.specs.Prelude.{◌≡◌, ◌<◌, ◌≤◌, ◌+◌, ◌^◌, length, OnOk};
+ghost use Rattle.std.specs.Prelude.{◌≡◌, ◌<◌, ◌≤◌, ◌+◌, ◌^◌, length};
 ghost use Rattle.arrayvec.specs.ArrayVec.{array_vec_len};
 ghost use Rattle.typecodes.specs.Cursor.{read, Gives};
-ghost use Rattle.state_file.specs.Fields.{AppendsSpelling};
+ghost use Rattle.state_file.specs.Fields.{Advances, Puts};
 ghost use Rattle.state_file.specs.File.{begins_key, version_of};
 ghost use Rattle.state_file.specs.Slot.{key_fields, version_field};
 
@@ -41,8 +41,7 @@ fn read_version(cursor: &mut Cursor<'_>) -> Result<Version, ReadFault>
     requires { cursor.old.place + 2 < 2 ^ 32 }
     ensures read { Gives (λ version. (version, cursor.new.place)) result
         (read version_field cursor.old.bytes.now cursor.old.place) }
-    ensures len { OnOk result (cursor.new.place ≡ cursor.old.place + 2) }
-    ensures bytes { cursor.new.bytes ≡ cursor.old.bytes }
+    ensures passes { Advances 2 result cursor.old cursor.new }
 {
     let place = cursor.place;
     let code = BigEndian::read_u16(cursor.block(2)?);
@@ -52,8 +51,7 @@ fn read_version(cursor: &mut Cursor<'_>) -> Result<Version, ReadFault>
 // Appends a version's code.
 fn put_version(out: &mut Fields, version: Version)
     requires { array_vec_len out.old + 2 ≤ 223 }
-    ensures writes { AppendsSpelling version_field version out.old.items out.new.items }
-    ensures len { array_vec_len out.new ≡ array_vec_len out.old + 2 }
+    ensures { Puts 2 version_field version out.old out.new }
 {
     put(out, &version.code().to_be_bytes());
 }
@@ -64,8 +62,7 @@ pub(crate) fn read_key(cursor: &mut Cursor<'_>) -> Result<Record, ReadFault>
     requires { cursor.old.place + 222 < 2 ^ 32 }
     ensures read { Gives (λ entry. (entry, cursor.new.place)) result
         (read key_fields cursor.old.bytes.now cursor.old.place) }
-    ensures len { OnOk result (cursor.new.place ≡ cursor.old.place + 222) }
-    ensures bytes { cursor.new.bytes ≡ cursor.old.bytes }
+    ensures passes { Advances 222 result cursor.old cursor.new }
 {
     read_exactly(cursor, MAGIC)?;
     let version = read_version(cursor)?;
@@ -82,8 +79,7 @@ pub(crate) fn read_key(cursor: &mut Cursor<'_>) -> Result<Record, ReadFault>
 
 pub(crate) fn put_key(out: &mut Fields, key: &Key)
     requires { array_vec_len out.old + 222 ≤ 223 }
-    ensures writes { AppendsSpelling key_fields (Record.Key key.now) out.old.items out.new.items }
-    ensures len { array_vec_len out.new ≡ array_vec_len out.old + 222 }
+    ensures { Puts 222 key_fields (Record.Key key.now) out.old out.new }
 {
     put_exactly(out, MAGIC);
     put_version(out, key.version);

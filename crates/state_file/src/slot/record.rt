@@ -1,11 +1,11 @@
 //! Records of every kind: how the bytes 1 to 223 of a slot are read and written.
 
-ghost use Rattle.std.specs.Prelude.{◌≡◌, ◌<◌, ◌≤◌, ◌+◌, ◌^◌, MatchOption, OnOk};
+ghost use Rattle.std.specs.Prelude.{◌≡◌, ◌<◌, ◌≤◌, ◌+◌, ◌^◌, MatchOption};
 ghost use Rattle.arrayvec.specs.ArrayVec.{array_vec_len};
 ghost use Rattle.typecodes.specs.Layout.{Spells};
 ghost use Rattle.typecodes.specs.Cursor.{read, Gives, Reads};
 ghost use Rattle.state_file.specs.declared.record.Record.{Record as Entry};
-ghost use Rattle.state_file.specs.Fields.{AppendsSpelling};
+ghost use Rattle.state_file.specs.Fields.{Advances, Puts};
 ghost use Rattle.state_file.specs.Slot.{fields_of, kind_of, moved_fields, retire_fields, slot_record};
 
 use crate::record::Record;
@@ -25,8 +25,7 @@ fn read_retire(cursor: &mut Cursor<'_>) -> Result<Record, ReadFault>
     requires { cursor.old.place + 222 < 2 ^ 32 }
     ensures read { Gives (λ entry. (entry, cursor.new.place)) result
         (read retire_fields cursor.old.bytes.now cursor.old.place) }
-    ensures len { OnOk result (cursor.new.place ≡ cursor.old.place + 222) }
-    ensures bytes { cursor.new.bytes ≡ cursor.old.bytes }
+    ensures passes { Advances 222 result cursor.old cursor.new }
 {
     let upto = cursor.number()?;
     read_zeros(cursor, 218)?;
@@ -35,8 +34,7 @@ fn read_retire(cursor: &mut Cursor<'_>) -> Result<Record, ReadFault>
 
 fn put_retire(out: &mut Fields, upto: u32)
     requires { array_vec_len out.old + 222 ≤ 223 }
-    ensures writes { AppendsSpelling retire_fields (Record.Retire upto) out.old.items out.new.items }
-    ensures len { array_vec_len out.new ≡ array_vec_len out.old + 222 }
+    ensures { Puts 222 retire_fields (Record.Retire upto) out.old out.new }
 {
     put_number(out, upto);
     put_zeros(out, 218);
@@ -48,8 +46,7 @@ fn read_moved(cursor: &mut Cursor<'_>) -> Result<Record, ReadFault>
     requires { cursor.old.place + 222 < 2 ^ 32 }
     ensures read { Gives (λ entry. (entry, cursor.new.place)) result
         (read moved_fields cursor.old.bytes.now cursor.old.place) }
-    ensures len { OnOk result (cursor.new.place ≡ cursor.old.place + 222) }
-    ensures bytes { cursor.new.bytes ≡ cursor.old.bytes }
+    ensures passes { Advances 222 result cursor.old cursor.new }
 {
     read_exactly(cursor, &[0, 2])?;
     read_zeros(cursor, 220)?;
@@ -58,8 +55,7 @@ fn read_moved(cursor: &mut Cursor<'_>) -> Result<Record, ReadFault>
 
 fn put_moved(out: &mut Fields)
     requires { array_vec_len out.old + 222 ≤ 223 }
-    ensures writes { AppendsSpelling moved_fields Record.Moved out.old.items out.new.items }
-    ensures len { array_vec_len out.new ≡ array_vec_len out.old + 222 }
+    ensures { Puts 222 moved_fields Record.Moved out.old out.new }
 {
     put_exactly(out, &[0, 2]);
     put_zeros(out, 220);
@@ -84,8 +80,7 @@ fn read_fields(cursor: &mut Cursor<'_>, kind: u8) -> Result<Record, ReadFault>
     requires room { cursor.old.place + 222 < 2 ^ 32 }
     ensures read { Gives (λ entry. (entry, cursor.new.place)) result
         (read (fields_of kind) cursor.old.bytes.now cursor.old.place) }
-    ensures len { OnOk result (cursor.new.place ≡ cursor.old.place + 222) }
-    ensures bytes { cursor.new.bytes ≡ cursor.old.bytes }
+    ensures passes { Advances 222 result cursor.old cursor.new }
 {
     match kind {
         1 => read_key(cursor),
@@ -100,8 +95,7 @@ fn read_fields(cursor: &mut Cursor<'_>, kind: u8) -> Result<Record, ReadFault>
 // Appends the fields of a record, by its kind.
 fn put_fields(out: &mut Fields, entry: &Record)
     requires { array_vec_len out.old + 222 ≤ 223 }
-    ensures writes { AppendsSpelling (fields_of (kind_of entry.now)) entry.now out.old.items out.new.items }
-    ensures len { array_vec_len out.new ≡ array_vec_len out.old + 222 }
+    ensures { Puts 222 (fields_of (kind_of entry.now)) entry.now out.old out.new }
 {
     match entry {
         Record::Key(key) => put_key(out, key),

@@ -1,9 +1,9 @@
 //! What a key is made from, by its scheme, 177 bytes: how it is read and written.
 
-ghost use Rattle.std.specs.Prelude.{◌≡◌, ◌<◌, ◌≤◌, ◌+◌, ◌*◌, ◌^◌, length, take, OnOk};
+ghost use Rattle.std.specs.Prelude.{◌≡◌, ◌<◌, ◌≤◌, ◌+◌, ◌*◌, ◌^◌, length, take};
 ghost use Rattle.arrayvec.specs.ArrayVec.{array_vec_len};
 ghost use Rattle.typecodes.specs.Cursor.{read, Gives};
-ghost use Rattle.state_file.specs.Fields.{AppendsSpelling};
+ghost use Rattle.state_file.specs.Fields.{Advances, Puts};
 ghost use Rattle.state_file.specs.Slot.{hss_fields, levels_field, lms_fields, pair_field, pairs, scheme_of};
 ghost use Rattle.state_file.specs.Slot.{secret_fields, xmss_fields};
 
@@ -20,8 +20,7 @@ pub(crate) fn read_pair(cursor: &mut Cursor<'_>) -> Result<LmsPair, ReadFault>
     requires { cursor.old.place + 8 < 2 ^ 32 }
     ensures read { Gives (λ pair. (pair, cursor.new.place)) result
         (read pair_field cursor.old.bytes.now cursor.old.place) }
-    ensures len { OnOk result (cursor.new.place ≡ cursor.old.place + 8) }
-    ensures bytes { cursor.new.bytes ≡ cursor.old.bytes }
+    ensures passes { Advances 8 result cursor.old cursor.new }
 {
     let tree = cursor.lms_type()?;
     let ots = cursor.ots_type()?;
@@ -31,8 +30,7 @@ pub(crate) fn read_pair(cursor: &mut Cursor<'_>) -> Result<LmsPair, ReadFault>
 // Appends a pair's codes.
 fn put_pair(out: &mut Fields, pair: LmsPair)
     requires { array_vec_len out.old + 8 ≤ 223 }
-    ensures writes { AppendsSpelling pair_field pair out.old.items out.new.items }
-    ensures len { array_vec_len out.new ≡ array_vec_len out.old + 8 }
+    ensures { Puts 8 pair_field pair out.old out.new }
 {
     put_number(out, pair.tree.code());
     put_number(out, pair.ots.code());
@@ -44,8 +42,7 @@ fn read_pairs(cursor: &mut Cursor<'_>, count: u8) -> Result<[LmsPair; 8], ReadFa
     requires room { cursor.old.place + 64 < 2 ^ 32 }
     ensures read { Gives (λ all. (take count all, cursor.new.place)) result
         (read (pairs count) cursor.old.bytes.now cursor.old.place) }
-    ensures len { OnOk result (cursor.new.place ≡ cursor.old.place + 8 * count) }
-    ensures bytes { cursor.new.bytes ≡ cursor.old.bytes }
+    ensures passes { Advances (8 * count) result cursor.old cursor.new }
 {
     let mut all = [LmsPair {
         tree: LmsType::H5,
@@ -60,8 +57,7 @@ fn read_pairs(cursor: &mut Cursor<'_>, count: u8) -> Result<[LmsPair; 8], ReadFa
 // Appends pairs.
 fn put_pairs(out: &mut Fields, all: &[LmsPair])
     requires { array_vec_len out.old + 8 * length all.now ≤ 223 }
-    ensures writes { AppendsSpelling (pairs (length all.now)) all.now out.old.items out.new.items }
-    ensures len { array_vec_len out.new ≡ array_vec_len out.old + 8 * length all.now }
+    ensures { Puts (8 * length all.now) (pairs (length all.now)) all.now out.old out.new }
 {
     for pair in all {
         put_pair(out, *pair);
@@ -74,8 +70,7 @@ pub(crate) fn read_levels(cursor: &mut Cursor<'_>) -> Result<Levels, ReadFault>
     requires { cursor.old.place + 65 < 2 ^ 32 }
     ensures read { Gives (λ levels. (levels, cursor.new.place)) result
         (read levels_field cursor.old.bytes.now cursor.old.place) }
-    ensures len { OnOk result (cursor.new.place ≡ cursor.old.place + 65) }
-    ensures bytes { cursor.new.bytes ≡ cursor.old.bytes }
+    ensures passes { Advances 65 result cursor.old cursor.new }
 {
     let count = read_byte_within(cursor, 1, 8)?;
     let all = read_pairs(cursor, count)?;
@@ -89,8 +84,7 @@ pub(crate) fn read_levels(cursor: &mut Cursor<'_>) -> Result<Levels, ReadFault>
 // Appends the levels of an HSS key.
 fn put_levels(out: &mut Fields, levels: &Levels)
     requires { array_vec_len out.old + 65 ≤ 223 }
-    ensures writes { AppendsSpelling levels_field levels.now out.old.items out.new.items }
-    ensures len { array_vec_len out.new ≡ array_vec_len out.old + 65 }
+    ensures { Puts 65 levels_field levels.now out.old out.new }
 {
     let all = levels.as_slice();
     put_byte_within(out, all.len() as u8, 1, 8);
@@ -104,8 +98,7 @@ fn read_lms(cursor: &mut Cursor<'_>) -> Result<Secret, ReadFault>
     requires { cursor.old.place + 177 < 2 ^ 32 }
     ensures read { Gives (λ secret. (secret, cursor.new.place)) result
         (read lms_fields cursor.old.bytes.now cursor.old.place) }
-    ensures len { OnOk result (cursor.new.place ≡ cursor.old.place + 177) }
-    ensures bytes { cursor.new.bytes ≡ cursor.old.bytes }
+    ensures passes { Advances 177 result cursor.old cursor.new }
 {
     read_exactly(cursor, &[1])?;
     let pair = read_pair(cursor)?;
@@ -122,8 +115,7 @@ fn read_lms(cursor: &mut Cursor<'_>) -> Result<Secret, ReadFault>
 
 fn put_lms(out: &mut Fields, pair: LmsPair, identifier: &[u8; 16], seed: &[u8; 32])
     requires { array_vec_len out.old + 177 ≤ 223 }
-    ensures writes { AppendsSpelling lms_fields (Secret.Lms pair identifier.now seed.now) out.old.items out.new.items }
-    ensures len { array_vec_len out.new ≡ array_vec_len out.old + 177 }
+    ensures { Puts 177 lms_fields (Secret.Lms pair identifier.now seed.now) out.old out.new }
 {
     put_exactly(out, &[1]);
     put_pair(out, pair);
@@ -139,8 +131,7 @@ fn read_hss(cursor: &mut Cursor<'_>) -> Result<Secret, ReadFault>
     requires { cursor.old.place + 177 < 2 ^ 32 }
     ensures read { Gives (λ secret. (secret, cursor.new.place)) result
         (read hss_fields cursor.old.bytes.now cursor.old.place) }
-    ensures len { OnOk result (cursor.new.place ≡ cursor.old.place + 177) }
-    ensures bytes { cursor.new.bytes ≡ cursor.old.bytes }
+    ensures passes { Advances 177 result cursor.old cursor.new }
 {
     let levels = read_levels(cursor)?;
     let identifier = *cursor.array()?;
@@ -155,9 +146,7 @@ fn read_hss(cursor: &mut Cursor<'_>) -> Result<Secret, ReadFault>
 
 fn put_hss(out: &mut Fields, levels: &Levels, identifier: &[u8; 16], seed: &[u8; 32])
     requires { array_vec_len out.old + 177 ≤ 223 }
-    ensures writes { AppendsSpelling hss_fields (Secret.Hss levels.now identifier.now seed.now)
-        out.old.items out.new.items }
-    ensures len { array_vec_len out.new ≡ array_vec_len out.old + 177 }
+    ensures { Puts 177 hss_fields (Secret.Hss levels.now identifier.now seed.now) out.old out.new }
 {
     put_levels(out, levels);
     put_array(out, identifier);
@@ -171,8 +160,7 @@ fn read_xmss(cursor: &mut Cursor<'_>) -> Result<Secret, ReadFault>
     requires { cursor.old.place + 177 < 2 ^ 32 }
     ensures read { Gives (λ secret. (secret, cursor.new.place)) result
         (read xmss_fields cursor.old.bytes.now cursor.old.place) }
-    ensures len { OnOk result (cursor.new.place ≡ cursor.old.place + 177) }
-    ensures bytes { cursor.new.bytes ≡ cursor.old.bytes }
+    ensures passes { Advances 177 result cursor.old cursor.new }
 {
     read_exactly(cursor, &[1])?;
     let tree = cursor.xmss_type()?;
@@ -197,9 +185,7 @@ fn put_xmss(
     public_seed: &[u8; 32],
 )
     requires { array_vec_len out.old + 177 ≤ 223 }
-    ensures writes { AppendsSpelling xmss_fields (Secret.Xmss tree secret_seed.now prf_key.now public_seed.now)
-        out.old.items out.new.items }
-    ensures len { array_vec_len out.new ≡ array_vec_len out.old + 177 }
+    ensures { Puts 177 xmss_fields (Secret.Xmss tree secret_seed.now prf_key.now public_seed.now) out.old out.new }
 {
     put_exactly(out, &[1]);
     put_number(out, tree.code());
@@ -216,8 +202,7 @@ pub(crate) fn read_secret(cursor: &mut Cursor<'_>, scheme: u8) -> Result<Secret,
     requires room { cursor.old.place + 177 < 2 ^ 32 }
     ensures read { Gives (λ secret. (secret, cursor.new.place)) result
         (read (secret_fields scheme) cursor.old.bytes.now cursor.old.place) }
-    ensures len { OnOk result (cursor.new.place ≡ cursor.old.place + 177) }
-    ensures bytes { cursor.new.bytes ≡ cursor.old.bytes }
+    ensures passes { Advances 177 result cursor.old cursor.new }
 {
     match scheme {
         1 => read_lms(cursor),
@@ -230,8 +215,7 @@ pub(crate) fn read_secret(cursor: &mut Cursor<'_>, scheme: u8) -> Result<Secret,
 /// Appends what a key is made from, by its scheme, 177 bytes.
 pub(crate) fn put_secret(out: &mut Fields, secret: &Secret)
     requires { array_vec_len out.old + 177 ≤ 223 }
-    ensures writes { AppendsSpelling (secret_fields (scheme_of secret.now)) secret.now out.old.items out.new.items }
-    ensures len { array_vec_len out.new ≡ array_vec_len out.old + 177 }
+    ensures { Puts 177 (secret_fields (scheme_of secret.now)) secret.now out.old out.new }
 {
     match secret {
         Secret::Lms {

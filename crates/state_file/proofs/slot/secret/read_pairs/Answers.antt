@@ -17,8 +17,8 @@ loop-i-preserved c =
     let h = c.loop-i.invariant in
     let pair = c.in_ok-all.field-0 in
     let found = ap (λ b. read pair_field b.now c.loop-i.cursor.place) (sym h.bytes) ∙ c.in_ok-all.ensures.read in record {
-      place = omega (arith, c.in_ok-all.ensures.len, h.place);
-      bytes = c.read_pair.ensures.bytes ∙ h.bytes;
+      place = omega (arith, c.in_ok-all.ensures.passes.len, h.place);
+      bytes = c.read_pair.ensures.passes.bytes ∙ h.bytes;
       size = length-set c.loop-i.all c.loop-i.i pair ∙ h.size;
       found = h.found
           ∙ pairs-next_of c.args.count c.loop-i.i _ _ _ (take c.loop-i.i c.loop-i.all) pair (omega (arith, c.from-i-end.ensures, c.loop-i-test.true)) found
