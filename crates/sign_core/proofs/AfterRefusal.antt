@@ -1,30 +1,37 @@
 -- What stands after a refusal.
-use Rattle.std.proofs.Common.{◌≡◌, ◌∙◌, refl, sym, ap, subst, ◌⊎◌, inl, inr, ℕ, zero, suc, ◌+◌, ◌-◌, Bool, true, false, List, [], ◌∷◌, ◌++◌}
-use Rattle.std.proofs.Common.{length, Option, Some, None, append_assoc, append-nil}
-use Rattle.std.specs.Prelude.{if◌then◌else◌, nat_le, nat_lt, not, slice_get, slice_index_or}
+use Rattle.std.proofs.Common.{◌≡◌, ◌∙◌, refl, sym, ap, subst, ◌⊎◌, inl, inr, ℕ, zero, suc, ◌+◌, ◌-◌, Bool, true, false}
+use Rattle.std.proofs.Common.{List, [], ◌∷◌, ◌++◌, length, take, Option, Some, None, append_assoc, append-nil, arith}
+use Rattle.std.specs.Prelude.{if◌then◌else◌, nat_le, nat_lt, not, slice_get}
 use Rattle.std.specs.List.{concat}
 use Rattle.std.proofs.lemmas.Option.{none-some, same_Some}
 use Rattle.typecodes.specs.declared.spec.Spec.{Spec}
 use Rattle.typecodes.specs.Spec.{IsSpec}
 use Rattle.state_file.specs.Laws.{bottom_of}
-use Rattle.state_file.specs.declared.record.Extend.{Extend}
+use Rattle.state_file.specs.declared.record.Bound.{Bound}
 use Rattle.state_file.specs.declared.record.Key.{Key}
 use Rattle.state_file.specs.declared.record.Record.{Record}
-use Rattle.state_file.specs.declared.record.Record.TheVariants.{Bound as BoundRecord, Extend as ExtendRecord, Key as KeyRecord, Retire}
+use Rattle.state_file.specs.declared.record.Record.TheVariants.{Bound as BoundRecord, Key as KeyRecord, Retire}
 use Rattle.state_file.specs.declared.record.Secret.{Secret}
 use Rattle.sign_core.specs.declared.key.AnyPublic.{AnyPublic}
 use Rattle.sign_core.specs.declared.fault.SignFault.{SignFault}
-use Rattle.sign_core.specs.declared.fault.SignFault.TheVariants.{LedgerFull, Moved, OutOfMemory, RandomRepeated, RetireRange, Stopped}
-use Rattle.sign_core.specs.AfterRefusal.{AfterRefusalLaw, IsBoundOf, IsExtend, IsRefusal, Leaves, LeavesExtends}
-use Rattle.sign_core.specs.Once.{AreFields, key_sizes}
-use Rattle.sign_core.specs.Records.{binding_in, first_illegal, has_identifier, has_moved, key_in, leaves_of_current, next_at}
-use Rattle.sign_core.specs.Textbook.{Trees, lms_secret, public_in, signature_at, trees_of}
-use Rattle.sign_core.specs.World.{Chance, Creation, Draw, Fate, Opening, Outcome, State, acked, answered, appended, begun, bound_with}
-use Rattle.sign_core.specs.World.{created_after, cut_new, cut_old, extend_record, extended, extended_by, extended_with, first_draw, fulfilled}
-use Rattle.sign_core.specs.World.{drawing, later_draws, new_bound, new_key, no_memory, open_on, opened_by, opened_on, published, randomizer_from, reading, refused}
-use Rattle.sign_core.specs.World.{requested, retired_under, secret_from}
+use Rattle.sign_core.specs.declared.fault.SignFault.TheVariants.{LedgerFull, Moved, OutOfMemory, RandomRepeated}
+use Rattle.sign_core.specs.declared.fault.SignFault.TheVariants.{RetireRange, Stopped}
+use Rattle.sign_core.specs.AfterRefusal.{AfterRefusalLaw, BeginsDrawn, IsDrawnKey, IsNextWanted, IsRefusal, Leaves}
+use Rattle.sign_core.specs.AfterRefusal.{LeavesRequested, LeavesTrees}
+use Rattle.sign_core.specs.Once.{AreFields, BeginsTree, BindsName, key_sizes}
+use Rattle.sign_core.specs.Records.{binding_in, binds, first_illegal, has_identifier, has_moved, key_in}
+use Rattle.sign_core.specs.Records.{leaves_of_current, next_at}
+use Rattle.sign_core.specs.Textbook.{Trees, public_in, signature_at, trees_of}
+use Rattle.sign_core.specs.World.{Chance, Creation, Draw, Fate, Opening, Outcome, State, acked, answered, appended}
+use Rattle.sign_core.specs.World.{begun, bound_with, created_after, cut_new, cut_old, drawing, extended, extended_by}
+use Rattle.sign_core.specs.World.{extended_with, first_draw, fulfilled, new_bound, new_key, no_memory, open_on}
+use Rattle.sign_core.specs.World.{opened_by, opened_on}
+use Rattle.sign_core.specs.World.{published, randomizer_from, reading, refused, requested, retired_under, secret_from}
 use Rattle.sign_core.proofs.Bindings.{binding_other}
 use Rattle.sign_core.proofs.DrawnAgain.{IsSettled, settled_repeated, settled_under}
+use Rattle.sign_core.proofs.Fresh.{begins_along, extend_in}
+use Rattle.sign_core.proofs.Fulfilled.{next_extend}
+use Rattle.sign_core.proofs.Leaves.{deepest_is}
 use Rattle.sign_core.proofs.OnceKept.{kept_choice}
 use Rattle.sign_core.proofs.Sizes.{public_made, secret_sizes}
 
@@ -41,130 +48,306 @@ whole records outcome acknowledged stands uncut = record {
   cut = λ entry is. absurd (some_none entry (sym uncut ∙ is));
 }
 
--- ---- a request
+-- The records go by another name, and the one that is wanted by other words.
+leaves_along : {A : Type 0} (IsOld IsNew : Record → Type 0) (records others : List Record) (outcome : Outcome A)
+    → records ≡ others → ((entry : Record) → IsOld entry → IsNew entry) → Leaves records IsOld outcome
+    → Leaves others IsNew outcome
+leaves_along IsOld IsNew records others outcome same turned leaves = record {
+  acknowledged = leaves.acknowledged ∙ same;
+  whole = λ uncut. leaves.whole uncut ∙ same;
+  cut = λ entry is.
+      let (answer, wanted, left) = leaves.cut entry is in (
+        answer,
+        turned entry wanted,
+        subst (λ all. (outcome.state.records ≡ all) ⊎ (outcome.state.records ≡ all ++ entry ∷ [])) same left,
+      );
+}
 
-module _ (name : List ℕ) where
-  abbrev Quiet : List Record → Outcome (List ℕ) → Type 0
-  Quiet before outcome = IsRefusal outcome → LeavesExtends before name outcome
+-- ---- a request for a new name
 
-  none : (records : List Record) (outcome : Outcome (List ℕ)) → Leaves records (λ entry. IsExtend entry ⊎ IsBoundOf name entry) outcome
-      → LeavesExtends records name outcome
-  none records outcome leaves =
+-- a chance with these draws for its trees
+abbrev chance_with : Chance → List Draw → Chance
+chance_with chance draws =
+    record { has_room = chance.has_room; trees = draws; bound = chance.bound; given = chance.given }
+
+module _ (key : Key) (name : List ℕ) where
+  abbrev Quiet : (level : ℕ) → List Record → Chance → Outcome (List ℕ) → Type 0
+  Quiet level before chance outcome = IsRefusal outcome → LeavesTrees key before level name chance outcome
+
+  -- no tree was begun
+  none : (level : ℕ) (records : List Record) (chance : Chance) (outcome : Outcome (List ℕ))
+      → Leaves records (IsNextWanted key records level name chance []) outcome
+      → LeavesTrees key records level name chance outcome
+  none level records chance outcome leaves =
       let nil = append-nil records in
       record {
-        extends = [];
-        are_extends = λ k entry is. absurd (none-some entry is);
-        leaves = subst (λ all. Leaves all (λ entry. IsExtend entry ⊎ IsBoundOf name entry) outcome) (sym nil) leaves;
+        trees = [];
+        few = omega arith;
+        each = λ i entry at. absurd (none-some entry at);
+        leaves = subst (λ all. Leaves all (IsNextWanted key records level name chance []) outcome) (sym nil) leaves;
         unbound = λ other. ap (λ all. binding_in all other) nil;
       }
 
-  kept : (state : State) (fault : SignFault) → LeavesExtends state.records name (refused state fault)
-  kept state fault = none state.records (refused state fault) (whole state.records (refused state fault) refl refl refl)
+  kept : (level : ℕ) (chance : Chance) (state : State) (fault : SignFault)
+      → LeavesTrees key state.records level name chance (refused state fault)
+  kept level chance state fault =
+      none level state.records chance (refused state fault) (whole state.records (refused state fault) refl refl refl)
 
-  cut_off : (records : List Record) (entry : Record) (fate : Fate) (next : List Record → Outcome (List ℕ))
-      → IsExtend entry ⊎ IsBoundOf name entry → Quiet records (next (records ++ entry ∷ [])) → Quiet records (appended (open_on records) entry fate next)
-  cut_off records entry acked next wanted later = later
-  cut_off records entry cut_old next wanted later = λ refusal. none records _ (record {
+  cut_off : (level : ℕ) (records : List Record) (chance : Chance) (entry : Record) (fate : Fate)
+      (next : List Record → Outcome (List ℕ)) → IsNextWanted key records level name chance [] entry
+      → Quiet level records chance (next (records ++ entry ∷ []))
+      → Quiet level records chance (appended (open_on records) entry fate next)
+  cut_off level records chance entry acked next wanted later = later
+  cut_off level records chance entry cut_old next wanted later = λ refusal. none level records chance _ (record {
     acknowledged = refl;
     whole = λ uncut. refl;
-    cut = λ other is. (refl, subst (λ x. IsExtend x ⊎ IsBoundOf name x) (same_Some entry other is) wanted, inl refl);
+    cut = λ other is. (
+      refl,
+      subst (IsNextWanted key records level name chance []) (same_Some entry other is) wanted,
+      inl refl,
+    );
   })
-  cut_off records entry cut_new next wanted later = λ refusal. none records _ (record {
+  cut_off level records chance entry cut_new next wanted later = λ refusal. none level records chance _ (record {
     acknowledged = refl;
     whole = λ uncut. absurd (some_none entry (sym uncut));
-    cut = λ other is. (refl, subst (λ x. IsExtend x ⊎ IsBoundOf name x) (same_Some entry other is) wanted, inr (ap (λ x. records ++ x ∷ []) (same_Some entry other is)));
+    cut = λ other is. (
+      refl,
+      subst (IsNextWanted key records level name chance []) (same_Some entry other is) wanted,
+      inr (ap (λ x. records ++ x ∷ []) (same_Some entry other is)),
+    );
   })
-  cut_off records entry no_memory next wanted later = λ refusal. kept (open_on records) OutOfMemory
+  cut_off level records chance entry no_memory next wanted later =
+      λ refusal. kept level chance (open_on records) OutOfMemory
 
-  one_more : (records : List Record) (extend : Extend) (outcome : Outcome (List ℕ)) → LeavesExtends (records ++ ExtendRecord extend ∷ []) name outcome
-      → LeavesExtends records name outcome
-  one_more records extend outcome leaves =
-      let first = ExtendRecord extend in
-      let same = append_assoc records (first ∷ []) leaves.extends in
+  reads : (level : ℕ) (records : List Record) (chance : Chance) (outcome : Outcome (List ℕ))
+      → LeavesTrees key records level name chance outcome → LeavesTrees key records level name chance (reading outcome)
+  reads level records chance outcome left = record {
+    trees = left.trees;
+    few = left.few;
+    each = left.each;
+    leaves = record { acknowledged = left.leaves.acknowledged; whole = left.leaves.whole; cut = left.leaves.cut };
+    unbound = left.unbound;
+  }
+
+  draws_more : (level : ℕ) (records : List Record) (chance : Chance) (bytes : List ℕ) (outcome : Outcome (List ℕ))
+      → LeavesTrees key records level name chance outcome
+      → LeavesTrees key records level name chance (drawing bytes outcome)
+  draws_more level records chance bytes outcome left = record {
+    trees = left.trees;
+    few = left.few;
+    each = left.each;
+    leaves = record { acknowledged = left.leaves.acknowledged; whole = left.leaves.whole; cut = left.leaves.cut };
+    unbound = left.unbound;
+  }
+
+  -- ---- one tree more before
+
+  -- the tree of a later draw
+  drawn_later : (level i : ℕ) (records : List Record) (entry : Record) (trees : List Record) (draw : Draw)
+      (draws : List Draw) (x : Record) → BeginsDrawn key (records ++ entry ∷ [] ++ trees) (level + 1) draws i x
+      → BeginsDrawn key (records ++ (entry ∷ trees)) level (draw ∷ draws) (suc i) x
+  drawn_later level i records entry trees draw draws x drawn = record {
+    draw = drawn.draw;
+    is_draw = drawn.is_draw;
+    begins = begins_along key (records ++ entry ∷ [] ++ trees) (records ++ (entry ∷ trees)) (level + 1 + i + 1)
+        (level + suc i + 1) drawn.draw.fields drawn.draw.fields x x (append_assoc records (entry ∷ []) trees)
+        (omega arith) refl refl drawn.begins;
+  }
+
+  module _ (level below : ℕ) (records : List Record) (draw : Draw) (entry : Record)
+      (here : level + suc below ≡ bottom_of key.secret)
+      (first : BeginsTree key records (bottom_of key.secret - below) draw.fields entry) where
+    -- the first tree, where it is begun
+    drawn_first : (draws : List Draw) (x : Record) → entry ≡ x
+        → BeginsDrawn key (records ++ []) level (draw ∷ draws) 0 x
+    drawn_first draws x same = record {
+      draw = draw;
+      is_draw = refl;
+      begins = begins_along key records (records ++ []) (bottom_of key.secret - below) (level + 0 + 1) draw.fields
+          draw.fields entry x (sym (append-nil records)) (omega (arith, here)) refl same first;
+    }
+
+    wants_tree : (chance : Chance) (draws : List Draw)
+        → IsNextWanted key records level name (chance_with chance (draw ∷ draws)) [] entry
+    wants_tree chance draws = inl (omega (arith, here), drawn_first draws entry refl)
+
+    each_more : (trees : List Record) (draws : List Draw)
+        → ((i : ℕ) (x : Record) → slice_get trees i ≡ Some x
+        → BeginsDrawn key (records ++ entry ∷ [] ++ take i trees) (level + 1) draws i x)
+        → (i : ℕ) (x : Record) → slice_get (entry ∷ trees) i ≡ Some x
+        → BeginsDrawn key (records ++ take i (entry ∷ trees)) level (draw ∷ draws) i x
+    each_more trees draws later zero x at = drawn_first draws x (same_Some entry x at)
+    each_more trees draws later (suc i) x at =
+        drawn_later level i records entry (take i trees) draw draws x (later i x at)
+
+    wanted_more : (chance : Chance) (trees : List Record) (draws : List Draw) (x : Record)
+        → IsNextWanted key (records ++ entry ∷ []) (level + 1) name (chance_with chance draws) trees x
+        → IsNextWanted key records level name (chance_with chance (draw ∷ draws)) (entry ∷ trees) x
+    wanted_more chance trees draws x (inl (few, drawn)) =
+        inl (omega (arith, few, here), drawn_later level (length trees) records entry trees draw draws x drawn)
+    wanted_more chance trees draws x (inr (all, own)) = inr (
+      omega (arith, all, here),
       record {
-        extends = first ∷ leaves.extends;
-        are_extends = each first (extend, refl) leaves.extends leaves.are_extends;
-        leaves = subst (λ all. Leaves all (λ entry. IsExtend entry ⊎ IsBoundOf name entry) outcome) same leaves.leaves;
-        unbound = λ other. sym (ap (λ all. binding_in all other) same) ∙ leaves.unbound other ∙ binding_other records first other refl;
-      }
-    where
-      each : (first : Record) → IsExtend first → (rest : List Record) → ((k : ℕ) (entry : Record) → slice_get rest k ≡ Some entry → IsExtend entry)
-          → (k : ℕ) (entry : Record) → slice_get (first ∷ rest) k ≡ Some entry → IsExtend entry
-      each first is rest all zero entry at = subst IsExtend (same_Some first entry at) is
-      each first is rest all (suc k) entry at = all k entry at
+        bound = own.bound;
+        is = own.is;
+        message = own.message;
+        given = own.given;
+        binds = subst (λ before. BindsName key before name own.message chance.bound.fields own.bound)
+            (append_assoc records (entry ∷ []) trees) own.binds;
+      },
+    )
 
-  reads : (records : List Record) (outcome : Outcome (List ℕ)) → LeavesExtends records name outcome → LeavesExtends records name (reading outcome)
-  reads records outcome leaves = record {
-    extends = leaves.extends;
-    are_extends = leaves.are_extends;
-    leaves = record { acknowledged = leaves.leaves.acknowledged; whole = leaves.leaves.whole; cut = leaves.leaves.cut };
-    unbound = leaves.unbound;
-  }
+    one_more : (chance : Chance) (draws : List Draw) (outcome : Outcome (List ℕ))
+        → LeavesTrees key (records ++ entry ∷ []) (level + 1) name (chance_with chance draws) outcome
+        → LeavesTrees key records level name (chance_with chance (draw ∷ draws)) outcome
+    one_more chance draws outcome left =
+        let same = append_assoc records (entry ∷ []) left.trees in
+        record {
+          trees = entry ∷ left.trees;
+          few = omega (arith, left.few, here);
+          each = each_more left.trees draws left.each;
+          leaves = leaves_along
+              (IsNextWanted key (records ++ entry ∷ []) (level + 1) name (chance_with chance draws) left.trees)
+              (IsNextWanted key records level name (chance_with chance (draw ∷ draws)) (entry ∷ left.trees))
+              (records ++ entry ∷ [] ++ left.trees) (records ++ (entry ∷ left.trees)) outcome same
+              (wanted_more chance left.trees draws) left.leaves;
+          unbound = λ other. sym (ap (λ all. binding_in all other) same) ∙ left.unbound other
+              ∙ binding_other records entry other (ap (binds other) first.is);
+        }
 
-  draws : (records : List Record) (bytes : List ℕ) (outcome : Outcome (List ℕ)) → LeavesExtends records name outcome
-      → LeavesExtends records name (drawing bytes outcome)
-  draws records bytes outcome leaves = record {
-    extends = leaves.extends;
-    are_extends = leaves.are_extends;
-    leaves = record { acknowledged = leaves.leaves.acknowledged; whole = leaves.leaves.whole; cut = leaves.leaves.cut };
-    unbound = leaves.unbound;
-  }
+  -- ---- what is wanted, one after the other
 
-  quiet_bound : (records : List Record) (key : Key) (randomizer given : Option (List ℕ)) (fate : Fate)
-      → Quiet records (bound_with (open_on records) key name randomizer given fate)
-  quiet_bound records key None given fate = λ refusal. kept (open_on records) _
-  quiet_bound records key (Some randomizer) None fate = λ refusal. reads records _ (kept (open_on records) _)
-  quiet_bound records key (Some randomizer) (Some message) fate = λ refusal.
+  wants_binding : (level : ℕ) (records : List Record) (chance : Chance) (message : List ℕ) (bound : Bound)
+      → level ≡ bottom_of key.secret → chance.given ≡ Some message
+      → BindsName key records name message chance.bound.fields bound
+      → IsNextWanted key records level name chance [] (BoundRecord bound)
+  wants_binding level records chance message bound here given own = inr (
+    omega (arith, here),
+    record {
+      bound = bound;
+      is = refl;
+      message = message;
+      given = given;
+      binds = subst (λ before. BindsName key before name message chance.bound.fields bound)
+          (sym (append-nil records)) own;
+    },
+  )
+
+  quiet_bound : (level : ℕ) (records : List Record) (chance : Chance) (randomizer given : Option (List ℕ)) (fate : Fate)
+      → level ≡ bottom_of key.secret → randomizer_from key.secret chance.bound.fields ≡ randomizer
+      → chance.given ≡ given → Quiet level records chance (bound_with (open_on records) key name randomizer given fate)
+  quiet_bound level records chance None given fate here drawn is = λ refusal. kept level chance (open_on records) _
+  quiet_bound level records chance (Some randomizer) None fate here drawn is =
+      λ refusal. reads level records chance _ (kept level chance (open_on records) _)
+  quiet_bound level records chance (Some randomizer) (Some message) fate here drawn is = λ refusal.
       let bound = new_bound key records name (next_at key.secret records (bottom_of key.secret)) randomizer message in
       let next = λ (all : List Record). answered (open_on all) (signature_at key all (length records) bound) in
-      reads records _ (cut_off records (BoundRecord bound) fate next (inr (bound, refl, refl)) (λ signed. absurd (cc (signed.1))) refusal)
+      let own : BindsName key records name message chance.bound.fields bound =
+      record { named = refl; leaf = refl; randomizer = drawn; digest = refl } in
+      reads level records chance _ (cut_off level records chance (BoundRecord bound) fate next
+      (wants_binding level records chance message bound here is own) (λ signed. absurd (cc (signed.1))) refusal)
 
-  quiet_with : (records : List Record) (trees : Trees) (level leaf : ℕ) (identifier : List ℕ) (fields : List (List ℕ)) (fate : Fate)
-      (next : List Record → Outcome (List ℕ)) → ((all : List Record) → Quiet all (next all))
-      → Quiet records (extended_with (open_on records) trees level leaf identifier fields fate next)
-  quiet_with records trees level leaf identifier [] fate next later = λ refusal. draws records (concat []) _ (kept (open_on records) _)
-  quiet_with records trees level leaf identifier (seed ∷ []) fate next later = λ refusal. draws records (concat (seed ∷ [])) _ (kept (open_on records) _)
-  quiet_with records trees level leaf identifier (seed ∷ randomizer ∷ []) fate next later = λ refusal.
-      let secret = lms_secret (slice_index_or trees.pairs level trees.top.pair) identifier seed in
-      let entry = extend_record trees records level secret randomizer leaf in
-      draws records (seed ++ randomizer) _ (cut_off records entry fate next (inl (_, refl))
-      (λ refusal. one_more records _ (next (records ++ entry ∷ [])) (later (records ++ entry ∷ []) refusal)) refusal)
-  quiet_with records trees level leaf identifier (seed ∷ randomizer ∷ more ∷ rest) fate next later = λ refusal. draws records (concat (seed ∷ randomizer ∷ more ∷ rest)) _ (kept (open_on records) _)
+  module _ (level below : ℕ) (records : List Record) (chance : Chance) (trees : Trees) (draw : Draw) (draws : List Draw)
+      (next : List Record → Outcome (List ℕ)) (here : level + suc below ≡ bottom_of key.secret)
+      (later : (all : List Record) → Quiet (level + 1) all (chance_with chance draws) (next all)) where
+    abbrev QuietFrom : Outcome (List ℕ) → Type 0
+    QuietFrom outcome = Quiet level records (chance_with chance (draw ∷ draws)) outcome
 
-  quiet_by : (records : List Record) (trees : Trees) (level leaf : ℕ) (fields : List (List ℕ)) (fate : Fate)
-      (next : List Record → Outcome (List ℕ)) → ((all : List Record) → Quiet all (next all))
-      → Quiet records (extended_by (open_on records) trees level leaf fields fate next)
-  quiet_by records trees level leaf [] fate next later = λ refusal. kept (open_on records) _
-  quiet_by records trees level leaf (identifier ∷ fields) fate next later = λ refusal.
-      draws records identifier _ (kept_choice (Quiet records) (has_identifier records identifier) (refused (open_on records) RandomRepeated)
-      (extended_with (open_on records) trees level leaf identifier fields fate next) (λ there refusal. kept (open_on records) _)
-      (λ new. quiet_with records trees level leaf identifier fields fate next later) refusal)
+    quiet_with : (identifier : List ℕ) (fields : List (List ℕ)) → draw.fields ≡ identifier ∷ fields
+        → has_identifier records identifier ≡ false
+        → QuietFrom (extended_with (open_on records) trees (bottom_of key.secret - below)
+        (next_at key.secret records (bottom_of key.secret - below - 1)) identifier fields draw.fate next)
+    quiet_with identifier [] are new =
+        λ refusal. draws_more level records _ (concat []) _ (kept level _ (open_on records) _)
+    quiet_with identifier (seed ∷ []) are new =
+        λ refusal. draws_more level records _ (concat (seed ∷ [])) _ (kept level _ (open_on records) _)
+    quiet_with identifier (seed ∷ randomizer ∷ []) are new = λ refusal.
+        let this = bottom_of key.secret - below in
+        let entry = next_extend key trees records this identifier seed randomizer in
+        let first : BeginsTree key records this draw.fields entry =
+        begins_along key records records this this (identifier ∷ seed ∷ randomizer ∷ []) draw.fields entry entry refl
+        refl (sym are) refl (extend_in key trees records this identifier seed randomizer new) in
+        draws_more level records (chance_with chance (draw ∷ draws)) (seed ++ randomizer) _
+        (cut_off level records (chance_with chance (draw ∷ draws)) entry draw.fate next
+        (wants_tree level below records draw entry here first chance draws)
+        (λ again. one_more level below records draw entry here first chance draws (next (records ++ entry ∷ []))
+        (later (records ++ entry ∷ []) again)) refusal)
+    quiet_with identifier (seed ∷ randomizer ∷ more ∷ rest) are new =
+        λ refusal. draws_more level records _ (concat (seed ∷ randomizer ∷ more ∷ rest)) _
+        (kept level _ (open_on records) _)
 
-  quiet_extended : (records : List Record) (key : Key) (level : ℕ) (trees : Option Trees) (draw : Draw) (next : List Record → Outcome (List ℕ))
-      → ((all : List Record) → Quiet all (next all)) → Quiet records (extended (open_on records) key level trees draw next)
-  quiet_extended records key level None draw next later = λ refusal. kept (open_on records) _
-  quiet_extended records key level (Some trees) draw next later =
-      quiet_by records trees level (next_at key.secret records (level - 1)) draw.fields draw.fate next later
+    quiet_by : (fields : List (List ℕ)) → draw.fields ≡ fields
+        → QuietFrom (extended_by (open_on records) trees (bottom_of key.secret - below)
+        (next_at key.secret records (bottom_of key.secret - below - 1)) fields draw.fate next)
+    quiet_by [] are = λ refusal. kept level _ (open_on records) _
+    quiet_by (identifier ∷ fields) are = λ refusal.
+        draws_more level records (chance_with chance (draw ∷ draws)) identifier _
+        (kept_choice QuietFrom (has_identifier records identifier) (refused (open_on records) RandomRepeated)
+        (extended_with (open_on records) trees (bottom_of key.secret - below)
+        (next_at key.secret records (bottom_of key.secret - below - 1)) identifier fields draw.fate next)
+        (λ there again. kept level _ (open_on records) _) (λ new. quiet_with identifier fields are new) refusal)
 
-  quiet_fulfilled : (key : Key) (chance : Chance) (below : ℕ) (draws : List Draw) (records : List Record)
-      → Quiet records (fulfilled key name chance below draws records)
-  quiet_fulfilled key chance zero all records = λ refusal.
-      draws records (concat chance.bound.fields) _ (quiet_bound records key (randomizer_from key.secret chance.bound.fields) chance.given chance.bound.fate refusal)
-  quiet_fulfilled key chance (suc below) all records =
-      quiet_extended records key (bottom_of key.secret - below) (trees_of key.secret) (first_draw all)
-      (fulfilled key name chance below (later_draws all)) (quiet_fulfilled key chance below (later_draws all))
+  quiet_extended : (level below : ℕ) (records : List Record) (chance : Chance) (found : Option Trees) (draw : Draw)
+      (draws : List Draw) (next : List Record → Outcome (List ℕ)) → level + suc below ≡ bottom_of key.secret
+      → ((all : List Record) → Quiet (level + 1) all (chance_with chance draws) (next all))
+      → Quiet level records (chance_with chance (draw ∷ draws))
+      (extended (open_on records) key (bottom_of key.secret - below) found draw next)
+  quiet_extended level below records chance None draw draws next here later =
+      λ refusal. kept level _ (open_on records) _
+  quiet_extended level below records chance (Some trees) draw draws next here later =
+      quiet_by level below records chance trees draw draws next here later draw.fields refl
 
-  requests : (limit : ℕ) (state : State) (chance : Chance) → Quiet state.records (requested limit state name chance)
-  requests limit state chance =
-      let quiet = Quiet state.records in
-      let settled : IsSettled quiet state = record {
-        refused_for = λ fault other refusal. kept state fault;
-        gives = λ signature refusal. absurd (cc (refusal.1));
-        read = λ outcome again refusal. reads state.records outcome (again refusal);
-      } in
-      settled_under quiet limit state name chance settled.refused_for (key_in state.records)
-      (λ key k bound. settled_repeated quiet state chance settled key k bound chance.given)
-      (λ key level keyed. quiet_fulfilled key chance (bottom_of key.secret - level) chance.trees state.records)
+  -- nothing was drawn for the next tree
+  quiet_undrawn : (level this : ℕ) (records : List Record) (chance : Chance) (found : Option Trees)
+      (next : List Record → Outcome (List ℕ))
+      → Quiet level records chance (extended (open_on records) key this found (first_draw []) next)
+  quiet_undrawn level this records chance None next = λ refusal. kept level chance (open_on records) _
+  quiet_undrawn level this records chance (Some trees) next = λ refusal. kept level chance (open_on records) _
+
+  quiet_fulfilled : (chance : Chance) (below level : ℕ) (draws : List Draw) (records : List Record)
+      → level + below ≡ bottom_of key.secret
+      → Quiet level records (chance_with chance draws) (fulfilled key name chance below draws records)
+  quiet_fulfilled chance zero level draws records here = λ refusal.
+      draws_more level records (chance_with chance draws) (concat chance.bound.fields) _
+      (quiet_bound level records (chance_with chance draws) (randomizer_from key.secret chance.bound.fields)
+      chance.given chance.bound.fate (omega (arith, here)) refl refl refusal)
+  quiet_fulfilled chance (suc below) level [] records here =
+      quiet_undrawn level (bottom_of key.secret - below) records (chance_with chance []) (trees_of key.secret)
+      (fulfilled key name chance below [])
+  quiet_fulfilled chance (suc below) level (draw ∷ draws) records here =
+      quiet_extended level below records chance (trees_of key.secret) draw draws (fulfilled key name chance below draws)
+      here (λ all. quiet_fulfilled chance below (level + 1) draws all (omega (arith, here)))
+
+-- ---- any request
+
+-- it was read
+read_too : (state : State) (name : List ℕ) (chance : Chance) (outcome : Outcome (List ℕ))
+    → LeavesRequested state name chance outcome → LeavesRequested state name chance (reading outcome)
+read_too state name chance outcome (inl left) =
+    inl (record { acknowledged = left.acknowledged; whole = left.whole; cut = left.cut })
+read_too state name chance outcome (inr (key, level, wants, left)) =
+    inr (key, level, wants, reads key name level state.records chance outcome left)
+
+requests : (limit : ℕ) (state : State) (name : List ℕ) (chance : Chance) → IsRefusal (requested limit state name chance)
+    → LeavesRequested state name chance (requested limit state name chance)
+requests limit state name chance =
+    let quiet : Outcome (List ℕ) → Type 0 = λ outcome. IsRefusal outcome → LeavesRequested state name chance outcome in
+    let settled : IsSettled quiet state = record {
+      refused_for = λ fault other refusal. inl (whole state.records (refused state fault) refl refl refl);
+      gives = λ signature refusal. absurd (cc (refusal.1));
+      read = λ outcome again refusal. read_too state name chance outcome (again refusal);
+    } in
+    settled_under quiet limit state name chance settled.refused_for (key_in state.records) refl
+    (λ key k bound. settled_repeated quiet state chance settled key k bound chance.given)
+    (λ key level wants refusal.
+    let inside = (deepest_is key.secret state.records level wants.level_is).0 in
+    inr (
+      key,
+      level,
+      wants,
+      quiet_fulfilled key name chance (bottom_of key.secret - level) level chance.trees state.records
+          (omega (arith, inside)) refusal,
+    ))
 
 -- ---- the other events
 
@@ -207,7 +390,7 @@ retires limit state upto fate (Some key) =
 
 module _ (state : State) (spec : Spec) (chance : Creation) (can : IsSpec spec) (are : AreFields (key_sizes spec) chance.fields) where
   abbrev QuietHere : Outcome AnyPublic → Type 0
-  QuietHere = QuietIn state.records (λ entry. (key : Key) × (entry ≡ KeyRecord key))
+  QuietHere = QuietIn state.records (IsDrawnKey spec chance.fields)
 
   published_never : (records : List Record) (found : Option AnyPublic) (public : AnyPublic) → found ≡ Some public → IsRefusal (published records found) → ⊥
   published_never records (Some other) public is refusal = cc (refusal.1)
@@ -225,7 +408,8 @@ module _ (state : State) (spec : Spec) (chance : Creation) (can : IsSpec spec) (
       let (public, has) = public_made secret key.root (secret_sizes spec chance.fields secret can are is) in
       let next = λ (all : List Record). published all (public_in key) in
       choice state.records chance.has_room _ _
-      (append_quiet state (KeyRecord key) chance.fate next (key, refl) (published_never (state.records ++ KeyRecord key ∷ []) (public_in key) public has))
+      (append_quiet state (KeyRecord key) chance.fate next (secret, is, refl)
+      (published_never (state.records ++ KeyRecord key ∷ []) (public_in key) public has))
       (plain state OutOfMemory)
 
   creates : (failed : Option SignFault) → QuietHere (created_after failed state spec chance)
@@ -249,7 +433,7 @@ opens state (Some (slot, fault)) (Some k) = plain state _
 
 pub after_refusal_law : AfterRefusalLaw
 after_refusal_law = record {
-  request = λ limit state name chance refusal. requests name limit state chance refusal;
+  request = requests;
   retire = λ limit state upto fate refusal. retires limit state upto fate (key_in state.records) refusal;
   create = λ state spec chance can are refusal. creates state spec chance can are chance.failed_load refusal;
   opening = λ state chance refusal. opens state chance (first_illegal state.records) refusal;

@@ -65,8 +65,8 @@ signed_open limit state name signature chance is = elim (cases_Bool state.is_ope
   | inl open_now ↦
       let settled : IsSettled StaysOpen state =
       record { refused_for = λ fault other signature is. absurd (cc); gives = λ own signature is. open_now; read = λ outcome opens. opens } in
-      settled_under StaysOpen limit state name chance settled.refused_for (key_in state.records)
+      settled_under StaysOpen limit state name chance settled.refused_for (key_in state.records) refl
       (λ key k bound. settled_repeated StaysOpen state chance settled key k bound chance.given)
-      (λ key level keyed. open_fulfilled key name chance (bottom_of key.secret - level) chance.trees state.records) signature is
+      (λ key level wants. open_fulfilled key name chance (bottom_of key.secret - level) chance.trees state.records) signature is
   | inr closed ↦ let same = ap (λ (o : Outcome (List ℕ)). o.answer) (closed_under limit state name chance (key_in state.records) closed) in absurd (cc (is, same))
 ]

@@ -1,7 +1,8 @@
 -- What a request draws, and that what it signs was read: it draws no more than its records want, and 24 comes only of
 -- an I that stands in the records.
-use Rattle.std.proofs.Common.{◌≡◌, ◌≢◌, refl, subst, ℕ, zero, suc, ◌+◌, ◌-◌, ◌*◌, ◌≤◌, List, [], ◌∷◌, ◌++◌}
-use Rattle.std.proofs.Common.{length, length-append, Option, Some, None, Ok, Err, true, arith}
+use Rattle.std.proofs.Common.{◌≡◌, ◌≢◌, ◌∙◌, refl, sym, ap, subst, ℕ, zero, suc, ◌+◌, ◌-◌, ◌*◌, ◌≤◌, List, []}
+use Rattle.std.proofs.Common.{◌∷◌, ◌++◌, append-nil, length, length-append, take, Option, Some, None, Ok, Err, Bool}
+use Rattle.std.proofs.Common.{true, false, arith}
 use Rattle.std.specs.Prelude.{IsSome, if◌then◌else◌, nat_lt, not, slice_index_or, sum}
 use Rattle.std.specs.List.{AllByRecursion, concat}
 use Rattle.std.proofs.lemmas.List.{length_push}
@@ -15,11 +16,15 @@ use Rattle.sign_core.specs.declared.fault.SignFault.TheVariants.{Changed, Damage
 use Rattle.sign_core.specs.declared.fault.SignFault.TheVariants.{RandomRepeated, Stopped}
 use Rattle.sign_core.specs.declared.fault.SignFault.TheVariants.{Moved as MovedAway}
 use Rattle.sign_core.specs.Records.{are_same, binding_in, deepest, has_identifier, has_moved, key_in, next_at, wanted_count}
-use Rattle.sign_core.specs.Once.{AreDrawsOf, AreFields, DrewAgain, IsTreeDraw, randomizer_sizes, tree_sizes}
+use Rattle.sign_core.specs.AfterRefusal.{WantsRecords}
+use Rattle.sign_core.specs.Once.{AreDrawsOf, AreFields, DrewAgain, IsTreeDraw, bytes_drawn, randomizer_sizes}
+use Rattle.sign_core.specs.Once.{tree_sizes}
 use Rattle.sign_core.specs.World.{Chance, Draw, Fate, Outcome, State, acked, answered, appended, bound_anew, bound_sound, bound_with}
-use Rattle.sign_core.specs.World.{cut_new, cut_old, extend_record, extended, extended_by, extended_with, first_draw, fulfilled, later_draws, no_memory, open_on}
+use Rattle.sign_core.specs.World.{cut_new, cut_old, drawing, extend_record, extended, extended_by, extended_with}
+use Rattle.sign_core.specs.World.{first_draw, fulfilled, later_draws, no_memory, open_on}
 use Rattle.sign_core.specs.World.{randomizer_from, reading, refused, repeated, repeated_sound, requested, requested_of, requested_under}
 use Rattle.sign_core.specs.Textbook.{Trees, damaged_in, digest_at, lms_secret, tree_before, trees_of}
+use Rattle.sign_core.proofs.Fulfilled.{fields_drawn}
 use Rattle.sign_core.proofs.OnceKept.{kept_choice}
 use Rattle.sign_core.proofs.Requests.{first_drawn, later_drawn}
 
@@ -54,35 +59,51 @@ module _ (Q : Outcome (List ℕ) → Type 0) (limit : ℕ) (state : State) (name
   settled_sound key level (Some slot) rest = refuses (Damaged slot) (λ e. cc)
   settled_sound key level None rest = rest
 
-  settled_anew : (key : Key) (level : Option ℕ)
-      → ((deepest : ℕ) → Q (fulfilled key name chance (bottom_of key.secret - deepest) chance.trees state.records))
-      → Q (bound_anew limit state key name chance level)
-  settled_anew key None rest = refuses Exhausted (λ e. cc)
-  settled_anew key (Some level) rest =
+  settled_anew : (key : Key) (found : Option ℕ) → deepest key.secret state.records ≡ found
+      → ((level : ℕ) → deepest key.secret state.records ≡ Some level
+      → Q (fulfilled key name chance (bottom_of key.secret - level) chance.trees state.records))
+      → Q (bound_anew limit state key name chance found)
+  settled_anew key None is rest = refuses Exhausted (λ e. cc)
+  settled_anew key (Some level) is rest =
       kept_choice Q (nat_lt limit (length state.records + wanted_count key.secret level)) _ _ (λ full. refuses LedgerFull (λ e. cc))
       (λ fits. kept_choice Q (not chance.has_room) _ _ (λ none. refuses OutOfMemory (λ e. cc))
-      (λ room. settled_sound key level (damaged_in key level state.records (tree_before level state.records (length state.records))) (rest level)))
+      (λ room. settled_sound key level
+      (damaged_in key level state.records (tree_before level state.records (length state.records))) (rest level is)))
 
-  settled_of : (key : Key) (found : Option (ℕ × Bound)) → ((k : ℕ) (bound : Bound) → Q (repeated state key k bound chance chance.given))
-      → ((deepest : ℕ) → Q (fulfilled key name chance (bottom_of key.secret - deepest) chance.trees state.records))
+  settled_of : (key : Key) (found : Option (ℕ × Bound)) → binding_in state.records name ≡ found
+      → ((k : ℕ) (bound : Bound) → Q (repeated state key k bound chance chance.given))
+      → (binding_in state.records name ≡ None → (level : ℕ) → deepest key.secret state.records ≡ Some level
+      → Q (fulfilled key name chance (bottom_of key.secret - level) chance.trees state.records))
       → Q (requested_of limit state key name chance found)
-  settled_of key (Some (k, bound)) again rest = again k bound
-  settled_of key None again rest = settled_anew key (deepest key.secret state.records) rest
+  settled_of key (Some (k, bound)) is again rest = again k bound
+  settled_of key None is again rest = settled_anew key (deepest key.secret state.records) refl (rest is)
 
-  pub settled_under : (found : Option Key) → ((key : Key) (k : ℕ) (bound : Bound) → Q (repeated state key k bound chance chance.given))
-      → ((key : Key) (deepest : ℕ) → found ≡ Some key → Q (fulfilled key name chance (bottom_of key.secret - deepest) chance.trees state.records))
+  pub settled_under : (found : Option Key) → key_in state.records ≡ found
+      → ((key : Key) (k : ℕ) (bound : Bound) → Q (repeated state key k bound chance chance.given))
+      → ((key : Key) (level : ℕ) → WantsRecords state name key level
+      → Q (fulfilled key name chance (bottom_of key.secret - level) chance.trees state.records))
       → Q (requested_under limit state name chance found)
-  settled_under None again rest = refuses Stopped (λ e. cc)
-  settled_under (Some key) again rest =
+  settled_under None keyed again rest = refuses Stopped (λ e. cc)
+  settled_under (Some key) keyed again rest =
       kept_choice Q (not state.is_open) _ _ (λ closed. refuses Stopped (λ e. cc))
       (λ open_now. kept_choice Q (has_moved state.records) _ _ (λ moved. refuses MovedAway (λ e. cc))
-      (λ stays. settled_of key (binding_in state.records name) (again key) (λ level. rest key level refl)))
+      (λ stays. settled_of key (binding_in state.records name) refl (again key)
+      (λ unbound level is. rest key level (record {
+        active = record { is_open = not_closed state.is_open open_now; stays = stays; keyed = keyed };
+        unbound = unbound;
+        level_is = is;
+      }))))
+    where
+      not_closed : (is_open : Bool) → not is_open ≡ false → is_open ≡ true
+      not_closed true is = refl
+      not_closed false is = absurd (cc)
 
 -- ---- 24
 
 -- Where the answer is 24, an I was drawn again.
 abbrev Repeats : (before : List Record) → (draws : List Draw) → Outcome (List ℕ) → Type 0
-Repeats before draws outcome = outcome.answer ≡ Err RandomRepeated → DrewAgain before draws outcome.state.records
+Repeats before draws outcome =
+    outcome.answer ≡ Err RandomRepeated → DrewAgain before draws outcome.state.records outcome.drawn
 
 repeats_bound : (state : State) (key : Key) (name : List ℕ) (randomizer given : Option (List ℕ)) (fate : Fate)
     → (bound_with state key name randomizer given fate).answer ≡ Err RandomRepeated → ⊥
@@ -93,10 +114,12 @@ repeats_bound state key name (Some randomizer) (Some message) cut_old is = cc
 repeats_bound state key name (Some randomizer) (Some message) cut_new is = cc
 repeats_bound state key name (Some randomizer) (Some message) no_memory is = cc
 
--- one tree was begun before
-one_more : (records : List Record) (entry : Record) (draw : Draw) (draws : List Draw) (left : List Record) → DrewAgain (records ++ entry ∷ []) draws left
-    → DrewAgain records (draw ∷ draws) left
-one_more records entry draw draws left again = record {
+-- one tree was begun before, with these fields
+one_more : (records : List Record) (entry : Record) (draw : Draw) (draws : List Draw)
+    (identifier seed randomizer : List ℕ) (left : List Record) (drawn : List ℕ)
+    → draw.fields ≡ identifier ∷ seed ∷ randomizer ∷ [] → DrewAgain (records ++ entry ∷ []) draws left drawn
+    → DrewAgain records (draw ∷ draws) left (identifier ++ ((seed ++ randomizer) ++ drawn))
+one_more records entry draw draws identifier seed randomizer left drawn are again = record {
   begun = suc again.begun;
   draw = again.draw;
   is_draw = again.is_draw;
@@ -105,30 +128,44 @@ one_more records entry draw draws left again = record {
   later = again.later;
   fields = again.fields;
   stands = again.stands;
+  drawn_is = ap (λ bytes. identifier ++ ((seed ++ randomizer) ++ bytes)) again.drawn_is
+      ∙ fields_drawn identifier seed randomizer (bytes_drawn (take again.begun draws)) again.identifier
+      ∙ ap (λ fields. concat fields ++ bytes_drawn (take again.begun draws) ++ again.identifier) (sym are);
 }
 
-repeats_append : (records : List Record) (entry : Record) (fate : Fate) (draw : Draw) (draws : List Draw) (next : List Record → Outcome (List ℕ))
-    → ((all : List Record) → Repeats all draws (next all)) → Repeats records (draw ∷ draws) (appended (open_on records) entry fate next)
-repeats_append records entry acked draw draws next later is = one_more records entry draw draws _ (later (records ++ entry ∷ []) is)
-repeats_append records entry cut_old draw draws next later is = absurd (cc)
-repeats_append records entry cut_new draw draws next later is = absurd (cc)
-repeats_append records entry no_memory draw draws next later is = absurd (cc)
+repeats_append : (records : List Record) (entry : Record) (fate : Fate) (draw : Draw) (draws : List Draw)
+    (identifier seed randomizer : List ℕ) (next : List Record → Outcome (List ℕ))
+    → draw.fields ≡ identifier ∷ seed ∷ randomizer ∷ [] → ((all : List Record) → Repeats all draws (next all))
+    → Repeats records (draw ∷ draws)
+    (drawing identifier (drawing (seed ++ randomizer) (appended (open_on records) entry fate next)))
+repeats_append records entry acked draw draws identifier seed randomizer next are later is =
+    let rest = next (records ++ entry ∷ []) in
+    one_more records entry draw draws identifier seed randomizer rest.state.records rest.drawn are
+    (later (records ++ entry ∷ []) is)
+repeats_append records entry cut_old draw draws identifier seed randomizer next are later is = absurd (cc)
+repeats_append records entry cut_new draw draws identifier seed randomizer next are later is = absurd (cc)
+repeats_append records entry no_memory draw draws identifier seed randomizer next are later is = absurd (cc)
 
-repeats_with : (records : List Record) (trees : Trees) (level leaf : ℕ) (identifier : List ℕ) (fields : List (List ℕ)) (fate : Fate) (draw : Draw)
-    (draws : List Draw) (next : List Record → Outcome (List ℕ)) → ((all : List Record) → Repeats all draws (next all))
-    → Repeats records (draw ∷ draws) (extended_with (open_on records) trees level leaf identifier fields fate next)
-repeats_with records trees level leaf identifier [] fate draw draws next later is = absurd (cc)
-repeats_with records trees level leaf identifier (seed ∷ []) fate draw draws next later is = absurd (cc)
-repeats_with records trees level leaf identifier (seed ∷ randomizer ∷ []) fate draw draws next later is =
-    repeats_append records _ fate draw draws next later is
-repeats_with records trees level leaf identifier (seed ∷ randomizer ∷ more ∷ rest) fate draw draws next later is = absurd (cc)
+repeats_with : (records : List Record) (trees : Trees) (level leaf : ℕ) (identifier : List ℕ) (fields : List (List ℕ))
+    (fate : Fate) (draw : Draw) (draws : List Draw) (next : List Record → Outcome (List ℕ))
+    → draw.fields ≡ identifier ∷ fields → ((all : List Record) → Repeats all draws (next all))
+    → Repeats records (draw ∷ draws)
+    (drawing identifier (extended_with (open_on records) trees level leaf identifier fields fate next))
+repeats_with records trees level leaf identifier [] fate draw draws next are later is = absurd (cc)
+repeats_with records trees level leaf identifier (seed ∷ []) fate draw draws next are later is = absurd (cc)
+repeats_with records trees level leaf identifier (seed ∷ randomizer ∷ []) fate draw draws next are later is =
+    repeats_append records _ fate draw draws identifier seed randomizer next are later is
+repeats_with records trees level leaf identifier (seed ∷ randomizer ∷ more ∷ rest) fate draw draws next are later is =
+    absurd (cc)
 
 repeats_by : (records : List Record) (trees : Trees) (level leaf : ℕ) (fields : List (List ℕ)) (draw : Draw) (draws : List Draw)
     (next : List Record → Outcome (List ℕ)) → draw.fields ≡ fields → ((all : List Record) → Repeats all draws (next all))
     → Repeats records (draw ∷ draws) (extended_by (open_on records) trees level leaf fields draw.fate next)
 repeats_by records trees level leaf [] draw draws next are later = λ is. absurd (cc)
 repeats_by records trees level leaf (identifier ∷ fields) draw draws next are later =
-    kept_choice (Repeats records (draw ∷ draws)) (has_identifier records identifier) _ _
+    kept_choice (λ outcome. Repeats records (draw ∷ draws) (drawing identifier outcome))
+    (has_identifier records identifier) (refused (open_on records) RandomRepeated)
+    (extended_with (open_on records) trees level leaf identifier fields draw.fate next)
     (λ there is. record {
       begun = 0;
       draw = draw;
@@ -138,8 +175,9 @@ repeats_by records trees level leaf (identifier ∷ fields) draw draws next are 
       later = fields;
       fields = are;
       stands = there;
+      drawn_is = append-nil identifier;
     })
-    (λ new. repeats_with records trees level leaf identifier fields draw.fate draw draws next later)
+    (λ new. repeats_with records trees level leaf identifier fields draw.fate draw draws next are later)
 
 repeats_extended : (records : List Record) (key : Key) (level : ℕ) (trees : Option Trees) (draw : Draw) (draws : List Draw)
     (next : List Record → Outcome (List ℕ)) → ((all : List Record) → Repeats all draws (next all))
@@ -166,13 +204,14 @@ repeats_fulfilled key name chance (suc below) (draw ∷ draws) records =
 
 pub drawn_again : (limit : ℕ) (state : State) (name : List ℕ) (chance : Chance) → (requested limit state name chance).answer ≡ Err RandomRepeated
     → DrewAgain state.records chance.trees (requested limit state name chance).state.records
+    (requested limit state name chance).drawn
 drawn_again limit state name chance =
     let all = Repeats state.records chance.trees in
     let settled : IsSettled all state =
     record { refused_for = λ fault other is. absurd (other (cc)); gives = λ signature is. absurd (cc); read = λ outcome again. again } in
-    settled_under all limit state name chance settled.refused_for (key_in state.records)
+    settled_under all limit state name chance settled.refused_for (key_in state.records) refl
     (λ key k bound. settled_repeated all state chance settled key k bound chance.given)
-    (λ key level keyed. repeats_fulfilled key name chance (bottom_of key.secret - level) chance.trees state.records)
+    (λ key level wants. repeats_fulfilled key name chance (bottom_of key.secret - level) chance.trees state.records)
 
 -- ---- how much is drawn
 
@@ -253,10 +292,10 @@ drawn_most limit state key name chance keyed drawn =
     let most = 80 * bottom_of key.secret + sum (randomizer_sizes key.secret) in
     let settled : IsSettled (DrawsMost most) state =
     record { refused_for = λ fault other. omega arith; gives = λ signature. omega arith; read = λ outcome draws. draws } in
-    settled_under (DrawsMost most) limit state name chance settled.refused_for (key_in state.records)
+    settled_under (DrawsMost most) limit state name chance settled.refused_for (key_in state.records) refl
     (λ own k bound. settled_repeated (DrawsMost most) state chance settled own k bound chance.given)
-    (λ own level is.
-    let same : key ≡ own = cc in
+    (λ own level wants.
+    let same : key ≡ own = cc (keyed, wants.active.keyed) in
     let inner = most_fulfilled key name chance (bottom_of key.secret - level) chance.trees state.records drawn.trees drawn.bound in
     subst (λ k. DrawsMost most (fulfilled k name chance (bottom_of k.secret - level) chance.trees state.records)) same (omega (arith, inner)))
 
@@ -317,6 +356,7 @@ read_repeated state key k bound chance (Some message) signature is = (refl, refl
 pub signed_read : (limit : ℕ) (state : State) (name signature : List ℕ) (chance : Chance) → (requested limit state name chance).answer ≡ Ok signature
     → IsSome chance.given × ((requested limit state name chance).is_read ≡ true)
 signed_read limit state name signature chance =
-    settled_under (IsRead chance.given) limit state name chance (λ fault other given is. absurd (cc)) (key_in state.records)
-    (λ key k bound. read_repeated state key k bound chance chance.given)
-    (λ key level keyed. read_fulfilled key name chance (bottom_of key.secret - level) chance.trees state.records) signature
+    settled_under (IsRead chance.given) limit state name chance (λ fault other given is. absurd (cc))
+    (key_in state.records) refl (λ key k bound. read_repeated state key k bound chance chance.given)
+    (λ key level wants.
+    read_fulfilled key name chance (bottom_of key.secret - level) chance.trees state.records) signature

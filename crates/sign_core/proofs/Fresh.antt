@@ -1,6 +1,6 @@
 -- A new name is signed where a leaf is free and nothing fails, but for an I that was drawn before.
 use Rattle.std.proofs.Common.{◌≡◌, ◌∙◌, refl, sym, ap, subst, ℕ, zero, suc, ◌+◌, ◌-◌, ◌<◌, ◌≤◌, ◌⊎◌, inl, inr, Bool, true, false, List, [], ◌∷◌, ◌++◌}
-use Rattle.std.proofs.Common.{length, map, take, Option, Some, None, Ok, Err, append_assoc, append-nil, arith}
+use Rattle.std.proofs.Common.{length, take, Option, Some, None, Ok, Err, append_assoc, append-nil, arith}
 use Rattle.std.specs.Prelude.{if◌then◌else◌, slice_get}
 use Rattle.std.specs.List.{concat}
 use Rattle.state_file.specs.Laws.{bottom_of}
@@ -12,11 +12,11 @@ use Rattle.state_file.specs.declared.record.Secret.{Secret}
 use Rattle.state_file.specs.declared.record.Secret.TheVariants.{Lms, Hss, Xmss}
 use Rattle.sign_core.specs.declared.fault.SignFault.TheVariants.{RandomRepeated}
 use Rattle.sign_core.specs.Records.{has_identifier, next_at}
-use Rattle.sign_core.specs.Once.{BeginsTree, IsComplete, randomizer_sizes, tree_sizes}
+use Rattle.sign_core.specs.Once.{BeginsTree, IsComplete, bytes_drawn, randomizer_sizes, tree_sizes}
 use Rattle.sign_core.specs.World.{Chance, Draw, Fate, Outcome, acked, bound_with, drawing, extended, extended_with}
 use Rattle.sign_core.specs.World.{fulfilled, new_bound, open_on, randomizer_from, refused}
 use Rattle.sign_core.specs.Textbook.{Trees, digest_at, signature_at, trees_of}
-use Rattle.sign_core.proofs.Fulfilled.{extends_by, next_extend, whole_draw}
+use Rattle.sign_core.proofs.Fulfilled.{extends_by, fields_drawn, next_extend, whole_draw}
 
 -- ---- what is drawn
 
@@ -34,10 +34,6 @@ whole draw is =
     three (a ∷ b ∷ []) count = absurd (omega (arith, count))
     three (a ∷ b ∷ c ∷ []) count = (a, b, c, refl)
     three (a ∷ b ∷ c ∷ d ∷ rest) count = absurd (omega (arith, count))
-
--- all fields of some draws, one after the other
-abbrev pub bytes_of : List Draw → List ℕ
-bytes_of draws = concat (map (λ (draw : Draw). concat draw.fields) draws)
 
 -- an I that stands in the records
 again_extended : (key : Key) (level : ℕ) (found : Option Trees) (trees : Trees) → found ≡ Some trees
@@ -65,7 +61,7 @@ pub record IsDone (key : Key) (name message : List ℕ) (chance : Chance) (below
   pub digest : bound.digest ≡ digest_at key (records ++ trees) (length (records ++ trees)) bound.leaf bound.randomizer message
   pub state : outcome.state ≡ open_on (records ++ trees ++ BoundRecord bound ∷ [])
   pub answer : outcome.answer ≡ Ok (signature_at key (records ++ trees ++ BoundRecord bound ∷ []) (length (records ++ trees)) bound)
-  pub drawn : outcome.drawn ≡ bytes_of draws ++ concat chance.bound.fields
+  pub drawn : outcome.drawn ≡ bytes_drawn draws ++ concat chance.bound.fields
   pub read : outcome.is_read ≡ true
   pub uncut : outcome.failed ≡ None
 
@@ -102,13 +98,14 @@ bound_done key name message drawn chance records given is acknowledged =
       uncut = ap (λ (o : Outcome (List ℕ)). o.failed) came;
     }
 
-extend_in : (key : Key) (trees : Trees) (records : List Record) (level : ℕ) (identifier seed randomizer : List ℕ)
+-- it begins a tree of the level with these fields
+pub extend_in : (key : Key) (trees : Trees) (records : List Record) (level : ℕ) (identifier seed randomizer : List ℕ)
     → has_identifier records identifier ≡ false
     → BeginsTree key records level (identifier ∷ seed ∷ randomizer ∷ []) (next_extend key trees records level identifier seed randomizer)
 extend_in key trees records level identifier seed randomizer new =
     record { extend = _; is = refl; of_level = refl; leaf = refl; drawn = refl; new = new }
 
-begins_along : (key : Key) (before before' : List Record) (level level' : ℕ) (fields fields' : List (List ℕ)) (entry entry' : Record) → before ≡ before'
+pub begins_along : (key : Key) (before before' : List Record) (level level' : ℕ) (fields fields' : List (List ℕ)) (entry entry' : Record) → before ≡ before'
     → level ≡ level' → fields ≡ fields' → entry ≡ entry' → BeginsTree key before level fields entry → BeginsTree key before' level' fields' entry'
 begins_along key before before' level level' fields fields' entry entry' a b c d =
     subst (λ (t : List Record × ℕ × List (List ℕ) × Record). BeginsTree key t.0 t.1 t.2 t.3) (λ i. (a i, b i, c i, d i))
@@ -141,7 +138,6 @@ tree_done key trees name message chance below draws records identifier seed rand
     let entry = next_extend key trees records level identifier seed randomizer in
     let first = extend_in key trees records level identifier seed randomizer new in
     let all_records : records ++ entry ∷ [] ++ done.trees ≡ records ++ (entry ∷ done.trees) = append_assoc records (entry ∷ []) done.trees in
-    let fields : List ℕ = identifier ++ (seed ++ (randomizer ++ [])) in
     record {
       trees = entry ∷ done.trees;
       bound = done.bound;
@@ -154,11 +150,7 @@ tree_done key trees name message chance below draws records identifier seed rand
       state = done.state ∙ ap (λ all. open_on (all ++ BoundRecord done.bound ∷ [])) all_records;
       answer = done.answer ∙ ap (λ all. Ok (signature_at key (all ++ BoundRecord done.bound ∷ []) (length all) done.bound)) all_records;
       drawn = ap (λ bytes. identifier ++ ((seed ++ randomizer) ++ bytes)) done.drawn
-          ∙ ap (λ bytes. identifier ++ bytes) (append_assoc seed randomizer _)
-          ∙ ap (λ bytes. identifier ++ (seed ++ (bytes ++ (bytes_of draws ++ concat chance.bound.fields)))) (sym (append-nil randomizer))
-          ∙ ap (λ bytes. identifier ++ bytes) (sym (append_assoc seed (randomizer ++ []) _))
-          ∙ sym (append_assoc identifier (seed ++ (randomizer ++ [])) _)
-          ∙ sym (append_assoc fields (bytes_of draws) (concat chance.bound.fields));
+          ∙ fields_drawn identifier seed randomizer (bytes_drawn draws) (concat chance.bound.fields);
       read = done.read;
       uncut = done.uncut;
     }

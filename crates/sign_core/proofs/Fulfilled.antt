@@ -1,6 +1,8 @@
 -- What the wanted records of a request come to, one after the other.
-use Rattle.std.proofs.Common.{◌≡◌, ◌∙◌, ℕ, suc, ◌-◌, false, List, [], ◌∷◌, ◌++◌, Option, Some, refl, sym, ap, append_assoc}
+use Rattle.std.proofs.Common.{◌≡◌, ◌∙◌, ℕ, suc, ◌-◌, false, List, [], ◌∷◌, ◌++◌, Option, Some, refl, sym, ap}
+use Rattle.std.proofs.Common.{append_assoc, append-nil}
 use Rattle.std.specs.Prelude.{slice_index_or, if◌then◌else◌}
+use Rattle.std.specs.List.{concat}
 use Rattle.state_file.specs.Laws.{bottom_of}
 use Rattle.state_file.specs.declared.record.Key.{Key}
 use Rattle.state_file.specs.declared.record.Record.{Record}
@@ -13,6 +15,18 @@ use Rattle.sign_core.specs.World.{appended, drawing, extend_record, extended, ex
 -- bytes that are drawn one after the other
 pub drawing_twice : {A : Type 0} (a b : List ℕ) (outcome : Outcome A) → drawing a (drawing b outcome) ≡ drawing (a ++ b) outcome
 drawing_twice a b outcome = ap (λ bytes. record outcome { drawn = bytes }) (sym (append_assoc a b outcome.drawn))
+
+-- the fields of a new tree, and what was drawn after them
+pub fields_drawn : (identifier seed randomizer later last : List ℕ)
+    → identifier ++ ((seed ++ randomizer) ++ (later ++ last))
+    ≡ concat (identifier ∷ seed ∷ randomizer ∷ []) ++ later ++ last
+fields_drawn identifier seed randomizer later last =
+    let rest = later ++ last in
+    ap (λ bytes. identifier ++ bytes) (append_assoc seed randomizer rest)
+    ∙ ap (λ bytes. identifier ++ (seed ++ (bytes ++ rest))) (sym (append-nil randomizer))
+    ∙ ap (λ bytes. identifier ++ bytes) (sym (append_assoc seed (randomizer ++ []) rest))
+    ∙ sym (append_assoc identifier (seed ++ (randomizer ++ [])) rest)
+    ∙ sym (append_assoc (identifier ++ (seed ++ (randomizer ++ []))) later last)
 
 -- The new trees so far, each with a draw of which nothing failed: what is wanted comes to what is wanted after them.
 abbrev pub ComesTo : Key → (name : List ℕ) → (below : ℕ) → (records : List Record) → (done : List Draw) → (drawn : List ℕ) → (below' : ℕ) → (records' : List Record) → Type 0

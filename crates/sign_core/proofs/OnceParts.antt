@@ -127,10 +127,7 @@ signed_by key records level name message chance outcome inside done =
       count = done.count;
       each = λ i entry draw at is.
           subst (λ l. BeginsTree key (records ++ take i done.trees) (l + i + 1) draw.fields entry) here (done.each i entry draw at is);
-      named = done.named;
-      leaf = done.leaf;
-      randomizer = done.randomizer;
-      digest = done.digest;
+      binds = record { named = done.named; leaf = done.leaf; randomizer = done.randomizer; digest = done.digest };
       state = done.state;
       longer = ap (λ (s : State). length s.records) done.state
           ∙ omega (arith, length_push all (BoundRecord done.bound), length-append records done.trees, done.count, inside);

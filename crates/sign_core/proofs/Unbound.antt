@@ -87,9 +87,9 @@ binds_none limit state name other chance fault is not =
     let quiet = IsQuiet state.records in
     let settled : IsSettled quiet state =
     record { refused_for = λ fault other name named is not. refl; gives = λ signature fault name is not. refl; read = λ outcome quiet. quiet } in
-    settled_under quiet limit state name chance settled.refused_for (key_in state.records)
+    settled_under quiet limit state name chance settled.refused_for (key_in state.records) refl
     (λ key k bound. settled_repeated quiet state chance settled key k bound chance.given)
-    (λ key level keyed. quiet_fulfilled key name chance (bottom_of key.secret - level) chance.trees state.records) fault other is not
+    (λ key level wants. quiet_fulfilled key name chance (bottom_of key.secret - level) chance.trees state.records) fault other is not
 
 -- ---- retirings
 

@@ -1,31 +1,21 @@
--- What stands after a refusal: the old records, after a request with Extends alone, and perhaps the record whose append
--- failed.
-use Rattle.std.specs.Prelude.{◌≡◌, ◌⊎◌, ℕ, List, [], ◌∷◌, ◌++◌, slice_get, Some, None, Err}
+-- What stands after a refusal: the old records, after a request for a new name the trees, too, that it had begun, and
+-- perhaps the record whose append failed.
+use Rattle.std.specs.Prelude.{◌≡◌, ◌⊎◌, ℕ, ◌+◌, ◌-◌, ◌<◌, ◌≤◌, List, [], ◌∷◌, ◌++◌, length, take, slice_get}
+use Rattle.std.specs.Prelude.{Some, None, Err}
 use Rattle.typecodes.specs.declared.spec.Spec.{Spec}
 use Rattle.typecodes.specs.Spec.{IsSpec}
+use Rattle.state_file.specs.Laws.{bottom_of}
 use Rattle.state_file.specs.declared.record.Bound.{Bound}
-use Rattle.state_file.specs.declared.record.Extend.{Extend}
 use Rattle.state_file.specs.declared.record.Key.{Key}
 use Rattle.state_file.specs.declared.record.Record.{Record}
-use Rattle.state_file.specs.declared.record.Record.TheVariants.{Bound as BoundRecord, Extend as ExtendRecord}
-use Rattle.state_file.specs.declared.record.Record.TheVariants.{Key as KeyRecord, Retire}
+use Rattle.state_file.specs.declared.record.Record.TheVariants.{Bound as BoundRecord, Key as KeyRecord, Retire}
+use Rattle.state_file.specs.declared.record.Secret.{Secret}
 use Rattle.sign_core.specs.declared.fault.SignFault.{SignFault}
 use Rattle.sign_core.specs.declared.fault.SignFault.TheVariants.{StoreFailed}
-use Rattle.sign_core.specs.Once.{AreFields, key_sizes}
-use Rattle.sign_core.specs.Records.{binding_in}
-use Rattle.sign_core.specs.World.{Chance, Creation, Fate, Opening, Outcome, State, created, opened, requested, retired}
-
--- a record that makes a tree
-abbrev pub IsExtend : Record → Type 0
-IsExtend entry = (extend : Extend) × (entry ≡ ExtendRecord extend)
-
--- These records make trees, each of them.
-abbrev pub AreExtends : List Record → Type 0
-AreExtends records = (k : ℕ) (entry : Record) → slice_get records k ≡ Some entry → IsExtend entry
-
--- a record that binds this name
-abbrev pub IsBoundOf : (name : List ℕ) → Record → Type 0
-IsBoundOf name entry = (bound : Bound) × (entry ≡ BoundRecord bound) × (bound.name ≡ name)
+use Rattle.sign_core.specs.Once.{AreFields, BeginsTree, BindsName, IsActive, key_sizes}
+use Rattle.sign_core.specs.Records.{binding_in, deepest}
+use Rattle.sign_core.specs.World.{Chance, Creation, Draw, Fate, Opening, Outcome, State, created, new_key, opened}
+use Rattle.sign_core.specs.World.{requested, retired, secret_from}
 
 -- These records were acknowledged and stand. Only after 25 one more may stand, the one whose append failed, and it is
 -- such a record.
@@ -36,28 +26,79 @@ pub record Leaves {A : Type 0} (records : List Record) (IsWanted : Record → Ty
   pub cut : (entry : Record) → outcome.failed ≡ Some entry → (outcome.answer ≡ Err StoreFailed) × IsWanted entry
       × ((outcome.state.records ≡ records) ⊎ (outcome.state.records ≡ records ++ entry ∷ []))
 
--- A request for a name leaves the old records, and after them Extends alone, which bind no name. The record whose
--- append failed is one more Extend, or binds this name.
-pub record LeavesExtends (before : List Record) (name : List ℕ) (outcome : Outcome (List ℕ)) : Type 0 where
-  pub extends : List Record
-  pub are_extends : AreExtends extends
-  pub leaves : Leaves (before ++ extends) (λ entry. IsExtend entry ⊎ IsBoundOf name entry) outcome
-  pub unbound : (other : List ℕ) → binding_in (before ++ extends) other ≡ binding_in before other
+-- ---- a request for a new name
+
+-- A signer is open on the records of this key, the name isn't bound, and this level is the deepest with a free leaf.
+pub record WantsRecords (state : State) (name : List ℕ) (key : Key) (level : ℕ) : Type 0 where
+  pub active : IsActive state key
+  pub unbound : binding_in state.records name ≡ None
+  pub level_is : deepest key.secret state.records ≡ Some level
+
+-- The record begins a tree i + 1 levels below this one, made of what a request drew for it.
+pub record BeginsDrawn (key : Key) (before : List Record) (level : ℕ) (draws : List Draw) (i : ℕ) (entry : Record)
+    : Type 0 where
+  pub draw : Draw
+  pub is_draw : slice_get draws i ≡ Some draw
+  pub begins : BeginsTree key before (level + i + 1) draw.fields entry
+
+-- The record binds the name to the message that was given.
+pub record BindsGiven (key : Key) (before : List Record) (name : List ℕ) (chance : Chance) (entry : Record)
+    : Type 0 where
+  pub bound : Bound
+  pub is : entry ≡ BoundRecord bound
+  pub message : List ℕ
+  pub given : chance.given ≡ Some message
+  pub binds : BindsName key before name message chance.bound.fields bound
+
+-- the record that is wanted after these trees: the next one's, or after the last the name's binding
+abbrev pub IsNextWanted : Key → (before : List Record) → (level : ℕ) → (name : List ℕ) → Chance
+    → (trees : List Record) → Record → Type 0
+IsNextWanted key before level name chance trees entry =
+    ((length trees < bottom_of key.secret - level)
+    × BeginsDrawn key (before ++ trees) level chance.trees (length trees) entry)
+    ⊎ ((length trees ≡ bottom_of key.secret - level) × BindsGiven key (before ++ trees) name chance entry)
+
+-- The old records stand, and after them so many of the wanted trees, from the top down, each made of its draw; they
+-- bind no name. The record whose append failed is the next one that was wanted.
+pub record LeavesTrees (key : Key) (before : List Record) (level : ℕ) (name : List ℕ) (chance : Chance)
+    (outcome : Outcome (List ℕ)) : Type 0 where
+  pub trees : List Record
+  pub few : length trees ≤ bottom_of key.secret - level
+  pub each : (i : ℕ) (entry : Record) → slice_get trees i ≡ Some entry
+      → BeginsDrawn key (before ++ take i trees) level chance.trees i entry
+  pub leaves : Leaves (before ++ trees) (IsNextWanted key before level name chance trees) outcome
+  pub unbound : (other : List ℕ) → binding_in (before ++ trees) other ≡ binding_in before other
+
+-- What a request for a name leaves: the old records, or where it wants new ones, some of these.
+abbrev pub LeavesRequested : State → (name : List ℕ) → Chance → Outcome (List ℕ) → Type 0
+LeavesRequested state name chance outcome =
+    Leaves state.records (λ entry. ⊥) outcome
+    ⊎ ((key : Key) × (level : ℕ) × WantsRecords state name key level
+    × LeavesTrees key state.records level name chance outcome)
+
+-- ---- the other events
+
+-- the Key of the secret that was drawn
+abbrev pub IsDrawnKey : Spec → (fields : List (List ℕ)) → Record → Type 0
+IsDrawnKey spec fields entry =
+    (secret : Secret) × (secret_from spec fields ≡ Some secret) × (entry ≡ KeyRecord (new_key secret))
+
+-- ---- the law
 
 -- an event is refused
 abbrev pub IsRefusal : {A : Type 0} → Outcome A → Type 0
 IsRefusal outcome = (fault : SignFault) × (outcome.answer ≡ Err fault)
 
--- What each event leaves where it is refused: a request Extends alone, and every other event the old records, but for
--- the one record that it wanted.
+-- What each event leaves where it is refused: a request the trees that it had begun, every other event the old records,
+-- and each perhaps the one record more that it wanted next.
 pub record AfterRefusalLaw : Type 0 where
   pub request : (limit : ℕ) (state : State) (name : List ℕ) (chance : Chance)
       → IsRefusal (requested limit state name chance)
-      → LeavesExtends state.records name (requested limit state name chance)
+      → LeavesRequested state name chance (requested limit state name chance)
   pub retire : (limit : ℕ) (state : State) (upto : ℕ) (fate : Fate) → IsRefusal (retired limit state upto fate)
       → Leaves state.records (λ entry. entry ≡ Retire upto) (retired limit state upto fate)
   pub create : (state : State) (spec : Spec) (chance : Creation) → IsSpec spec
       → AreFields (key_sizes spec) chance.fields → IsRefusal (created state spec chance)
-      → Leaves state.records (λ entry. (key : Key) × (entry ≡ KeyRecord key)) (created state spec chance)
+      → Leaves state.records (IsDrawnKey spec chance.fields) (created state spec chance)
   pub opening : (state : State) (chance : Opening) → IsRefusal (opened state chance)
       → Leaves state.records (λ entry. ⊥) (opened state chance)

@@ -168,9 +168,21 @@ pub record BeginsTree (key : Key) (before : List Record) (level : ℕ) (fields :
   pub drawn : fields ≡ extend.identifier ∷ extend.seed ∷ extend.randomizer ∷ []
   pub new : has_identifier before extend.identifier ≡ false
 
+-- The bound binds this name to the next leaf of the bottom tree, to the C that was drawn and to the message's digest.
+pub record BindsName (key : Key) (before : List Record) (name message : List ℕ) (fields : List (List ℕ))
+    (bound : Bound) : Type 0 where
+  pub named : bound.name ≡ name
+  pub leaf : bound.leaf ≡ next_at key.secret before (bottom_of key.secret)
+  pub randomizer : randomizer_from key.secret fields ≡ Some bound.randomizer
+  pub digest : bound.digest ≡ digest_at key before (length before) bound.leaf bound.randomizer message
+
+-- all fields of some draws, one after the other
+abbrev pub bytes_drawn : List Draw → List ℕ
+bytes_drawn draws = concat (map (λ (draw : Draw). concat draw.fields) draws)
+
 -- all that is drawn where nothing is missing: for each new tree, and then for the binding
 abbrev pub all_drawn : Chance → List ℕ
-all_drawn chance = concat (map (λ draw. concat draw.fields) chance.trees) ++ concat chance.bound.fields
+all_drawn chance = bytes_drawn chance.trees ++ concat chance.bound.fields
 
 -- A new name is signed where this level is the deepest with a free leaf: a tree is begun for each level below it, and
 -- the name is bound to the next leaf of the bottom tree and to the message's digest. The answer is its signature.
@@ -182,11 +194,7 @@ pub record IsSigned (key : Key) (records : List Record) (level : ℕ) (name mess
   pub each : (i : ℕ) (entry : Record) (draw : Draw) → slice_get trees i ≡ Some entry
       → slice_get chance.trees i ≡ Some draw
       → BeginsTree key (records ++ take i trees) (level + i + 1) draw.fields entry
-  pub named : bound.name ≡ name
-  pub leaf : bound.leaf ≡ next_at key.secret (records ++ trees) (bottom_of key.secret)
-  pub randomizer : randomizer_from key.secret chance.bound.fields ≡ Some bound.randomizer
-  pub digest : bound.digest
-      ≡ digest_at key (records ++ trees) (length (records ++ trees)) bound.leaf bound.randomizer message
+  pub binds : BindsName key (records ++ trees) name message chance.bound.fields bound
   pub state : outcome.state ≡ open_on (records ++ trees ++ BoundRecord bound ∷ [])
   pub longer : length outcome.state.records ≡ length records + wanted_count key.secret level
   pub answer : outcome.answer
@@ -196,7 +204,8 @@ pub record IsSigned (key : Key) (records : List Record) (level : ℕ) (name mess
   pub uncut : outcome.failed ≡ None
 
 -- With these records there was one more draw for a new tree, after so many had been begun, and its I stands in them.
-pub record DrewAgain (before : List Record) (draws : List Draw) (left : List Record) : Type 0 where
+-- Nothing was drawn but all fields of those trees, and this I.
+pub record DrewAgain (before : List Record) (draws : List Draw) (left : List Record) (drawn : List ℕ) : Type 0 where
   pub begun : ℕ
   pub draw : Draw
   pub is_draw : slice_get draws begun ≡ Some draw
@@ -205,6 +214,7 @@ pub record DrewAgain (before : List Record) (draws : List Draw) (left : List Rec
   pub later : List (List ℕ)
   pub fields : draw.fields ≡ identifier ∷ later
   pub stands : has_identifier left identifier ≡ true
+  pub drawn_is : drawn ≡ bytes_drawn (take begun draws) ++ identifier
 
 -- ---- creates and openings
 
@@ -298,10 +308,11 @@ pub record IsOnce (limit : ℕ) (world : World) : Type 0 where
       → AreComplete key.secret (bottom_of key.secret - level) chance
       → ((requested limit world.state name chance).answer ≡ Err RandomRepeated)
       ⊎ IsSigned key world.state.records level name message chance (requested limit world.state name chance)
-  -- 24 comes only where an I that was drawn stands in the records
+  -- 24 comes only where the last I that was drawn stands in the records
   pub again : (name : List ℕ) (chance : Chance)
       → (requested limit world.state name chance).answer ≡ Err RandomRepeated
       → DrewAgain world.state.records chance.trees (requested limit world.state name chance).state.records
+      (requested limit world.state name chance).drawn
   -- a request draws I, SEED and C at most for each level below the top, and C for the binding, but XMSS nothing
   pub draws : (key : Key) (name : List ℕ) (chance : Chance) → key_in world.state.records ≡ Some key
       → AreDrawsOf key.secret chance
