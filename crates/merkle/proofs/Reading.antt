@@ -59,6 +59,14 @@ over_both i depth above =
     let e : depth - 1 + 1 ≡ depth = omega arith in
     sym (half_of i (depth - 1) ∙ ap (λ d. i / 2 ^ d) e)
 
+-- a node that isn't under the first half is under the second
+pub under_second : (i depth j p : ℕ) → 0 < depth → i / 2 ^ depth ≡ j → p ≡ 2 ^ (depth - 1) → i / p ≢ 2 * j
+    → i / 2 ^ (depth - 1) ≡ 2 * j + 1
+under_second i depth j p above under power other =
+    let other_half : (over : ℕ) → over / 2 ≡ j → over ≢ 2 * j → over ≡ 2 * j + 1
+    = λ over halved not_first. omega arith in
+    other_half (i / 2 ^ (depth - 1)) (sym (over_both i depth above) ∙ under) (λ e. other (ap (λ n. i / n) power ∙ e))
+
 -- where the index is even, a node's half is the first one, and its sibling's the second
 pub even_first : (i depth over : ℕ) → 0 < depth → over ≡ i / 2 ^ (depth - 1) → over % 2 ≡ 0 → 2 * (i / 2 ^ depth) ≡ over
 even_first i depth over above is even =

@@ -14,7 +14,7 @@ use std::marker::Model;
 /// A tree with its root and some of its nodes, so that paths cost few leaves. A block is the `2^b` leaves, and all
 /// nodes, under a node of height b, which is half of the tree's height, rounded down. Kept are the nodes from the
 /// blocks' roots upwards and one block, `2^(height - b + 1) + 2^(b + 1) - 2` nodes of 32 bytes in all. Its memory is
-/// taken by `new`, and no other call takes any.
+/// taken when it is made, by `new` or `for_leaf`, and no other call takes any.
 #[derive(Drop)]
 pub struct PathCache<T: TreeHash> {
     tree: T,
@@ -41,7 +41,7 @@ impl<T: TreeHash> Model for PathCache<T> {
 impl<T: TreeHash> PathCache<T> {
     /// The cache of a tree that has made no leaf. Each of its leaves is made, once, and the first block is kept. The
     /// caller keeps the height at most 25. Refuses only where memory is refused, and then lets the tree go.
-    pub fn new(alloc: Global, mut tree: T, height: u8) -> Result<PathCache<T>, OutOfMemory>
+    pub fn new(alloc: Global, tree: T, height: u8) -> Result<PathCache<T>, OutOfMemory>
     where
         T: Drop,
         requires height { height ≤ 25 }
@@ -51,16 +51,41 @@ impl<T: TreeHash> PathCache<T> {
         ensures joins { IfOk result (λ cache. T.join_of cache.tree ≡ T.join_of tree) }
         ensures nodes { IfOk result (KeepsNodes (T.leaf_of tree) (T.join_of tree) height 0) }
     {
+        Self::for_leaf(alloc, tree, height, 0)
+    }
+
+    /// As `new`, but the block of leaf `q` is kept in place of the first one: a path of one of its leaves then makes
+    /// none. Each leaf of the tree is made once, as by `new`. The caller keeps q below `2^height`.
+    pub fn for_leaf(
+        alloc: Global,
+        mut tree: T,
+        height: u8,
+        q: u32,
+    ) -> Result<PathCache<T>, OutOfMemory>
+    where
+        T: Drop,
+        requires height { height ≤ 25 }
+        requires fresh { T.made tree ≡ 0 }
+        requires inside { q < 2 ^ height }
+        ensures counted { IfOk result (λ cache. T.made cache.tree ≡ 2 ^ height) }
+        ensures leaves { IfOk result (λ cache. T.leaf_of cache.tree ≡ T.leaf_of tree) }
+        ensures joins { IfOk result (λ cache. T.join_of cache.tree ≡ T.join_of tree) }
+        ensures nodes { IfOk result
+            (KeepsNodes (T.leaf_of tree) (T.join_of tree) height (q / 2 ^ block_height height)) }
+    {
         let block_height = height / 2;
         let mut upper = nodes_of(alloc, height - block_height)?;
         let mut block = nodes_of(alloc, block_height)?;
-        fill(&mut tree, 0, block_height, 0, &mut block);
-        let first = block[block.len() - 1];
+        let kept = block_of(height, q);
+        fill(&mut tree, 0, block_height, kept, &mut block);
+        let block_root = block[block.len() - 1];
         fill_from(
             &mut tree,
             block_height,
             height - block_height,
-            &first,
+            0,
+            kept,
+            &block_root,
             &mut upper,
         );
         Ok(PathCache {
@@ -68,7 +93,7 @@ impl<T: TreeHash> PathCache<T> {
             height,
             upper,
             block,
-            kept: 0,
+            kept,
             leaves: 2u64.pow(u32::from(height)),
         })
     }
@@ -90,7 +115,7 @@ impl<T: TreeHash> PathCache<T> {
             (q / 2 ^ block_height self.old.height) self.new }
     {
         let block_height = self.height / 2;
-        let index = q / 2u32.pow(u32::from(block_height));
+        let index = block_of(self.height, q);
         self.keep(index);
         let (lower, upper) = into.split_at_mut(usize::from(block_height));
         read_path(&self.block, q, lower);
@@ -129,6 +154,16 @@ impl<T: TreeHash> PathCache<T> {
     {
         self.leaves
     }
+}
+
+// Which block leaf q stands in, from the left.
+fn block_of(height: u8, q: u32) -> u32
+    requires height { height ≤ 25 }
+    requires inside { q < 2 ^ height }
+    ensures index { result ≡ q / 2 ^ block_height height }
+    ensures inside { result < 2 ^ (height - block_height height) }
+{
+    q / 2u32.pow(u32::from(height / 2))
 }
 
 // Room for the nodes of a tree of this height.

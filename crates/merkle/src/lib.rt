@@ -4,9 +4,9 @@
 //! trees, `specs/Ascent.antt`, the nodes through which a path leads, and `specs/Nodes.antt` with
 //! `specs/Cache.antt`, which nodes a cache keeps. Its contract for the crates above: `root` and
 //! `path` are those of the model, from as many leaves as they need; so are those of a `PathCache`,
-//! which makes each leaf once and then, for a path, the leaves of one block at most;
-//! `root_from_path` gives the last node of the ascent, and the path of leaf q leads from it to the
-//! root.
+//! which makes each leaf once, keeping the first block or that of a leaf, and then, for a path, the
+//! leaves of one block at most; `root_from_path` gives the last node of the ascent, and the path of
+//! leaf q leads from it to the root.
 //!
 //! ```rust
 //! use merkle::{PathCache, path, root, root_from_path};
@@ -23,6 +23,11 @@
 //! assert_eq!(rt; cache.root(), top);
 //! cache.path_at(3, &mut nodes);
 //! assert_eq!(rt; cache.leaves_made(), 4 + 2);
+//!
+//! // and of one whose first path is that of leaf 3
+//! let mut cache = PathCache::for_leaf(rt.alloc(), another, 2, 3)?;
+//! cache.path_at(3, &mut nodes);
+//! assert_eq!(rt; cache.leaves_made(), 4);
 //! ```
 #![tactic(auto)]
 

@@ -36,33 +36,45 @@ pub(crate) fn fill<T: TreeHash>(
     top[0] = tree.join(base + below, index, &left[half - 1], &right[half - 1]);
 }
 
-/// As `fill` of node 0, where the first node of height `base` is known: its leaves aren't made again.
+/// As `fill`, where one node of height `base` under the node is known: its leaves aren't made again.
 pub(crate) fn fill_from<T: TreeHash>(
     tree: &mut T,
     base: u8,
     depth: u8,
-    first: &[u8; 32],
+    index: u32,
+    known_index: u32,
+    known: &[u8; 32],
     into: &mut [[u8; 32]],
 )
     requires height { base + depth ≤ 25 }
-    requires first { first.now ≡ node (T.leaf_of tree.old) (T.join_of tree.old) base 0 }
+    requires inside { index < 2 ^ (25 - (base + depth)) }
+    requires under { known_index / 2 ^ depth ≡ index }
+    requires known { known.now ≡ node (T.leaf_of tree.old) (T.join_of tree.old) base known_index }
     requires room { length into.old + 1 ≡ 2 ^ (depth + 1) }
-    ensures value { into.new ≡ nodes_under (T.leaf_of tree.old) (T.join_of tree.old) base depth 0 }
+    ensures value { into.new ≡ nodes_under (T.leaf_of tree.old) (T.join_of tree.old) base depth index }
     ensures counted { T.made tree.new + 2 ^ base ≡ T.made tree.old + 2 ^ (base + depth) }
     ensures leaves { T.leaf_of tree.new ≡ T.leaf_of tree.old }
     ensures joins { T.join_of tree.new ≡ T.join_of tree.old }
 {
     if depth == 0 {
-        into[0] = *first;
+        into[0] = *known;
         return;
     }
     let below = depth - 1;
     let half = into.len() / 2;
     let (left, rest) = into.split_at_mut(half);
     let (right, top) = rest.split_at_mut(half);
-    fill_from(tree, base, below, first, left);
-    fill(tree, base, below, 1, right);
-    top[0] = tree.join(base + below, 0, &left[half - 1], &right[half - 1]);
+    // Which of the two children is over the known node.
+    let over = known_index / 2u32.pow(u32::from(below));
+    if over == 2 * index {
+        fill_from(tree, base, below, 2 * index, known_index, known, left);
+        fill(tree, base, below, 2 * index + 1, right);
+        top[0] = tree.join(base + below, index, &left[half - 1], &right[half - 1]);
+    } else {
+        fill(tree, base, below, 2 * index, left);
+        fill_from(tree, base, below, 2 * index + 1, known_index, known, right);
+        top[0] = tree.join(base + below, index, &left[half - 1], &right[half - 1]);
+    }
 }
 
 /// Reads the siblings of the lowest node `i` and of the nodes over it from a list that `fill` wrote, the lowest first.

@@ -6,7 +6,7 @@ use crate::ascent::root_from_path;
 use crate::cache::PathCache;
 use crate::out_of_memory::OutOfMemory;
 use crate::sums::{Sums, node};
-use crate::tree::TreeHash;
+use crate::tree::{TreeHash, path, root};
 use std::alloc::Global;
 use std::test::Fail;
 
@@ -127,6 +127,64 @@ fn caches_have_their_sizes(rt: HostRuntime) -> Result<(), Fail> {
         assert!(rt;
             has_size(rt.alloc(), height, block, most)?,
             "at height {height}"
+        );
+    }
+    Ok(())
+}
+
+// The height of a tree, the leaf that a cache is made for, another leaf, in another block where there is one, and how
+// many leaves the other one's path makes afterwards.
+const LEAVES: [(u8, u32, u32, u64); 14] = [
+    (0, 0, 0, 0),
+    (1, 0, 1, 1),
+    (1, 1, 0, 1),
+    (5, 0, 4, 4),
+    (5, 3, 31, 4),
+    (5, 12, 11, 4),
+    (5, 15, 16, 4),
+    (5, 16, 0, 4),
+    (5, 31, 27, 4),
+    (10, 0, 32, 32),
+    (10, 480, 479, 32),
+    (10, 511, 512, 32),
+    (10, 512, 1023, 32),
+    (10, 1023, 0, 32),
+];
+
+// Whether a cache for leaf q has made each leaf once, gives the root and q's path as a tree without a cache does, makes
+// no leaf for them, and so many for the path of the other leaf.
+fn begins_with_block(
+    alloc: Global,
+    height: u8,
+    q: u32,
+    other: u32,
+    made: u64,
+) -> Result<bool, OutOfMemory> {
+    if height > 10 {
+        return Ok(false);
+    }
+    let leaves = 2u32.pow(u32::from(height));
+    if q >= leaves {
+        return Ok(false);
+    }
+    let mut cache = PathCache::for_leaf(alloc, Sums::new(), height, q)?;
+    let counted = cache.tree.made == leaves && cache.leaves_made() == u64::from(leaves);
+    let mut tree = Sums::new();
+    let mut plain = [[0; 32]; 10];
+    path(&mut tree, height, q, &mut plain[..usize::from(height)]);
+    let mut nodes = [[0; 32]; 10];
+    let none = growth(&mut cache, q, &mut nodes[..usize::from(height)]) == Some(0);
+    let same = nodes == plain && cache.root() == root(&mut tree, height);
+    let more = growth(&mut cache, other, &mut nodes[..usize::from(height)]) == Some(made);
+    Ok(counted && none && same && more)
+}
+
+#[test]
+fn caches_begin_with_the_block_of_a_leaf(rt: HostRuntime) -> Result<(), Fail> {
+    for (height, q, other, made) in LEAVES {
+        assert!(rt;
+            begins_with_block(rt.alloc(), height, q, other, made)?,
+            "at height {height}, leaf {q}"
         );
     }
     Ok(())

@@ -2,26 +2,17 @@ use Rattle.std.proofs.Common.{arith, sym, ap, subst, ◌∙◌, ◌≡◌, ◌<�
 use Rattle.std.proofs.Math.Nat.{div-eq_of_lt}
 use Rattle.merkle.specs.Nodes.{nodes_under}
 use Rattle.merkle.specs.Cache.{block_height, block_nodes}
-use Rattle.merkle.proofs.Kept.{block_count, index_inside, whole_path, upper_count}
+use Rattle.merkle.proofs.Kept.{block_count, whole_path, upper_count}
 use Rattle.merkle.proofs.Reading.{read_below}
 use Rattle.merkle.proofs.cache.PathCache.path_at.Goals as goal
-
-pub keep-requires : goal.keep-requires
-keep-requires g c =
-    let height = c.args.self.now.height in
-    let same : c.self.inside.height ≡ height = ap (λ v. v.height) c.self.view_is in
-    let power : c.pow.result ≡ 2 ^ block_height height
-    = c.pow.ensures ∙ ap (λ n. 2 ^ n) (c.from.ensures ∙ ap block_height same) in
-    let P : ℕ → Type 0 = λ p. c.args.q / p < 2 ^ (height - block_height height) in
-    subst P (sym power) (index_inside height c.args.q c.requires.inside)
 
 pub read_path-requires-clause-whole : goal.read_path-requires-clause-whole
 read_path-requires-clause-whole g c =
     let height = c.args.self.now.height in
     let same : c.self.inside.height ≡ height = ap (λ v. v.height) c.self.view_is in
     let long : length c.split_at_mut-lower.result.0.now ≡ block_height height
-    = c.split_at_mut-lower.ensures.front_len ∙ c.from-2.ensures ∙ ap block_height same in
-    block_count _ _ height (c.args.q / c.pow.result) c.deref.result.now
+    = c.split_at_mut-lower.ensures.front_len ∙ c.from.ensures ∙ ap block_height same in
+    block_count _ _ height c.block_of-index.result c.deref.result.now
     (c.deref.ensures.value ∙ ap (λ v. v.block) c.self-2.view_is ∙ c.keep.ensures.nodes.block_kept)
     ∙ ap (λ n. 2 ^ (n + 1)) (sym long)
 
@@ -29,7 +20,7 @@ pub read_path-requires-2-clause-whole : goal.read_path-requires-2-clause-whole
 read_path-requires-2-clause-whole g c =
     let height = c.args.self.now.height in
     let same : c.self.inside.height ≡ height = ap (λ v. v.height) c.self.view_is in
-    let below : c.from-2.result ≡ block_height height = c.from-2.ensures ∙ ap block_height same in
+    let below : c.from.result ≡ block_height height = c.from.ensures ∙ ap block_height same in
     let long : length c.split_at_mut-lower.result.1.now ≡ height - block_height height = omega arith in
     upper_count _ _ height c.deref-2.result.now
     (c.deref-2.ensures.value ∙ ap (λ v. v.upper) c.self-2.view_is ∙ c.keep.ensures.nodes.upper_kept)
@@ -41,14 +32,13 @@ returns-clause-value g c =
     let join = g.T.NodeHash.join_of c.args.self.now.tree in
     let height = c.args.self.now.height in
     let b = block_height height in
-    let index = c.args.q / c.pow.result in
+    let index = c.block_of-index.result in
     let same : c.self.inside.height ≡ height = ap (λ v. v.height) c.self.view_is in
-    let below : c.from-2.result ≡ b = c.from-2.ensures ∙ ap block_height same in
+    let below : c.from.result ≡ b = c.from.ensures ∙ ap block_height same in
     let at : index ≡ c.args.q / 2 ^ b
-    = ap (λ p. c.args.q / p) (c.pow.ensures ∙ ap (λ n. 2 ^ n) (c.from.ensures ∙ ap block_height same)) in
-    let P : ℕ → Type 0 = λ i. i < 2 ^ (height - b) in
-    let first : index / 2 ^ (height - b) ≡ 0
-    = div-eq_of_lt (subst P (sym at) (index_inside height c.args.q c.requires.inside)) in
+    = c.block_of-index.ensures.index ∙ ap (λ h. c.args.q / 2 ^ block_height h) same in
+    let P : ℕ → Type 0 = λ h. index < 2 ^ (h - block_height h) in
+    let first : index / 2 ^ (height - b) ≡ 0 = div-eq_of_lt (subst P same c.block_of-index.ensures.inside) in
     let lower_long : length c.split_at_mut-lower.result.0.now ≡ b = omega arith in
     let upper_long : length c.split_at_mut-lower.result.1.now ≡ height - b = omega arith in
     whole_path leaf join height c.args.q index c.read_path.new.into c.read_path-2.new.into

@@ -1,0 +1,26 @@
+use Rattle.std.proofs.Common.{arith, sym, ap, ◌∙◌, ◌≡◌, ◌-◌, ◌+◌, ◌/◌}
+use Rattle.std.proofs.lemmas.Grind.{pow_more}
+use Rattle.std.proofs.lemmas.List.{with_items_is}
+use Rattle.std.proofs.lemmas.Nat.{pow_pos}
+use Rattle.merkle.specs.Tree.{node}
+use Rattle.merkle.proofs.Kept.{block_inside}
+use Rattle.merkle.proofs.Listing.{nodes_last}
+use Rattle.merkle.proofs.cache.PathCache.for_leaf.Goals as goal
+
+pub fill-requires-clause-inside : goal.fill-requires-clause-inside
+fill-requires-clause-inside g c =
+    block_inside c.args.height c.block_of-kept.result c.requires.height c.block_of-kept.ensures.inside
+
+pub fill_from-requires-clause-known : goal.fill_from-requires-clause-known
+fill_from-requires-clause-known g c =
+    let leaf = g.T.TreeHash.leaf_of c.args.tree in
+    let join = g.T.NodeHash.join_of c.args.tree in
+    let kept = c.block_of-kept.result in
+    let high : 0 + c.args.height / 2 ≡ c.args.height / 2 = omega arith in
+    c.index.ensures
+    ∙ nodes_last leaf join 0 (c.args.height / 2) kept (c.len.result - 1) _ c.index.result.now
+    (with_items_is c.in_ok-block.block c.fill.new.into (omega arith) ∙ c.fill.ensures.value)
+    (omega (arith, c.in_ok-block.ensures, pow_more 2 (c.args.height / 2), pow_pos (c.args.height / 2)))
+    ∙ ap (λ h. node leaf join h kept) high
+    ∙ ap (λ l. node l join (c.args.height / 2) kept) (sym c.fill.ensures.leaves)
+    ∙ ap (λ j. node (g.T.TreeHash.leaf_of c.fill.new.tree) j (c.args.height / 2) kept) (sym c.fill.ensures.joins)
