@@ -24,8 +24,8 @@ use Rattle.sign_core.specs.Once.{AreDrawsOf, AreFields, IsTreeDraw, randomizer_s
 use Rattle.sign_core.specs.Signer.{Ends, IsRead, KeepsAtRefusal, LacksTree, RefusesAfterDraws}
 use Rattle.sign_core.specs.Signer.{UnlessAppended, UsesMemory}
 use Rattle.sign_core.specs.Signer.{View}
-use Rattle.sign_core.specs.Signer.{is_before_caches, is_before_draws, is_fault, is_random_failed, signature_size}
-use Rattle.sign_core.specs.Signer.{state_of}
+use Rattle.sign_core.specs.Signer.{is_before_caches, is_before_draws, is_before_repeat, is_fault, is_random_failed}
+use Rattle.sign_core.specs.Signer.{signature_size, state_of}
 use Rattle.sign_core.specs.World.{Chance, Draw, Outcome, State, acked, answered, bound_sound, extended, fulfilled}
 use Rattle.sign_core.specs.World.{open_on, requested_of}
 use Rattle.sign_core.specs.Textbook.{Trees, damaged_in, secret_at, signature_by, signing_of_bound, signings_above}
@@ -215,6 +215,15 @@ abbrev pub RepeatsBinding : {M : Type 0} → message.Ghosts M → State → Cach
     → (capacity : ℕ) → Result (List ℕ) SignFault → Type 0
 RepeatsBinding m state cached binding before after capacity answer = UnderKey state.records (λ key. (name : List ℕ)
     → IsBindingOf state.records binding key name → Repeats m state cached before after capacity answer key name)
+
+-- So it is by caches that were taken out, which an answer that comes before they are needed leaves as they were. The
+-- output's memory isn't given away.
+pub record RepeatsBy {M Z A : Type 0} (m : message.Ghosts M) (state : State) (binding : Binding)
+    (old_caches new_caches : Cached) (before after : M) (old new : Vec ℕ Z) (result : Result A SignFault)
+    : Type 0 where
+  pub step : RepeatsBinding m state old_caches binding before after (vec_capacity old) (answered_with result new.items)
+  pub capacity : KeepsCapacity old new
+  pub early : is_fault is_before_repeat result ≡ true → new_caches ≡ old_caches
 
 -- ---- an XMSS key
 

@@ -10,8 +10,7 @@ ghost use Rattle.sign_core.specs.Records.{binding_in, deepest, has_moved};
 ghost use Rattle.sign_core.specs.Request.{IsScheme, Prepares};
 ghost use Rattle.sign_core.specs.Signer.{KeepsAll, KeepsForRepeat, Signs, is_before_repeat, is_fault, state_of};
 ghost use Rattle.sign_core.specs.Signing.{Binds, CanBind, IsSomeBinding, IsXmssKey, KeepsCapacity, RepeatsBinding};
-ghost use Rattle.sign_core.specs.Signing.{UnderKey};
-ghost use Rattle.sign_core.specs.Signing.{answered_with};
+ghost use Rattle.sign_core.specs.Signing.{RepeatsBy, UnderKey, answered_with};
 ghost use Rattle.sign_core.specs.Links.{AreTreesOf};
 
 use super::Signer;
@@ -172,10 +171,8 @@ impl<S: Store, R: Source> Signer<S, R> {
         out: &mut Vec<u8>,
     ) -> Result<(), SignFault>
         requires kept { IsSomeBinding self.now.records binding.now }
-        ensures step { RepeatsBinding M.Message (state_of self.now) caches.old binding.now message.old message.new
-            (vec_capacity out.old) (answered_with result out.new.items) }
-        ensures capacity { KeepsCapacity out.old out.new }
-        ensures early { is_fault is_before_repeat result ≡ true → caches.new ≡ caches.old }
+        ensures { RepeatsBy M.Message (state_of self.now) binding.now caches.old caches.new message.old message.new
+            out.old out.new result }
     {
         match Scheme::of(&self.ledger.key().secret) {
             Scheme::Chain(trees) => self.repeat_chain(caches, &trees, binding, message, out),

@@ -10,9 +10,9 @@ ghost use Rattle.sign_core.specs.Caches.{LacksCache};
 ghost use Rattle.sign_core.specs.Records.{free_at};
 ghost use Rattle.sign_core.specs.Links.{AreTreesOf, trees_in};
 ghost use Rattle.sign_core.specs.Signing.{Binds, CanBind, ChainStands, DrawsTree, Extends, Fulfils, IsReady};
-ghost use Rattle.sign_core.specs.Signing.{IsSomeBinding, IsXmssKey, KeepsCapacity, RepeatsBinding, UnderKey};
+ghost use Rattle.sign_core.specs.Signing.{IsSomeBinding, IsXmssKey, KeepsCapacity, RepeatsBy, UnderKey};
 ghost use Rattle.sign_core.specs.Signing.{answered_with};
-ghost use Rattle.sign_core.specs.Signer.{is_before_repeat, is_fault, signature_size, state_of};
+ghost use Rattle.sign_core.specs.Signer.{signature_size, state_of};
 
 use crate::caches::Caches;
 use crate::fault::SignFault;
@@ -278,10 +278,8 @@ impl<S: Store, R: Source> Signer<S, R> {
     ) -> Result<(), SignFault>
         requires trees { UnderKey self.now.records (AreTreesOf trees.now) }
         requires kept { IsSomeBinding self.now.records binding.now }
-        ensures step { RepeatsBinding M.Message (state_of self.now) caches.old binding.now message.old message.new
-            (vec_capacity out.old) (answered_with result out.new.items) }
-        ensures capacity { KeepsCapacity out.old out.new }
-        ensures early { is_fault is_before_repeat result ≡ true → caches.new ≡ caches.old }
+        ensures { RepeatsBy M.Message (state_of self.now) binding.now caches.old caches.new message.old message.new
+            out.old out.new result }
     {
         let Binding {
             leaf,
@@ -329,10 +327,8 @@ impl<S: Store, R: Source> Signer<S, R> {
     ) -> Result<(), SignFault>
         requires key { UnderKey self.now.records (IsXmssKey secret.now) }
         requires kept { IsSomeBinding self.now.records binding.now }
-        ensures step { RepeatsBinding M.Message (state_of self.now) caches.old binding.now message.old message.new
-            (vec_capacity out.old) (answered_with result out.new.items) }
-        ensures capacity { KeepsCapacity out.old out.new }
-        ensures early { is_fault is_before_repeat result ≡ true → caches.new ≡ caches.old }
+        ensures { RepeatsBy M.Message (state_of self.now) binding.now caches.old caches.new message.old message.new
+            out.old out.new result }
     {
         let leaf = binding.leaf;
         let root = self.ledger.key().root;
