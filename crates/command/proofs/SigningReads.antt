@@ -56,20 +56,9 @@ signs_followed : {S R M : Type 0} (g : store.Ghosts S) (r : source.Ghosts R) (m 
     → Signs g r m old new name before after capacity answer
     → Signs g r message_file old new name (as_file m trace_of before) (as_file m trace_of after) capacity answer
 signs_followed g r m role_of trace_of notes old new name before after capacity answer is signs = record {
-  key = signs.key;
-  keyed = signs.keyed;
-  chance = signs.chance;
-  outcome = signs.outcome;
-  step = signs.step;
-  ends = signs.ends;
-  possible = signs.possible;
-  source = signs.source;
-  failures = signs.failures;
-  message = read_followed m role_of trace_of notes signs.outcome.is_read signs.chance.given before after is signs.message;
-  room = signs.room;
-  refusals = signs.refusals;
-  memory = signs.memory;
-  keeps = signs.keeps;
+  answers = signs.answers;
+  message = read_followed m role_of trace_of notes signs.answers.outcome.is_read signs.answers.chance.given before after
+      is signs.message;
 }
 
 pub signs_on_followed : {K R M : Type 0} {bound : _} (d : disk.Ghosts K) (g : store.Ghosts (FileStore K bound)) (r : source.Ghosts R)
@@ -110,4 +99,4 @@ pub signs_on_stays : {K R M X : Type 0} {bound : _} (d : disk.Ghosts K) (g : sto
     → SignsOn {bound = bound} d g r m old new random name before after capacity output answer → part after ≡ part before
 signs_on_stays d g r m part kept old new random name before after capacity output answer (inl (refusal, refused, same, opens)) = ap part same
 signs_on_stays d g r m part kept old new random name before after capacity output answer (inr (opened, left, opens, (signed, signs, gives), disk)) =
-    read_stays m part kept signs.outcome.is_read signs.chance.given before after signs.message
+    read_stays m part kept signs.answers.outcome.is_read signs.answers.chance.given before after signs.message

@@ -253,9 +253,9 @@ module _ {P X : Type 0} (p : message.Ghosts P) (part : P → X)
   pub asks_stays : {S R : Type 0} (g : store.Ghosts S) (r : source.Ghosts R) (name : List ℕ) (old new : View S R) (before after : P) (capacity : ℕ)
       (signature : List ℕ) (reply : Reply) → Asks g r p name old new before after capacity signature reply → part after ≡ part before
   asks_stays g r name old new before after capacity signature Signed (is_name, signs, repeat) =
-      read_stays signs.outcome.is_read signs.chance.given before after signs.message
+      read_stays signs.answers.outcome.is_read signs.answers.chance.given before after signs.message
   asks_stays g r name old new before after capacity signature (Refused e) (is_name, signs, repeat) =
-      read_stays signs.outcome.is_read signs.chance.given before after signs.message
+      read_stays signs.answers.outcome.is_read signs.answers.chance.given before after signs.message
   asks_stays g r name old new before after capacity signature BadName (no_name, same, stay) = ap part stay
 
 -- ---- answers
@@ -263,25 +263,11 @@ module _ {P X : Type 0} (p : message.Ghosts P) (part : P → X)
 -- a call of sign, by what its message gave
 signs_given : {S R P : Type 0} (g : store.Ghosts S) (r : source.Ghosts R) (p : message.Ghosts P) (old new : View S R) (name : List ℕ) (before after : P)
     (capacity : ℕ) (answer : Result (List ℕ) SignFault) (given : Option (List ℕ)) (signs : Signs g r p old new name before after capacity answer)
-    → (IsSome (binding_in old.records name) → KeepsForRepeat old new (is_fault is_before_repeat answer)) → (signs.outcome.is_read ≡ true → signs.chance.given ≡ given)
+    → (IsSome (binding_in old.records name) → KeepsForRepeat old new (is_fault is_before_repeat answer))
+    → (signs.answers.outcome.is_read ≡ true → signs.answers.chance.given ≡ given)
     → SignsGiven g r old new name given capacity answer
-signs_given g r p old new name before after capacity answer given signs repeat tie = record {
-  key = signs.key;
-  keyed = signs.keyed;
-  chance = signs.chance;
-  outcome = signs.outcome;
-  step = signs.step;
-  ends = signs.ends;
-  possible = signs.possible;
-  source = signs.source;
-  failures = signs.failures;
-  message = tie;
-  room = signs.room;
-  refusals = signs.refusals;
-  memory = signs.memory;
-  keeps = signs.keeps;
-  repeat = repeat;
-}
+signs_given g r p old new name before after capacity answer given signs repeat tie =
+    record { answers = signs.answers; message = tie; repeat = repeat }
 
 says_unread : (e : SignFault) → is_unread (Refused e) ≡ true → ◌≡◌ {A = Result (List ℕ) SignFault} (Err e) (Err fault.MessageRead)
 says_unread fault.MessageRead is = refl
@@ -296,11 +282,14 @@ module _ {S R P M : Type 0} (g : store.Ghosts S) (r : source.Ghosts R) (p : mess
   signed_to : (answer : Result (List ℕ) SignFault) (unread whole : Bool) → left_of before < 2 ^ 32
       → (signs : Signs g r p old new name before middle capacity answer) → (unread ≡ true → answer ≡ Err fault.MessageRead)
       → (answer ≡ Err fault.MessageRead → unread ≡ true) → Finishes p unread middle after whole
-      → ReadTo m name (left_of before) signs.outcome.is_read signs.chance.given (input_of before) (input_of after) whole
+      → ReadTo m name (left_of before) signs.answers.outcome.is_read signs.answers.chance.given (input_of before)
+      (input_of after) whole
   signed_to answer unread whole bound signs says said finishes =
-      let reported = subst (λ (o : Outcome (List ℕ)). IsReported signs.chance.given o) signs.step (is_reported (g.most old.store) (state_of old) name signs.chance) in
-      let answered = signs.ends.answer_is in
-      read_to p m input_of left_of is name signs.outcome.is_read signs.chance.given before middle after answer unread whole bound signs.message
+      let reported = subst (λ (o : Outcome (List ℕ)). IsReported signs.answers.chance.given o) signs.answers.step
+      (is_reported (g.most old.store) (state_of old) name signs.answers.chance) in
+      let answered = signs.answers.ends.answer_is in
+      read_to p m input_of left_of is name signs.answers.outcome.is_read signs.answers.chance.given before middle after
+      answer unread whole bound signs.message
       (λ is. reported.unread (answered ∙ is)) (λ known none. sym answered ∙ reported.reported known none) says said finishes
 
   pub answered_frame : (reply : Reply) (whole : Bool) (room : ℕ) → left_of before < 2 ^ 32 → capacity ≤ room
@@ -367,9 +356,11 @@ module _ {S R P : Type 0} (g : store.Ghosts S) (r : source.Ghosts R) (p : messag
       → Signs g r p old new name before middle capacity (Err e) → Finishes p unread middle after whole → WasReadOrFailed p after
   after_refusal e false says signs finishes = after_finishing p middle after whole finishes
   after_refusal e true says signs (none, same) =
-      let reported = subst (λ (o : Outcome (List ℕ)). IsReported signs.chance.given o) signs.step (is_reported (g.most old.store) (state_of old) name signs.chance) in
-      let (known, nothing) = reported.unread (signs.ends.answer_is ∙ says refl) in
-      after_unread p signs.outcome.is_read signs.chance.given before middle after known nothing signs.message same
+      let reported = subst (λ (o : Outcome (List ℕ)). IsReported signs.answers.chance.given o) signs.answers.step
+      (is_reported (g.most old.store) (state_of old) name signs.answers.chance) in
+      let (known, nothing) = reported.unread (signs.answers.ends.answer_is ∙ says refl) in
+      after_unread p signs.answers.outcome.is_read signs.answers.chance.given before middle after known nothing
+      signs.message same
 
   pub after_answer : (reply : Reply) → Asks g r p name old new before middle capacity signature reply → Finishes p (is_unread reply) middle after whole
       → WasReadOrFailed p after

@@ -81,27 +81,33 @@ hands_out m name (Some text) is_read before later (Err fault) handed reads read 
 signs_in : {S R M : Type 0} (g : store.Ghosts S) (r : source.Ghosts R) (m : message.Ghosts M) (old new : View S R) (name : List ℕ) (before later : M)
     (capacity : ℕ) (answer : Result (List ℕ) SignFault) (handed : List Handed) → IsOpenSigner g old → IsName name
     → (signs : Signs g r m old new name before later capacity answer)
-    → SignsInWorld g m handed (request name signs.chance) old new name before later answer
+    → SignsInWorld g m handed (request name signs.answers.chance) old new name before later answer
 signs_in g r m old new name before later capacity answer handed signer is_name signs =
     let limit = g.most old.store in
     let world = world_of (state_of old) handed in
-    let event = request name signs.chance in
-    let mine = requested limit (state_of old) name signs.chance in
-    let moments = signs.ends.store.moments signer.honest (signer.signer.tied signer.is_open).running in
+    let event = request name signs.answers.chance in
+    let mine = requested limit (state_of old) name signs.answers.chance in
+    let moments = signs.answers.ends.store.moments signer.honest (signer.signer.tied signer.is_open).running in
     let leaves = subst (λ (o : Outcome (List ℕ)). LeavesOnly g.moment g.left_since old.store new.store (IsBeginning (length old.records) (reached o)))
-    (sym signs.step) moments in
-    let answers : mine.answer ≡ answer = ap (λ (o : Outcome (List ℕ)). o.answer) signs.step ∙ signs.ends.answer_is in
-    let out = hands_out m name signs.chance.given mine.is_read before later mine.answer handed
-    (λ signature is. signed_read limit (state_of old) name signature signs.chance is)
-    (subst (λ (o : Outcome (List ℕ)). IsRead m o.is_read signs.chance.given before later) (sym signs.step) signs.message) in
+    (sym signs.answers.step) moments in
+    let answers : mine.answer ≡ answer =
+    ap (λ (o : Outcome (List ℕ)). o.answer) signs.answers.step ∙ signs.answers.ends.answer_is in
+    let out = hands_out m name signs.answers.chance.given mine.is_read before later mine.answer handed
+    (λ signature is. signed_read limit (state_of old) name signature signs.answers.chance is)
+    (subst (λ (o : Outcome (List ℕ)). IsRead m o.is_read signs.answers.chance.given before later)
+    (sym signs.answers.step) signs.message) in
     record {
       is = record {
-        is_call = record { possible = (is_name, draws_of signs.key.secret signs.chance signs.possible); leaves = inl leaves };
-        honest = signs.ends.store.honest;
+        is_call = record {
+          possible = (is_name, draws_of signs.answers.key.secret signs.answers.chance signs.answers.possible);
+          leaves = inl leaves;
+        };
+        honest = signs.answers.ends.store.honest;
       };
-      leaves = is_after new (after limit world event) mine signs.outcome signs.step refl (open_acknowledged limit world event) signs.ends.records
-          signs.ends.is_open;
-      hands = subst (λ a. HandsOut m name before later a handed (handed ++ handed_with name signs.chance.given mine.answer)) answers out;
+      leaves = is_after new (after limit world event) mine signs.answers.outcome signs.answers.step refl
+          (open_acknowledged limit world event) signs.answers.ends.records signs.answers.ends.is_open;
+      hands = subst (λ a. HandsOut m name before later a handed
+          (handed ++ handed_with name signs.answers.chance.given mine.answer)) answers out;
     }
 
 retires_in : {S R : Type 0} (g : store.Ghosts S) (old new : View S R) (upto : ℕ) (answer : Result (Unit {0}) SignFault) (handed : List Handed)
@@ -143,19 +149,25 @@ retire_stays limit world upto fate closed =
 
 refuses_in : {S R M : Type 0} (g : store.Ghosts S) (r : source.Ghosts R) (m : message.Ghosts M) (old new : View S R) (name : List ℕ) (before later : M)
     (capacity : ℕ) (answer : Result (List ℕ) SignFault) (world : World) → AreClosed old world → IsName name
-    → (signs : Signs g r m old new name before later capacity answer) → IsRefusedCall g world (request name signs.chance) old new answer
+    → (signs : Signs g r m old new name before later capacity answer)
+    → IsRefusedCall g world (request name signs.answers.chance) old new answer
 refuses_in g r m old new name before later capacity answer world closed is_name signs =
     let limit = g.most old.store in
-    let is : refused (state_of old) Stopped ≡ signs.outcome =
-    sym (closed_under limit (state_of old) name signs.chance (key_in old.records) closed.is_closed) ∙ signs.step in
-    let answer_is : answer ≡ Err Stopped = sym (ap (λ (o : Outcome (List ℕ)). o.answer) is ∙ signs.ends.answer_is) in
-    let keeps = signs.keeps.at_once (ap (is_fault is_before_draws) answer_is) in
+    let is : refused (state_of old) Stopped ≡ signs.answers.outcome =
+    sym (closed_under limit (state_of old) name signs.answers.chance (key_in old.records) closed.is_closed)
+    ∙ signs.answers.step in
+    let answer_is : answer ≡ Err Stopped =
+    sym (ap (λ (o : Outcome (List ℕ)). o.answer) is ∙ signs.answers.ends.answer_is) in
+    let keeps = signs.answers.keeps.at_once (ap (is_fault is_before_draws) answer_is) in
     record {
       answer_is = answer_is;
       is_open = keeps.is_open ∙ closed.is_closed;
       store = keeps.store;
-      is_call = record { possible = (is_name, draws_of signs.key.secret signs.chance signs.possible); leaves = inr keeps.store };
-      stays = request_stays limit world name signs.chance closed.none_open;
+      is_call = record {
+        possible = (is_name, draws_of signs.answers.key.secret signs.answers.chance signs.answers.possible);
+        leaves = inr keeps.store;
+      };
+      stays = request_stays limit world name signs.answers.chance closed.none_open;
     }
 
 refuses_to_retire : {S R : Type 0} (g : store.Ghosts S) (old new : View S R) (upto : ℕ) (answer : Result (Unit {0}) SignFault) (world : World)

@@ -166,28 +166,33 @@ module _ {S R M : Type 0} (g : store.Ghosts S) (r : source.Ghosts R) (m : messag
       → (has_room ≡ false → LacksMemory key old (deepest key.secret old.records) (binding_in old.records name) capacity)
       → IsCalm has_room answer → Signs g r m old new name before after capacity answer
   left_signs old new name before after capacity key answer has_room is_read given keeps caches spare signer only keyed step read room calm = record {
-    key = key;
-    keyed = keyed;
-    chance = repeat_chance has_room given;
-    outcome = kept (state_of old) answer is_read;
-    step = step;
-    ends = record {
-      answer_is = refl;
-      records = keeps.records;
-      is_open = keeps.is_open;
-      store = subst (λ s. KeepsStore g old.store s old.records (kept (state_of old) answer is_read)) (sym keeps.store)
-          (kept_store g old answer is_read signer only calm.store);
-      unreadable = ap g.unreadable keeps.store;
+    answers = record {
+      key = key;
+      keyed = keyed;
+      chance = repeat_chance has_room given;
+      outcome = kept (state_of old) answer is_read;
+      step = step;
+      ends = record {
+        answer_is = refl;
+        records = keeps.records;
+        is_open = keeps.is_open;
+        store = subst (λ s. KeepsStore g old.store s old.records (kept (state_of old) answer is_read)) (sym keeps.store)
+            (kept_store g old answer is_read signer only calm.store);
+        unreadable = ap g.unreadable keeps.store;
+      };
+      possible = record { trees = tt; bound = tt };
+      source = subst (λ s. Provides (r.upcoming old.random) [] (r.upcoming s)) (sym keeps.random)
+          (provides_nothing (r.upcoming old.random));
+      failures = subst (λ s. Counts is_random_failed (r.failures old.random) (r.failures s) answer) (sym keeps.random)
+          (calm.random (r.failures old.random));
+      room = room;
+      refusals = subst (λ s. RefusesMemory has_room answer (g.refusals old.store) (g.refusals s)) (sym keeps.store)
+          (refuses_early has_room answer (g.refusals old.store) (calm.memory (g.refusals old.store)));
+      memory = omega (arith, spare, ap length keeps.records);
+      keeps = keeps_at_all g has_room (wanted_by key.secret (deepest key.secret old.records)) old new answer keeps caches
+          (calm_refuses has_room answer (calm.memory 0));
     };
-    possible = record { trees = tt; bound = tt };
-    source = subst (λ s. Provides (r.upcoming old.random) [] (r.upcoming s)) (sym keeps.random) (provides_nothing (r.upcoming old.random));
-    failures = subst (λ s. Counts is_random_failed (r.failures old.random) (r.failures s) answer) (sym keeps.random) (calm.random (r.failures old.random));
     message = read;
-    room = room;
-    refusals = subst (λ s. RefusesMemory has_room answer (g.refusals old.store) (g.refusals s)) (sym keeps.store)
-        (refuses_early has_room answer (g.refusals old.store) (calm.memory (g.refusals old.store)));
-    memory = omega (arith, spare, ap length keeps.records);
-    keeps = keeps_at_all g has_room (wanted_by key.secret (deepest key.secret old.records)) old new answer keeps caches (calm_refuses has_room answer (calm.memory 0));
   }
 
   -- a call that is hindered at once
@@ -328,32 +333,37 @@ module _ {S R M : Type 0} (g : store.Ghosts S) (r : source.Ghosts R) (m : messag
       let fits = (subst (IsReady (g.most old.store) (levels_of key.secret - level)) is ready).few in
       let full : nat_lt (g.most old.store) (length old.records + wanted_count key.secret level) ≡ false = grind (arith, nat_tests) in
       record {
-        key = key;
-        keyed = keyed;
-        chance = b.chance;
-        outcome = b.outcome;
-        step = anew_is (g.most old.store) (state_of old) key name b.chance level false false keyed opened stays unbound at full (ap not b.room) ∙ b.step;
-        ends = record {
-          answer_is = b.does.ends.answer_is;
-          records = b.does.ends.records;
-          is_open = b.does.ends.is_open;
-          store = b.does.ends.store;
-          unreadable = b.does.ends.unreadable;
+        answers = record {
+          key = key;
+          keyed = keyed;
+          chance = b.chance;
+          outcome = b.outcome;
+          step = anew_is (g.most old.store) (state_of old) key name b.chance level false false keyed opened stays unbound
+              at full (ap not b.room) ∙ b.step;
+          ends = record {
+            answer_is = b.does.ends.answer_is;
+            records = b.does.ends.records;
+            is_open = b.does.ends.is_open;
+            store = b.does.ends.store;
+            unreadable = b.does.ends.unreadable;
+          };
+          possible = b.possible;
+          source = b.does.source;
+          failures = b.does.failures;
+          room = λ lacking. absurd (true≢false (sym b.room ∙ lacking));
+          refusals = subst (λ h. RefusesMemory h answer (g.refusals old.store) (g.refusals new.store)) (sym b.room)
+              b.does.refusals;
+          memory = omega (arith, spare, b.does.memory);
+          keeps = record {
+            at_once = λ early. kept_of_other old new mid.spare mid.cached (b.keeps.at_once early);
+            caches = λ early. absurd (true≢false (sym early ∙ b.not_before_caches));
+            unprepared = λ lacking. absurd (true≢false (sym b.room ∙ lacking));
+            lacks_tree = λ room. subst (λ l. LacksTree g (wanted_by key.secret l) old new answer) (sym at)
+                (b.keeps.lacks_tree refl);
+            store = b.keeps.store;
+          };
         };
-        possible = b.possible;
-        source = b.does.source;
-        failures = b.does.failures;
         message = b.does.message;
-        room = λ lacking. absurd (true≢false (sym b.room ∙ lacking));
-        refusals = subst (λ h. RefusesMemory h answer (g.refusals old.store) (g.refusals new.store)) (sym b.room) b.does.refusals;
-        memory = omega (arith, spare, b.does.memory);
-        keeps = record {
-          at_once = λ early. kept_of_other old new mid.spare mid.cached (b.keeps.at_once early);
-          caches = λ early. absurd (true≢false (sym early ∙ b.not_before_caches));
-          unprepared = λ lacking. absurd (true≢false (sym b.room ∙ lacking));
-          lacks_tree = λ room. subst (λ l. LacksTree g (wanted_by key.secret l) old new answer) (sym at) (b.keeps.lacks_tree refl);
-          store = b.keeps.store;
-        };
       }
 
   -- the standing chain isn't sound

@@ -7,9 +7,7 @@ use Rattle.byteorder.specs.Endian.{big_bytes}
 use Rattle.typecodes.specs.declared.message.Message as message
 use Rattle.typecodes.specs.Message.{CantBeRead, ReadWhole}
 use Rattle.typecodes.specs.Name.{IsName}
-use Rattle.state_file.specs.declared.record.Key.{Key}
 use Rattle.state_file.specs.declared.store.Store as store
-use Rattle.state_file.specs.Disk.{Counts}
 use Rattle.sign_core.specs.declared.fault.ServeFault.{ServeFault}
 use Rattle.sign_core.specs.declared.fault.ServeFault.TheVariants.{FrameCut, MessageRead, WriteFailed}
 use Rattle.sign_core.specs.declared.fault.SignFault.{SignFault}
@@ -21,12 +19,8 @@ use Rattle.sign_core.specs.declared.source.Source as source
 use Rattle.sign_core.specs.Fault.{number_of}
 use Rattle.sign_core.specs.Frames.{CutsField, Ending, IsCut, IsFrame, IsWholeMessage, ReadsInput, Request, broken}
 use Rattle.sign_core.specs.Frames.{ended, given_by, going, head}
-use Rattle.sign_core.specs.Once.{AreDrawsOf}
-use Rattle.sign_core.specs.Records.{binding_in, deepest, key_in}
-use Rattle.sign_core.specs.Signer.{Ends, KeepsAtRefusal, KeepsForRepeat, LacksMemory, RefusesMemory, Signs, UsesMemory}
-use Rattle.sign_core.specs.Signer.{View, is_before_repeat, is_fault, is_random_failed, state_of, wanted_by}
-use Rattle.sign_core.specs.Source.{Provides}
-use Rattle.sign_core.specs.World.{Chance, Outcome, requested}
+use Rattle.sign_core.specs.Records.{binding_in}
+use Rattle.sign_core.specs.Signer.{AnswersRequest, KeepsForRepeat, Signs, View, is_before_repeat, is_fault}
 
 -- ---- replies
 
@@ -60,21 +54,8 @@ reply_of exchange = reply_bytes exchange.reply exchange.signature
 -- of all of it, or nothing, where it can't be read.
 pub record SignsGiven {S R : Type 0} (g : store.Ghosts S) (r : source.Ghosts R) (old new : View S R) (name : List ℕ)
     (given : Option (List ℕ)) (capacity : ℕ) (answer : Result (List ℕ) SignFault) : Type 0 where
-  pub key : Key
-  pub keyed : key_in old.records ≡ Some key
-  pub chance : Chance
-  pub outcome : Outcome (List ℕ)
-  pub step : requested (g.most old.store) (state_of old) name chance ≡ outcome
-  pub ends : Ends g old new outcome answer
-  pub possible : AreDrawsOf key.secret chance
-  pub source : Provides (r.upcoming old.random) outcome.drawn (r.upcoming new.random)
-  pub failures : Counts is_random_failed (r.failures old.random) (r.failures new.random) answer
-  pub message : outcome.is_read ≡ true → chance.given ≡ given
-  pub room : chance.has_room ≡ false
-      → LacksMemory key old (deepest key.secret old.records) (binding_in old.records name) capacity
-  pub refusals : RefusesMemory chance.has_room answer (g.refusals old.store) (g.refusals new.store)
-  pub memory : UsesMemory old new
-  pub keeps : KeepsAtRefusal g chance.has_room (wanted_by key.secret (deepest key.secret old.records)) old new answer
+  pub answers : AnswersRequest g r old new name capacity answer
+  pub message : answers.outcome.is_read ≡ true → answers.chance.given ≡ given
   pub repeat : IsSome (binding_in old.records name) → KeepsForRepeat old new (is_fault is_before_repeat answer)
 
 -- What is replied to a request is the signer's answer, whose output had this capacity; or the name's bytes are no name,

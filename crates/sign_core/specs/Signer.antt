@@ -300,12 +300,10 @@ pub record KeepsForRepeat {S R : Type 0} (old new : View S R) (is_early : Bool) 
   pub but_caches : new ≡ caching old new.cached
   pub early : is_early ≡ true → new ≡ old
 
--- A call of sign is a step of the world, by some chance, whose draws are those of the key's scheme: the bytes that are
--- drawn are those that the source gave; the message is read or as it was; and memory is refused only where it is
--- lacking.
-pub record Signs {S R M : Type 0} (g : store.Ghosts S) (r : source.Ghosts R) (m : message.Ghosts M)
-    (old new : View S R) (name : List ℕ) (before after : M) (capacity : ℕ) (answer : Result (List ℕ) SignFault)
-    : Type 0 where
+-- A request is answered by a step of the world, by some chance, whose draws are those of the key's scheme: the bytes
+-- that are drawn are those that the source gave, and memory is refused only where it is lacking.
+pub record AnswersRequest {S R : Type 0} (g : store.Ghosts S) (r : source.Ghosts R) (old new : View S R)
+    (name : List ℕ) (capacity : ℕ) (answer : Result (List ℕ) SignFault) : Type 0 where
   pub key : Key
   pub keyed : key_in old.records ≡ Some key
   pub chance : Chance
@@ -315,12 +313,18 @@ pub record Signs {S R M : Type 0} (g : store.Ghosts S) (r : source.Ghosts R) (m 
   pub possible : AreDrawsOf key.secret chance
   pub source : Provides (r.upcoming old.random) outcome.drawn (r.upcoming new.random)
   pub failures : Counts is_random_failed (r.failures old.random) (r.failures new.random) answer
-  pub message : IsRead m outcome.is_read chance.given before after
   pub room : chance.has_room ≡ false
       → LacksMemory key old (deepest key.secret old.records) (binding_in old.records name) capacity
   pub refusals : RefusesMemory chance.has_room answer (g.refusals old.store) (g.refusals new.store)
   pub memory : UsesMemory old new
   pub keeps : KeepsAtRefusal g chance.has_room (wanted_by key.secret (deepest key.secret old.records)) old new answer
+
+-- A call of sign answers a request so, and the message is read or as it was.
+pub record Signs {S R M : Type 0} (g : store.Ghosts S) (r : source.Ghosts R) (m : message.Ghosts M)
+    (old new : View S R) (name : List ℕ) (before after : M) (capacity : ℕ) (answer : Result (List ℕ) SignFault)
+    : Type 0 where
+  pub answers : AnswersRequest g r old new name capacity answer
+  pub message : IsRead m answers.outcome.is_read answers.chance.given before after
 
 -- ---- retire
 

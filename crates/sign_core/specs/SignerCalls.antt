@@ -115,7 +115,7 @@ pub record SignerLaw {S R M : Type 0} (g : store.Ghosts S) (r : source.Ghosts R)
   pub signs : (old new : View S R) (name : List ℕ) (before later : M) (capacity : ℕ)
       (answer : Result (List ℕ) SignFault) (handed : List Handed) → IsOpenSigner g old → IsName name
       → (signs : Signs g r m old new name before later capacity answer)
-      → SignsInWorld g m handed (request name signs.chance) old new name before later answer
+      → SignsInWorld g m handed (request name signs.answers.chance) old new name before later answer
   pub retires : (old new : View S R) (upto : ℕ) (answer : Result (Unit {0}) SignFault) (handed : List Handed)
       → IsOpenSigner g old → (retires : Retires g old new upto answer)
       → RetiresInWorld g handed (retire upto retires.fate) old new
@@ -123,7 +123,7 @@ pub record SignerLaw {S R M : Type 0} (g : store.Ghosts S) (r : source.Ghosts R)
   pub refuses : (old new : View S R) (name : List ℕ) (before later : M) (capacity : ℕ)
       (answer : Result (List ℕ) SignFault) (world : World) → AreClosed old world → IsName name
       → (signs : Signs g r m old new name before later capacity answer)
-      → IsRefusedCall g world (request name signs.chance) old new answer
+      → IsRefusedCall g world (request name signs.answers.chance) old new answer
   pub refuses_retiring : (old new : View S R) (upto : ℕ) (answer : Result (Unit {0}) SignFault) (world : World)
       → AreClosed old world → (retires : Retires g old new upto answer)
       → IsRefusedCall g world (retire upto retires.fate) old new answer
