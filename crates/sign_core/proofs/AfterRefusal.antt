@@ -1,6 +1,7 @@
 -- What stands after a refusal.
-use Rattle.std.proofs.Common.{◌≡◌, ◌∙◌, refl, sym, ap, subst, ◌⊎◌, inl, inr, ℕ, zero, suc, ◌+◌, ◌-◌, Bool, true, false}
-use Rattle.std.proofs.Common.{List, [], ◌∷◌, ◌++◌, length, take, Option, Some, None, append_assoc, append-nil, arith}
+use Rattle.std.proofs.Common.{◌≡◌, ◌≢◌, ◌∙◌, refl, sym, ap, subst, ◌⊎◌, inl, inr, ℕ, zero, suc, ◌+◌, ◌-◌, Bool, true}
+use Rattle.std.proofs.Common.{false, List, [], ◌∷◌, ◌++◌, length, length-append, take, Option, Some, None, Err}
+use Rattle.std.proofs.Common.{append_assoc, append-nil, arith}
 use Rattle.std.specs.Prelude.{if◌then◌else◌, nat_le, nat_lt, not, slice_get}
 use Rattle.std.specs.List.{concat}
 use Rattle.std.proofs.lemmas.Option.{none-some, same_Some}
@@ -16,8 +17,8 @@ use Rattle.sign_core.specs.declared.key.AnyPublic.{AnyPublic}
 use Rattle.sign_core.specs.declared.fault.SignFault.{SignFault}
 use Rattle.sign_core.specs.declared.fault.SignFault.TheVariants.{LedgerFull, Moved, OutOfMemory, RandomRepeated}
 use Rattle.sign_core.specs.declared.fault.SignFault.TheVariants.{RetireRange, Stopped}
-use Rattle.sign_core.specs.AfterRefusal.{AfterRefusalLaw, BeginsDrawn, IsDrawnKey, IsNextWanted, IsRefusal, Leaves}
-use Rattle.sign_core.specs.AfterRefusal.{LeavesRequested, LeavesTrees}
+use Rattle.sign_core.specs.AfterRefusal.{AfterRefusalLaw, AreDrawnFor, BeginsDrawn, IsDrawnKey, IsNextWanted, IsRefusal}
+use Rattle.sign_core.specs.AfterRefusal.{Leaves, LeavesRequested, LeavesTrees, WantsRecords}
 use Rattle.sign_core.specs.Once.{AreFields, BeginsTree, BindsName, key_sizes}
 use Rattle.sign_core.specs.Records.{binding_in, binds, first_illegal, has_identifier, has_moved, key_in}
 use Rattle.sign_core.specs.Records.{leaves_of_current, next_at}
@@ -33,6 +34,7 @@ use Rattle.sign_core.proofs.Fresh.{begins_along, extend_in}
 use Rattle.sign_core.proofs.Fulfilled.{next_extend}
 use Rattle.sign_core.proofs.Leaves.{deepest_is}
 use Rattle.sign_core.proofs.OnceKept.{kept_choice}
+use Rattle.sign_core.proofs.RefusedDraws.{DrawsWanted, chance_with, draws_wanted}
 use Rattle.sign_core.proofs.Sizes.{public_made, secret_sizes}
 
 some_none : {A : Type 0} (x : A) → None ≡ Some x → ⊥
@@ -64,11 +66,6 @@ leaves_along IsOld IsNew records others outcome same turned leaves = record {
 }
 
 -- ---- a request for a new name
-
--- a chance with these draws for its trees
-abbrev chance_with : Chance → List Draw → Chance
-chance_with chance draws =
-    record { has_room = chance.has_room; trees = draws; bound = chance.bound; given = chance.given }
 
 module _ (key : Key) (name : List ℕ) where
   abbrev Quiet : (level : ℕ) → List Record → Chance → Outcome (List ℕ) → Type 0
@@ -320,20 +317,33 @@ module _ (key : Key) (name : List ℕ) where
 
 -- ---- any request
 
+-- The old records are left, and nothing was drawn; or these trees, and what was drawn for them.
+abbrev HasLeft : State → (name : List ℕ) → Chance → Outcome (List ℕ) → Type 0
+HasLeft state name chance outcome = (Leaves state.records (λ entry. ⊥) outcome × (outcome.drawn ≡ []))
+    ⊎ ((key : Key) × (level : ℕ) × WantsRecords state name key level
+    × LeavesTrees key state.records level name chance outcome
+    × (outcome.answer ≢ Err RandomRepeated → DrawsWanted state.records (bottom_of key.secret - level) chance outcome))
+
 -- it was read
 read_too : (state : State) (name : List ℕ) (chance : Chance) (outcome : Outcome (List ℕ))
-    → LeavesRequested state name chance outcome → LeavesRequested state name chance (reading outcome)
-read_too state name chance outcome (inl left) =
-    inl (record { acknowledged = left.acknowledged; whole = left.whole; cut = left.cut })
-read_too state name chance outcome (inr (key, level, wants, left)) =
-    inr (key, level, wants, reads key name level state.records chance outcome left)
+    → HasLeft state name chance outcome → HasLeft state name chance (reading outcome)
+read_too state name chance outcome (inl (left, none)) =
+    inl (record { acknowledged = left.acknowledged; whole = left.whole; cut = left.cut }, none)
+read_too state name chance outcome (inr (key, level, wants, left, draws)) = inr (
+  key,
+  level,
+  wants,
+  reads key name level state.records chance outcome left,
+  λ other. let drew = draws other in
+      record { begun = drew.begun; longer = drew.longer; are_drawn = drew.are_drawn },
+)
 
-requests : (limit : ℕ) (state : State) (name : List ℕ) (chance : Chance) → IsRefusal (requested limit state name chance)
-    → LeavesRequested state name chance (requested limit state name chance)
-requests limit state name chance =
-    let quiet : Outcome (List ℕ) → Type 0 = λ outcome. IsRefusal outcome → LeavesRequested state name chance outcome in
+has_left : (limit : ℕ) (state : State) (name : List ℕ) (chance : Chance) → IsRefusal (requested limit state name chance)
+    → HasLeft state name chance (requested limit state name chance)
+has_left limit state name chance =
+    let quiet : Outcome (List ℕ) → Type 0 = λ outcome. IsRefusal outcome → HasLeft state name chance outcome in
     let settled : IsSettled quiet state = record {
-      refused_for = λ fault other refusal. inl (whole state.records (refused state fault) refl refl refl);
+      refused_for = λ fault other refusal. inl (whole state.records (refused state fault) refl refl refl, refl);
       gives = λ signature refusal. absurd (cc (refusal.1));
       read = λ outcome again refusal. read_too state name chance outcome (again refusal);
     } in
@@ -347,7 +357,23 @@ requests limit state name chance =
       wants,
       quiet_fulfilled key name chance (bottom_of key.secret - level) level chance.trees state.records
           (omega (arith, inside)) refusal,
+      draws_wanted key name chance level state.records refusal,
     ))
+
+as_requested : (state : State) (name : List ℕ) (chance : Chance) (outcome : Outcome (List ℕ))
+    → HasLeft state name chance outcome → LeavesRequested state name chance outcome
+as_requested state name chance outcome (inl none) = inl none
+as_requested state name chance outcome (inr (key, level, wants, left, draws)) = inr (record {
+  key = key;
+  level = level;
+  wants = wants;
+  left = left;
+  drawn = λ other.
+      let drew = draws other in
+      let count : drew.begun ≡ length left.trees =
+      omega (arith, drew.longer, ap length left.leaves.acknowledged, length-append state.records left.trees) in
+      subst (λ n. AreDrawnFor (bottom_of key.secret - level) chance n outcome.drawn) count drew.are_drawn;
+})
 
 -- ---- the other events
 
@@ -390,18 +416,32 @@ retires limit state upto fate (Some key) =
 
 module _ (state : State) (spec : Spec) (chance : Creation) (can : IsSpec spec) (are : AreFields (key_sizes spec) chance.fields) where
   abbrev QuietHere : Outcome AnyPublic → Type 0
-  QuietHere = QuietIn state.records (IsDrawnKey spec chance.fields)
+  QuietHere outcome = QuietIn state.records (IsDrawnKey spec chance.fields outcome.drawn) outcome
+
+  -- the Key of the secret of these fields
+  abbrev IsKeyOf : Record → Type 0
+  IsKeyOf entry =
+      (secret : Secret) × (secret_from spec chance.fields ≡ Some secret) × (entry ≡ KeyRecord (new_key secret))
 
   published_never : (records : List Record) (found : Option AnyPublic) (public : AnyPublic) → found ≡ Some public → IsRefusal (published records found) → ⊥
   published_never records (Some other) public is refusal = cc (refusal.1)
   published_never records None public is refusal = absurd (some_none public is)
 
-  draws_key : (bytes : List ℕ) (outcome : Outcome AnyPublic) → QuietHere outcome → QuietHere (drawing bytes outcome)
-  draws_key bytes outcome quiet refusal =
+  draws_key : (outcome : Outcome AnyPublic) → outcome.drawn ≡ [] → QuietIn state.records IsKeyOf outcome
+      → QuietHere (drawing (concat chance.fields) outcome)
+  draws_key outcome none quiet refusal =
       let leaves = quiet refusal in
-      record { acknowledged = leaves.acknowledged; whole = leaves.whole; cut = leaves.cut }
+      record {
+        acknowledged = leaves.acknowledged;
+        whole = leaves.whole;
+        cut = λ entry is.
+            let (answer, (secret, made, same), left) = leaves.cut entry is in
+            let drawn = ap (λ bytes. concat chance.fields ++ bytes) none ∙ append-nil (concat chance.fields) in
+            (answer, (secret, made, drawn, same), left);
+      }
 
-  begins : (found : Option Secret) → secret_from spec chance.fields ≡ found → QuietHere (begun state chance found)
+  begins : (found : Option Secret) → secret_from spec chance.fields ≡ found
+      → QuietIn state.records IsKeyOf (begun state chance found)
   begins None is = plain state _
   begins (Some secret) is =
       let key = new_key secret in
@@ -412,10 +452,36 @@ module _ (state : State) (spec : Spec) (chance : Creation) (can : IsSpec spec) (
       (published_never (state.records ++ KeyRecord key ∷ []) (public_in key) public has))
       (plain state OutOfMemory)
 
+  -- nothing is drawn after the fields
+  draws_nothing : (found : Option Secret) → (begun state chance found).drawn ≡ []
+  draws_nothing None = refl
+  draws_nothing (Some secret) = by_room chance.has_room
+    where
+      published_draws : (records : List Record) (found : Option AnyPublic) → (published records found).drawn ≡ []
+      published_draws records (Some public) = refl
+      published_draws records None = refl
+
+      by_fate : (key : Key) (fate : Fate)
+          → (appended state (KeyRecord key) fate (λ records. published records (public_in key))).drawn ≡ []
+      by_fate key acked = published_draws (state.records ++ KeyRecord key ∷ []) (public_in key)
+      by_fate key cut_old = refl
+      by_fate key cut_new = refl
+      by_fate key no_memory = refl
+
+      by_room : (has_room : Bool) → (if has_room then appended state (KeyRecord (new_key secret)) chance.fate
+          (λ records. published records (public_in (new_key secret))) else refused state OutOfMemory).drawn ≡ []
+      by_room true = by_fate (new_key secret) chance.fate
+      by_room false = refl
+
+  quiet_choice : (test : Bool) (x y : Outcome AnyPublic) → QuietHere x → QuietHere y → QuietHere (if test then x else y)
+  quiet_choice true x y first second = first
+  quiet_choice false x y first second = second
+
   creates : (failed : Option SignFault) → QuietHere (created_after failed state spec chance)
   creates (Some fault) = plain state fault
-  creates None = choice state.records (nat_le 1 (length state.records)) _ _ (plain state _)
-      (draws_key (concat chance.fields) _ (begins (secret_from spec chance.fields) refl))
+  creates None = quiet_choice (nat_le 1 (length state.records)) _ _ (plain state _)
+      (draws_key (begun state chance (secret_from spec chance.fields)) (draws_nothing (secret_from spec chance.fields))
+      (begins (secret_from spec chance.fields) refl))
 
 publishes : (records : List Record) (found : Option AnyPublic) → QuietIn records (λ entry. ⊥) (published records found)
 publishes records (Some public) = λ refusal. absurd (cc (refusal.1))
@@ -433,7 +499,8 @@ opens state (Some (slot, fault)) (Some k) = plain state _
 
 pub after_refusal_law : AfterRefusalLaw
 after_refusal_law = record {
-  request = requests;
+  request = λ limit state name chance refusal.
+      as_requested state name chance (requested limit state name chance) (has_left limit state name chance refusal);
   retire = λ limit state upto fate refusal. retires limit state upto fate (key_in state.records) refusal;
   create = λ state spec chance can are refusal. creates state spec chance can are chance.failed_load refusal;
   opening = λ state chance refusal. opens state chance (first_illegal state.records) refusal;

@@ -24,7 +24,7 @@ use Rattle.sign_core.specs.World.{cut_new, cut_old, drawing, extend_record, exte
 use Rattle.sign_core.specs.World.{first_draw, fulfilled, later_draws, no_memory, open_on}
 use Rattle.sign_core.specs.World.{randomizer_from, reading, refused, repeated, repeated_sound, requested, requested_of, requested_under}
 use Rattle.sign_core.specs.Textbook.{Trees, damaged_in, digest_at, lms_secret, tree_before, trees_of}
-use Rattle.sign_core.proofs.Fulfilled.{fields_drawn}
+use Rattle.sign_core.proofs.Fulfilled.{fields_drawn_before}
 use Rattle.sign_core.proofs.OnceKept.{kept_choice}
 use Rattle.sign_core.proofs.Requests.{first_drawn, later_drawn}
 
@@ -129,7 +129,7 @@ one_more records entry draw draws identifier seed randomizer left drawn are agai
   fields = again.fields;
   stands = again.stands;
   drawn_is = ap (λ bytes. identifier ++ ((seed ++ randomizer) ++ bytes)) again.drawn_is
-      ∙ fields_drawn identifier seed randomizer (bytes_drawn (take again.begun draws)) again.identifier
+      ∙ fields_drawn_before identifier seed randomizer (bytes_drawn (take again.begun draws)) again.identifier
       ∙ ap (λ fields. concat fields ++ bytes_drawn (take again.begun draws) ++ again.identifier) (sym are);
 }
 

@@ -16,7 +16,7 @@ use Rattle.sign_core.specs.Once.{BeginsTree, IsComplete, bytes_drawn, randomizer
 use Rattle.sign_core.specs.World.{Chance, Draw, Fate, Outcome, acked, bound_with, drawing, extended, extended_with}
 use Rattle.sign_core.specs.World.{fulfilled, new_bound, open_on, randomizer_from, refused}
 use Rattle.sign_core.specs.Textbook.{Trees, digest_at, signature_at, trees_of}
-use Rattle.sign_core.proofs.Fulfilled.{extends_by, fields_drawn, next_extend, whole_draw}
+use Rattle.sign_core.proofs.Fulfilled.{extends_by, fields_drawn_before, next_extend, whole_draw}
 
 -- ---- what is drawn
 
@@ -150,7 +150,7 @@ tree_done key trees name message chance below draws records identifier seed rand
       state = done.state ∙ ap (λ all. open_on (all ++ BoundRecord done.bound ∷ [])) all_records;
       answer = done.answer ∙ ap (λ all. Ok (signature_at key (all ++ BoundRecord done.bound ∷ []) (length all) done.bound)) all_records;
       drawn = ap (λ bytes. identifier ++ ((seed ++ randomizer) ++ bytes)) done.drawn
-          ∙ fields_drawn identifier seed randomizer (bytes_drawn draws) (concat chance.bound.fields);
+          ∙ fields_drawn_before identifier seed randomizer (bytes_drawn draws) (concat chance.bound.fields);
       read = done.read;
       uncut = done.uncut;
     }

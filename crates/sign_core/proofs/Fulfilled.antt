@@ -17,16 +17,21 @@ pub drawing_twice : {A : Type 0} (a b : List ℕ) (outcome : Outcome A) → draw
 drawing_twice a b outcome = ap (λ bytes. record outcome { drawn = bytes }) (sym (append_assoc a b outcome.drawn))
 
 -- the fields of a new tree, and what was drawn after them
-pub fields_drawn : (identifier seed randomizer later last : List ℕ)
-    → identifier ++ ((seed ++ randomizer) ++ (later ++ last))
-    ≡ concat (identifier ∷ seed ∷ randomizer ∷ []) ++ later ++ last
-fields_drawn identifier seed randomizer later last =
-    let rest = later ++ last in
+pub fields_drawn : (identifier seed randomizer rest : List ℕ)
+    → identifier ++ ((seed ++ randomizer) ++ rest) ≡ concat (identifier ∷ seed ∷ randomizer ∷ []) ++ rest
+fields_drawn identifier seed randomizer rest =
     ap (λ bytes. identifier ++ bytes) (append_assoc seed randomizer rest)
     ∙ ap (λ bytes. identifier ++ (seed ++ (bytes ++ rest))) (sym (append-nil randomizer))
     ∙ ap (λ bytes. identifier ++ bytes) (sym (append_assoc seed (randomizer ++ []) rest))
     ∙ sym (append_assoc identifier (seed ++ (randomizer ++ [])) rest)
-    ∙ sym (append_assoc (identifier ++ (seed ++ (randomizer ++ []))) later last)
+
+-- .. in two parts
+pub fields_drawn_before : (identifier seed randomizer later last : List ℕ)
+    → identifier ++ ((seed ++ randomizer) ++ (later ++ last))
+    ≡ concat (identifier ∷ seed ∷ randomizer ∷ []) ++ later ++ last
+fields_drawn_before identifier seed randomizer later last =
+    fields_drawn identifier seed randomizer (later ++ last)
+    ∙ sym (append_assoc (concat (identifier ∷ seed ∷ randomizer ∷ [])) later last)
 
 -- The new trees so far, each with a draw of which nothing failed: what is wanted comes to what is wanted after them.
 abbrev pub ComesTo : Key → (name : List ℕ) → (below : ℕ) → (records : List Record) → (done : List Draw) → (drawn : List ℕ) → (below' : ℕ) → (records' : List Record) → Type 0

@@ -68,4 +68,5 @@ pub mod Reported
 pub mod InputReading
 pub mod Exchanges
 pub mod Replying
+pub mod RefusedDraws
 pub mod AfterRefusal

@@ -1,7 +1,8 @@
 -- What stands after a refusal: the old records, after a request for a new name the trees, too, that it had begun, and
 -- perhaps the record whose append failed.
-use Rattle.std.specs.Prelude.{◌≡◌, ◌⊎◌, ℕ, ◌+◌, ◌-◌, ◌<◌, ◌≤◌, List, [], ◌∷◌, ◌++◌, length, take, slice_get}
+use Rattle.std.specs.Prelude.{◌≡◌, ◌≢◌, ◌⊎◌, ℕ, suc, ◌+◌, ◌-◌, ◌<◌, ◌≤◌, List, [], ◌∷◌, ◌++◌, length, take, slice_get}
 use Rattle.std.specs.Prelude.{Some, None, Err}
+use Rattle.std.specs.List.{concat}
 use Rattle.typecodes.specs.declared.spec.Spec.{Spec}
 use Rattle.typecodes.specs.Spec.{IsSpec}
 use Rattle.state_file.specs.Laws.{bottom_of}
@@ -11,8 +12,8 @@ use Rattle.state_file.specs.declared.record.Record.{Record}
 use Rattle.state_file.specs.declared.record.Record.TheVariants.{Bound as BoundRecord, Key as KeyRecord, Retire}
 use Rattle.state_file.specs.declared.record.Secret.{Secret}
 use Rattle.sign_core.specs.declared.fault.SignFault.{SignFault}
-use Rattle.sign_core.specs.declared.fault.SignFault.TheVariants.{StoreFailed}
-use Rattle.sign_core.specs.Once.{AreFields, BeginsTree, BindsName, IsActive, key_sizes}
+use Rattle.sign_core.specs.declared.fault.SignFault.TheVariants.{RandomRepeated, StoreFailed}
+use Rattle.sign_core.specs.Once.{AreFields, BeginsTree, BindsName, IsActive, bytes_drawn, key_sizes}
 use Rattle.sign_core.specs.Records.{binding_in, deepest}
 use Rattle.sign_core.specs.World.{Chance, Creation, Draw, Fate, Opening, Outcome, State, created, new_key, opened}
 use Rattle.sign_core.specs.World.{requested, retired, secret_from}
@@ -69,19 +70,33 @@ pub record LeavesTrees (key : Key) (before : List Record) (level : ℕ) (name : 
   pub leaves : Leaves (before ++ trees) (IsNextWanted key before level name chance trees) outcome
   pub unbound : (other : List ℕ) → binding_in (before ++ trees) other ≡ binding_in before other
 
--- What a request for a name leaves: the old records, or where it wants new ones, some of these.
+-- what is drawn for so many trees and for the record that is wanted after them, which may fail
+abbrev pub AreDrawnFor : (below : ℕ) → Chance → (begun : ℕ) → (drawn : List ℕ) → Type 0
+AreDrawnFor below chance begun drawn =
+    ((begun < below) × (drawn ≡ bytes_drawn (take (suc begun) chance.trees)))
+    ⊎ ((begun ≡ below) × (drawn ≡ bytes_drawn (take begun chance.trees) ++ concat chance.bound.fields))
+
+-- A request for a new name leaves the trees that it began. It drew all fields of these and of the next record that it
+-- wanted; what it drew where it answers 24 is said by `DrewAgain`.
+pub record LeavesBegun (state : State) (name : List ℕ) (chance : Chance) (outcome : Outcome (List ℕ)) : Type 0 where
+  pub key : Key
+  pub level : ℕ
+  pub wants : WantsRecords state name key level
+  pub left : LeavesTrees key state.records level name chance outcome
+  pub drawn : outcome.answer ≢ Err RandomRepeated
+      → AreDrawnFor (bottom_of key.secret - level) chance (length left.trees) outcome.drawn
+
+-- What a request for a name leaves: the old records, with nothing drawn; or what it began.
 abbrev pub LeavesRequested : State → (name : List ℕ) → Chance → Outcome (List ℕ) → Type 0
 LeavesRequested state name chance outcome =
-    Leaves state.records (λ entry. ⊥) outcome
-    ⊎ ((key : Key) × (level : ℕ) × WantsRecords state name key level
-    × LeavesTrees key state.records level name chance outcome)
+    (Leaves state.records (λ entry. ⊥) outcome × (outcome.drawn ≡ [])) ⊎ LeavesBegun state name chance outcome
 
 -- ---- the other events
 
 -- the Key of the secret that was drawn
-abbrev pub IsDrawnKey : Spec → (fields : List (List ℕ)) → Record → Type 0
-IsDrawnKey spec fields entry =
-    (secret : Secret) × (secret_from spec fields ≡ Some secret) × (entry ≡ KeyRecord (new_key secret))
+abbrev pub IsDrawnKey : Spec → (fields : List (List ℕ)) → (drawn : List ℕ) → Record → Type 0
+IsDrawnKey spec fields drawn entry = (secret : Secret) × (secret_from spec fields ≡ Some secret)
+    × (drawn ≡ concat fields) × (entry ≡ KeyRecord (new_key secret))
 
 -- ---- the law
 
@@ -99,6 +114,7 @@ pub record AfterRefusalLaw : Type 0 where
       → Leaves state.records (λ entry. entry ≡ Retire upto) (retired limit state upto fate)
   pub create : (state : State) (spec : Spec) (chance : Creation) → IsSpec spec
       → AreFields (key_sizes spec) chance.fields → IsRefusal (created state spec chance)
-      → Leaves state.records (IsDrawnKey spec chance.fields) (created state spec chance)
+      → Leaves state.records (IsDrawnKey spec chance.fields (created state spec chance).drawn)
+      (created state spec chance)
   pub opening : (state : State) (chance : Opening) → IsRefusal (opened state chance)
       → Leaves state.records (λ entry. ⊥) (opened state chance)

@@ -147,9 +147,10 @@ pub fn refusal_law()
 
 /// What stands after a refusal.
 ///
-/// A request that is refused leaves the old records; or, where it was to bind a new name, these and after them the
-/// trees that it had begun, from the deepest level with a free leaf downwards: each under the next leaf of the one
-/// above, and made of its draw. It binds no name. Only after 25 one more record may stand, the one whose append failed:
+/// A request that is refused leaves the old records and drew nothing; or, where it was to bind a new name, it leaves
+/// these and after them the trees that it had begun, if any, from the deepest level with a free leaf downwards: each
+/// under the next leaf of the one above, and made of its draw. It drew what these and the next record are made of, of
+/// which after 24 the I alone. It binds no name. Only after 25 one more record may stand, the one whose append failed:
 /// the next tree, or after the last one the binding of this name, to the next leaf, the C that was drawn and the digest
 /// of the message that was given. A retiring, a create or an opening that is refused leaves the old records; after 25
 /// of an append its Retire may stand, or the Key of the secret that was drawn.
