@@ -19,11 +19,11 @@ const SHORT: &[u8] =
 // A request of a source with these bytes, and how many bytes the disk has afterwards.
 struct Request {
     random: &'static [u8],
-    asks: Asked,
+    step: Step,
     size: u64,
 }
 
-enum Asked {
+enum Step {
     // A key of this spec is made, or it is refused.
     Key(&'static str, Option<Refusal>),
     // A message is signed under a name: how many bytes the signature has, or why there is none.
@@ -75,13 +75,13 @@ fn signed(
 fn are_answered(rt: &HostRuntime, requests: &[Request]) -> Option<bool> {
     let mut disk = MemoryDisk::of(rt.alloc(), b"").ok()?;
     for request in requests {
-        let is_right = match &request.asks {
-            Asked::Key(spec, refusal) => {
+        let is_right = match &request.step {
+            Step::Key(spec, refusal) => {
                 let (after, found) = made(rt, disk, spec, request.random)?;
                 disk = after;
                 found == *refusal
             }
-            Asked::Signature(name, message, answer) => {
+            Step::Signature(name, message, answer) => {
                 let (after, found) = signed(rt, disk, request.random, name, message)?;
                 disk = after;
                 found == *answer
@@ -98,27 +98,27 @@ fn are_answered(rt: &HostRuntime, requests: &[Request]) -> Option<bool> {
 const OF_ONE_TREE: &[Request] = &[
     Request {
         random: TAPE,
-        asks: Asked::Key("lms:H5/W8", None),
+        step: Step::Key("lms:H5/W8", None),
         size: 257,
     },
     Request {
         random: TAPE,
-        asks: Asked::Signature(b"fw-1", b"\x01", Ok(1292)),
+        step: Step::Signature(b"fw-1", b"\x01", Ok(1292)),
         size: 513,
     },
     Request {
         random: b"",
-        asks: Asked::Signature(b"fw-1", b"\x01", Ok(1292)),
+        step: Step::Signature(b"fw-1", b"\x01", Ok(1292)),
         size: 513,
     },
     Request {
         random: TAPE,
-        asks: Asked::Signature(b"fw-1", b"\x02", Err(Refusal::Signer(SignFault::Changed))),
+        step: Step::Signature(b"fw-1", b"\x02", Err(Refusal::Signer(SignFault::Changed))),
         size: 513,
     },
     Request {
         random: b"",
-        asks: Asked::Signature(
+        step: Step::Signature(
             b"fw-2",
             b"\x01",
             Err(Refusal::Signer(SignFault::RandomFailed)),
@@ -131,12 +131,12 @@ const OF_ONE_TREE: &[Request] = &[
 const OF_TWO_LEVELS: &[Request] = &[
     Request {
         random: TAPE,
-        asks: Asked::Key("hss:H5/W8,H5/W8", None),
+        step: Step::Key("hss:H5/W8,H5/W8", None),
         size: 257,
     },
     Request {
         random: TAPE,
-        asks: Asked::Signature(
+        step: Step::Signature(
             b"fw-1",
             b"\x01",
             Err(Refusal::Signer(SignFault::RandomRepeated)),
@@ -145,7 +145,7 @@ const OF_TWO_LEVELS: &[Request] = &[
     },
     Request {
         random: &[0x11; 112],
-        asks: Asked::Signature(b"fw-1", b"\x01", Ok(2644)),
+        step: Step::Signature(b"fw-1", b"\x01", Ok(2644)),
         size: 769,
     },
 ];
@@ -154,17 +154,17 @@ const OF_TWO_LEVELS: &[Request] = &[
 const MADE_ONCE: &[Request] = &[
     Request {
         random: SHORT,
-        asks: Asked::Key("lms:H5/W8", Some(Refusal::Signer(SignFault::RandomFailed))),
+        step: Step::Key("lms:H5/W8", Some(Refusal::Signer(SignFault::RandomFailed))),
         size: 1,
     },
     Request {
         random: TAPE,
-        asks: Asked::Key("lms:H5/W8", None),
+        step: Step::Key("lms:H5/W8", None),
         size: 257,
     },
     Request {
         random: TAPE,
-        asks: Asked::Key("lms:H5/W8", Some(Refusal::Preparing(FormatFault::KeyThere))),
+        step: Step::Key("lms:H5/W8", Some(Refusal::Preparing(FormatFault::KeyThere))),
         size: 257,
     },
 ];
