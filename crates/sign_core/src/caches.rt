@@ -1,6 +1,6 @@
 //! The caches of current trees. Each tree is made once, and then its root and a path cost few leaves or none.
 
-ghost use Rattle.std.specs.Prelude.{◌≡◌, ◌≢◌, ◌↔◌, ◌<◌, ◌^◌, ◌∷◌, List, Some, None, true, length, slice_get, ℕ};
+ghost use Rattle.std.specs.Prelude.{◌≡◌, ◌≢◌, ◌↔◌, ◌<◌, ◌≤◌, ◌^◌, ◌∷◌, List, Some, None, true, length, slice_get, ℕ};
 ghost use Rattle.std.specs.Prelude.{IfErr, IfOk, IsSome, OnErr, OnOk, replicate};
 ghost use Rattle.typecodes.specs.Types.{height_of, xmss_height_of};
 ghost use Rattle.state_file.specs.Laws.{IsLegal, levels_of};
@@ -11,7 +11,7 @@ ghost use Rattle.sign_core.specs.Signing.{IsXmssKey};
 ghost use Rattle.sign_core.specs.Textbook.{damaged_in};
 
 use crate::fault::SignFault;
-use crate::ledger::Ledger;
+use crate::ledger::{Binding, Ledger};
 use crate::links::{KeyTrees, Link, Signed};
 use crate::roots::xmss_root;
 use lms::{LmsSecret, LmsTree};
@@ -49,11 +49,13 @@ impl Model for LmsCache {
 impl LmsCache {
     ghost use Rattle.sign_core.specs.Links.{IsMade};
 
-    // Makes each leaf of the tree, once.
-    fn new(alloc: Global, secret: LmsSecret) -> Result<Self, OutOfMemory>
+    // Makes each leaf of the tree, once, and keeps the block of this leaf.
+    fn new(alloc: Global, secret: LmsSecret, leaf: u32) -> Result<Self, OutOfMemory>
+        requires { leaf < 2 ^ height_of secret.pair.tree }
         ensures { IfOk result (λ cache. cache ≡ secret) }
     {
-        let cache = PathCache::new(alloc, LmsTree::new(secret), secret.pair.tree.height())?;
+        let height = secret.pair.tree.height();
+        let cache = PathCache::for_leaf(alloc, LmsTree::new(secret), height, leaf)?;
         Ok(LmsCache { secret, cache })
     }
 
@@ -100,11 +102,13 @@ impl Model for XmssCache {
 impl XmssCache {
     ghost use Rattle.xmss.specs.Secret.{path_in, root_in};
 
-    // Makes each leaf of the tree, once.
-    fn new(alloc: Global, secret: XmssSecret) -> Result<Self, OutOfMemory>
+    // Makes each leaf of the tree, once, and keeps the block of this leaf.
+    fn new(alloc: Global, secret: XmssSecret, leaf: u32) -> Result<Self, OutOfMemory>
+        requires { leaf < 2 ^ xmss_height_of secret.tree }
         ensures { IfOk result (λ cache. cache ≡ secret) }
     {
-        let cache = PathCache::new(alloc, XmssTree::new(secret), secret.tree.height())?;
+        let height = secret.tree.height();
+        let cache = PathCache::for_leaf(alloc, XmssTree::new(secret), height, leaf)?;
         Ok(XmssCache { secret, cache })
     }
 
@@ -130,6 +134,39 @@ fn is_same_xmss(one: &XmssSecret, other: &XmssSecret) -> bool
         && one.secret_seed == other.secret_seed
         && one.prf_key == other.prf_key
         && one.public_seed == other.public_seed
+}
+
+// This leaf, or the last one of a tree of this height, where that has no such leaf.
+fn leaf_within(height: u8, leaf: u32) -> u32
+    requires { height ≤ 25 }
+    ensures { result < 2 ^ height }
+{
+    let leaves = 2u32.pow(u32::from(height));
+    if leaf < leaves { leaf } else { leaves - 1 }
+}
+
+// The leaves by which the trees of a chain sign, at the places of their levels, from the top down to this one: at this
+// level the leaf of a binding, or where there is none, the next one of the current tree; above it, the one that signs
+// the tree below.
+fn signing_leaves(ledger: &Ledger, lowest: u8, bound: Option<&Binding>) -> [u32; 8]
+    requires { lowest < 8 }
+{
+    let (mut place, mut leaf) = match bound {
+        Some(binding) => (binding.tree, binding.leaf),
+        None => match ledger.current(lowest) {
+            Some(tree) => (tree.place, tree.next),
+            None => (0, 0),
+        },
+    };
+    let mut leaves = [0; 8];
+    for level in (0..lowest + 1).rev() {
+        leaves[usize::from(level)] = leaf;
+        if let Some(made) = ledger.made(place) {
+            place = made.parent;
+            leaf = made.extend.parent_leaf;
+        }
+    }
+    leaves
 }
 
 /// The caches of a signer: of each level's current LMS tree, or of the one tree of an XMSS key, once a request has
@@ -188,8 +225,8 @@ impl Caches {
         }
     }
 
-    // Makes the cache of a secret's tree for a level, unless it is there.
-    fn keep(&mut self, level: u8, secret: &LmsSecret) -> Result<(), OutOfMemory>
+    // Makes the cache of a secret's tree, which is to sign by this leaf, for a level, unless it is there.
+    fn keep(&mut self, level: u8, secret: &LmsSecret, leaf: u32) -> Result<(), OutOfMemory>
         requires { level < 8 }
         ensures there { OnOk result (HasLevel self.new level secret.now) }
         ensures lacking { OnErr result (HasLevel self.old level secret.now → ⊥) }
@@ -200,7 +237,8 @@ impl Caches {
             return Ok(());
         }
         self.levels[usize::from(level)] = None;
-        let cache = LmsCache::new(self.alloc, *secret)?;
+        let leaf = leaf_within(secret.pair.tree.height(), leaf);
+        let cache = LmsCache::new(self.alloc, *secret, leaf)?;
         self.levels[usize::from(level)] = Some(cache);
         Ok(())
     }
@@ -213,7 +251,7 @@ impl Caches {
         ensures leaf { IfOk result (λ begun. begun.1.signed.leaf ≡ 0) }
         ensures made { IfOk result (λ begun. IsMade begun.1) }
     {
-        let mut cache = LmsCache::new(self.alloc, secret).map_err(|_| SignFault::OutOfMemory)?;
+        let mut cache = LmsCache::new(self.alloc, secret, 0).map_err(|_| SignFault::OutOfMemory)?;
         let made = cache.link(Signed::unset(0));
         Ok((cache, made))
     }
@@ -247,22 +285,26 @@ impl Caches {
     }
 
     /// Makes the caches of the current LMS trees from the top down to a level whose records stand before a place, each
-    /// unless it is there.
+    /// unless it is there. A cache that is made keeps the block of the leaf by which its tree is to sign: under a name
+    /// that is bound, or where none is given, under a new one.
     pub(crate) fn keep_chain(
         &mut self,
         trees: &KeyTrees<'_>,
         ledger: &Ledger,
         lowest: u8,
         before: u32,
+        bound: Option<&Binding>,
     ) -> Result<(), OutOfMemory>
         requires trees { AreTreesOf trees.now ledger.now.key }
         requires few { lowest < 8 }
         ensures lacking { OnErr result (LacksLevel ledger.now.key ledger.now.records lowest before self.old) }
     {
+        let leaves = signing_leaves(ledger, lowest, bound);
         for level in 0..lowest + 1 {
             if let Some(tree) = ledger.current(level) {
                 if tree.place < before {
-                    self.keep(level, &trees.secret_at(ledger, tree.place))?;
+                    let leaf = leaves[usize::from(level)];
+                    self.keep(level, &trees.secret_at(ledger, tree.place), leaf)?;
                 }
             }
         }
@@ -306,8 +348,8 @@ impl Caches {
         }
     }
 
-    /// Makes the cache of a secret's XMSS tree, unless it is there.
-    pub(crate) fn keep_xmss(&mut self, secret: &XmssSecret) -> Result<(), OutOfMemory>
+    /// Makes the cache of a secret's XMSS tree, which is to sign by this leaf, unless it is there.
+    pub(crate) fn keep_xmss(&mut self, secret: &XmssSecret, leaf: u32) -> Result<(), OutOfMemory>
         ensures there { OnOk result (self.new.xmss ≡ Some secret.now) }
         ensures lacking { OnErr result (self.old.xmss ≢ Some secret.now) }
         ensures levels { self.new.levels ≡ self.old.levels }
@@ -315,7 +357,8 @@ impl Caches {
         if self.has_xmss(secret) {
             return Ok(());
         }
-        self.xmss = Some(XmssCache::new(self.alloc, *secret)?);
+        let leaf = leaf_within(secret.tree.height(), leaf);
+        self.xmss = Some(XmssCache::new(self.alloc, *secret, leaf)?);
         Ok(())
     }
 

@@ -235,9 +235,12 @@ impl<S: Store, R: Source> Signer<S, R> {
             LacksCache key self.old.records (Some level) (length self.old.records) self.old.cached)) }
     {
         let count = self.ledger.len();
+        let (next, _) = self.bottom();
         let cached = match Scheme::of(&self.ledger.key().secret) {
-            Scheme::Chain(trees) => self.caches.keep_chain(&trees, &self.ledger, level, count),
-            Scheme::Xmss(secret) => self.caches.keep_xmss(&secret),
+            Scheme::Chain(trees) => self
+                .caches
+                .keep_chain(&trees, &self.ledger, level, count, None),
+            Scheme::Xmss(secret) => self.caches.keep_xmss(&secret, next),
         };
         cached.map_err(|_| SignFault::OutOfMemory)
     }

@@ -95,12 +95,14 @@ pub(super) fn make_room(secret: &Secret, out: &mut Vec<u8>) -> Result<(), SignFa
         .map_err(|_| SignFault::OutOfMemory)
 }
 
-// Makes the cache of an XMSS key's tree, unless it is there.
-fn cache_xmss(caches: &mut Caches, secret: &XmssSecret) -> Result<(), SignFault>
+// Makes the cache of an XMSS key's tree, which is to sign by this leaf, unless it is there.
+fn cache_xmss(caches: &mut Caches, secret: &XmssSecret, leaf: u32) -> Result<(), SignFault>
     ensures fault { IfErr result (λ fault. fault ≡ SignFault.OutOfMemory) }
     ensures lacking { OnErr result (caches.old.xmss ≢ Some secret.now) }
 {
-    caches.keep_xmss(secret).map_err(|_| SignFault::OutOfMemory)
+    caches
+        .keep_xmss(secret, leaf)
+        .map_err(|_| SignFault::OutOfMemory)
 }
 
 impl<S: Store, R: Source> Signer<S, R> {
@@ -263,7 +265,7 @@ impl<S: Store, R: Source> Signer<S, R> {
     {
         let bottom = self.ledger.key().secret.levels() - 1;
         caches
-            .keep_chain(trees, &self.ledger, bottom, binding.place)
+            .keep_chain(trees, &self.ledger, bottom, binding.place, Some(binding))
             .map_err(|_| SignFault::OutOfMemory)
     }
 
@@ -340,7 +342,7 @@ impl<S: Store, R: Source> Signer<S, R> {
         make_room(&self.ledger.key().secret, out)?;
         let mut nodes = [[0; 32]; 20];
         let path = &mut nodes[..usize::from(secret.tree.height())];
-        cache_xmss(caches, secret)?;
+        cache_xmss(caches, secret, leaf)?;
         caches
             .xmss_link(*secret, &root, leaf, path)
             .map_err(SignFault::Damaged)?;
