@@ -2,7 +2,9 @@
 
 use super::*;
 use crate::key::verify_any;
-use crate::signer::tests::{InFile, LMS, counting, file_in, in_file};
+use crate::signer::tests::{
+    Call, InFile, Input, LMS, add, begins_with, file_in, input_of, tape_of,
+};
 use crate::source::TapeSource;
 use state_file::{FileStore, MemoryDisk, Record};
 use std::io::Read;
@@ -21,34 +23,21 @@ use model::{led_to, replies_to};
 // A key whose trees are quickly made.
 const CHEAP: &str = "lms:H5/W2";
 
-// A key in a file, and what the source gives after it was opened.
-#[derive(Clone, Copy)]
-struct Start<'a> {
-    file: &'a [u8],
-    tape: &'a [u8],
-}
+// The file of a key, and its tape: the source that the key is opened with gives what comes after the draws of one of LMS.
+type Start<'a> = (&'a [u8], &'a [u8]);
 
 // Opens the file again.
-fn open<'a>(alloc: Global, start: Start<'a>) -> Option<InFile<'a>> {
-    let store = FileStore::open(MemoryDisk::of(alloc, start.file).ok()?).ok()?;
-    Signer::open(alloc, store, TapeSource::new(start.tape)).ok()
+fn open<'a>(alloc: Global, (file, tape): Start<'a>) -> Option<InFile<'a>> {
+    let store = FileStore::open(MemoryDisk::of(alloc, file).ok()?).ok()?;
+    let random = TapeSource::new(tape.get(48..).unwrap_or_default());
+    Signer::open(alloc, store, random).ok()
 }
 
 // The file of a new key, after so many of its leaves were retired.
 fn new_file(alloc: Global, text: &str, tape: &[u8], retired: u32) -> Option<Vec<u8>> {
-    let mut signer = in_file(alloc, text, tape)?;
-    match signer.retire(retired) {
-        Ok(()) => file_in(signer.into_store()),
-        Err(_) => None,
-    }
-}
-
-// A key of one tree in this file, whose source gives what comes after the draws of the key.
-fn start_of<'a>(file: &'a [u8], tape: &'a [u8]) -> Start<'a> {
-    Start {
-        file,
-        tape: tape.get(48..).unwrap_or_default(),
-    }
+    let store = FileStore::format(MemoryDisk::of(alloc, &[]).ok()?).ok()?;
+    let calls = [Call::Retire(retired, None)];
+    file_in(begins_with(alloc, text, store, TapeSource::new(tape), &calls)?)
 }
 
 // What an exchange came to: what was written, what it ended with, and the key's file then.
@@ -57,50 +46,6 @@ struct Exchange {
     output: Vec<u8>,
     end: Result<u64, ServeFault>,
     file: Vec<u8>,
-}
-
-// An input, of which a read gives at most so many bytes. It ends after them or fails there. Where it interrupts, it
-// does so once before each read; where it is stuck, without end after its bytes.
-#[derive(Drop)]
-struct Input<'a> {
-    rest: &'a [u8],
-    most: usize,
-    fails: bool,
-    interrupts: bool,
-    is_stuck: bool,
-    is_interrupted: bool,
-}
-
-impl Read for Input<'_> {
-    fn read(&mut self, buffer: &mut [u8]) -> io::Result<usize> {
-        self.is_interrupted = self.interrupts && !self.is_interrupted;
-        if self.is_interrupted {
-            return Err(io::Error::from(ErrorKind::Interrupted));
-        }
-        let n = self.most.min(buffer.len()).min(self.rest.len());
-        if n == 0 && self.is_stuck {
-            return Err(io::Error::from(ErrorKind::Interrupted));
-        }
-        if n == 0 && self.fails {
-            return Err(io::Error::from(ErrorKind::BrokenPipe));
-        }
-        let (given, rest) = self.rest.split_at(n);
-        buffer[..n].copy_from_slice(given);
-        self.rest = rest;
-        Ok(n)
-    }
-}
-
-// An input that gives as much as is asked for.
-fn input_of(bytes: &[u8], fails: bool) -> Input<'_> {
-    Input {
-        rest: bytes,
-        most: usize::MAX,
-        fails,
-        interrupts: false,
-        is_stuck: false,
-        is_interrupted: false,
-    }
 }
 
 // What a call of an output does otherwise: it fails, takes nothing, or is interrupted.
@@ -191,23 +136,17 @@ fn served(
 // A request: its name, how many bytes its message has, and which byte that is each time.
 type Request<'a> = (&'a [u8], u16, u8);
 
-// Adds the frame of a request to an input.
-fn add_frame(input: &mut Vec<u8>, request: Request<'_>) -> Option<()> {
-    let (name, size, byte) = request;
-    input.push(u8::try_from(name.len()).ok()?).ok()?;
-    input.extend_from_slice(name).ok()?;
-    input
-        .extend_from_slice(&u32::from(size).to_be_bytes())
-        .ok()?;
-    let len = input.len().checked_add(usize::from(size))?;
-    input.resize(len, byte).ok()
-}
-
 // The frames of requests.
 fn frames_of(alloc: Global, requests: &[Request<'_>]) -> Option<Vec<u8>> {
     let mut frames = Vec::new(alloc);
-    for request in requests {
-        add_frame(&mut frames, *request)?;
+    for (name, size, byte) in requests {
+        frames.push(u8::try_from(name.len()).ok()?).ok()?;
+        frames.extend_from_slice(name).ok()?;
+        frames
+            .extend_from_slice(&u32::from(*size).to_be_bytes())
+            .ok()?;
+        let len = frames.len().checked_add(usize::from(*size))?;
+        frames.resize(len, *byte).ok()?;
     }
     Some(frames)
 }

@@ -1,7 +1,6 @@
 //! Inputs of every kind: the rows of the frames' rules, those that are cut, changed or fail, and those in pieces.
 
 use super::*;
-use crate::signer::tests::answer;
 
 // An input for a new key of which so many leaves were retired, what is written, and what the exchange ends with.
 const INPUTS: [(u32, &[u8], &[u8], Result<u64, ServeFault>); 12] = [
@@ -65,9 +64,9 @@ fn is_so(
     output: &[u8],
     end: Result<u64, ServeFault>,
 ) -> Option<bool> {
-    let tape = counting::<80>(0);
+    let tape = tape_of::<80>(0, 1);
     let file = new_file(alloc, LMS, &tape, retired)?;
-    let start = start_of(&file, &tape);
+    let start = (file.as_slice(), tape.as_slice());
     let mut input = input_of(bytes, false);
     let came = served(alloc, start, &mut input, &mut taking_all(alloc))?;
     Some(came.output.as_slice() == output && came.end == end && came.file == file)
@@ -83,40 +82,22 @@ fn frames_are_replied_to_by_their_rules(rt: HostRuntime) {
 // Two requests of one name, with another message each.
 const CHANGED: &[u8] = b"\x04fw-1\0\0\0\x01\x01\x04fw-1\0\0\0\x01\x02";
 
-// The first signature of a signer, and its store then.
-fn signed_first<S: Store + Drop, R: Source + Drop>(
-    alloc: Global,
-    signer: Signer<S, R>,
-) -> Option<(Vec<u8>, S)> {
-    let mut signer = signer;
-    let signature = answer(alloc, &mut signer, b"fw-1", &[1])?.ok()?;
-    Some((signature, signer.into_store()))
-}
-
-// These parts, one after the other.
-fn joined(alloc: Global, parts: &[&[u8]]) -> Option<Vec<u8>> {
-    let mut whole = Vec::new(alloc);
-    for part in parts {
-        whole.extend_from_slice(part).ok()?;
-    }
-    Some(whole)
-}
-
 // Whether these requests, and the first one again, are replied to by the signature of the first message, by 21 and by
 // the same signature; and how long the file is then.
 fn is_changed_and_repeated(alloc: Global) -> Option<(bool, usize)> {
-    let tape = counting::<80>(0);
+    let tape = tape_of::<80>(0, 1);
     let file = new_file(alloc, LMS, &tape, 0)?;
-    let start = start_of(&file, &tape);
-    let (signature, _store) = signed_first(alloc, open(alloc, start)?)?;
-    let signed: &[u8] = b"\0\0\0\x05\x0c";
-    let changed: &[u8] = b"\x15\0\0\0\0";
-    let wanted = joined(alloc, &[signed, &signature, changed, signed, &signature])?;
+    let start = (file.as_slice(), tape.as_slice());
+    let first = led_to(alloc, start, CHANGED.get(..10)?, false)?.output;
+    let is_signed = first.len() == 5 + 1292 && first.starts_with(b"\0\0\0\x05\x0c");
+    let mut wanted = Vec::from_slice(alloc, &first).ok()?;
+    wanted.extend_from_slice(b"\x15\0\0\0\0").ok()?;
+    wanted.extend_from_slice(&first).ok()?;
     let frames = frames_of(alloc, &[(b"fw-1", 1, 1), (b"fw-1", 1, 2), (b"fw-1", 1, 1)])?;
     let mut input = input_of(&frames, false);
     let came = served(alloc, start, &mut input, &mut taking_all(alloc))?;
     let is_so = frames.starts_with(CHANGED) && came.output == wanted && came.end == Ok(3);
-    Some((is_so, came.file.len()))
+    Some((is_signed && is_so, came.file.len()))
 }
 
 #[test]
@@ -217,9 +198,9 @@ const BEGINNINGS: [Way; 5] = [
 
 // How many beginnings end so; and with 27 where reads fail after them.
 fn right_beginnings(alloc: Global) -> Option<usize> {
-    let tape = counting::<80>(0);
+    let tape = tape_of::<80>(0, 1);
     let file = new_file(alloc, CHEAP, &tape, 0)?;
-    let start = start_of(&file, &tape);
+    let start = (file.as_slice(), tape.as_slice());
     for (len, end) in ENDS.iter().enumerate() {
         let bytes = CHANGED.get(..len)?;
         for way in BEGINNINGS {
@@ -232,19 +213,14 @@ fn right_beginnings(alloc: Global) -> Option<usize> {
     Some(ENDS.len())
 }
 
-#[test]
-fn each_beginning_ends_by_its_frames(rt: HostRuntime) {
-    assert_eq!(rt; right_beginnings(rt.alloc()), Some(21));
-}
-
 // What a byte is changed to, besides each change of a single bit: the edges of what names have.
 const EDGES: [u8; 8] = [0x00, 0x05, 0x20, 0x21, 0x7e, 0x7f, 0x80, 0xff];
 
 // How many changes of single bytes of the two requests come to what the frames lead to then.
 fn right_changes(alloc: Global) -> Option<usize> {
-    let tape = counting::<80>(0);
+    let tape = tape_of::<80>(0, 1);
     let file = new_file(alloc, CHEAP, &tape, 0)?;
-    let start = start_of(&file, &tape);
+    let start = (file.as_slice(), tape.as_slice());
     let mut count = 0usize;
     for place in 0..CHANGED.len() {
         for number in 0..16u32 {
@@ -261,11 +237,6 @@ fn right_changes(alloc: Global) -> Option<usize> {
         }
     }
     Some(count)
-}
-
-#[test]
-fn each_changed_byte_leads_to_other_frames(rt: HostRuntime) {
-    assert_eq!(rt; right_changes(rt.alloc()), Some(320));
 }
 
 // A name that takes the last leaf; names that find none, and one that is none, whose messages are skipped; the first
@@ -298,9 +269,9 @@ const WAYS: [(usize, bool, bool); 12] = [
 
 // The first of these ways that doesn't lead to what the frames lead to, six replies; their count if none.
 fn first_other_way(alloc: Global) -> Option<usize> {
-    let tape = counting::<80>(0);
+    let tape = tape_of::<80>(0, 1);
     let file = new_file(alloc, CHEAP, &tape, 31)?;
-    let start = start_of(&file, &tape);
+    let start = (file.as_slice(), tape.as_slice());
     let frames = frames_of(alloc, &REQUESTS)?;
     for (i, (most, fails, interrupts)) in WAYS.iter().enumerate() {
         let way = Way {
@@ -317,8 +288,11 @@ fn first_other_way(alloc: Global) -> Option<usize> {
     Some(WAYS.len())
 }
 
+// Beginnings of frames, changed bytes, and frames in pieces.
 #[test]
-fn frames_in_pieces_lead_to_the_same(rt: HostRuntime) {
+fn inputs_lead_to_what_their_frames_lead_to(rt: HostRuntime) {
+    assert_eq!(rt; right_beginnings(rt.alloc()), Some(21));
+    assert_eq!(rt; right_changes(rt.alloc()), Some(320));
     assert_eq!(rt; first_other_way(rt.alloc()), Some(12));
 }
 
@@ -333,30 +307,22 @@ fn copy_changed<S: Store, T: Store>(old: &mut S, new: &mut T, slot: u32) -> Opti
             Record::Extend(extend) if place == slot => extend.root = [0; 32],
             _ => {}
         }
-        match (&entry, new.load(0)) {
-            (Record::Key(_), Ok(None)) | (_, Ok(Some(_))) => new.append(&entry).ok()?,
-            _ => return None,
-        }
+        add(new, &entry)?;
     }
     None
 }
 
-// The file of a new key after its first name, with a record of this slot changed.
-fn changed_after_a_name(alloc: Global, text: &str, slot: u32) -> Option<Vec<u8>> {
-    let tape = counting::<240>(0);
-    let (_signature, mut old) = signed_first(alloc, in_file(alloc, text, &tape)?)?;
+// What requests of new names come to under a key of which such a root is another, after a first name; and whether the
+// file stays.
+fn of_other_root(alloc: Global, text: &str, slot: u32) -> Option<(Vec<u8>, bool)> {
+    let tape = tape_of::<240>(0, 1);
+    let store = FileStore::format(MemoryDisk::of(alloc, &[]).ok()?).ok()?;
+    let first = [Call::Sign(1, 1, None)];
+    let mut old = begins_with(alloc, text, store, TapeSource::new(&tape), &first)?;
     let mut store = FileStore::format(MemoryDisk::of(alloc, &[]).ok()?).ok()?;
     copy_changed(&mut old, &mut store, slot)?;
-    file_in(store)
-}
-
-// What requests of new names come to under a key of which such a root is another, and whether the file stays.
-fn of_other_root(alloc: Global, text: &str, slot: u32) -> Option<(Vec<u8>, bool)> {
-    let changed = changed_after_a_name(alloc, text, slot)?;
-    let start = Start {
-        file: &changed,
-        tape: &[],
-    };
+    let changed = file_in(store)?;
+    let start = (changed.as_slice(), b"".as_slice());
     let frames = frames_of(alloc, &[(b"fw-2", 70, 1), (b"fw-3", 0, 1)])?;
     let mut input = input_of(&frames, false);
     let came = served(alloc, start, &mut input, &mut taking_all(alloc))?;

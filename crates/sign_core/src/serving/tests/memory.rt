@@ -1,139 +1,94 @@
 //! A long message takes no more memory than a short one, and serving takes none besides what signing takes, however
-//! much the frames claim: each of these tests has as many growths of memory. They are counted from outside.
+//! much the frames claim: each of these tests has as many growths of memory. They are counted from outside. In each the
+//! message, or the frames with it, and what is written are made in one growth each.
 
 use super::*;
 
-// An input of some bytes, so many zeros, and some bytes again.
-#[derive(Drop)]
-struct Parts<'a> {
-    head: &'a [u8],
-    zeros: usize,
-    tail: &'a [u8],
-}
+// The beginning of a frame, but for the size of its message.
+const HEAD: &[u8] = b"\x04fw-1";
 
-impl Read for Parts<'_> {
-    fn read(&mut self, buffer: &mut [u8]) -> io::Result<usize> {
-        if self.head.is_empty() && self.zeros > 0 {
-            let n = self.zeros.min(buffer.len());
-            buffer[..n].fill(0);
-            self.zeros -= n;
-            return Ok(n);
-        }
-        if self.head.is_empty() {
-            self.head = self.tail;
-            self.tail = &[];
-        }
-        let n = self.head.len().min(buffer.len());
-        let (given, rest) = self.head.split_at(n);
-        buffer[..n].copy_from_slice(given);
-        self.head = rest;
-        Ok(n)
-    }
-}
+// What follows the request: the same name with another message, and a frame that claims 2^32 - 1 bytes.
+const CLAIMED: &[u8] = b"\x04fw-1\0\0\0\x01\x01\0\xff\xff\xff\xffabc";
 
-// So many zeros.
-fn zeros(size: usize) -> Parts<'static> {
-    Parts {
-        head: &[],
-        zeros: size,
-        tail: &[],
-    }
-}
-
-// How long a reply with a signature of the key is.
-const REPLY: usize = 5 + 1292;
-
-// An output that keeps its first bytes, and counts all of them.
-#[derive(Drop)]
-struct Counter {
-    first: [u8; REPLY],
-    bytes: usize,
-}
-
-impl Write for Counter {
-    fn write(&mut self, bytes: &[u8]) -> io::Result<usize> {
-        if let Some(free) = self.first.get_mut(self.bytes..) {
-            for (kept, byte) in free.iter_mut().zip(bytes) {
-                *kept = *byte;
-            }
-        }
-        self.bytes = self.bytes.wrapping_add(bytes.len());
-        Ok(bytes.len())
-    }
-
-    fn flush(&mut self) -> io::Result<()> {
-        Ok(())
-    }
+// The frame of a message of so many zeros, and what follows it.
+fn claiming(alloc: Global, size: usize) -> Option<Vec<u8>> {
+    let message = HEAD.len().checked_add(4)?;
+    let end = message.checked_add(size)?;
+    let mut input = Vec::with_capacity(alloc, end.checked_add(CLAIMED.len())?).ok()?;
+    input.extend_from_slice(HEAD).ok()?;
+    let announced = u32::try_from(size).ok()?;
+    input.extend_from_slice(&announced.to_be_bytes()).ok()?;
+    input.resize(end, 0).ok()?;
+    input.extend_from_slice(CLAIMED).ok()?;
+    Some(input)
 }
 
 // How long the signature of a message of so many zeros is. None where it doesn't verify.
 fn signed<S: Store, R: Source>(
     alloc: Global,
     signer: &mut Signer<S, R>,
-    size: usize,
+    message: &[u8],
 ) -> Option<usize> {
     let mut out = Vec::new(alloc);
-    let name = Name::new(b"fw-1").ok()?;
-    signer.sign(&name, &mut zeros(size), &mut out).ok()?;
-    verify_any(&signer.public_key(), &mut zeros(size), &out).ok()?;
+    let name = Name::new(HEAD.get(1..)?).ok()?;
+    signer
+        .sign(&name, &mut input_of(message, false), &mut out)
+        .ok()?;
+    let mut text = message;
+    verify_any(&signer.public_key(), &mut text, &out).ok()?;
     Some(out.len())
 }
 
-// What follows the request: the same name with another message, and a frame that claims 2^32 - 1 bytes.
-const CLAIMED: &[u8] = b"\x04fw-1\0\0\0\x01\x01\0\xff\xff\xff\xffabc";
-
-// The same by an exchange of frames, of which others follow that claim more bytes than come.
+// The same by an exchange of such frames, which begin with the message's.
 fn signed_in_frame<S: Store, R: Source>(
     alloc: Global,
     signer: &mut Signer<S, R>,
-    size: usize,
+    (frames, message): (&[u8], &[u8]),
+    output: &mut Output,
 ) -> Option<usize> {
-    let mut head = *b"\x04fw-1\0\0\0\0";
-    let (_, announced) = head.split_last_chunk_mut::<4>()?;
-    *announced = u32::try_from(size).ok()?.to_be_bytes();
-    let mut input = Parts {
-        head: &head,
-        zeros: size,
-        tail: CLAIMED,
-    };
-    let mut output = Counter {
-        first: [0; REPLY],
-        bytes: 0,
-    };
-    if serve(alloc, signer, &mut input, &mut output) != Err(ServeFault::MessageRead) {
+    let end = serve(alloc, signer, &mut input_of(frames, false), output);
+    if end != Err(ServeFault::MessageRead) {
         return None;
     }
-    let (_, signature) = output.first.split_first_chunk::<5>()?;
-    verify_any(&signer.public_key(), &mut zeros(size), signature).ok()?;
-    output.bytes.checked_sub(15)
+    // two replies of 5 bytes follow
+    let replied = output.taken.len().checked_sub(10)?;
+    let signature = output.taken.get(5..replied)?;
+    let mut text = message;
+    verify_any(&signer.public_key(), &mut text, signature).ok()?;
+    Some(signature.len())
 }
 
-// How long the signature of a message is under a new key.
+// How long the signature of such a message is under a new key.
 fn of_new_key(alloc: Global, size: usize, is_in_frame: bool) -> Option<usize> {
-    let tape = counting::<80>(0);
-    let mut signer = in_file(alloc, LMS, &tape)?;
+    let tape = tape_of::<80>(0, 1);
+    let file = new_file(alloc, LMS, &tape, 0)?;
+    let frames = claiming(alloc, size)?;
+    let message = frames.get(HEAD.len() + 4..)?.get(..size)?;
+    let mut output = taking_all(alloc);
+    output.taken = Vec::with_capacity(alloc, 2000).ok()?;
+    let mut signer = open(alloc, (file.as_slice(), tape.as_slice()))?;
     if is_in_frame {
-        return signed_in_frame(alloc, &mut signer, size);
+        return signed_in_frame(alloc, &mut signer, (&frames, message), &mut output);
     }
-    signed(alloc, &mut signer, size)
+    signed(alloc, &mut signer, message)
 }
 
 #[test]
 fn a_short_message_is_signed(rt: HostRuntime) {
-    assert_eq!(rt; of_new_key(rt.alloc(), 1, false), Some(1292));
+    assert!(rt; of_new_key(rt.alloc(), 1, false) == Some(1292));
 }
 
 #[test]
 fn a_long_message_is_signed(rt: HostRuntime) {
-    assert_eq!(rt; of_new_key(rt.alloc(), 65_536, false), Some(1292));
+    assert!(rt; of_new_key(rt.alloc(), 65_536, false) == Some(1292));
 }
 
 #[test]
 fn a_short_message_is_signed_in_a_frame(rt: HostRuntime) {
-    assert_eq!(rt; of_new_key(rt.alloc(), 1, true), Some(1292));
+    assert!(rt; of_new_key(rt.alloc(), 1, true) == Some(1292));
 }
 
 #[test]
 fn a_long_message_is_signed_in_a_frame(rt: HostRuntime) {
-    assert_eq!(rt; of_new_key(rt.alloc(), 65_536, true), Some(1292));
+    assert!(rt; of_new_key(rt.alloc(), 65_536, true) == Some(1292));
 }

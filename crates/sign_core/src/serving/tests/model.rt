@@ -90,19 +90,6 @@ pub(super) fn replies_to<S: Store, R: Source>(
     None
 }
 
-// The same, and the store then.
-fn led_with<S: Store + Drop, R: Source + Drop>(
-    alloc: Global,
-    signer: Signer<S, R>,
-    input: &[u8],
-    fails: bool,
-    output: &mut Vec<u8>,
-) -> Option<(Result<u64, ServeFault>, S)> {
-    let mut signer = signer;
-    let end = replies_to(alloc, &mut signer, input, fails, output)?;
-    Some((end, signer.into_store()))
-}
-
 // What an exchange over an input must come to.
 pub(super) fn led_to(
     alloc: Global,
@@ -111,7 +98,9 @@ pub(super) fn led_to(
     fails: bool,
 ) -> Option<Exchange> {
     let mut output = Vec::new(alloc);
-    let (end, store) = led_with(alloc, open(alloc, start)?, input, fails, &mut output)?;
-    let file = file_in(store)?;
+    let mut signer = open(alloc, start)?;
+    let end = replies_to(alloc, &mut signer, input, fails, &mut output);
+    let file = file_in(signer.into_store())?;
+    let end = end?;
     Some(Exchange { output, end, file })
 }

@@ -95,34 +95,20 @@ fn ends_of(alloc: Global, start: Start<'_>) -> Option<(Vec<u8>, Vec<(usize, usiz
     let mut frames = Vec::new(alloc);
     let mut ends = Vec::new(alloc);
     for request in REQUESTS {
-        add_frame(&mut frames, request)?;
+        frames
+            .extend_from_slice(&frames_of(alloc, &[request])?)
+            .ok()?;
         let came = led_to(alloc, start, &frames, false)?;
         ends.push((frames.len(), came.output.len())).ok()?;
     }
     Some((frames, ends))
 }
 
-// What an exchange over such a line ends with.
-fn end_over<'a>(
-    alloc: Global,
-    start: Start<'a>,
-    frames: &'a [u8],
-    line: &'a Line<'a>,
-) -> Option<Result<u64, ServeFault>> {
-    let mut client = Client {
-        line,
-        bytes: frames,
-    };
-    let mut replies = Replies { line };
-    let mut signer = open(alloc, start)?;
-    Some(serve(alloc, &mut signer, &mut client, &mut replies))
-}
-
 // What an exchange with a client that waits ends with, and whether all was sent and every reply passed on.
 fn with_client(alloc: Global) -> Option<(Result<u64, ServeFault>, bool)> {
-    let tape = counting::<80>(0);
+    let tape = tape_of::<80>(0, 1);
     let file = new_file(alloc, CHEAP, &tape, 31)?;
-    let start = start_of(&file, &tape);
+    let start = (file.as_slice(), tape.as_slice());
     let (frames, ends) = ends_of(alloc, start)?;
     let line = Line {
         ends: &ends,
@@ -130,12 +116,22 @@ fn with_client(alloc: Global) -> Option<(Result<u64, ServeFault>, bool)> {
         taken: Cell::new(0),
         replies: Cell::new(0),
     };
-    let end = end_over(alloc, start, &frames, &line)?;
+    let mut client = Client {
+        line: &line,
+        bytes: &frames,
+    };
+    let mut signer = open(alloc, start)?;
+    let end = serve(
+        alloc,
+        &mut signer,
+        &mut client,
+        &mut Replies { line: &line },
+    );
     let all = (line.given.get(), line.taken.get());
     Some((end, ends.last() == Some(&all) && line.limits().is_none()))
 }
 
 #[test]
 fn a_client_that_waits_gets_each_reply(rt: HostRuntime) {
-    assert_eq!(rt; with_client(rt.alloc()), Some((Ok(6), true)));
+    assert!(rt; with_client(rt.alloc()) == Some((Ok(6), true)));
 }

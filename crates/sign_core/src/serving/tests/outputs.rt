@@ -71,9 +71,9 @@ const REFUSED: &[u8] = b"\x01 \0\0\0\x01\x01\x04fw-1\0\0\0\x02\x01";
 // Whether each odd call of the output of an exchange cuts it where it should: each that fails, each write that takes
 // nothing, and none that is interrupted.
 fn cuts_as_it_should(alloc: Global, bytes: &[u8], most: usize, replies: u32) -> Option<bool> {
-    let tape = counting::<112>(0);
+    let tape = tape_of::<112>(0, 1);
     let file = new_file(alloc, CHEAP, &tape, 0)?;
-    let start = start_of(&file, &tape);
+    let start = (file.as_slice(), tape.as_slice());
     let (writes, flushes, failed) = cut_by(alloc, start, bytes, most, Odd::Fails)?;
     let (_, _, without) = cut_by(alloc, start, bytes, most, Odd::TakesNothing)?;
     let (_, _, interrupted) = cut_by(alloc, start, bytes, most, Odd::IsInterrupted)?;
@@ -81,27 +81,20 @@ fn cuts_as_it_should(alloc: Global, bytes: &[u8], most: usize, replies: u32) -> 
     Some(failed == all && without == writes && interrupted == 0 && flushes == replies)
 }
 
-#[test]
-fn a_reply_that_can_not_be_written_ends_the_exchange(rt: HostRuntime) {
-    for (bytes, most, replies) in [
-        (REPLIED, usize::MAX, 4),
-        (REPLIED, 1000, 4),
-        (REFUSED, 1, 2),
-        (REFUSED, 3, 2),
-        (b"", 1, 0),
-    ] {
-        assert_eq!(rt;
-            cuts_as_it_should(rt.alloc(), bytes, most, replies),
-            Some(true)
-        );
-    }
-}
+// An input, how many bytes its output takes at a time, and how many replies it has.
+const REPLIES: [(&[u8], usize, u32); 5] = [
+    (REPLIED, usize::MAX, 4),
+    (REPLIED, 1000, 4),
+    (REFUSED, 1, 2),
+    (REFUSED, 3, 2),
+    (b"", 1, 0),
+];
 
 // Whether an output that takes one byte at a time takes the same bytes.
 fn is_the_same_by_bytes(alloc: Global) -> Option<bool> {
-    let tape = counting::<112>(0);
+    let tape = tape_of::<112>(0, 1);
     let file = new_file(alloc, LMS, &tape, 0)?;
-    let start = start_of(&file, &tape);
+    let start = (file.as_slice(), tape.as_slice());
     let whole = led_to(alloc, start, REPLIED, false)?;
     let mut output = taking_all(alloc);
     output.most = 1;
@@ -109,7 +102,11 @@ fn is_the_same_by_bytes(alloc: Global) -> Option<bool> {
     Some(came == Came::Whole && output.writes == 1312 && output.flushes == 4)
 }
 
+// A reply that can't be written ends the exchange, and one may be written by single bytes.
 #[test]
-fn a_reply_is_written_by_single_bytes(rt: HostRuntime) {
-    assert_eq!(rt; is_the_same_by_bytes(rt.alloc()), Some(true));
+fn replies_are_written_or_end_the_exchange(rt: HostRuntime) {
+    for (bytes, most, replies) in REPLIES {
+        assert!(rt; cuts_as_it_should(rt.alloc(), bytes, most, replies) == Some(true));
+    }
+    assert!(rt; is_the_same_by_bytes(rt.alloc()) == Some(true));
 }

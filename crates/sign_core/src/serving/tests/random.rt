@@ -32,27 +32,24 @@ const NAMES: [&[u8]; 8] = [
 
 const SIZES: [u16; 8] = [1, 2, 5, 63, 64, 65, 129, 300];
 
-// Adds a random frame to an input: mostly of one of 48 names of one byte, more than the key has leaves.
-fn add_random(random: &mut Random, input: &mut Vec<u8>) -> Option<()> {
-    let short = [0x40 + (random.number() % 48) as u8];
-    let name = match NAMES.get(random.number() % 64) {
-        Some(name) => *name,
-        None => short.as_slice(),
-    };
-    let byte = (random.number() % 32) as u8;
-    let size = if byte == 0 {
-        0
-    } else {
-        SIZES[random.number() % 8]
-    };
-    add_frame(input, (name, size, byte))
-}
-
-// A hundred random frames, of whose last bytes at times some are missing.
+// A hundred random frames, of whose last bytes at times some are missing: mostly of one of 48 names of one byte, more
+// than the key has leaves.
 fn random_input(alloc: Global, random: &mut Random) -> Option<Vec<u8>> {
     let mut input = Vec::new(alloc);
     for _ in 0..100u32 {
-        add_random(random, &mut input)?;
+        let short = [0x40 + (random.number() % 48) as u8];
+        let name = match NAMES.get(random.number() % 64) {
+            Some(name) => *name,
+            None => short.as_slice(),
+        };
+        let byte = (random.number() % 32) as u8;
+        let size = if byte == 0 {
+            0
+        } else {
+            SIZES[random.number() % 8]
+        };
+        let frame = frames_of(alloc, &[(name, size, byte)])?;
+        input.extend_from_slice(&frame).ok()?;
     }
     let missing = random.number() % 400;
     if missing < 100 {
@@ -63,11 +60,11 @@ fn random_input(alloc: Global, random: &mut Random) -> Option<Vec<u8>> {
 
 // How many bytes are written in an exchange over a random input; None where it isn't what the frames lead to with
 // another signer.
-fn written(
+fn written<S: Store, R: Source>(
     alloc: Global,
     random: &mut Random,
-    signer: &mut InFile<'_>,
-    other: &mut InFile<'_>,
+    signer: &mut Signer<S, R>,
+    other: &mut Signer<S, R>,
 ) -> Option<usize> {
     let bytes = random_input(alloc, random)?;
     let fails = random.number() % 4 == 0;
@@ -83,40 +80,48 @@ fn written(
     Some(wanted.len())
 }
 
-// How many bytes are written over a thousand random inputs in a row; None where two signers of one key come to
-// something else.
-fn sum_written(
+// How many bytes are written over a thousand random inputs in a row, and how many leaves are left then; None where two
+// signers of one key come to something else.
+fn sum_written<S: Store, R: Source>(
     alloc: Global,
     seed: u64,
-    signer: &mut InFile<'_>,
-    other: &mut InFile<'_>,
-) -> Option<usize> {
+    signer: &mut Signer<S, R>,
+    other: &mut Signer<S, R>,
+) -> Option<(usize, u32)> {
     let mut random = Random { state: seed };
     let mut sum = 0usize;
     for _ in 0..1000u32 {
         sum = sum.checked_add(written(alloc, &mut random, signer, other)?)?;
     }
-    Some(sum)
+    let left = signer.left();
+    if other.left().as_slice() != left.as_slice() {
+        return None;
+    }
+    Some((sum, *left.as_slice().first()?))
 }
 
-// How many leaves a signer has left, and its file.
-fn left_and_file(signer: InFile<'_>) -> Option<(u32, Vec<u8>)> {
-    let left = *signer.left().as_slice().first()?;
-    Some((left, file_in(signer.into_store())?))
+// The same, and the stores then.
+fn in_a_row<S: Store + Drop, R: Source + Drop>(
+    alloc: Global,
+    seed: u64,
+    signer: Signer<S, R>,
+    other: Signer<S, R>,
+) -> (Option<(usize, u32)>, S, S) {
+    let (mut signer, mut other) = (signer, other);
+    let sum = sum_written(alloc, seed, &mut signer, &mut other);
+    (sum, signer.into_store(), other.into_store())
 }
 
-// How many bytes are written in such a row, how many leaves are left then, and how long the file is; None where the
-// other signer has others left.
-fn in_a_row(alloc: Global, seed: u64) -> Option<(usize, u32, usize)> {
-    let tape = counting::<4096>(0);
+// The same of a key in two files, and how long these are; None where they aren't the same.
+fn in_files(alloc: Global, seed: u64) -> Option<(usize, u32, usize)> {
+    let tape = tape_of::<4096>(0, 1);
     let file = new_file(alloc, CHEAP, &tape, 0)?;
-    let start = start_of(&file, &tape);
-    let mut signer = open(alloc, start)?;
-    let mut other = open(alloc, start)?;
-    let sum = sum_written(alloc, seed, &mut signer, &mut other)?;
-    let (left, file) = left_and_file(signer)?;
-    let (other_left, other_file) = left_and_file(other)?;
-    if other_left != left || other_file != file {
+    let start = (file.as_slice(), tape.as_slice());
+    let other = open(alloc, start)?;
+    let (sum, store, other) = in_a_row(alloc, seed, open(alloc, start)?, other);
+    let (sum, left) = sum?;
+    let file = file_in(store)?;
+    if file_in(other)? != file {
         return None;
     }
     Some((sum, left, file.len()))
@@ -127,5 +132,5 @@ fn in_a_row(alloc: Global, seed: u64) -> Option<(usize, u32, usize)> {
 #[test]
 fn random_frames_are_in_step(rt: HostRuntime) {
     let wanted = 5 * (99_787 + 224) + (32 + 219) * 4460;
-    assert_eq!(rt; in_a_row(rt.alloc(), 2026), Some((wanted, 0, 8449)));
+    assert!(rt; in_files(rt.alloc(), 2026) == Some((wanted, 0, 8449)));
 }

@@ -3,106 +3,106 @@
 use super::*;
 use crate::ledger::LedgerFault;
 use lmots::LmOts;
-use state_file::Disk;
 
-// A record of a list: a leaf with the name of a number, leaves that are retired, a tree of a level under a leaf of
-// the level above with its number as I, a key and a Moved.
+// A record of a list: a key, whose root isn't that of its tree; a tree of a level under a leaf of the level above, with
+// this I; a leaf with the name of a number, and the same with the digest of the byte 1 under the I that has this number
+// in each byte; leaves that are retired, and a Moved.
 #[derive(Clone, Copy)]
-pub(super) enum Entry {
-    Bound(u32, u8),
+pub(super) enum Entry<'a> {
+    Key(&'a str),
+    Extend(u8, u32, [u8; 16]),
+    Bound(u32, u32),
+    BoundByte(u32, u32, u8),
     Retire(u32),
-    Extend(u8, u32, u8),
-    Key,
     Moved,
 }
 
-// A key of one tree, whose root isn't that of its tree.
-fn other_key() -> Key {
-    Key {
-        version: Version::One,
-        secret: Secret::Lms {
-            pair: LmsPair {
-                tree: LmsType::H5,
-                ots: OtsType::W8,
-            },
+// The secret of a key of LMS or HSS.
+fn secret_of(text: &str) -> Option<Secret> {
+    match Spec::parse(text).ok()? {
+        Spec::Lms(pair) => Some(Secret::Lms {
+            pair,
             identifier: [1; 16],
             seed: [2; 32],
-        },
-        root: [3; 32],
+        }),
+        Spec::Hss(levels) => Some(Secret::Hss {
+            levels,
+            identifier: [1; 16],
+            seed: [2; 32],
+        }),
+        Spec::Xmss(_) => None,
     }
 }
 
-pub(super) fn record_of(entry: Entry) -> Option<Record> {
+pub(super) fn record_of(entry: &Entry<'_>) -> Option<Record> {
+    let digest = match entry {
+        Entry::BoundByte(leaf, _, byte) => {
+            let one_time = LmOts {
+                identifier: [*byte; 16],
+                leaf: *leaf,
+            };
+            one_time.message_digest(&[4; 32], &[1])
+        }
+        _ => [5; 32],
+    };
     Some(match entry {
-        Entry::Bound(leaf, number) => Record::Bound(Bound {
-            name: Name::new(&name_of(number)).ok()?,
-            leaf,
-            randomizer: [4; 32],
-            digest: [5; 32],
+        Entry::Key(text) => Record::Key(Key {
+            version: Version::One,
+            secret: secret_of(text)?,
+            root: [3; 32],
         }),
-        Entry::Retire(upto) => Record::Retire { upto },
-        Entry::Extend(level, parent_leaf, number) => Record::Extend(Extend {
-            level,
-            parent_leaf,
-            identifier: [number; 16],
+        Entry::Extend(level, parent_leaf, identifier) => Record::Extend(Extend {
+            level: *level,
+            parent_leaf: *parent_leaf,
+            identifier: *identifier,
             seed: [7; 32],
             randomizer: [8; 32],
             digest: [9; 32],
             root: [10; 32],
         }),
-        Entry::Key => Record::Key(other_key()),
+        Entry::Bound(leaf, number) | Entry::BoundByte(leaf, number, _) => Record::Bound(Bound {
+            name: Name::new(&name_of(*number)).ok()?,
+            leaf: *leaf,
+            randomizer: [4; 32],
+            digest,
+        }),
+        Entry::Retire(upto) => Record::Retire { upto: *upto },
         Entry::Moved => Record::Moved,
     })
 }
 
-// Adds these records to a store that has a key.
-pub(super) fn add_all<S: Store>(store: &mut S, entries: &[Entry]) -> Option<()> {
-    for entry in entries {
-        let added = record_of(*entry)?;
-        match store.load(0) {
-            Ok(Some(_)) => store.append(&added).ok()?,
-            _ => return None,
-        }
+// Adds a record to a store, where it is a Key or one comes before it.
+pub(crate) fn add<S: Store>(store: &mut S, entry: &Record) -> Option<()> {
+    match (entry, store.load(0)) {
+        (Record::Key(_), Ok(None)) | (_, Ok(Some(_))) => store.append(entry).ok(),
+        _ => None,
     }
-    Some(())
 }
 
-// A store in memory of the key and these records after it.
-pub(super) fn listed(alloc: Global, entries: &[Entry]) -> Option<MemoryStore> {
-    let mut store = MemoryStore::with_limit(alloc, 100);
-    store.append(&Record::Key(other_key())).ok()?;
-    add_all(&mut store, entries)?;
+// A store with these records after those that it has.
+pub(super) fn with_records<S: Store + Drop>(store: S, entries: &[Entry<'_>]) -> Option<S> {
+    let mut store = store;
+    for entry in entries {
+        add(&mut store, &record_of(entry)?)?;
+    }
     Some(store)
 }
 
+// A store in memory of a key of one tree, and these records after it.
+pub(super) fn listed(alloc: Global, entries: &[Entry<'_>]) -> Option<MemoryStore> {
+    let store = with_records(MemoryStore::with_limit(alloc, 100), &[Entry::Key(LMS)])?;
+    with_records(store, entries)
+}
+
 // A disk with a file of them.
-pub(super) fn filed(alloc: Global, entries: &[Entry]) -> Option<MemoryDisk> {
-    let mut store = FileStore::format(MemoryDisk::of(alloc, &[]).ok()?).ok()?;
-    store.append(&Record::Key(other_key())).ok()?;
-    add_all(&mut store, entries)?;
-    Some(store.into_disk())
-}
-
-// How many leaves a store opens with, or its fault.
-pub(super) fn opened<S: Store + Drop>(alloc: Global, store: S) -> Option<Result<u32, SignFault>> {
-    match Signer::open(alloc, store, TapeSource::new(&[])) {
-        Ok(signer) => Some(Ok(*signer.left().as_slice().first()?)),
-        Err(refused) => Some(Err(refused.fault)),
-    }
-}
-
-// What a list opens with, where it is the same in memory and in a file.
-fn opened_in_both(alloc: Global, entries: &[Entry]) -> Option<Result<u32, SignFault>> {
-    let in_memory = opened(alloc, listed(alloc, entries)?)?;
-    let in_file = opened(alloc, FileStore::open(filed(alloc, entries)?).ok()?)?;
-    if in_memory != in_file {
-        return None;
-    }
-    Some(in_file)
+pub(super) fn filed(alloc: Global, entries: &[Entry<'_>]) -> Option<MemoryDisk> {
+    let store = FileStore::format(MemoryDisk::of(alloc, &[]).ok()?).ok()?;
+    let store = with_records(store, &[Entry::Key(LMS)])?;
+    Some(with_records(store, entries)?.into_disk())
 }
 
 // Lists after a key of one tree of 32 leaves, and what they open with.
-const LISTS: [(&[Entry], Result<u32, SignFault>); 18] = [
+const LISTS: [(&[Entry<'_>], Result<u32, SignFault>); 18] = [
     (&[], Ok(32)),
     (&[Entry::Bound(3, 0), Entry::Bound(7, 1)], Ok(24)),
     (
@@ -128,12 +128,12 @@ const LISTS: [(&[Entry], Result<u32, SignFault>); 18] = [
         Err(SignFault::Illegal(2)),
     ),
     (
-        &[Entry::Bound(3, 0), Entry::Bound(3, 1), Entry::Key],
+        &[Entry::Bound(3, 0), Entry::Bound(3, 1), Entry::Key(LMS)],
         Err(SignFault::Illegal(2)),
     ),
-    (&[Entry::Key], Err(SignFault::Illegal(1))),
-    (&[Entry::Extend(1, 0, 6)], Err(SignFault::Illegal(1))),
-    (&[Entry::Extend(0, 0, 6)], Err(SignFault::Illegal(1))),
+    (&[Entry::Key(LMS)], Err(SignFault::Illegal(1))),
+    (&[Entry::Extend(1, 0, [6; 16])], Err(SignFault::Illegal(1))),
+    (&[Entry::Extend(0, 0, [6; 16])], Err(SignFault::Illegal(1))),
     (&[Entry::Retire(33)], Err(SignFault::Illegal(1))),
     (&[Entry::Bound(32, 0)], Err(SignFault::Illegal(1))),
     (
@@ -147,168 +147,165 @@ const LISTS: [(&[Entry], Result<u32, SignFault>); 18] = [
     ),
 ];
 
-#[test]
-fn lists_that_are_not_legal_do_not_open(rt: HostRuntime) {
-    for (entries, wanted) in LISTS {
-        assert_eq!(rt; opened_in_both(rt.alloc(), entries), Some(wanted));
+// The first of these lists that opens with something else, in memory or in a file; their count if none.
+fn first_other_list(alloc: Global) -> Option<usize> {
+    for (i, (entries, wanted)) in LISTS.iter().enumerate() {
+        let store = listed(alloc, entries)?;
+        let (in_memory, _) = opened(alloc, store, TapeSource::new(&[]))?;
+        let store = FileStore::open(filed(alloc, entries)?).ok()?;
+        let (in_file, _) = opened(alloc, store, TapeSource::new(&[]))?;
+        if in_memory != *wanted || in_file != *wanted {
+            return Some(i);
+        }
     }
+    Some(LISTS.len())
 }
 
-// The fault of these records as a ledger's, if any.
-fn replayed(alloc: Global, entries: &[Entry]) -> Option<Option<LedgerFault>> {
-    let mut records = Vec::new(alloc);
-    for entry in entries {
-        records.push(record_of(*entry)?).ok()?;
-    }
-    Some(Ledger::replay(alloc, &records).err())
+#[test]
+fn lists_that_are_not_legal_do_not_open(rt: HostRuntime) {
+    assert_eq!(rt; first_other_list(rt.alloc()), Some(LISTS.len()));
 }
 
 // Lists, and their faults as those of a ledger.
-const LEDGERS: [(&[Entry], Option<LedgerFault>); 13] = [
+const LEDGERS: [(&[Entry<'_>], Option<LedgerFault>); 13] = [
     (&[], Some(LedgerFault::Empty)),
     (&[Entry::Bound(0, 0)], Some(LedgerFault::Illegal(0))),
     (
-        &[Entry::Bound(0, 0), Entry::Key],
+        &[Entry::Bound(0, 0), Entry::Key(LMS)],
         Some(LedgerFault::Illegal(0)),
     ),
     (&[Entry::Retire(0)], Some(LedgerFault::Illegal(0))),
-    (&[Entry::Extend(1, 0, 6)], Some(LedgerFault::Illegal(0))),
+    (
+        &[Entry::Extend(1, 0, [6; 16])],
+        Some(LedgerFault::Illegal(0)),
+    ),
     (&[Entry::Moved], Some(LedgerFault::Illegal(0))),
-    (&[Entry::Key, Entry::Key], Some(LedgerFault::Illegal(1))),
+    (
+        &[Entry::Key(LMS), Entry::Key(LMS)],
+        Some(LedgerFault::Illegal(1)),
+    ),
     (
         &[
-            Entry::Key,
+            Entry::Key(LMS),
             Entry::Bound(3, 0),
             Entry::Bound(3, 1),
-            Entry::Key,
+            Entry::Key(LMS),
         ],
         Some(LedgerFault::Illegal(2)),
     ),
     (
-        &[Entry::Key, Entry::Bound(32, 0)],
+        &[Entry::Key(LMS), Entry::Bound(32, 0)],
         Some(LedgerFault::Illegal(1)),
     ),
-    (&[Entry::Key], None),
+    (&[Entry::Key(LMS)], None),
     (
         &[
-            Entry::Key,
+            Entry::Key(LMS),
             Entry::Bound(3, 0),
             Entry::Retire(5),
             Entry::Bound(31, 1),
         ],
         None,
     ),
-    (&[Entry::Key, Entry::Retire(32), Entry::Retire(0)], None),
-    (&[Entry::Key, Entry::Moved], None),
+    (
+        &[Entry::Key(LMS), Entry::Retire(32), Entry::Retire(0)],
+        None,
+    ),
+    (&[Entry::Key(LMS), Entry::Moved], None),
+];
+
+// The first of these lists that has another fault as a ledger; their count if none.
+fn first_other_ledger(alloc: Global) -> Option<usize> {
+    for (i, (entries, fault)) in LEDGERS.iter().enumerate() {
+        let mut records = Vec::new(alloc);
+        for entry in *entries {
+            records.push(record_of(entry)?).ok()?;
+        }
+        if Ledger::replay(alloc, &records).err() != *fault {
+            return Some(i);
+        }
+    }
+    Some(LEDGERS.len())
+}
+
+// The numbers of their faults.
+const NUMBERS: [(LedgerFault, u8); 3] = [
+    (LedgerFault::Empty, 40),
+    (LedgerFault::Illegal(3), 44),
+    (LedgerFault::OutOfMemory, 46),
 ];
 
 #[test]
 fn ledgers_are_legal_lists(rt: HostRuntime) {
-    for (entries, fault) in LEDGERS {
-        assert_eq!(rt; replayed(rt.alloc(), entries), Some(fault));
+    assert_eq!(rt; first_other_ledger(rt.alloc()), Some(LEDGERS.len()));
+    for (fault, number) in NUMBERS {
+        assert!(rt; fault.number() == number);
     }
 }
 
-#[test]
-fn faults_of_ledgers_have_numbers(rt: HostRuntime) {
-    for (fault, number) in [
-        (LedgerFault::Empty, 40),
-        (LedgerFault::Illegal(3), 44),
-        (LedgerFault::OutOfMemory, 46),
-    ] {
-        assert_eq!(rt; fault.number(), number);
-    }
-}
+const OTHER_ROOT: Option<SignFault> = Some(SignFault::Damaged(0));
 
-// What new names answer under a key whose root isn't that of its tree, whether its cache was made, and how long its
-// file is then.
-fn of_other_root(alloc: Global) -> Option<(usize, bool, u64)> {
-    let tape = counting::<32>(0);
+// What new names answer under a key whose root isn't that of its tree. Its cache is made.
+const OF_OTHER_ROOT: [Call; 4] = [
+    Call::Sign(1, 1, OTHER_ROOT),
+    Call::Sign(2, 2, OTHER_ROOT),
+    Call::Left(&[28]),
+    Call::Made([Some(32), None, None]),
+];
+
+const OTHER_TREE: Option<SignFault> = Some(SignFault::Damaged(1));
+
+// A lower tree whose root and digest aren't those of its secrets. Under it a name is bound to the digest of no message
+// that is known, and another one to that of the byte 1.
+const TREE: [Entry; 3] = [
+    Entry::Extend(1, 0, [6; 16]),
+    Entry::Bound(0, 0),
+    Entry::BoundByte(1, 1, 6),
+];
+
+// What names answer under a key of two levels with this tree. A changed message is found before the tree is looked at.
+const OF_OTHER_TREE: [Call; 5] = [
+    Call::Sign(0, b'm', Some(SignFault::Changed)),
+    Call::Sign(1, 2, Some(SignFault::Changed)),
+    Call::Sign(1, 1, OTHER_TREE),
+    Call::Sign(2, 1, OTHER_TREE),
+    Call::Left(&[31, 30]),
+];
+
+// How long the file of the first key, in which leaf 3 is bound, is after these calls; and whether no record comes to
+// those of the second one.
+fn under_other_roots(alloc: Global) -> Option<(u64, bool)> {
+    let tape = tape_of::<112>(0, 1);
+    let key = tape_of::<48>(0, 1);
     let store = FileStore::open(filed(alloc, &[Entry::Bound(3, 0)])?).ok()?;
-    let damaged = Some(SignFault::Damaged(0));
-    let calls = [
-        Call::Sign(1, 1, damaged),
-        Call::Sign(2, 2, damaged),
-        Call::Left(&[28]),
-    ];
-    let mut signer = Signer::open(alloc, store, TapeSource::new(&tape)).ok()?;
-    let count = first_other_call(alloc, &mut signer, &calls)?;
-    let has_cache = signer.cache_leaves(0).is_some();
-    let len = signer.into_store().into_disk().len().ok()?;
-    Some((count, has_cache, len))
-}
-
-#[test]
-fn a_changed_root_is_found(rt: HostRuntime) {
-    assert_eq!(rt; of_other_root(rt.alloc()), Some((3, true, 513)));
-}
-
-// A store of a key of two levels with a lower tree whose root and digest aren't those of its secrets. Under it a name
-// is bound to the digest of no message that is known, and another one to that of the byte 1.
-fn with_another_tree(alloc: Global) -> Option<MemoryStore> {
-    let tape = counting::<48>(0);
+    let store = goes_on_with(alloc, store, TapeSource::new(&tape), &OF_OTHER_ROOT)?;
+    let len = store.into_disk().len().ok()?;
     let store = MemoryStore::with_limit(alloc, 100);
-    let mut store = in_memory(alloc, TWO, store, &tape)?.into_store();
-    add_all(&mut store, &[Entry::Extend(1, 0, 6), Entry::Bound(0, 0)])?;
-    let one_time = LmOts {
-        identifier: [6; 16],
-        leaf: 1,
-    };
-    let bound = Record::Bound(Bound {
-        name: Name::new(&name_of(1)).ok()?,
-        leaf: 1,
-        randomizer: [4; 32],
-        digest: one_time.message_digest(&[4; 32], &[1]),
-    });
-    match store.load(0) {
-        Ok(Some(_)) => store.append(&bound).ok()?,
-        _ => return None,
-    }
-    Some(store)
+    let store = begins_with(alloc, TWO, store, TapeSource::new(&key), &[])?;
+    let store = with_records(store, &TREE)?;
+    let mut store = goes_on_with(alloc, store, TapeSource::new(&tape), &OF_OTHER_TREE)?;
+    Some((len, store.load(4) == Ok(None)))
 }
 
-// What names answer under such a key: the first that is answered otherwise, and whether no record came to these.
-fn of_another_tree(alloc: Global) -> Option<(usize, bool)> {
-    let tape = counting::<112>(0);
-    let store = with_another_tree(alloc)?;
-    let mut signer = Signer::open(alloc, store, TapeSource::new(&tape)).ok()?;
-    let damaged = Some(SignFault::Damaged(1));
-    let calls = [
-        Call::Sign(0, b'm', Some(SignFault::Changed)),
-        Call::Sign(1, 2, Some(SignFault::Changed)),
-        Call::Sign(1, 1, damaged),
-        Call::Sign(2, 1, damaged),
-        Call::Left(&[31, 30]),
-    ];
-    let count = first_other_call(alloc, &mut signer, &calls)?;
-    let mut store = signer.into_store();
-    Some((count, store.load(4) == Ok(None)))
-}
-
-// A changed message is found before the tree is looked at.
 #[test]
-fn a_changed_tree_is_found(rt: HostRuntime) {
-    assert_eq!(rt; of_another_tree(rt.alloc()), Some((5, true)));
+fn changed_roots_are_found(rt: HostRuntime) {
+    assert!(rt; under_other_roots(rt.alloc()) == Some((513, true)));
 }
 
-// What a file opens with where its n-th call fails: None where the store isn't opened.
-fn failing_at(alloc: Global, entries: &[Entry], n: u32) -> Option<Option<SignFault>> {
-    let mut disk = MemoryDisk::of(alloc, &filed(alloc, entries)?.stop(Pick::New).ok()?).ok()?;
-    disk.fail_at(n);
-    match FileStore::open(disk) {
-        Ok(store) => Some(opened(alloc, store)?.err()),
-        Err(_) => Some(None),
-    }
-}
-
-// Whether a file that has an illegal record opens with nothing up to a call, with 45 from there up to another, and
-// with the place of that record from there on. The first of these calls, and how many answer 45.
-fn failing_in_turn(alloc: Global, entries: &[Entry], place: u32) -> Option<(bool, u32)> {
+// Whether a file that has an illegal record opens with nothing up to a call that fails, with 45 from there up to
+// another, and with the place of that record from there on. The first of these calls, and how many answer 45.
+fn failing_in_turn(alloc: Global, entries: &[Entry<'_>], place: u32) -> Option<(bool, u32)> {
+    let file = filed(alloc, entries)?.stop(Pick::New).ok()?;
     let mut is_opened = false;
     let mut count = 0u32;
     let mut is_past = false;
     for n in 1..41u32 {
-        let answer = failing_at(alloc, entries, n)?;
+        let mut disk = MemoryDisk::of(alloc, &file).ok()?;
+        disk.fail_at(n);
+        let answer = match FileStore::open(disk) {
+            Ok(store) => opened(alloc, store, TapeSource::new(&[]))?.0.err(),
+            Err(_) => None,
+        };
         if answer == Some(SignFault::DeviceFailed) && !is_past {
             is_opened = true;
             count = count.saturating_add(1);
@@ -326,7 +323,7 @@ fn failing_in_turn(alloc: Global, entries: &[Entry], place: u32) -> Option<(bool
 #[test]
 fn a_failed_device_and_an_illegal_record(rt: HostRuntime) {
     let first = [
-        Entry::Extend(1, 0, 6),
+        Entry::Extend(1, 0, [6; 16]),
         Entry::Bound(0, 0),
         Entry::Bound(1, 1),
     ];

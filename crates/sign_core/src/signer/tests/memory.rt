@@ -1,18 +1,19 @@
 //! Files whose calls are answered at the second try where memory is refused at the first. `tests/run` runs these with
 //! each growth of memory refused in turn.
 
-use super::lists::{Entry, add_all, listed};
+use super::lists::{Entry, listed, with_records};
+use super::sources::has_records;
 use super::*;
-use lmots::LmOts;
-use state_file::{Disk, FormatFault, OpenFault};
+use state_file::{FormatFault, OpenFault};
+use std::cell::Cell;
 
 // A source that gives one number in each byte of a draw, and the next one at the next draw.
 #[derive(Drop)]
-struct Numbers {
-    next: u8,
+struct Numbers<'a> {
+    next: &'a Cell<u8>,
 }
 
-impl Source for Numbers {
+impl Source for Numbers<'_> {
     ghost use Rattle.std.specs.Prelude.{None};
 
     ghost failures = { λ _. 0 };
@@ -20,8 +21,9 @@ impl Source for Numbers {
     ghost upcoming = { λ _. None };
 
     fn fill(&mut self, into: &mut [u8]) -> Result<(), SourceFault> {
-        into.fill(self.next);
-        self.next = self.next.wrapping_add(1);
+        let next = self.next.get();
+        into.fill(next);
+        self.next.set(next.wrapping_add(1));
         Ok(())
     }
 }
@@ -34,8 +36,8 @@ impl Source for Numbers {
 enum Step<'a> {
     Reopen(u64, u8),
     ReopenByKey(u64),
-    Sign(u8, u8, Result<usize, SignFault>),
-    Repeat(u8, u8, Result<usize, SignFault>),
+    Sign(u32, u8, Result<usize, SignFault>),
+    Repeat(u32, u8, Result<usize, SignFault>),
     Retire(u32, Option<SignFault>),
     Left(&'a [u32]),
 }
@@ -57,6 +59,9 @@ const BEGIN: Place = Place {
     is_again: false,
     was_bound: None,
 };
+
+// The number that a source gives first after a store failed.
+const AFTER_FAILURE: u8 = 100;
 
 fn store_of<D: Disk + Drop>(disk: D) -> Option<FileStore<D>> {
     match FileStore::open(disk) {
@@ -89,7 +94,8 @@ fn opened_by<S: Store + Drop, R: Source + Drop>(
 // The file of a new key in a formatted file, with this number drawn first.
 fn keyed<D: Disk + Drop>(alloc: Global, text: &str, store: FileStore<D>) -> Option<D> {
     let spec = Spec::parse(text).ok()?;
-    match Signer::create(alloc, spec, store, Numbers { next: 10 }) {
+    let next = Cell::new(10);
+    match Signer::create(alloc, spec, store, Numbers { next: &next }) {
         Ok(signer) => Some(signer.into_store().into_disk()),
         Err(_) => None,
     }
@@ -97,7 +103,7 @@ fn keyed<D: Disk + Drop>(alloc: Global, text: &str, store: FileStore<D>) -> Opti
 
 // The file of a new key in this file. After a create that was refused for the device, it's the key that stands, or a
 // new one.
-fn created<D: Disk + Drop>(alloc: Global, text: &str, disk: D) -> Option<D> {
+fn made_on<D: Disk + Drop>(alloc: Global, text: &str, disk: D) -> Option<D> {
     let spec = Spec::parse(text).ok()?;
     let store = match FileStore::format(disk) {
         Ok(store) => store,
@@ -106,7 +112,8 @@ fn created<D: Disk + Drop>(alloc: Global, text: &str, disk: D) -> Option<D> {
             FormatFault::NotKeyFile | FormatFault::KeyThere => return None,
         },
     };
-    let (fault, store) = match Signer::create(alloc, spec, store, Numbers { next: 0 }) {
+    let next = Cell::new(0);
+    let (fault, store) = match Signer::create(alloc, spec, store, Numbers { next: &next }) {
         Ok(signer) => return Some(signer.into_store().into_disk()),
         Err(refused) => {
             let (store, _) = refused.given;
@@ -127,8 +134,8 @@ fn created<D: Disk + Drop>(alloc: Global, text: &str, disk: D) -> Option<D> {
 }
 
 // What a request of one byte answers, with the length of its signature. It leaves no byte where it is refused.
-fn request<S: Store>(
-    signer: &mut Signer<S, Numbers>,
+fn request<S: Store, R: Source>(
+    signer: &mut Signer<S, R>,
     name: &Name,
     message: u8,
     out: &mut Vec<u8>,
@@ -150,9 +157,10 @@ fn request<S: Store>(
 // Whether the file is closed and opened again after a request, and the place then. Where memory was refused no name
 // was bound, and the request comes again with what the source gives next. Where the store failed the signer is closed
 // until then. None where a request is answered otherwise, or refused a second time.
-fn requested<S: Store>(
-    signer: &mut Signer<S, Numbers>,
-    (number, message, wanted): (u8, u8, Result<usize, SignFault>),
+fn requested<S: Store, R: Source>(
+    signer: &mut Signer<S, R>,
+    next: &Cell<u8>,
+    (number, message, wanted): (u32, u8, Result<usize, SignFault>),
     place: Place,
     out: &mut Vec<u8>,
 ) -> Option<(bool, Place)> {
@@ -166,35 +174,36 @@ fn requested<S: Store>(
         let step = place.step.checked_add(1)?;
         return Some((false, Place { step, ..BEGIN }));
     }
-    let (next, kept) = match answer {
-        Err(SignFault::OutOfMemory) => (signer.random.next, Some(was_bound)),
-        Err(SignFault::StoreFailed) => (100, None),
+    let (kept, is_so) = match answer {
+        Err(SignFault::OutOfMemory) => (
+            Some(was_bound),
+            signer.ledger.find(&name).is_some() == was_bound,
+        ),
+        Err(SignFault::StoreFailed) => {
+            next.set(AFTER_FAILURE);
+            let again = request(signer, &name, message, out)?;
+            (None, again == Err(SignFault::Stopped))
+        }
         _ => return None,
-    };
-    let is_so = match kept {
-        Some(_) => signer.ledger.find(&name).is_some() == was_bound,
-        None => request(signer, &name, message, out)? == Err(SignFault::Stopped),
     };
     if place.is_again || !is_so {
         return None;
     }
-    let step = place.step;
     Some((
         true,
         Place {
-            step,
-            next,
             is_again: true,
             was_bound: kept,
+            ..place
         },
     ))
 }
 
 // The same of leaves that are retired.
-fn retired<S: Store>(
-    signer: &mut Signer<S, Numbers>,
-    upto: u32,
-    wanted: Option<SignFault>,
+fn retired<S: Store, R: Source>(
+    signer: &mut Signer<S, R>,
+    next: &Cell<u8>,
+    (upto, wanted): (u32, Option<SignFault>),
     place: Place,
 ) -> Option<(bool, Place)> {
     let fault = signer.retire(upto).err();
@@ -202,18 +211,19 @@ fn retired<S: Store>(
         let step = place.step.checked_add(1)?;
         return Some((false, Place { step, ..BEGIN }));
     }
-    let next = match fault {
-        Some(SignFault::OutOfMemory) => signer.random.next,
-        Some(SignFault::StoreFailed) if signer.retire(upto) == Err(SignFault::Stopped) => 100,
+    match fault {
+        Some(SignFault::OutOfMemory) => {}
+        Some(SignFault::StoreFailed) if signer.retire(upto) == Err(SignFault::Stopped) => {
+            next.set(AFTER_FAILURE);
+        }
         _ => return None,
-    };
+    }
     if place.is_again {
         return None;
     }
     Some((
         true,
         Place {
-            next,
             is_again: true,
             ..place
         },
@@ -221,45 +231,67 @@ fn retired<S: Store>(
 }
 
 // The same of a step.
-fn taken<S: Store>(
+fn taken<S: Store, R: Source>(
     alloc: Global,
-    signer: &mut Signer<S, Numbers>,
+    signer: &mut Signer<S, R>,
+    next: &Cell<u8>,
     step: &Step<'_>,
     place: Place,
     out: &mut Vec<u8>,
 ) -> Option<(bool, Place)> {
-    let next = match step {
+    match step {
         Step::Sign(number, message, wanted) => {
-            return requested(signer, (*number, *message, *wanted), place, out);
+            return requested(signer, next, (*number, *message, *wanted), place, out);
         }
         Step::Repeat(number, message, wanted) => {
             let mut again = Vec::new(alloc);
-            let asked = (*number, *message, *wanted);
-            let (is_closed, after) = requested(signer, asked, place, &mut again)?;
+            let repeat = (*number, *message, *wanted);
+            let (is_closed, after) = requested(signer, next, repeat, place, &mut again)?;
             if !is_closed && again != *out {
                 return None;
             }
             return Some((is_closed, after));
         }
-        Step::Retire(upto, wanted) => return retired(signer, *upto, *wanted, place),
+        Step::Retire(upto, wanted) => return retired(signer, next, (*upto, *wanted), place),
         Step::Left(counts) if signer.left().as_slice() != *counts => return None,
-        Step::Left(_) => 0,
-        Step::Reopen(_, next) => *next,
-        Step::ReopenByKey(_) => *signer.public_key().write().as_slice().get(12)?,
-    };
+        Step::Left(_) => {}
+        Step::Reopen(_, first) => next.set(*first),
+        Step::ReopenByKey(_) => next.set(*signer.public_key().write().as_slice().get(12)?),
+    }
     let is_closed = !matches!(step, Step::Left(_));
     let step = place.step.checked_add(1)?;
-    Some((
-        is_closed,
-        Place {
-            step,
-            next,
-            ..BEGIN
-        },
-    ))
+    Some((is_closed, Place { step, ..BEGIN }))
 }
 
-// The store of a key after the steps from a place on, up to the next one for which its file is opened again.
+// The place of a key after the steps from one on, up to the next one for which its file is opened again.
+fn taken_up<S: Store, R: Source>(
+    alloc: Global,
+    signer: &mut Signer<S, R>,
+    next: &Cell<u8>,
+    steps: &[Step<'_>],
+    place: Place,
+    out: &mut Vec<u8>,
+) -> Option<Place> {
+    let mut at = place;
+    for step in steps.get(place.step..)? {
+        let (is_closed, after) = taken(alloc, signer, next, step, at, out)?;
+        at = Place {
+            next: next.get(),
+            ..after
+        };
+        // a file takes no memory where leaves of it are retired
+        let is_refused = at.is_again && at.next != AFTER_FAILURE;
+        if is_refused && matches!(step, Step::Retire(_, _)) {
+            return None;
+        }
+        if is_closed {
+            break;
+        }
+    }
+    Some(at)
+}
+
+// The same, and the key's store then.
 fn goes_on<S: Store + Drop>(
     alloc: Global,
     store: S,
@@ -267,20 +299,11 @@ fn goes_on<S: Store + Drop>(
     place: Place,
     out: &mut Vec<u8>,
 ) -> Option<(S, Place)> {
-    let mut signer = opened_by(alloc, store, Numbers { next: place.next })?;
-    let mut at = place;
-    for step in steps.get(place.step..)? {
-        let (is_closed, after) = taken(alloc, &mut signer, step, at, out)?;
-        // a file takes no memory where leaves of it are retired
-        if after.is_again && after.next != 100 && matches!(step, Step::Retire(_, _)) {
-            return None;
-        }
-        at = after;
-        if is_closed {
-            break;
-        }
-    }
-    Some((signer.into_store(), at))
+    let next = Cell::new(place.next);
+    let mut signer = opened_by(alloc, store, Numbers { next: &next })?;
+    let after = taken_up(alloc, &mut signer, &next, steps, place, out);
+    let store = signer.into_store();
+    Some((store, after?))
 }
 
 // How long a key's file is after these steps. None where one of them comes to something else at last.
@@ -308,13 +331,18 @@ fn len_after<D: Disk + Drop>(alloc: Global, disk: D, steps: &[Step<'_>]) -> Opti
     None
 }
 
-// The same of a new key.
-fn len_of_new(alloc: Global, text: &str, steps: &[Step<'_>]) -> Option<u64> {
+// The disk of a new key.
+fn new_disk(alloc: Global, text: &str) -> Option<MemoryDisk> {
     let disk = match MemoryDisk::of(alloc, &[]) {
         Ok(disk) => disk,
         Err(_) => MemoryDisk::of(alloc, &[]).ok()?,
     };
-    len_after(alloc, created(alloc, text, disk)?, steps)
+    made_on(alloc, text, disk)
+}
+
+// How long the file of a new key is after these steps.
+fn len_of_new(alloc: Global, text: &str, steps: &[Step<'_>]) -> Option<u64> {
+    len_after(alloc, new_disk(alloc, text)?, steps)
 }
 
 // A request, its repeat and a changed message, where the file is closed and opened again between.
@@ -328,7 +356,7 @@ const ONE_TREE: [Step; 5] = [
 
 #[test]
 fn one_tree_signs_at_last(rt: HostRuntime) {
-    assert_eq!(rt; len_of_new(rt.alloc(), LMS, &ONE_TREE), Some(513));
+    assert!(rt; len_of_new(rt.alloc(), LMS, &ONE_TREE) == Some(513));
 }
 
 // The first name of a key makes its trees.
@@ -341,7 +369,7 @@ const TWO_LEVELS: [Step; 4] = [
 
 #[test]
 fn two_levels_sign_at_last(rt: HostRuntime) {
-    assert_eq!(rt; len_of_new(rt.alloc(), TWO, &TWO_LEVELS), Some(769));
+    assert!(rt; len_of_new(rt.alloc(), TWO, &TWO_LEVELS) == Some(769));
 }
 
 const THREE_LEVELS: [Step; 4] = [
@@ -353,7 +381,7 @@ const THREE_LEVELS: [Step; 4] = [
 
 #[test]
 fn three_levels_sign_at_last(rt: HostRuntime) {
-    assert_eq!(rt; len_of_new(rt.alloc(), THREE, &THREE_LEVELS), Some(1025));
+    assert!(rt; len_of_new(rt.alloc(), THREE, &THREE_LEVELS) == Some(1025));
 }
 
 const OF_XMSS: [Step; 4] = [
@@ -365,7 +393,7 @@ const OF_XMSS: [Step; 4] = [
 
 #[test]
 fn an_xmss_key_signs_at_last(rt: HostRuntime) {
-    assert_eq!(rt; len_of_new(rt.alloc(), XMSS, &OF_XMSS), Some(513));
+    assert!(rt; len_of_new(rt.alloc(), XMSS, &OF_XMSS) == Some(513));
 }
 
 // Retired leaves stay so, in a file of two records.
@@ -380,7 +408,7 @@ const RETIRED: [Step; 6] = [
 
 #[test]
 fn leaves_are_retired_at_last(rt: HostRuntime) {
-    assert_eq!(rt; len_of_new(rt.alloc(), LMS, &RETIRED), Some(513));
+    assert!(rt; len_of_new(rt.alloc(), LMS, &RETIRED) == Some(513));
 }
 
 // A new name of a key of two levels, whose lower tree is used up, makes another one.
@@ -395,7 +423,7 @@ const USED: [Step; 6] = [
 
 #[test]
 fn a_used_tree_is_replaced_at_last(rt: HostRuntime) {
-    assert_eq!(rt; len_of_new(rt.alloc(), TWO, &USED), Some(1537));
+    assert!(rt; len_of_new(rt.alloc(), TWO, &USED) == Some(1537));
 }
 
 // The source gives the key's I again.
@@ -406,77 +434,105 @@ const AGAIN: [Step; 2] = [
 
 #[test]
 fn a_repeated_draw_is_found_at_last(rt: HostRuntime) {
-    assert_eq!(rt; len_of_new(rt.alloc(), TWO, &AGAIN), Some(257));
+    assert!(rt; len_of_new(rt.alloc(), TWO, &AGAIN) == Some(257));
 }
 
-// What steps of a key in memory come to, each of which comes again at once where memory was refused: whether its store
-// was refused memory for a name, so after something was drawn, and whether for leaves; and the number that its source
-// gives next.
-fn refused_in<S: Store>(
-    alloc: Global,
-    signer: &mut Signer<S, Numbers>,
-    steps: &[Step<'_>],
-    out: &mut Vec<u8>,
-) -> Option<(bool, bool, u8)> {
-    let mut is_name = false;
-    let mut is_retire = false;
-    for step in steps {
-        let next = signer.random.next;
-        let (is_refused, place) = taken(alloc, signer, step, BEGIN, out)?;
-        if is_refused {
-            is_name = is_name || place.next != next;
-            is_retire = is_retire || matches!(step, Step::Retire(_, _));
-            if taken(alloc, signer, step, place, out)?.0 {
-                return None;
-            }
-        }
+// Adds a lower tree to the store of a new key of two levels, and a name for each of the tree's leaves. To that of a key
+// of three levels, a tree of the second level, and for each of its leaves one below it, which is used up.
+fn fill_trees<S: Store + Drop>(store: S, text: &str) -> Option<S> {
+    let mut store = with_records(store, &[Entry::Extend(1, 0, [6; 16])])?;
+    for number in 0..32u8 {
+        let leaf = u32::from(number);
+        store = if text == THREE {
+            let tree = [
+                Entry::Extend(2, leaf, [100 + number; 16]),
+                Entry::Bound(0, leaf),
+                Entry::Retire(32),
+            ];
+            with_records(store, &tree)?
+        } else {
+            with_records(store, &[Entry::Bound(leaf, leaf)])?
+        };
     }
-    Some((is_name, is_retire, signer.random.next))
+    Some(store)
 }
 
-// A new key in memory, in a store that takes so many records, at the second try where memory was refused at the first.
-fn created_within(alloc: Global, text: &str, limit: u32) -> Option<MemoryStore> {
+// A store of a new key, at the second try where memory was refused at the first; where that is wanted the key's trees
+// below the first level are full.
+fn made_in<S: Store + Drop>(alloc: Global, text: &str, store: S, is_full: bool) -> Option<S> {
     let tape = [7; 48];
-    let store = MemoryStore::with_limit(alloc, limit);
     if store.limit() == 0 {
         return None;
     }
     let spec = Spec::parse(text).ok()?;
-    match Signer::create(alloc, spec, store, TapeSource::new(&tape)) {
-        Ok(signer) => Some(signer.into_store()),
+    let store = match Signer::create(alloc, spec, store, TapeSource::new(&tape)) {
+        Ok(signer) => signer.into_store(),
         Err(refused) => {
             if refused.fault != SignFault::OutOfMemory {
                 return None;
             }
             let (store, _random) = refused.given;
-            Some(in_memory(alloc, text, store, &tape)?.into_store())
+            created(alloc, text, store, TapeSource::new(&tape))?.into_store()
         }
+    };
+    if is_full {
+        fill_trees(store, text)
+    } else {
+        Some(store)
     }
 }
 
-// The same of these steps of the key in a store, which is opened for them with a source that begins with this number;
-// and the store then.
+// What steps of a key in memory come to, each of which comes again at once where memory was refused: whether its store
+// was refused memory for a name, so after something was drawn, and whether for leaves.
+fn refused_in<S: Store, R: Source>(
+    alloc: Global,
+    signer: &mut Signer<S, R>,
+    next: &Cell<u8>,
+    steps: &[Step<'_>],
+    out: &mut Vec<u8>,
+) -> Option<(bool, bool)> {
+    let mut is_name = false;
+    let mut is_retire = false;
+    for step in steps {
+        let before = next.get();
+        let (is_refused, place) = taken(alloc, signer, next, step, BEGIN, out)?;
+        if is_refused {
+            is_name = is_name || next.get() != before;
+            is_retire = is_retire || matches!(step, Step::Retire(_, _));
+            if taken(alloc, signer, next, step, place, out)?.0 {
+                return None;
+            }
+        }
+    }
+    Some((is_name, is_retire))
+}
+
+// What the same steps of the key in a store come to, which is opened for them with a source that begins with this
+// number; the number that the source gives next, and the store then.
 fn refused_to<S: Store + Drop>(
     alloc: Global,
     store: S,
-    next: u8,
+    first: u8,
     steps: &[Step<'_>],
     out: &mut Vec<u8>,
 ) -> Option<(S, (bool, bool, u8))> {
-    let mut signer = opened_by(alloc, store, Numbers { next })?;
-    let refused = refused_in(alloc, &mut signer, steps, out)?;
-    Some((signer.into_store(), refused))
+    let next = Cell::new(first);
+    let mut signer = opened_by(alloc, store, Numbers { next: &next })?;
+    let refused = refused_in(alloc, &mut signer, &next, steps, out);
+    let store = signer.into_store();
+    let (is_name, is_retire) = refused?;
+    Some((store, (is_name, is_retire, next.get())))
 }
 
 // The same, where the store has so many records then.
 fn refused_with<S: Store + Drop>(
     alloc: Global,
-    store: S,
+    store: Option<S>,
     steps: &[Step<'_>],
     records: u32,
 ) -> Option<(bool, bool, u8)> {
-    let (mut store, refused) = refused_to(alloc, store, 50, steps, &mut Vec::new(alloc))?;
-    if store.load(records.checked_sub(1)?).ok()?.is_none() || store.load(records) != Ok(None) {
+    let (mut store, refused) = refused_to(alloc, store?, 50, steps, &mut Vec::new(alloc))?;
+    if !has_records(&mut store, records) {
         return None;
     }
     Some(refused)
@@ -508,7 +564,7 @@ const TEN: [Step; 19] = [
 // Whether the store of a new key in memory is refused memory for one of these names, and whether for leaves. None where
 // they aren't all recorded at last, or a refusal of another memory draws anything.
 fn refused_in_memory_for(alloc: Global) -> Option<(bool, bool)> {
-    let store = created_within(alloc, LMS, 200)?;
+    let store = made_in(alloc, LMS, MemoryStore::with_limit(alloc, 200), false);
     let (is_name, is_retire, next) = refused_with(alloc, store, &TEN, 19)?;
     let drawn = if is_name { 61 } else { 60 };
     if next != drawn {
@@ -536,44 +592,14 @@ fn leaves_are_retired_in_memory_at_first(rt: HostRuntime) {
     assert!(rt; refused == Some((false, false)) || refused == Some((true, false)));
 }
 
-// Adds a lower tree to the store of a new key of two levels, and a name for each of the tree's leaves. To that of a key
-// of three levels, a tree of the second level, and for each of its leaves one below it, which is used up.
-fn fill_trees<S: Store>(store: &mut S, text: &str) -> Option<()> {
-    add_all(store, &[Entry::Extend(1, 0, 6)])?;
-    for number in 0..32u8 {
-        let leaf = u32::from(number);
-        let tree = [
-            Entry::Extend(2, leaf, 100 + number),
-            Entry::Bound(0, number),
-            Entry::Retire(32),
-        ];
-        if text == THREE {
-            add_all(store, &tree)?;
-        } else {
-            add_all(store, &[Entry::Bound(leaf, number)])?;
-        }
-    }
-    Some(())
-}
-
-// The store in memory of a key whose trees below the first level are full.
-fn full_trees(alloc: Global, text: &str) -> Option<MemoryStore> {
-    let mut store = created_within(alloc, text, 200)?;
-    fill_trees(&mut store, text)?;
-    Some(store)
-}
-
-// Whether the next name of such a key begins new trees and leaves so many records, at the second try where memory was
-// refused for the records before it.
+// Whether the next name of such a key whose lower trees are full begins new ones and leaves so many records, at the
+// second try where memory was refused for the records before it.
 fn begins_trees(alloc: Global, text: &str, steps: &[Step<'_>], records: u32) -> bool {
-    let store = match full_trees(alloc, text) {
+    let store = match made_in(alloc, text, MemoryStore::with_limit(alloc, 200), true) {
         Some(store) => Some(store),
-        None => full_trees(alloc, text),
+        None => made_in(alloc, text, MemoryStore::with_limit(alloc, 200), true),
     };
-    match store {
-        Some(store) => refused_with(alloc, store, steps, records).is_some(),
-        None => false,
-    }
+    refused_with(alloc, store, steps, records).is_some()
 }
 
 const NEXT_OF_TWO: [Step; 2] = [Step::Sign(40, 1, Ok(2644)), Step::Left(&[30, 31])];
@@ -593,9 +619,8 @@ fn used_trees_begin_anew_at_last(rt: HostRuntime) {
 // The file of a key of two levels whose lower tree is full.
 fn full_file(alloc: Global) -> Option<MemoryDisk> {
     let place = FileStore::format(MemoryDisk::of(alloc, &[]).ok()?).ok()?;
-    let mut store = store_of(keyed(alloc, TWO, place)?)?;
-    fill_trees(&mut store, TWO)?;
-    Some(store.into_disk())
+    let store = store_of(keyed(alloc, TWO, place)?)?;
+    Some(fill_trees(store, TWO)?.into_disk())
 }
 
 // Its next name makes another tree.
@@ -615,7 +640,7 @@ fn a_full_tree_in_a_file_is_replaced_at_last(rt: HostRuntime) {
         Some(disk) => len_after(rt.alloc(), disk, &NEXT_IN_A_FILE),
         None => None,
     };
-    assert_eq!(rt; len, Some(9217));
+    assert!(rt; len == Some(9217));
 }
 
 // A first name under a key of two levels wants a tree and the binding, where the store takes two records in all.
@@ -626,40 +651,37 @@ const WANTS_TWO: [Step; 2] = [
 
 #[test]
 fn a_full_store_is_found_at_last(rt: HostRuntime) {
-    let found = match created_within(rt.alloc(), TWO, 2) {
-        Some(store) => refused_with(rt.alloc(), store, &WANTS_TWO, 1),
-        None => None,
-    };
-    assert!(rt; found.is_some());
+    let store = made_in(
+        rt.alloc(),
+        TWO,
+        MemoryStore::with_limit(rt.alloc(), 2),
+        false,
+    );
+    assert!(rt; refused_with(rt.alloc(), store, &WANTS_TWO, 1).is_some());
 }
 
-// A new name of a key of two levels whose source ends after the draws of the lower tree, or at once where that tree is
-// recorded: the store after it, and the fault.
+// What a request under the key in a store is answered with this source, and the store then.
+fn fault_by<S: Store + Drop, R: Source + Drop>(
+    alloc: Global,
+    store: S,
+    random: R,
+) -> Option<(S, Option<SignFault>)> {
+    let mut signer = opened_by(alloc, store, random)?;
+    let answered = answer(alloc, &mut signer, &name_of(1), &[1]);
+    let store = signer.into_store();
+    Some((store, answered?.err()))
+}
+
+// The same of a new name of a key of two levels whose source ends after the draws of the lower tree, or at once where
+// that tree is recorded.
 fn ends_short<S: Store + Drop>(alloc: Global, store: S) -> Option<(S, Option<SignFault>)> {
     let mut store = store;
-    let tape = counting::<80>(48);
-    let used = if store.load(1).ok()?.is_some() {
-        tape.len()
-    } else {
-        0
+    let tape = tape_of::<80>(48, 1);
+    let drawn: &[u8] = match store.load(1).ok()? {
+        Some(_) => &[],
+        None => tape.as_slice(),
     };
-    let mut signer = opened_by(alloc, store, TapeSource::new(tape.get(used..)?))?;
-    let fault = fault_of(alloc, &mut signer, &name_of(1), &[1])?;
-    Some((signer.into_store(), fault))
-}
-
-// The same of a key in a file, at the second try where memory was refused or the store failed at the first, and the
-// file opened again between.
-fn ends_short_at_last<D: Disk + Drop>(alloc: Global, disk: D) -> Option<(D, Option<SignFault>)> {
-    let (store, fault) = ends_short(alloc, store_of(disk)?)?;
-    let disk = store.into_disk();
-    match fault {
-        Some(SignFault::OutOfMemory) | Some(SignFault::StoreFailed) => {
-            let (store, fault) = ends_short(alloc, store_of(disk)?)?;
-            Some((store.into_disk(), fault))
-        }
-        _ => Some((disk, fault)),
-    }
+    fault_by(alloc, store, TapeSource::new(drawn))
 }
 
 // The lower tree stays, and the next name, whose source gives all, is bound to its first leaf.
@@ -672,20 +694,26 @@ const GOES_ON: [Step; 6] = [
     Step::Left(&[31, 31]),
 ];
 
-// What such a name is answered under a new key, and the length of the file after the next one.
-fn ends_and_goes_on(alloc: Global) -> Option<(Option<SignFault>, u64)> {
-    let disk = match MemoryDisk::of(alloc, &[]) {
-        Ok(disk) => disk,
-        Err(_) => MemoryDisk::of(alloc, &[]).ok()?,
+// What such a name is answered by a key in a file, at the second try where memory was refused or the store failed at
+// the first, and the file opened again between; and the length of the file after the next name.
+fn ends_and_goes_on<D: Disk + Drop>(alloc: Global, disk: D) -> Option<(Option<SignFault>, u64)> {
+    let (store, fault) = ends_short(alloc, store_of(disk)?)?;
+    let (store, fault) = match fault {
+        Some(SignFault::OutOfMemory) | Some(SignFault::StoreFailed) => {
+            ends_short(alloc, store_of(store.into_disk())?)?
+        }
+        _ => (store, fault),
     };
-    let (disk, fault) = ends_short_at_last(alloc, created(alloc, TWO, disk)?)?;
-    Some((fault, len_after(alloc, disk, &GOES_ON)?))
+    Some((fault, len_after(alloc, store.into_disk(), &GOES_ON)?))
 }
 
 #[test]
 fn a_source_that_ends_is_answered_at_last(rt: HostRuntime) {
-    let wanted = (Some(SignFault::RandomFailed), 769);
-    assert_eq!(rt; ends_and_goes_on(rt.alloc()), Some(wanted));
+    let came = match new_disk(rt.alloc(), TWO) {
+        Some(disk) => ends_and_goes_on(rt.alloc(), disk),
+        None => None,
+    };
+    assert!(rt; came == Some((Some(SignFault::RandomFailed), 769)));
 }
 
 // What a key in memory is asked whose append of a name was cut, and left the record: the name has its signature with
@@ -708,7 +736,7 @@ const FREE: [Step; 3] = [
 // Whether these steps draw nothing after such a cut, and whether the last of them that was signed is of the first leaf.
 fn after_a_cut(alloc: Global, cut: Cut, steps: &[Step<'_>]) -> Option<(bool, bool)> {
     let mut out = Vec::new(alloc);
-    let mut store = created_within(alloc, LMS, 200)?;
+    let mut store = made_in(alloc, LMS, MemoryStore::with_limit(alloc, 200), false)?;
     store.cut_at(1, cut);
     let (mut store, _) = refused_to(alloc, store, 50, &CUT, &mut out)?;
     store.reopen();
@@ -719,63 +747,39 @@ fn after_a_cut(alloc: Global, cut: Cut, steps: &[Step<'_>]) -> Option<(bool, boo
 #[test]
 fn a_cut_name_is_answered_at_last(rt: HostRuntime) {
     let left = after_a_cut(rt.alloc(), Cut::New, &BOUND);
-    assert_eq!(rt; left, Some((true, false)));
+    assert!(rt; left == Some((true, false)));
     let not_left = after_a_cut(rt.alloc(), Cut::Old, &FREE);
-    assert_eq!(rt; not_left, Some((false, true)));
-}
-
-// A store of a key whose root isn't that of its tree; where that is wanted, with a name that is bound to the digest of
-// the byte 1.
-fn other_root(alloc: Global, is_bound: bool) -> Option<MemoryStore> {
-    let mut store = match listed(alloc, &[]) {
-        Some(store) => store,
-        None => listed(alloc, &[])?,
-    };
-    if !is_bound {
-        return Some(store);
-    }
-    let one_time = LmOts {
-        identifier: [1; 16],
-        leaf: 0,
-    };
-    let bound = Record::Bound(Bound {
-        name: Name::new(&name_of(1)).ok()?,
-        leaf: 0,
-        randomizer: [4; 32],
-        digest: one_time.message_digest(&[4; 32], &[1]),
-    });
-    match store.load(0) {
-        Ok(Some(_)) => match store.append(&bound) {
-            Ok(()) => Some(store),
-            Err(_) => {
-                store.append(&bound).ok()?;
-                Some(store)
-            }
-        },
-        _ => None,
-    }
+    assert!(rt; not_left == Some((false, true)));
 }
 
 // The fault of the first request of a name, and where memory is refused for it, of the second.
 fn fault_twice<S: Store, R: Source>(
     alloc: Global,
     signer: &mut Signer<S, R>,
-    name: &[u8],
+    number: u32,
 ) -> Option<(SignFault, Option<SignFault>)> {
-    let first = fault_of(alloc, signer, name, &[1])??;
+    let first = answer(alloc, signer, &name_of(number), &[1])?.err()?;
     if first != SignFault::OutOfMemory {
         return Some((first, None));
     }
-    Some((first, fault_of(alloc, signer, name, &[1])?))
+    let second = answer(alloc, signer, &name_of(number), &[1])?.err();
+    Some((first, second))
 }
 
-// The faults of a new name under such a key, or of the bound one.
+const BOUND_BYTE: [Entry; 1] = [Entry::BoundByte(0, 1, 1)];
+
+// The faults of a new name under a key whose root isn't that of its tree, or where that is wanted, of a name that is
+// bound to the digest of the byte 1.
 fn faults_of(alloc: Global, is_bound: bool) -> Option<(SignFault, Option<SignFault>)> {
-    let tape = counting::<32>(0);
-    let bound = name_of(1);
-    let name: &[u8] = if is_bound { &bound } else { b"fw-1" };
-    let mut signer = opened_by(alloc, other_root(alloc, is_bound)?, TapeSource::new(&tape))?;
-    fault_twice(alloc, &mut signer, name)
+    let count = if is_bound { 1 } else { 0 };
+    let entries = &BOUND_BYTE[..count];
+    let store = match listed(alloc, entries) {
+        Some(store) => store,
+        None => listed(alloc, entries)?,
+    };
+    let tape = tape_of::<32>(0, 1);
+    let mut signer = opened_by(alloc, store, TapeSource::new(&tape))?;
+    fault_twice(alloc, &mut signer, if is_bound { 1 } else { 2 })
 }
 
 // What is found of such a root, and what the second request answers where memory is refused for the first.
@@ -796,7 +800,7 @@ fn a_changed_root_is_found_at_last(rt: HostRuntime) {
 // This one passes only where no growth of the first request is refused.
 #[test]
 fn a_changed_root_is_found_at_first(rt: HostRuntime) {
-    assert_eq!(rt; faults_of(rt.alloc(), false), FOUND);
+    assert!(rt; faults_of(rt.alloc(), false) == FOUND);
 }
 
 // Under a bound name, too, want of memory comes before what is wrong in the records.
@@ -809,5 +813,5 @@ fn a_changed_root_of_a_bound_name_is_found_at_last(rt: HostRuntime) {
 // This one passes only where no growth of the first request is refused.
 #[test]
 fn a_changed_root_of_a_bound_name_is_found_at_first(rt: HostRuntime) {
-    assert_eq!(rt; faults_of(rt.alloc(), true), FOUND);
+    assert!(rt; faults_of(rt.alloc(), true) == FOUND);
 }

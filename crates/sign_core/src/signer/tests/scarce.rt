@@ -102,24 +102,6 @@ fn empty_store(alloc: Global, appends: Option<u32>, loads: Option<u32>) -> Scarc
     }
 }
 
-// A new key in a store that refuses the append after so many.
-fn created<'a>(
-    alloc: Global,
-    text: &str,
-    appends: u32,
-    tape: &'a [u8],
-) -> Option<Signer<Scarce, TapeSource<'a>>> {
-    let store = empty_store(alloc, Some(appends), None);
-    Signer::create(alloc, Spec::parse(text).ok()?, store, TapeSource::new(tape)).ok()
-}
-
-// Calls of such a key: the first that is answered otherwise.
-fn of_scarce(alloc: Global, text: &str, appends: u32, calls: &[Call<'_>]) -> Option<usize> {
-    let tape = in_blocks::<512>();
-    let mut signer = created(alloc, text, appends, &tape)?;
-    first_other_call(alloc, &mut signer, calls)
-}
-
 const NO_MEMORY: Option<SignFault> = Some(SignFault::OutOfMemory);
 
 // The keys, how many appends come before the one that is refused, and what is answered: no name is bound, and the call
@@ -179,64 +161,55 @@ const REFUSED: [(&str, u32, &[Call<'_>]); 5] = [
 
 #[test]
 fn an_append_without_memory_binds_nothing(rt: HostRuntime) {
+    let tape = tape_of::<512>(0, 16);
     for (text, appends, calls) in REFUSED {
-        assert_eq!(rt;
-            of_scarce(rt.alloc(), text, appends, calls),
-            Some(calls.len())
-        );
+        let store = empty_store(rt.alloc(), Some(appends), None);
+        let random = TapeSource::new(&tape);
+        assert!(rt; begins_with(rt.alloc(), text, store, random, calls).is_some());
     }
 }
 
-// What a create answers in a store that refuses the first load, or the first append, and whether it makes the key when
-// it comes again.
-fn creates_again(alloc: Global, store: Scarce) -> Option<(SignFault, bool)> {
-    let tape = counting::<96>(0);
-    let refused = Signer::create(
-        alloc,
-        Spec::parse(LMS).ok()?,
-        store,
-        TapeSource::new(&tape),
-    ).err()?;
-    let fault = refused.fault;
-    let (store, random) = refused.given;
-    let again = Signer::create(alloc, Spec::parse(LMS).ok()?, store, random);
-    Some((fault, again.is_ok()))
-}
+// A create is refused by the first load, or the first append, and makes the key when it comes again.
+const CREATES: &[Try] = &[Try::Create(NO_MEMORY), Try::Create(None)];
 
-#[test]
-fn a_create_without_memory_makes_no_key(rt: HostRuntime) {
-    let wanted = Some((SignFault::OutOfMemory, true));
-    for (appends, loads) in [(Some(0), None), (None, Some(0))] {
-        let store = empty_store(rt.alloc(), appends, loads);
-        assert_eq!(rt; creates_again(rt.alloc(), store), wanted);
+// An opening is refused by a load, and opens the key when it comes again.
+const OPENS: &[Try] = &[Try::Open(Some(SignFault::NoMemoryToOpen)), Try::Open(None)];
+
+// How many appends, or loads, come before the one that is refused, and the tries that meet it: of a store with no
+// record, or of a key with one name. Each load of an opening is refused in turn: of the two records, and the one that
+// finds no more. How many leaves are left then.
+const TRIES: [(Option<u32>, Option<u32>, &[Try], u32); 5] = [
+    (Some(0), None, CREATES, 32),
+    (None, Some(0), CREATES, 32),
+    (None, Some(0), OPENS, 31),
+    (None, Some(1), OPENS, 31),
+    (None, Some(2), OPENS, 31),
+];
+
+// How many leaves a key has left after these tries. None where one comes out otherwise.
+fn left_after(
+    alloc: Global,
+    (appends, loads): (Option<u32>, Option<u32>),
+    tries: &[Try],
+) -> Option<u32> {
+    let tape = tape_of::<96>(0, 1);
+    let mut store = empty_store(alloc, appends, None);
+    if matches!(tries.first(), Some(Try::Open(_))) {
+        let name = [Call::Sign(1, 1, None)];
+        store = begins_with(alloc, LMS, store, TapeSource::new(&tape), &name)?;
     }
-}
-
-// What an opening answers of a key with one name, in a store that refuses the load after so many, and how many leaves
-// are left where it comes again.
-fn opens_again(alloc: Global, loads: u32) -> Option<(SignFault, u32)> {
-    let tape = counting::<96>(0);
-    let mut signer = created(alloc, LMS, 50, &tape)?;
-    let is_signed = is_answered(alloc, &mut signer, &Call::Sign(1, 1, None))?;
-    let mut store = signer.into_store();
-    store.loads = Some(loads);
-    let refused = Signer::open(alloc, store, TapeSource::new(&tape)).err()?;
-    let fault = refused.fault;
-    let (store, random) = refused.given;
-    let signer = Signer::open(alloc, store, random).ok()?;
-    if !is_signed {
+    store.loads = loads;
+    let random = TapeSource::new(&tape);
+    let (count, store, _) = first_other_try(alloc, LMS, store, random, tries)?;
+    if count != tries.len() {
         return None;
     }
-    Some((fault, *signer.left().as_slice().first()?))
+    opened(alloc, store, TapeSource::new(&[]))?.0.ok()
 }
 
-// Each load of an opening is refused in turn: of the two records, and the one that finds no more.
 #[test]
-fn an_opening_without_memory_opens_nothing(rt: HostRuntime) {
-    for loads in 0..3u32 {
-        assert_eq!(rt;
-            opens_again(rt.alloc(), loads),
-            Some((SignFault::NoMemoryToOpen, 31))
-        );
+fn a_create_or_an_opening_without_memory_comes_again(rt: HostRuntime) {
+    for (appends, loads, tries, left) in TRIES {
+        assert!(rt; left_after(rt.alloc(), (appends, loads), tries) == Some(left));
     }
 }

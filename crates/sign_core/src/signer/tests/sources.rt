@@ -30,75 +30,73 @@ impl TryRng for Numbers {
     }
 }
 
-// The source that draws so often, with this number first.
-fn source_of(next: u8, left: u32) -> RngSource<Numbers> {
-    RngSource::new(Numbers { next, left })
+// A create is refused for its source, and no record stands then.
+const NO_KEY: [Try; 2] = [
+    Try::Create(Some(SignFault::RandomFailed)),
+    Try::Open(Some(SignFault::NoKey)),
+];
+
+// The source of such a create.
+fn refused<R: Source + Drop>(alloc: Global, text: &str, random: R) -> Option<R> {
+    let store = MemoryStore::with_limit(alloc, 100);
+    let (count, _, random) = first_other_try(alloc, text, store, random, &NO_KEY)?;
+    if count == NO_KEY.len() {
+        Some(random)
+    } else {
+        None
+    }
 }
 
-// The fault of a new key, and whether no record stands then.
-fn create_fault<R: Source + Drop>(
-    alloc: Global,
-    text: &str,
-    random: R,
-) -> Option<(SignFault, bool)> {
-    let store = MemoryStore::with_limit(alloc, 100);
-    let spec = Spec::parse(text).ok()?;
-    let refused = Signer::create(alloc, spec, store, random).err()?;
-    let fault = refused.fault;
-    let (mut store, _random) = refused.given;
-    Some((fault, store.load(0) == Ok(None)))
+// Whether a tape that ends short keeps the bytes from this place on.
+fn keeps_rest(alloc: Global, text: &str, tape: &[u8], place: usize) -> Option<bool> {
+    let mut random = refused(alloc, text, TapeSource::new(tape))?;
+    let mut rest = [0; 32];
+    let part = rest.get_mut(..tape.len().checked_sub(place)?)?;
+    random.fill(part).ok()?;
+    Some(tape.get(place..) == Some(&*part))
 }
 
 // Each draw of a key fails in turn.
 #[test]
 fn a_key_takes_all_its_draws(rt: HostRuntime) {
-    let wanted = Some((SignFault::RandomFailed, true));
     for (text, count) in [(LMS, 2), (TWO, 2), (XMSS, 3)] {
-        for left in 0..count {
-            assert_eq!(rt; create_fault(rt.alloc(), text, source_of(1, left)), wanted);
+        for draws in 0..count {
+            let random = RngSource::new(Numbers {
+                next: 1,
+                left: draws,
+            });
+            assert!(rt; refused(rt.alloc(), text, random).is_some());
         }
     }
-}
-
-// The store of a new key, where it drew the numbers 1 and 2.
-fn numbered<R: Source + Drop>(alloc: Global, text: &str, random: R) -> Option<MemoryStore> {
-    let store = MemoryStore::with_limit(alloc, 100);
-    let spec = Spec::parse(text).ok()?;
-    let mut store = Signer::create(alloc, spec, store, random)
-        .ok()?
-        .into_store();
-    let mut drawn = [2; 48];
-    drawn[..16].fill(1);
-    if !are_said(&mut store, 0, &[Said::Key(0)], &drawn)? {
-        return None;
+    let tape = tape_of::<96>(0, 1);
+    for (text, len, place) in [(LMS, 15, 0), (LMS, 47, 16), (TWO, 47, 16), (XMSS, 95, 64)] {
+        assert!(rt; keeps_rest(rt.alloc(), text, &tape[..len], place) == Some(true));
     }
-    Some(store)
 }
 
-// A request with a source: the store after it, its fault, and how many leaves are left at each level.
-fn with_draws<R: Source + Drop>(
-    alloc: Global,
-    store: MemoryStore,
-    random: R,
-) -> Option<(MemoryStore, Option<SignFault>, ArrayVec<u32, 8>)> {
-    let mut signer = Signer::open(alloc, store, random).ok()?;
-    let fault = fault_of(alloc, &mut signer, b"fw-1", &[1])?;
-    let counts = signer.left();
-    Some((signer.into_store(), fault, counts))
-}
+// A request of a key whose source draws so often, with this number first: its fault, how many leaves are left after it,
+// and how many records stand then.
+type Outcome<'a> = (u8, u32, Option<SignFault>, &'a [u32], u32);
 
-// What a source that fails after so many draws leaves: the counts of leaves, and the count of records.
-#[derive(Clone, Copy)]
-struct Outcome<'a> {
-    next: u8,
-    draws: u32,
-    fault: Option<SignFault>,
-    left: &'a [u32],
-    records: u32,
-}
+const FAILS: Option<SignFault> = Some(SignFault::RandomFailed);
+
+// Each draw of a first name fails in turn: of the two trees that it wants, those that were drawn stay.
+const OF_THREE: [Outcome<'static>; 8] = [
+    (10, 0, FAILS, &[32, 0, 0], 1),
+    (20, 1, FAILS, &[32, 0, 0], 1),
+    (30, 2, FAILS, &[32, 0, 0], 1),
+    (40, 3, FAILS, &[31, 32, 0], 2),
+    (50, 1, FAILS, &[31, 32, 0], 2),
+    (60, 2, FAILS, &[31, 32, 0], 2),
+    (70, 3, FAILS, &[31, 31, 32], 3),
+    (80, 1, None, &[31, 31, 31], 4),
+];
+
+// Each draw of a name under one tree fails in turn.
+const OF_ONE: [Outcome<'static>; 2] = [(10, 0, FAILS, &[32], 1), (20, 1, None, &[31], 2)];
 
 // Whether a store has so many records.
-fn has_records(store: &mut MemoryStore, count: u32) -> bool {
+pub(super) fn has_records<S: Store>(store: &mut S, count: u32) -> bool {
     let is_last = match count.checked_sub(1) {
         Some(last) => matches!(store.load(last), Ok(Some(_))),
         None => true,
@@ -107,145 +105,109 @@ fn has_records(store: &mut MemoryStore, count: u32) -> bool {
 }
 
 // The first of these requests, each on what the one before it left, that leaves something else; their count if none.
-fn first_other_outcome(alloc: Global, text: &str, outcomes: &[Outcome<'_>]) -> Option<usize> {
-    let mut store = numbered(alloc, text, source_of(1, 2))?;
-    for (i, wanted) in outcomes.iter().enumerate() {
-        let (after, fault, left) = with_draws(alloc, store, source_of(wanted.next, wanted.draws))?;
-        store = after;
-        let is_left = left.as_slice() == wanted.left;
-        if fault != wanted.fault || !is_left || !has_records(&mut store, wanted.records) {
+fn first_other_outcome<S: Store + Drop>(
+    alloc: Global,
+    text: &str,
+    store: S,
+    outcomes: &[Outcome<'_>],
+) -> Option<usize> {
+    let random = RngSource::new(Numbers { next: 1, left: 2 });
+    let mut store = begins_with(alloc, text, store, random, &[])?;
+    let mut drawn = [2; 48];
+    drawn[..16].fill(1);
+    if !are_said(&mut store, 0, &[Said::Key(0)], &drawn)? {
+        return None;
+    }
+    for (i, (next, draws, fault, left, records)) in outcomes.iter().enumerate() {
+        let random = RngSource::new(Numbers {
+            next: *next,
+            left: *draws,
+        });
+        let calls = [Call::Sign(1, 1, *fault), Call::Left(*left)];
+        store = goes_on_with(alloc, store, random, &calls)?;
+        if !has_records(&mut store, *records) {
             return Some(i);
         }
     }
     Some(outcomes.len())
 }
 
-// A request that fails for its source, after so many draws from this number on.
-fn failing<'a>(next: u8, draws: u32, left: &'a [u32], records: u32) -> Outcome<'a> {
-    Outcome {
-        next,
-        draws,
-        fault: Some(SignFault::RandomFailed),
-        left,
-        records,
-    }
-}
+const OUTCOMES: [(&str, &[Outcome<'static>]); 2] = [(THREE, &OF_THREE), (LMS, &OF_ONE)];
 
-// Each draw of a first name fails in turn: of the two trees that it wants, those that were drawn stay.
 #[test]
 fn a_source_that_fails_leaves_whole_trees(rt: HostRuntime) {
-    let outcomes = [
-        failing(10, 0, &[32, 0, 0], 1),
-        failing(20, 1, &[32, 0, 0], 1),
-        failing(30, 2, &[32, 0, 0], 1),
-        failing(40, 3, &[31, 32, 0], 2),
-        failing(50, 1, &[31, 32, 0], 2),
-        failing(60, 2, &[31, 32, 0], 2),
-        failing(70, 3, &[31, 31, 32], 3),
-        Outcome {
-            next: 80,
-            draws: 1,
-            fault: None,
-            left: &[31, 31, 31],
-            records: 4,
+    for (text, outcomes) in OUTCOMES {
+        let store = MemoryStore::with_limit(rt.alloc(), 100);
+        let count = first_other_outcome(rt.alloc(), text, store, outcomes);
+        assert!(rt; count == Some(outcomes.len()));
+    }
+}
+
+// An I that was drawn before is drawn alone, and refused.
+const REPEATED: [Script; 3] = [
+    // the I of the key
+    Script {
+        text: TWO,
+        tape: Tape {
+            other: (48, 64, 0),
+            ..BLOCKS
         },
-    ];
-    assert_eq!(rt; first_other_outcome(rt.alloc(), THREE, &outcomes), Some(8));
-}
+        room: Some(100),
+        lives: &[Life {
+            drawn: (0, 176),
+            calls: &[
+                Call::Sign(1, 1, Some(SignFault::RandomRepeated)),
+                Call::Left(&[32, 0]),
+                Call::Sign(1, 1, None),
+            ],
+            from: 1,
+            said: &[Said::Extend(1, 0, 64), Said::Bound(1, 0, Some(144))],
+            len: 0,
+        }],
+    },
+    // that of a lower tree
+    Script {
+        text: THREE,
+        tape: Tape {
+            other: (128, 144, 3),
+            ..BLOCKS
+        },
+        room: Some(100),
+        lives: &[Life {
+            drawn: (0, 256),
+            calls: &[
+                Call::Sign(1, 1, Some(SignFault::RandomRepeated)),
+                Call::Left(&[31, 32, 0]),
+                Call::Sign(1, 1, None),
+            ],
+            from: 1,
+            said: &[
+                Said::Extend(1, 0, 48),
+                Said::Extend(2, 0, 144),
+                Said::Bound(1, 0, Some(224)),
+            ],
+            len: 0,
+        }],
+    },
+    // it comes before the end of the source after it
+    Script {
+        text: TWO,
+        tape: Tape {
+            other: (48, 64, 0),
+            ..BLOCKS
+        },
+        room: Some(100),
+        lives: &[Life {
+            drawn: (0, 64),
+            calls: &[Call::Sign(1, 1, Some(SignFault::RandomRepeated))],
+            from: 1,
+            said: &[],
+            len: 0,
+        }],
+    },
+];
 
-// Each draw of a name under one tree fails in turn.
-#[test]
-fn a_source_that_fails_binds_no_name(rt: HostRuntime) {
-    let bound = Outcome {
-        next: 20,
-        draws: 1,
-        fault: None,
-        left: &[31],
-        records: 2,
-    };
-    let outcomes = [failing(10, 0, &[32], 1), bound];
-    assert_eq!(rt; first_other_outcome(rt.alloc(), LMS, &outcomes), Some(2));
-}
-
-// The fault of a key on a tape that ends short, and whether the tape keeps the bytes from this place on.
-fn short_tape(alloc: Global, text: &str, tape: &[u8], place: usize) -> Option<(SignFault, bool)> {
-    let store = MemoryStore::with_limit(alloc, 100);
-    let spec = Spec::parse(text).ok()?;
-    let refused = Signer::create(alloc, spec, store, TapeSource::new(tape)).err()?;
-    let (mut store, mut random) = refused.given;
-    let mut rest = [0; 32];
-    let part = rest.get_mut(..tape.len().checked_sub(place)?)?;
-    random.fill(part).ok()?;
-    let is_kept = tape.get(place..) == Some(&*part);
-    Some((refused.fault, is_kept && store.load(0) == Ok(None)))
-}
-
-#[test]
-fn a_tape_that_ends_short_keeps_its_rest(rt: HostRuntime) {
-    let tape = counting::<96>(0);
-    let wanted = Some((SignFault::RandomFailed, true));
-    for (text, len, place) in [(LMS, 15, 0), (LMS, 47, 16), (TWO, 47, 16), (XMSS, 95, 64)] {
-        assert_eq!(rt; short_tape(rt.alloc(), text, &tape[..len], place), wanted);
-    }
-}
-
-// Bytes as those of `in_blocks`, but that one block is the same as another.
-fn with_block_again<const N: usize>(place: usize, again: usize) -> [u8; N] {
-    let mut bytes = [0; N];
-    for (i, byte) in bytes.iter_mut().enumerate() {
-        let block = if i / 16 == again { place } else { i / 16 };
-        *byte = (block % 256) as u8;
-    }
-    bytes
-}
-
-// What two requests of a first name answer where an I is drawn again at the first, and whether the records are
-// these then, from the second on.
-fn draws_what_follows(
-    alloc: Global,
-    text: &str,
-    tape: &[u8],
-    left: &[u32],
-    said: &[Said],
-) -> Option<(usize, bool)> {
-    let mut signer = in_memory(alloc, text, MemoryStore::with_limit(alloc, 100), tape)?;
-    let calls = [
-        Call::Sign(1, 1, Some(SignFault::RandomRepeated)),
-        Call::Left(left),
-        Call::Sign(1, 1, None),
-    ];
-    let count = first_other_call(alloc, &mut signer, &calls)?;
-    let mut store = signer.into_store();
-    Some((count, are_said(&mut store, 1, said, tape)?))
-}
-
-// The I of the key, and that of a lower tree: a repeated one is drawn alone.
 #[test]
 fn a_repeated_identifier_is_drawn_alone(rt: HostRuntime) {
-    let tape = with_block_again::<176>(0, 3);
-    let said = [Said::Extend(1, 0, 64), Said::Bound(1, 0, Some(144))];
-    let answer = draws_what_follows(rt.alloc(), TWO, &tape, &[32, 0], &said);
-    assert_eq!(rt; answer, Some((3, true)));
-    let tape = with_block_again::<256>(3, 8);
-    let said = [
-        Said::Extend(1, 0, 48),
-        Said::Extend(2, 0, 144),
-        Said::Bound(1, 0, Some(224)),
-    ];
-    let answer = draws_what_follows(rt.alloc(), THREE, &tape, &[31, 32, 0], &said);
-    assert_eq!(rt; answer, Some((3, true)));
-}
-
-// The fault of a first name, if any.
-fn first_fault(alloc: Global, text: &str, tape: &[u8]) -> Option<Option<SignFault>> {
-    let mut signer = in_memory(alloc, text, MemoryStore::with_limit(alloc, 100), tape)?;
-    fault_of(alloc, &mut signer, b"fw-1", &[1])
-}
-
-// A repeated I comes before the end of the source after it.
-#[test]
-fn a_repeated_identifier_comes_before_the_end(rt: HostRuntime) {
-    let tape = with_block_again::<64>(0, 3);
-    let wanted = Some(SignFault::RandomRepeated);
-    assert_eq!(rt; first_fault(rt.alloc(), TWO, &tape), Some(wanted));
+    assert_eq!(rt; first_other_script(rt.alloc(), &REPEATED), REPEATED.len());
 }

@@ -2,9 +2,9 @@
 
 ghost use Rattle.std.specs.Prelude.{false};
 
-use super::lists::{Entry, filed, opened};
+use super::lists::{Entry, filed};
 use super::*;
-use state_file::{Disk, DiskFault};
+use state_file::DiskFault;
 
 // A disk that isn't honest: after so many reads, one from this offset on gives other bytes.
 #[derive(Drop)]
@@ -66,7 +66,7 @@ impl<D: Disk + Drop> Disk for TurningDisk<D> {
 
 // What a file opens with where a read from this offset on gives other bytes as soon as its store can be opened all
 // the same.
-fn turned(alloc: Global, entries: &[Entry], offset: u64) -> Option<Option<SignFault>> {
+fn turned(alloc: Global, entries: &[Entry<'_>], offset: u64) -> Option<Option<SignFault>> {
     for reads in 0..40u32 {
         let disk = TurningDisk {
             disk: filed(alloc, entries)?,
@@ -74,7 +74,7 @@ fn turned(alloc: Global, entries: &[Entry], offset: u64) -> Option<Option<SignFa
             offset,
         };
         match FileStore::open(disk) {
-            Ok(store) => return Some(opened(alloc, store)?.err()),
+            Ok(store) => return Some(opened(alloc, store, TapeSource::new(&[]))?.0.err()),
             Err(_) => {}
         }
     }
