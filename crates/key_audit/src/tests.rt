@@ -2,7 +2,7 @@
 
 use crate::*;
 use sign_core::{AnyPublic, Signer, Source, SourceFault, TapeSource};
-use state_file::{FileStore, MemoryDisk, MemoryStore, Store};
+use state_file::{Disk, FileStore, MemoryDisk, MemoryStore, Store};
 use std::alloc::Global;
 use typecodes::{Name, Spec};
 
@@ -38,13 +38,17 @@ impl Source for Numbers {
     }
 }
 
-type InFile = Signer<FileStore<MemoryDisk>, Numbers>;
-
-// The signer of a new key in a file.
-fn created(alloc: Global, spec: &str) -> Option<InFile> {
-    let spec = Spec::parse(spec).ok()?;
-    let store = FileStore::format(MemoryDisk::of(alloc, &[]).ok()?).ok()?;
-    Signer::create(alloc, spec, store, Numbers { next: 0 }).ok()
+// The signer of a new key in a store, by this source.
+fn created<S: Store + Drop, R: Source + Drop>(
+    alloc: Global,
+    spec: &str,
+    store: S,
+    random: R,
+) -> Option<Signer<S, R>> {
+    if store.limit() == 0 {
+        return None;
+    }
+    Signer::create(alloc, Spec::parse(spec).ok()?, store, random).ok()
 }
 
 // Signs a message of this byte under a name.
@@ -58,64 +62,86 @@ fn sign_byte<S: Store, R: Source>(
     signer.sign(&name, &mut [byte].as_slice(), out).ok()
 }
 
-// A letter and its signature under its own name.
-fn signature_of<S: Store, R: Source>(
+// Signs letters, each under its own name, or this byte under each of these names, and adds what was signed.
+fn sign_letters<S: Store, R: Source>(
     alloc: Global,
     signer: &mut Signer<S, R>,
-    letter: u8,
-) -> Option<Given> {
-    let mut message = Vec::new(alloc);
-    message.push(letter).ok()?;
-    let mut signature = Vec::new(alloc);
-    sign_byte(signer, &[letter], letter, &mut signature)?;
-    Some(Given { message, signature })
+    (letters, byte): (&[u8], Option<u8>),
+    given: &mut Vec<Given>,
+) -> Option<()> {
+    for letter in letters {
+        let signed = byte.unwrap_or(*letter);
+        let mut message = Vec::new(alloc);
+        message.push(signed).ok()?;
+        let mut signature = Vec::new(alloc);
+        sign_byte(signer, &[*letter], signed, &mut signature)?;
+        given.push(Given { message, signature }).ok()?;
+    }
+    Some(())
 }
 
-// Signs letters, each under its own name, with a key that is made of the first random bytes.
-fn sign(alloc: Global, spec: &str, tape: &[u8], letters: &[u8]) -> Option<(AnyPublic, Vec<Given>)> {
-    let spec = Spec::parse(spec).ok()?;
-    let store = MemoryStore::with_limit(alloc, 100);
-    let mut signer = Signer::create(alloc, spec, store, TapeSource::new(tape)).ok()?;
-    let mut given = Vec::new(alloc);
-    for letter in letters {
-        given.push(signature_of(alloc, &mut signer, *letter)?).ok()?;
-    }
-    Some((signer.public_key(), given))
+// The same by a new key in a store: the key, and the store then.
+fn sign<S: Store + Drop, R: Source + Drop>(
+    alloc: Global,
+    (spec, letters, byte): (&str, &[u8], Option<u8>),
+    store: S,
+    random: R,
+    given: &mut Vec<Given>,
+) -> Option<(AnyPublic, S)> {
+    let mut signer = created(alloc, spec, store, random)?;
+    sign_letters(alloc, &mut signer, (letters, byte), given)?;
+    let public = signer.public_key();
+    Some((public, signer.into_store()))
 }
 
 // A key, how many random bytes two copies of it share, and the letters that each of them signs.
 type Copies = (&'static str, usize, &'static [u8], &'static [u8]);
 
-// The signatures of two copies of a key, those of the first copy first.
-fn signatures_of(alloc: Global, copies: Copies) -> Option<(AnyPublic, Vec<Given>)> {
-    let (spec, shared, first, second) = copies;
-    let mut tape = [7; 256];
-    tape.get_mut(shared..)?.fill(1);
-    let (public, mut given) = sign(alloc, spec, &tape, first)?;
-    tape.get_mut(shared..)?.fill(2);
-    let (_, others) = sign(alloc, spec, &tape, second)?;
-    for other in others {
-        given.push(other).ok()?;
+// Changes the message at a place, if one is given.
+fn change(given: &mut Vec<Given>, changed: Option<usize>) -> Option<()> {
+    match changed {
+        Some(place) => given.get_mut(place)?.message.push(1).ok(),
+        None => Some(()),
     }
-    Some((public, given))
 }
 
-// What a check answers to the signatures of two copies of a key, of which the one at a place may get another message:
-// at first, or at the second try where memory is refused at the first. The signatures are made at the second try where
-// memory is refused at the first.
+// The signatures of two copies of a key, those of the first copy first, of which the one at a place may get another
+// message.
+fn signatures_of(
+    alloc: Global,
+    copies: Copies,
+    changed: Option<usize>,
+) -> Option<(AnyPublic, Vec<Given>)> {
+    let (spec, shared, first, second) = copies;
+    let mut given = Vec::new(alloc);
+    let mut key = None;
+    for (letters, other) in [(first, 1), (second, 2)] {
+        let mut tape = [7; 256];
+        tape.get_mut(shared..)?.fill(other);
+        let store = MemoryStore::with_limit(alloc, 100);
+        let random = TapeSource::new(&tape);
+        let (public, _store) = sign(alloc, (spec, letters, None), store, random, &mut given)?;
+        key = key.or(Some(public));
+    }
+    change(&mut given, changed)?;
+    Some((key?, given))
+}
+
+// What a check answers to such signatures: at first, or at the second try where memory is refused at the first. The
+// signatures are made at the second try where memory is refused at the first.
 fn check_copies(
     alloc: Global,
     copies: Copies,
     changed: Option<usize>,
     at_first: bool,
 ) -> Option<Result<(), GivenFault>> {
-    let (public, mut given) = match signatures_of(alloc, copies) {
-        Some(both) => both,
-        None => signatures_of(alloc, copies)?,
+    let first = signatures_of(alloc, copies, changed);
+    let made = if first.is_some() {
+        first
+    } else {
+        signatures_of(alloc, copies, changed)
     };
-    if let Some(place) = changed {
-        given.get_mut(place)?.message.push(1).ok()?;
-    }
+    let (public, given) = made?;
     let answer = check_given(alloc, &public, &given);
     if at_first || answer != Err(GivenFault::OutOfMemory) {
         return Some(answer);

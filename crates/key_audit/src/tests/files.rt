@@ -1,43 +1,42 @@
 //! State files of any records, whose tags are right.
 
 use super::*;
-use state_file::{Bound, Extend, Key, OpenFault, Record, Secret, Version};
+use state_file::{Bound, Extend, Key, OpenFault, Pick, Record, Secret, Version};
 use typecodes::{LmsPair, LmsType, OtsType};
 
-// A record after the key: a leaf with a letter as its name, leaves that are retired, a tree of a level under a leaf of
-// the level above, a key and a Moved.
-pub(super) enum Entry {
-    Bound(u32, u8),
+// A record: a key of one tree, whose root isn't that of its tree; a leaf with a name, leaves that are retired, a tree
+// of a level under a leaf of the level above, and a Moved.
+#[derive(Clone, Copy)]
+pub(super) enum Entry<'a> {
+    Key(LmsType),
+    Bound(u32, &'a [u8]),
     Retire(u32),
     Extend(u8, u32),
-    Key,
     Moved,
 }
 
-// A key of one tree, whose root isn't that of its tree.
-pub(super) fn key(tree: LmsType) -> Key {
-    Key {
-        version: Version::One,
-        secret: Secret::Lms {
-            pair: LmsPair {
-                tree,
-                ots: OtsType::W8,
-            },
-            identifier: [1; 16],
-            seed: [2; 32],
-        },
-        root: [3; 32],
-    }
-}
+// A key of 32 leaves.
+pub(super) const KEY: Entry<'static> = Entry::Key(LmsType::H5);
 
-// A store of a key of 32 leaves and these records after it.
-pub(super) fn stored(alloc: Global, entries: &[Entry]) -> Option<FileStore<MemoryDisk>> {
-    let mut store = FileStore::format(MemoryDisk::of(alloc, &[]).ok()?).ok()?;
-    store.append(&Record::Key(key(LmsType::H5))).ok()?;
+// A store after these records were added, the first of which is a key where none stands.
+pub(super) fn add_all<S: Store + Drop>(store: S, entries: &[Entry<'_>]) -> Option<S> {
+    let mut store = store;
     for entry in entries {
         let added = match entry {
-            Entry::Bound(leaf, letter) => Record::Bound(Bound {
-                name: Name::new(&[*letter]).ok()?,
+            Entry::Key(tree) => Record::Key(Key {
+                version: Version::One,
+                secret: Secret::Lms {
+                    pair: LmsPair {
+                        tree: *tree,
+                        ots: OtsType::W8,
+                    },
+                    identifier: [1; 16],
+                    seed: [2; 32],
+                },
+                root: [3; 32],
+            }),
+            Entry::Bound(leaf, name) => Record::Bound(Bound {
+                name: Name::new(name).ok()?,
                 leaf: *leaf,
                 randomizer: [4; 32],
                 digest: [5; 32],
@@ -52,19 +51,48 @@ pub(super) fn stored(alloc: Global, entries: &[Entry]) -> Option<FileStore<Memor
                 digest: [9; 32],
                 root: [10; 32],
             }),
-            Entry::Key => Record::Key(key(LmsType::H5)),
             Entry::Moved => Record::Moved,
         };
         match store.load(0) {
             Ok(Some(_)) => store.append(&added).ok()?,
-            _ => return None,
+            Ok(None) => match &added {
+                Record::Key(_) => store.append(&added).ok()?,
+                _ => return None,
+            },
+            Err(_) => return None,
         }
     }
     Some(store)
 }
 
+// A store of these records in a new file.
+pub(super) fn stored(alloc: Global, entries: &[Entry<'_>]) -> Option<FileStore<MemoryDisk>> {
+    add_all(
+        FileStore::format(MemoryDisk::of(alloc, &[]).ok()?).ok()?,
+        entries,
+    )
+}
+
+// The file of a store.
+pub(super) fn file_in(store: FileStore<MemoryDisk>) -> Option<Vec<u8>> {
+    store.into_disk().stop(Pick::New).ok()
+}
+
+// A file of these records, where that is wanted with the gate of a slot closed, so that it opens with fewer.
+pub(super) fn file_of(
+    alloc: Global,
+    entries: &[Entry<'_>],
+    closed: Option<usize>,
+) -> Option<Vec<u8>> {
+    let mut file = file_in(stored(alloc, entries)?)?;
+    if let Some(slot) = closed {
+        *file.get_mut(slot.checked_mul(256)?)? = 0;
+    }
+    Some(file)
+}
+
 // The store of a disk, which is opened once more where the disk was refused memory.
-pub(super) fn opened_at_last(disk: MemoryDisk) -> Option<FileStore<MemoryDisk>> {
+pub(super) fn opened_at_last<D: Disk + Drop>(disk: D) -> Option<FileStore<D>> {
     match FileStore::open(disk) {
         Ok(store) => Some(store),
         Err(refused) => match refused.fault {

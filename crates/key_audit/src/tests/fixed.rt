@@ -1,7 +1,8 @@
 //! Calls that take no memory. Of each pair of tests the first one prepares what the second one then calls, and both
 //! have as many growths of memory. `tests/run` counts them from outside.
 
-use super::programs::{HSS, LMS, MODEL, bytes_in, given_of};
+use super::files::stored;
+use super::programs::{Scheme, bytes_in, given_of, signed_with};
 use super::room::Room;
 use super::*;
 use hss::HssSigView;
@@ -14,8 +15,8 @@ use xmss::XmssSigView;
 mod writers;
 
 // Whether the records of a key, whose leaves are all retired, are read again: no key is made where one is.
-fn is_opened_again(room: Room) -> Option<bool> {
-    let mut store = FileStore::open(room).ok()?;
+fn is_opened_again<D: Disk + Drop>(disk: D) -> Option<bool> {
+    let mut store = FileStore::open(disk).ok()?;
     if store.count() != 2 {
         return Some(false);
     }
@@ -29,34 +30,49 @@ fn is_opened_again(room: Room) -> Option<bool> {
     Some(is_tagged && is_there && is_end && refused.fault == FormatFault::KeyThere)
 }
 
-// Whether a key in a room is made, and signs nothing after its leaves were retired.
-fn is_kept_in(alloc: Global, room: Room) -> Option<bool> {
-    let spec = Spec::parse(ONE_TREE).ok()?;
-    let store = FileStore::format(room).ok()?;
-    let mut signer = Signer::create(alloc, spec, store, Numbers { next: 0 }).ok()?;
-    let is_new = signer.left().as_slice() == [32].as_slice() && signer.cache_leaves(0).is_none();
-    let beyond = signer.retire(33) == Err(SignFault::RetireRange);
-    let is_retired = signer.retire(32) == Ok(()) && signer.retire(5) == Ok(());
+// Whether a signer has so many leaves left, caches where it should, and a public key that is read again.
+fn has<S: Store, R: Source>(signer: &Signer<S, R>, left: &[u32], caches: &[(u8, bool)]) -> bool {
+    for (level, is_cached) in caches {
+        if signer.cache_leaves(*level).is_some() != *is_cached {
+            return false;
+        }
+    }
+    let public = signer.public_key();
+    let is_read = AnyPublic::read(public.write().as_slice()) == Ok(public);
+    is_read && signer.left().as_slice() == left
+}
+
+// Whether the signer of a new key of one tree signs nothing after its leaves were retired; and the store then.
+fn retired<S: Store + Drop>(alloc: Global, store: S) -> Option<(S, bool)> {
     let name = Name::new(b"fw-1").ok()?;
     let mut out = Vec::new(alloc);
+    let mut signer = created(alloc, ONE_TREE, store, Numbers { next: 0 })?;
+    let is_new = has(&signer, &[32], &[(0, false)]);
+    let beyond = signer.retire(33) == Err(SignFault::RetireRange);
+    let is_retired = signer.retire(32) == Ok(()) && signer.retire(5) == Ok(());
     let signed = signer.sign(&name, &mut [1].as_slice(), &mut out);
-    let is_refused = beyond && signed == Err(SignFault::Exhausted);
-    let room = signer.into_store().into_disk();
-    Some(is_new && is_retired && is_refused && room.size == 513 && is_opened_again(room)?)
+    let is_right = is_new && beyond && is_retired && signed == Err(SignFault::Exhausted);
+    Some((signer.into_store(), is_right))
+}
+
+// Whether a key is made so on a disk.
+fn is_kept_on<D: Disk + Drop>(alloc: Global, disk: Option<D>) -> Option<bool> {
+    let (store, is_right) = retired(alloc, FileStore::format(disk?).ok()?)?;
+    let mut disk = store.into_disk();
+    let is_right = is_right && disk.len() == Ok(513);
+    Some(is_right && is_opened_again(disk)?)
 }
 
 #[test]
 fn a_room_is_made(rt: HostRuntime) {
-    assert!(rt; Room::new(rt.alloc()).is_some());
+    let room = Room::of(rt.alloc(), &[], u32::MAX, u64::MAX);
+    assert!(rt; room.is_some());
 }
 
 #[test]
 fn a_key_is_made_in_a_room(rt: HostRuntime) {
-    let kept = match Room::new(rt.alloc()) {
-        Some(room) => is_kept_in(rt.alloc(), room),
-        None => None,
-    };
-    assert_eq!(rt; kept, Some(true));
+    let room = Room::of(rt.alloc(), &[], u32::MAX, u64::MAX);
+    assert_eq!(rt; is_kept_on(rt.alloc(), room), Some(true));
 }
 
 // The signatures of two names, and an output with room for one of them.
@@ -81,77 +97,86 @@ fn sign_names<S: Store, R: Source>(
     Some((first, second, output))
 }
 
-// The signer of a key of two levels that has signed so.
-fn signed(alloc: Global, replaces: bool) -> Option<(InFile, Signatures)> {
-    let mut signer = created(alloc, TWO_LEVELS)?;
-    let signatures = sign_names(alloc, &mut signer, replaces)?;
-    Some((signer, signatures))
-}
-
-// Whether a signer of one name says what it has, and refuses what it should; also in frames: another message under that
-// name, a name that is none, and that name with one byte of two that are announced.
+// Whether a signer of one name refuses what it should; also in frames: another message under that name, a name that is
+// none, and that name with one byte of two that are announced.
 fn is_refused<S: Store, R: Source>(alloc: Global, signer: &mut Signer<S, R>) -> Option<bool> {
     let mut out = Vec::new(alloc);
     let name = Name::new(b"fw-1").ok()?;
     let changed = signer.sign(&name, &mut [2].as_slice(), &mut out);
-    let is_changed = changed == Err(SignFault::Changed);
     let is_retired = signer.retire(1) == Ok(()) && signer.retire(33) == Err(SignFault::RetireRange);
-    let is_left = signer.left().as_slice() == [31, 31].as_slice();
-    let public = signer.public_key();
-    let is_read = AnyPublic::read(public.write().as_slice()) == Ok(public);
-    let is_cached = signer.cache_leaves(1).is_some() && signer.cache_leaves(2).is_none();
+    let is_so = has(signer, &[31, 31], &[(1, true), (2, false)]);
     let mut room = [0; 64];
     let mut output = room.as_mut_slice();
     let mut input = b"\x04fw-1\0\0\0\x01\x02\0\0\0\0\0\x04fw-1\0\0\0\x02\x01".as_slice();
     let end = serve(alloc, signer, &mut input, &mut output);
     // 15 bytes are written
     let is_served = end == Err(ServeFault::MessageRead) && output.len() == 64 - 15;
-    Some(is_changed && is_retired && is_left && is_read && is_cached && is_served)
-}
-
-#[test]
-fn a_name_is_signed(rt: HostRuntime) {
-    assert!(rt; signed(rt.alloc(), false).is_some());
-}
-
-#[test]
-fn other_requests_are_refused(rt: HostRuntime) {
-    let refused = match signed(rt.alloc(), false) {
-        Some((mut signer, _signatures)) => is_refused(rt.alloc(), &mut signer),
-        None => None,
-    };
-    assert_eq!(rt; refused, Some(true));
+    Some(changed == Err(SignFault::Changed) && is_retired && is_so && is_served)
 }
 
 // Whether both names have their signatures again, and no cache makes a leaf for that: the first name's tree has no
 // cache any more, and the leaf of the second name is in the block that its tree's cache keeps.
-fn are_repeated<S: Store, R: Source>(
-    signer: &mut Signer<S, R>,
-    signatures: Signatures,
-) -> Option<bool> {
+fn are_repeated<S: Store, R: Source>(signer: &mut Signer<S, R>, signatures: Signatures) -> bool {
     let (first, second, mut output) = signatures;
-    let is_current = signer.left().as_slice() == [30, 31].as_slice();
-    let made = (signer.cache_leaves(0)?, signer.cache_leaves(1)?);
-    sign_byte(signer, b"fw-1", 1, &mut output)?;
-    let is_first = output == first;
-    sign_byte(signer, b"fw-2", 2, &mut output)?;
-    let is_second = output == second;
-    let is_made = (signer.cache_leaves(0)?, signer.cache_leaves(1)?) == made;
-    Some(is_current && is_first && is_second && is_made)
+    let is_so = has(signer, &[30, 31], &[(0, true), (1, true)]);
+    let made = (signer.cache_leaves(0), signer.cache_leaves(1));
+    let is_first = sign_byte(signer, b"fw-1", 1, &mut output).is_some() && output == first;
+    let is_second = sign_byte(signer, b"fw-2", 2, &mut output).is_some() && output == second;
+    let is_made = (signer.cache_leaves(0), signer.cache_leaves(1)) == made;
+    is_so && is_first && is_second && is_made
+}
+
+// Whether a signer of two levels signs so, and where that is tried, answers other requests then.
+fn signs<S: Store, R: Source>(
+    alloc: Global,
+    signer: &mut Signer<S, R>,
+    replaces: bool,
+    is_tried: bool,
+) -> Option<bool> {
+    let signatures = sign_names(alloc, signer, replaces)?;
+    if !is_tried {
+        return Some(true);
+    }
+    if replaces {
+        Some(are_repeated(signer, signatures))
+    } else {
+        is_refused(alloc, signer)
+    }
+}
+
+// The same of a new key in a store.
+fn signs_in<S: Store + Drop>(
+    alloc: Global,
+    store: Option<S>,
+    replaces: bool,
+    is_tried: bool,
+) -> Option<bool> {
+    let mut signer = created(alloc, TWO_LEVELS, store?, Numbers { next: 0 })?;
+    signs(alloc, &mut signer, replaces, is_tried)
+}
+
+#[test]
+fn a_name_is_signed(rt: HostRuntime) {
+    let store = stored(rt.alloc(), &[]);
+    assert_eq!(rt; signs_in(rt.alloc(), store, false, false), Some(true));
+}
+
+#[test]
+fn other_requests_are_refused(rt: HostRuntime) {
+    let store = stored(rt.alloc(), &[]);
+    assert_eq!(rt; signs_in(rt.alloc(), store, false, true), Some(true));
 }
 
 #[test]
 fn a_tree_is_replaced(rt: HostRuntime) {
-    assert!(rt; signed(rt.alloc(), true).is_some());
+    let store = stored(rt.alloc(), &[]);
+    assert_eq!(rt; signs_in(rt.alloc(), store, true, false), Some(true));
 }
 
 #[test]
 fn a_name_of_an_old_tree_is_repeated(rt: HostRuntime) {
-    let repeated = match signed(rt.alloc(), true) {
-        Some((mut signer, signatures)) => are_repeated(&mut signer, signatures),
-        None => None,
-    };
-    assert_eq!(rt; repeated, Some(true));
+    let store = stored(rt.alloc(), &[]);
+    assert_eq!(rt; signs_in(rt.alloc(), store, true, true), Some(true));
 }
 
 // A public key, and a message with its signature.
@@ -160,7 +185,8 @@ type Bytes = (Vec<u8>, Given);
 // One of each scheme, of other programs.
 fn known_of_each(alloc: Global) -> Option<Vec<Bytes>> {
     let mut all = Vec::new(alloc);
-    for (signed, place) in [(LMS, 1), (HSS, 0), (MODEL, 0)] {
+    for (scheme, place) in [(Scheme::Lms, 1), (Scheme::Hss, 0), (Scheme::Model, 0)] {
+        let signed = signed_with(scheme);
         let public = bytes_in(alloc, signed.0)?;
         all.push((public, given_of(alloc, signed, place, place)?))
             .ok()?;
@@ -198,8 +224,9 @@ fn is_verified(public: &AnyPublic, given: &Given) -> Option<bool> {
 }
 
 // Whether keys, signatures and texts are read and verified.
-fn are_read(known: &[Bytes]) -> Option<bool> {
-    for (bytes, given) in known {
+fn are_read(alloc: Global) -> Option<bool> {
+    let known = known_of_each(alloc)?;
+    for (bytes, given) in &known {
         let public = AnyPublic::read(bytes).ok()?;
         let is_written = public.write().as_slice() == bytes.as_slice();
         if !is_written || !is_verified(&public, given)? {
@@ -218,9 +245,5 @@ fn signatures_are_there(rt: HostRuntime) {
 
 #[test]
 fn signatures_are_read(rt: HostRuntime) {
-    let read = match known_of_each(rt.alloc()) {
-        Some(known) => are_read(&known),
-        None => None,
-    };
-    assert_eq!(rt; read, Some(true));
+    assert_eq!(rt; are_read(rt.alloc()), Some(true));
 }

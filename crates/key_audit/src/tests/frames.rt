@@ -2,42 +2,47 @@
 //! turn: a reply may then say so, or that the device failed. After that the file is opened again, and the request is
 //! answered as ever.
 
-use super::files::opened_at_last;
-use super::script::create_on;
+use super::script::{Closed, create_on, open_on};
 use super::*;
 use sign_core::{ServeFault, SignFault, serve, verify_any};
 use state_file::OpenFault;
 
-// A frame, the number of its reply, and how its serving ends.
-type Served = (&'static [u8], u8, Result<u64, ServeFault>);
+// A frame, the number of its reply, how its serving ends, and whether the reply is that to the first frame.
+type Served = (&'static [u8], u8, Result<u64, ServeFault>, bool);
 
 // A name with the byte 1, the same again, with another byte, a name that is none, a name that isn't there to its end,
-// a second name with one byte of two that are announced, and with both.
-const FRAMES: [Served; 7] = [
-    (b"\x04fw-1\0\0\0\x01\x01", 0, Ok(1)),
-    (b"\x04fw-1\0\0\0\x01\x01", 0, Ok(1)),
-    (b"\x04fw-1\0\0\0\x01\x02", 21, Ok(1)),
-    (b"\0\0\0\0\0", 34, Ok(1)),
-    (b"\x04f", 35, Err(ServeFault::FrameCut)),
-    (b"\x04fw-2\0\0\0\x02\x01", 27, Err(ServeFault::MessageRead)),
-    (b"\x04fw-2\0\0\0\x01\x02", 0, Ok(1)),
+// a second name with one byte of two that are announced, and with both. Then the file is opened again, and the first
+// frame comes again.
+const FRAMES: &[Served] = &[
+    (b"\x04fw-1\0\0\0\x01\x01", 0, Ok(1), false),
+    (b"\x04fw-1\0\0\0\x01\x01", 0, Ok(1), true),
+    (b"\x04fw-1\0\0\0\x01\x02", 21, Ok(1), false),
+    (b"\0\0\0\0\0", 34, Ok(1), false),
+    (b"\x04f", 35, Err(ServeFault::FrameCut), false),
+    (
+        b"\x04fw-2\0\0\0\x02\x01",
+        27,
+        Err(ServeFault::MessageRead),
+        false,
+    ),
+    (b"\x04fw-2\0\0\0\x01\x02", 0, Ok(1), false),
+    (b"\x04fw-1\0\0\0\x01\x01", 0, Ok(1), true),
 ];
 
-// The replies without a body that say that memory or the device was refused, and that the signer is closed.
-const OUT_OF_MEMORY: &[u8] = &[29, 0, 0, 0, 0];
+// How many of them come before the file is opened again.
+const BEFORE_REOPENING: usize = 7;
 
-const STORE_FAILED: &[u8] = &[25, 0, 0, 0, 0];
+// The replies that say that memory or the device was refused, and that the signer is closed.
+const OUT_OF_MEMORY: u8 = 29;
 
-const STOPPED: &[u8] = &[26, 0, 0, 0, 0];
+const STORE_FAILED: u8 = 25;
+
+const STOPPED: u8 = 26;
 
 // The disk of a new key, which is made at the second try where memory is refused at the first. Where memory was refused
 // to the disk itself the place is opened again, and the key is made once more if there is none.
-fn keyed(alloc: Global, spec: &str) -> Option<MemoryDisk> {
-    let empty = match MemoryDisk::of(alloc, &[]) {
-        Ok(disk) => disk,
-        Err(_) => MemoryDisk::of(alloc, &[]).ok()?,
-    };
-    let (disk, is_made) = create_on(alloc, spec, empty, 0)?;
+fn keyed<D: Disk + Drop>(alloc: Global, spec: &str, disk: D) -> Option<D> {
+    let (disk, is_made) = create_on(alloc, spec, disk, 0)?;
     if is_made {
         return Some(disk);
     }
@@ -54,17 +59,88 @@ fn keyed(alloc: Global, spec: &str) -> Option<MemoryDisk> {
 }
 
 // The signer of a disk, which is opened once more where memory is refused. Its source begins with this number.
-fn opened(alloc: Global, disk: MemoryDisk, next: u8) -> Option<InFile> {
-    match Signer::open(alloc, opened_at_last(disk)?, Numbers { next }) {
+fn opened<D: Disk + Drop>(
+    alloc: Global,
+    disk: D,
+    next: u8,
+) -> Option<Signer<FileStore<D>, Numbers>> {
+    match open_on(alloc, disk, next) {
         Ok(signer) => Some(signer),
-        Err(refused) => match refused.fault {
-            SignFault::NoMemoryToOpen => {
-                let (store, random) = refused.given;
-                let store = opened_at_last(store.into_disk())?;
-                Signer::open(alloc, store, random).ok()
+        Err(refused) => {
+            let (disk, closed) = refused;
+            match closed {
+                Closed::File(OpenFault::DeviceFailed) | Closed::Signer(SignFault::NoMemoryToOpen) =>
+                    open_on(alloc, disk, next).ok(),
+                _ => None,
             }
-            _ => None,
-        },
+        }
+    }
+}
+
+// The reply to a frame, whose room is made at the second try where memory is refused at the first, its number, and how
+// its serving ends. The reply's body is a valid signature of the frame's last byte, or empty.
+fn reply_to<S: Store, R: Source>(
+    alloc: Global,
+    signer: &mut Signer<S, R>,
+    frame: &[u8],
+) -> Option<(u8, Vec<u8>, Result<u64, ServeFault>)> {
+    let mut output = match Vec::with_capacity(alloc, 3000) {
+        Ok(output) => output,
+        Err(_) => Vec::with_capacity(alloc, 3000).ok()?,
+    };
+    let mut input = frame;
+    let end = serve(alloc, signer, &mut input, &mut output);
+    let (number, rest) = output.as_slice().split_first()?;
+    let (size, body) = rest.split_first_chunk::<4>()?;
+    let number = *number;
+    let message = [*frame.last()?];
+    let is_right = match number {
+        0 => verify_any(&signer.public_key(), &mut message.as_slice(), body).is_ok(),
+        _ => body.is_empty(),
+    };
+    if !is_right || u32::from_be_bytes(*size) as usize != body.len() {
+        return None;
+    }
+    Some((number, output, end))
+}
+
+// Where the frames stand: the next one; what the source of the signer begins with that is opened for it, where the file
+// is to be opened; and where the frame comes again after memory was refused, how many leaves had signed before it,
+// unless the signer was closed then.
+#[derive(Clone, Copy)]
+struct Place {
+    frame: usize,
+    opening: Option<u8>,
+    is_again: bool,
+    signed: Option<u32>,
+}
+
+// The place after a frame that has a reply with this number, before which so many leaves had signed. Where memory was
+// refused the frame comes again after the file was opened again: no name was bound before. A signer whose device failed
+// is closed until then, and may have bound the name. None where it is refused a second time.
+fn place_after(place: Place, number: u8, signed: u32) -> Option<Place> {
+    let again = Place {
+        opening: Some(100),
+        is_again: true,
+        ..place
+    };
+    match number {
+        OUT_OF_MEMORY | STORE_FAILED if place.is_again => None,
+        OUT_OF_MEMORY => Some(Place {
+            signed: Some(signed),
+            ..again
+        }),
+        STORE_FAILED => Some(again),
+        _ => {
+            let frame = place.frame.checked_add(1)?;
+            let is_reopened = frame == BEFORE_REOPENING;
+            Some(Place {
+                frame,
+                opening: if is_reopened { Some(150) } else { None },
+                is_again: false,
+                signed: None,
+            })
+        }
     }
 }
 
@@ -77,94 +153,92 @@ fn signed_leaves<S: Store, R: Source>(signer: &Signer<S, R>) -> Option<u32> {
     }
 }
 
-// The reply to a frame, whose room is made at the second try where memory is refused at the first, and how its serving
-// ends.
-fn reply_to<S: Store, R: Source>(
+// The public key, and the reply to the first frame.
+type First = (Option<AnyPublic>, Vec<u8>);
+
+// The place after a frame; after the first one the key and the reply are kept. None where a frame is answered otherwise.
+fn served<S: Store, R: Source>(
     alloc: Global,
     signer: &mut Signer<S, R>,
-    frame: &[u8],
-) -> Option<(Vec<u8>, Result<u64, ServeFault>)> {
-    let mut output = match Vec::with_capacity(alloc, 3000) {
-        Ok(output) => output,
-        Err(_) => Vec::with_capacity(alloc, 3000).ok()?,
-    };
-    let mut input = frame;
-    let end = serve(alloc, signer, &mut input, &mut output);
-    Some((output, end))
+    place: Place,
+    first: &mut First,
+) -> Option<Place> {
+    let (frame, wanted, wanted_end, is_first_again) = FRAMES.get(place.frame)?;
+    let signed = signed_leaves(signer)?;
+    if place.signed.is_some() && place.signed != Some(signed) {
+        return None;
+    }
+    let (number, reply, end) = reply_to(alloc, signer, frame)?;
+    if number == STORE_FAILED && reply_to(alloc, signer, frame)?.0 != STOPPED {
+        return None;
+    }
+    if number != OUT_OF_MEMORY && number != STORE_FAILED {
+        if number != *wanted || end != *wanted_end || (*is_first_again && reply != first.1) {
+            return None;
+        }
+        if place.frame == 0 {
+            *first = (Some(signer.public_key()), reply);
+        }
+        if first.0 != Some(signer.public_key()) {
+            return None;
+        }
+    }
+    place_after(place, number, signed)
 }
 
-// A signer after a frame, the reply, and how its serving ends; where memory was refused, of the second try, after the
-// file was opened again: no name was bound before. A signer whose device failed is closed until then, and may have
-// bound the name.
-fn served(
+// The disk of a key after the frames from a place on, up to the next one for which its file is opened again, with how
+// many records it has, and the place then.
+fn goes_on<D: Disk + Drop>(
     alloc: Global,
-    signer: InFile,
-    frame: &[u8],
-) -> Option<(InFile, Vec<u8>, Result<u64, ServeFault>)> {
-    let mut signer = signer;
-    let signed = signed_leaves(&signer)?;
-    let (reply, end) = reply_to(alloc, &mut signer, frame)?;
-    let is_closed = reply.as_slice() == STORE_FAILED;
-    if reply.as_slice() != OUT_OF_MEMORY && !is_closed {
-        return Some((signer, reply, end));
+    disk: D,
+    place: Place,
+    first: &mut First,
+) -> Option<(D, u32, Place)> {
+    let mut signer = opened(alloc, disk, place.opening?)?;
+    let mut at = place;
+    for _ in place.frame..FRAMES.len() {
+        at = served(alloc, &mut signer, at, first)?;
+        if at.opening.is_some() {
+            break;
+        }
     }
-    if is_closed && reply_to(alloc, &mut signer, frame)?.0.as_slice() != STOPPED {
-        return None;
-    }
-    let mut signer = opened(alloc, signer.into_store().into_disk(), 100)?;
-    if !is_closed && signed_leaves(&signer)? != signed {
-        return None;
-    }
-    let (reply, end) = reply_to(alloc, &mut signer, frame)?;
-    Some((signer, reply, end))
+    let store = signer.into_store();
+    let records = store.count();
+    Some((store.into_disk(), records, at))
 }
 
-// The number of a reply, whose body is a valid signature of the frame's last byte, or empty.
-fn number_of(public: &AnyPublic, frame: &[u8], reply: &[u8]) -> Option<u8> {
-    let (number, rest) = reply.split_first()?;
-    let (size, body) = rest.split_first_chunk::<4>()?;
-    if u32::from_be_bytes(*size) as usize != body.len() {
-        return None;
-    }
-    let message = [*frame.last()?];
-    let is_right = match *number {
-        0 => verify_any(public, &mut message.as_slice(), body).is_ok(),
-        _ => body.is_empty(),
-    };
-    if is_right { Some(*number) } else { None }
-}
-
-// How many of the frames are answered as they should be, before the first that isn't, and how many records there are
-// then. None where the first name has another signature in the end, after the file was opened again.
+// How many frames are answered as they should be by a new key, and how many records there are then.
 fn answered(alloc: Global, spec: &str) -> Option<(usize, u32)> {
-    let mut signer = opened(alloc, keyed(alloc, spec)?, 50)?;
-    let public = signer.public_key();
-    let mut first = Vec::new(alloc);
-    for (i, (frame, number, wanted)) in FRAMES.iter().enumerate() {
-        let (after, reply, end) = served(alloc, signer, frame)?;
-        signer = after;
-        let is_right = number_of(&public, frame, &reply)? == *number && end == *wanted;
-        if !is_right || (i == 1 && reply != first) {
-            return Some((i, signer.into_store().count()));
+    let empty = match MemoryDisk::of(alloc, &[]) {
+        Ok(disk) => disk,
+        Err(_) => MemoryDisk::of(alloc, &[]).ok()?,
+    };
+    let mut disk = keyed(alloc, spec, empty)?;
+    let mut first = (None, Vec::new(alloc));
+    let mut place = Place {
+        frame: 0,
+        opening: Some(50),
+        is_again: false,
+        signed: None,
+    };
+    // the file is opened again where memory was refused, too
+    for _ in 0..3 {
+        let (after, records, at) = goes_on(alloc, disk, place, &mut first)?;
+        if at.frame == FRAMES.len() {
+            return Some((at.frame, records));
         }
-        if i == 0 {
-            first = reply;
-        }
+        disk = after;
+        place = at;
     }
-    let signer = opened(alloc, signer.into_store().into_disk(), 150)?;
-    let (signer, reply, _) = served(alloc, signer, FRAMES[0].0)?;
-    if reply != first {
-        return None;
-    }
-    Some((FRAMES.len(), signer.into_store().count()))
+    None
 }
 
 #[test]
 fn one_tree_serves_at_last(rt: HostRuntime) {
-    assert_eq!(rt; answered(rt.alloc(), ONE_TREE), Some((7, 3)));
+    assert_eq!(rt; answered(rt.alloc(), ONE_TREE), Some((8, 3)));
 }
 
 #[test]
 fn two_levels_serve_at_last(rt: HostRuntime) {
-    assert_eq!(rt; answered(rt.alloc(), TWO_LEVELS), Some((7, 4)));
+    assert_eq!(rt; answered(rt.alloc(), TWO_LEVELS), Some((8, 4)));
 }

@@ -2,13 +2,13 @@
 //! `tests/run` runs these with each growth of memory refused in turn.
 
 use super::audits::{Audited, audited};
-use super::files::{Entry, opened_at_last, stored};
+use super::files::{Entry, KEY, opened_at_last, stored};
 use super::*;
 
 // What is answered to the file of these records, and whether an anchor of more records is refused for that: at first,
 // or at last, where the file is opened again if memory was refused, and audited once more. The file itself is made at
 // the second try where memory is refused at the first.
-fn audited_file(alloc: Global, entries: &[Entry], at_first: bool) -> Option<(Audited, bool)> {
+fn audited_file(alloc: Global, entries: &[Entry<'_>], at_first: bool) -> Option<(Audited, bool)> {
     let made = match stored(alloc, entries) {
         Some(store) => store,
         None => stored(alloc, entries)?,
@@ -20,32 +20,33 @@ fn audited_file(alloc: Global, entries: &[Entry], at_first: bool) -> Option<(Aud
     };
     let mut answers = [Err(AuditFault::NoKey); 2];
     for (answer, anchor) in answers.iter_mut().zip([None, Some(beyond)]) {
-        *answer = audited(alloc, &mut store, anchor)?;
+        *answer = audited(alloc, &mut store, anchor);
         if *answer == Err(AuditFault::OutOfMemory) && !at_first {
             store = opened_at_last(store.into_disk())?;
-            *answer = audited(alloc, &mut store, anchor)?;
+            *answer = audited(alloc, &mut store, anchor);
         }
     }
     Some((answers[0], answers[1] == Err(AuditFault::AnchorCount)))
 }
 
 // The records of a key with five more.
-const ENTRIES: &[Entry] = &[
-    Entry::Bound(0, b'a'),
-    Entry::Bound(1, b'b'),
+const ENTRIES: &[Entry<'static>] = &[
+    KEY,
+    Entry::Bound(0, b"a"),
+    Entry::Bound(1, b"b"),
     Entry::Retire(9),
-    Entry::Bound(9, b'c'),
-    Entry::Bound(10, b'd'),
+    Entry::Bound(9, b"c"),
+    Entry::Bound(10, b"d"),
 ];
 
 // A name that is bound twice.
-const BOUND_TWICE: &[Entry] = &[Entry::Bound(0, b'a'), Entry::Bound(1, b'a')];
+const BOUND_TWICE: &[Entry<'static>] = &[KEY, Entry::Bound(0, b"a"), Entry::Bound(1, b"a")];
 
 #[test]
 fn legal_records_are_audited_at_last(rt: HostRuntime) {
     assert_eq!(rt;
         audited_file(rt.alloc(), ENTRIES, false),
-        Some((Ok((6, 21, None)), true))
+        Some((Ok((6, Some(21), None)), true))
     );
 }
 
@@ -62,7 +63,7 @@ fn an_illegal_record_is_found_at_last(rt: HostRuntime) {
 fn legal_records_are_audited_at_first(rt: HostRuntime) {
     assert_eq!(rt;
         audited_file(rt.alloc(), ENTRIES, true),
-        Some((Ok((6, 21, None)), true))
+        Some((Ok((6, Some(21), None)), true))
     );
 }
 

@@ -19,10 +19,10 @@ pub(super) fn bytes_in(alloc: Global, parts: &[&str]) -> Option<Vec<u8>> {
 type Known<'a> = (&'a str, &'a [&'a str]);
 
 // A public key, and what was signed with it.
-pub(super) type Signed<'a> = (&'a [&'a str], &'a [Known<'a>]);
+type Signed<'a> = (&'a [&'a str], &'a [Known<'a>]);
 
 // The other message, which is the last one, was signed with the leaf of the second signature.
-pub(super) const LMS: Signed<'static> = (
+const LMS: Signed<'static> = (
     LMS_PUBLIC,
     &[
         (LMS_MESSAGE_0, LMS_SIGNATURE_0),
@@ -31,7 +31,7 @@ pub(super) const LMS: Signed<'static> = (
     ],
 );
 
-pub(super) const HSS: Signed<'static> = (
+const HSS: Signed<'static> = (
     HSS_PUBLIC,
     &[
         (HSS_MESSAGE_0, HSS_SIGNATURE_0),
@@ -47,7 +47,7 @@ const XMSS: Signed<'static> = (
     ],
 );
 
-pub(super) const MODEL: Signed<'static> = (MODEL_PUBLIC, &[(MODEL_MESSAGE, MODEL_SIGNATURE)]);
+const MODEL: Signed<'static> = (MODEL_PUBLIC, &[(MODEL_MESSAGE, MODEL_SIGNATURE)]);
 
 // One of the messages that were signed, by its place, with the signature of another, or its own.
 pub(super) fn given_of(
@@ -62,28 +62,32 @@ pub(super) fn given_of(
     Some(Given { message, signature })
 }
 
-// Whose signatures are checked.
-enum Scheme {
+// What was signed: by a key of each scheme, and by the XMSS key of the model.
+#[derive(Clone, Copy)]
+pub(super) enum Scheme {
     Lms,
     Hss,
     Xmss,
+    Model,
 }
 
-// The key of a scheme, and what was signed with it.
-fn signed_with(scheme: &Scheme) -> Signed<'static> {
+// The key, and what was signed with it.
+pub(super) fn signed_with(scheme: Scheme) -> Signed<'static> {
     match scheme {
         Scheme::Lms => LMS,
         Scheme::Hss => HSS,
         Scheme::Xmss => XMSS,
+        Scheme::Model => MODEL,
     }
 }
 
-// What a check answers to signatures that are given in this order, each with the message of a place.
+// What a check answers to signatures of a scheme that are given in this order, each with the message of a place.
 fn check_known(
     alloc: Global,
-    signed: Signed<'_>,
+    scheme: Scheme,
     order: &[(usize, usize)],
 ) -> Option<Result<(), GivenFault>> {
+    let signed = signed_with(scheme);
     let public = AnyPublic::read(&bytes_in(alloc, signed.0)?).ok()?;
     let mut given = Vec::new(alloc);
     for (message, signature) in order {
@@ -129,7 +133,6 @@ const CHECKS: &[(Scheme, &[(usize, usize)], Result<(), GivenFault>)] = &[
 #[test]
 fn signatures_of_other_programs_are_checked(rt: HostRuntime) {
     for (scheme, order, wanted) in CHECKS {
-        let signed = signed_with(scheme);
-        assert_eq!(rt; check_known(rt.alloc(), signed, order), Some(*wanted));
+        assert_eq!(rt; check_known(rt.alloc(), *scheme, order), Some(*wanted));
     }
 }

@@ -4,7 +4,7 @@ ghost use Rattle.std.specs.Prelude.{[], false, ⊤};
 ghost use Rattle.state_file.specs.Disk.{settled};
 
 use super::*;
-use state_file::{Disk, DiskFault};
+use state_file::DiskFault;
 use typecodes::Count;
 
 // A disk that says nothing of stops. After so many reads, one from an offset on gives other bytes.
@@ -12,24 +12,25 @@ use typecodes::Count;
 pub(super) struct Room {
     bytes: Vec<u8>,
     // how many of them are there
-    pub(super) size: usize,
+    size: usize,
     // how many reads come before
-    pub(super) reads: u32,
-    pub(super) offset: u64,
+    reads: u32,
+    offset: u64,
     failures: Count,
     past_ends: Count,
 }
 
 impl Room {
-    // A disk without a byte, which gives the bytes that were written.
-    pub(super) fn new(alloc: Global) -> Option<Self> {
-        let mut bytes = Vec::new(alloc);
+    // A disk with these bytes and room for 2000, of which a read from this offset on gives other bytes after so many
+    // reads.
+    pub(super) fn of(alloc: Global, file: &[u8], reads: u32, offset: u64) -> Option<Self> {
+        let mut bytes = file.to_vec(alloc).ok()?;
         bytes.resize(2000, 0).ok()?;
         Some(Room {
             bytes,
-            size: 0,
-            reads: u32::MAX,
-            offset: u64::MAX,
+            size: file.len(),
+            reads,
+            offset,
             failures: Count::new(),
             past_ends: Count::new(),
         })

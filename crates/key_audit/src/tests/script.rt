@@ -1,8 +1,10 @@
 //! A key of two levels whose disk fails, or stops, at each of its calls in turn. What that leaves is audited, and the
 //! script is run again with the same names and messages: no leaf signs twice, and no name has two signatures.
 
+use super::audits::audited_twice;
 use super::files::anchor_in;
 use super::*;
+use sign_core::SignFault;
 use state_file::{OpenFault, Pick};
 
 // What is done in one life of the disk, after which the signer is closed: the key is made, a letter is signed as its
@@ -13,7 +15,7 @@ enum Step {
     Retire(u32),
 }
 
-const SCRIPT: [Step; 6] = [
+const SCRIPT: &[Step] = &[
     Step::Create,
     Step::Sign(b'a'),
     Step::Sign(b'b'),
@@ -30,33 +32,39 @@ const PICKS: [Pick; 5] = [
     Pick::Fill(0xFF),
 ];
 
-// A step that came to its end, with the signature that it gave.
-type Done = Option<Given>;
+// Why no signer is there: the file isn't opened, or the signer isn't.
+#[derive(Clone, Copy)]
+pub(super) enum Closed {
+    File(OpenFault),
+    Signer(SignFault),
+}
 
-// The signer of a disk that has a key. Else the disk, and whether it has none.
-fn open_on(alloc: Global, disk: MemoryDisk, next: u8) -> Result<InFile, (MemoryDisk, bool)> {
+// The signer of a disk that has a key, whose source begins with this number. Else the disk, and why not.
+pub(super) fn open_on<D: Disk + Drop>(
+    alloc: Global,
+    disk: D,
+    next: u8,
+) -> Result<Signer<FileStore<D>, Numbers>, (D, Closed)> {
     match FileStore::open(disk) {
         Ok(store) => match Signer::open(alloc, store, Numbers { next }) {
             Ok(signer) => Ok(signer),
             Err(refused) => {
+                let fault = refused.fault;
                 let (store, _random) = refused.given;
-                Err((store.into_disk(), false))
+                Err((store.into_disk(), Closed::Signer(fault)))
             }
         },
-        Err(refused) => {
-            let has_no_key = refused.fault == OpenFault::NoKey;
-            Err((refused.given, has_no_key))
-        }
+        Err(refused) => Err((refused.given, Closed::File(refused.fault))),
     }
 }
 
 // The disk after a key was made on it, and whether it was. Its source begins with this number.
-pub(super) fn create_on(
+pub(super) fn create_on<D: Disk + Drop>(
     alloc: Global,
     spec: &str,
-    disk: MemoryDisk,
+    disk: D,
     next: u8,
-) -> Option<(MemoryDisk, bool)> {
+) -> Option<(D, bool)> {
     let spec = Spec::parse(spec).ok()?;
     let store = match FileStore::format(disk) {
         Ok(store) => store,
@@ -71,42 +79,44 @@ pub(super) fn create_on(
     }
 }
 
-// What a step gives, if it comes to its end.
+// Takes a step, and adds the signature that it gives. None where it doesn't come to its end.
 fn do_step<S: Store, R: Source>(
     alloc: Global,
     signer: &mut Signer<S, R>,
     doing: &Step,
-) -> Option<Done> {
+    given: &mut Vec<Given>,
+) -> Option<()> {
     match doing {
-        Step::Create => Some(None),
-        Step::Sign(letter) => Some(Some(signature_of(alloc, signer, *letter)?)),
-        Step::Retire(upto) => {
-            signer.retire(*upto).ok()?;
-            Some(None)
-        }
+        Step::Create => Some(()),
+        Step::Sign(letter) => sign_letters(alloc, signer, (&[*letter], None), given),
+        Step::Retire(upto) => signer.retire(*upto).ok(),
     }
 }
 
-// One life of a disk: the disk afterwards, and what its step gave, if it came to its end. A key is made where none is.
-fn live(
+// One life of a disk: the disk afterwards, and whether its step came to its end. The signature that it gave is added.
+// A key is made where none is.
+fn live<D: Disk + Drop>(
     alloc: Global,
-    disk: MemoryDisk,
+    disk: D,
     doing: &Step,
     next: u8,
-) -> Option<(MemoryDisk, Option<Done>)> {
+    given: &mut Vec<Given>,
+) -> Option<(D, bool)> {
     match open_on(alloc, disk, next) {
         Ok(mut signer) => {
-            let done = do_step(alloc, &mut signer, doing);
-            Some((signer.into_store().into_disk(), done))
+            let done = do_step(alloc, &mut signer, doing, given);
+            Some((signer.into_store().into_disk(), done.is_some()))
         }
-        Err((disk, false)) => Some((disk, None)),
-        Err((disk, true)) => match doing {
-            Step::Create => {
-                let (disk, is_made) = create_on(alloc, TWO_LEVELS, disk, next)?;
-                Some((disk, if is_made { Some(None) } else { None }))
+        Err(refused) => {
+            let (disk, closed) = refused;
+            match closed {
+                Closed::File(OpenFault::NoKey) => match doing {
+                    Step::Create => create_on(alloc, TWO_LEVELS, disk, next),
+                    _ => Some((disk, false)),
+                },
+                _ => Some((disk, false)),
             }
-            _ => Some((disk, None)),
-        },
+        }
     }
 }
 
@@ -135,34 +145,53 @@ fn run_script(
     let mut disk = disk;
     for (i, doing) in SCRIPT.iter().enumerate() {
         files.push((disk.stop(Pick::New).ok()?, given.len())).ok()?;
-        let (after, done) = live(alloc, disk, doing, next.wrapping_add(8 * i as u8))?;
-        if let Some(given_now) = done? {
-            given.push(given_now).ok()?;
+        let next = next.wrapping_add(8 * i as u8);
+        let (after, is_done) = live(alloc, disk, doing, next, &mut given)?;
+        if !is_done {
+            return None;
         }
         disk = after;
     }
     Some((disk, Run { files, given }))
 }
 
-// Whether a mishap at any call of a reopening, which is refused or before which the power goes, leaves the file as it
-// is.
+// A disk of a file with a mishap at a call, which is refused, or before which the power goes.
+fn disk_with_mishap(alloc: Global, file: &[u8], call: u32, stops: bool) -> Option<MemoryDisk> {
+    let mut disk = MemoryDisk::of(alloc, file).ok()?;
+    if stops {
+        disk.stop_at(call);
+    } else {
+        disk.fail_at(call);
+    }
+    Some(disk)
+}
+
+// The disk, where it can't be opened, and not for want of a key.
+fn not_opened<D: Disk + Drop>(alloc: Global, disk: D) -> Option<D> {
+    match open_on(alloc, disk, 0) {
+        Ok(_signer) => None,
+        Err(refused) => {
+            let (disk, closed) = refused;
+            match closed {
+                Closed::File(OpenFault::NoKey) => None,
+                _ => Some(disk),
+            }
+        }
+    }
+}
+
+// Whether a mishap at any call of a reopening leaves the file as it is.
 fn lasts(alloc: Global, file: &Vec<u8>, stops: bool) -> Option<bool> {
     for call in 1..200u32 {
-        let mut disk = MemoryDisk::of(alloc, file).ok()?;
-        if stops {
-            disk.stop_at(call);
-        } else {
-            disk.fail_at(call);
-        }
-        match open_on(alloc, disk, 0) {
-            Err((disk, false)) => {
+        match not_opened(alloc, disk_with_mishap(alloc, file, call, stops)?) {
+            Some(disk) => {
                 for pick in PICKS {
                     if disk.stop(pick).ok()? != *file {
                         return Some(false);
                     }
                 }
             }
-            _ => return Some(true),
+            None => return Some(true),
         }
     }
     None
@@ -184,57 +213,61 @@ fn ends_well(alloc: Global, file: &[u8], before: &[Given]) -> Option<bool> {
     Some(is_reported && check_given(alloc, &report.public, &well.given).is_ok())
 }
 
-// Whether an audit accepts a content that a mishap in a step left, or finds no key where none was before.
-fn is_audited(alloc: Global, content: &[u8], anchor: Option<Anchor>) -> Option<bool> {
-    match FileStore::open(MemoryDisk::of(alloc, content).ok()?) {
-        Ok(mut store) => match audit(alloc, &mut store, anchor) {
-            Ok(_) => Some(true),
-            Err(fault) => Some(fault == AuditFault::NoKey && anchor.is_none()),
-        },
-        Err(refused) => match refused.fault {
-            OpenFault::NoKey => Some(anchor.is_none()),
-            _ => None,
-        },
-    }
+// Whether a content that a mishap in a step left goes on well. An audit accepts it, or finds no key where none was
+// before; it lasts where the reopening of it has a mishap, too; and the script comes to its end on it.
+fn goes_on_well(
+    alloc: Global,
+    content: &Vec<u8>,
+    anchor: Option<Anchor>,
+    before: &[Given],
+) -> Option<bool> {
+    let disk = MemoryDisk::of(alloc, content).ok()?;
+    let is_new = anchor.is_none();
+    let is_audited = match audited_twice(alloc, disk, anchor) {
+        Ok(answers) => answers[0].is_ok() || (is_new && answers[0] == Err(AuditFault::NoKey)),
+        Err(fault) => is_new && fault == OpenFault::NoKey,
+    };
+    let is_kept = lasts(alloc, content, false)? && lasts(alloc, content, true)?;
+    Some(is_audited && is_kept && ends_well(alloc, content, before)?)
 }
 
-// How many calls of the disk a step makes, where each mishap at any of them is survived, which is refused or before
-// which the power goes: each content that it may leave is audited, lasts where the reopening of it has a mishap, too,
-// and goes on well, where that wasn't seen of it before.
-fn survives(alloc: Global, place: usize) -> Option<u32> {
-    let (_, well) = run_script(alloc, MemoryDisk::of(alloc, &[]).ok()?, 0, &[])?;
-    let (file, count) = well.files.get(place)?;
-    let anchor = anchor_in(file, file.len() / 256);
-    let before = well.given.get(..*count)?;
+// The contents that a mishap at each call of a step may leave, each of them once, and how many calls the step makes.
+fn left_in(alloc: Global, file: &[u8], place: usize) -> Option<(Vec<Vec<u8>>, u32)> {
+    let doing = SCRIPT.get(place)?;
     let mut seen = Vec::new(alloc);
+    let mut given = Vec::new(alloc);
     for call in 1..100u32 {
         for stops in [false, true] {
-            let mut disk = MemoryDisk::of(alloc, file).ok()?;
-            if stops {
-                disk.stop_at(call);
-            } else {
-                disk.fail_at(call);
-            }
-            let (disk, done) = live(alloc, disk, SCRIPT.get(place)?, 8 * place as u8)?;
-            if done.is_some() {
-                return Some(call - 1);
+            let disk = disk_with_mishap(alloc, file, call, stops)?;
+            let (disk, is_done) = live(alloc, disk, doing, 8 * place as u8, &mut given)?;
+            if is_done {
+                return Some((seen, call - 1));
             }
             for pick in PICKS {
                 let left = disk.stop(pick).ok()?;
                 if !seen.contains(&left) {
-                    if !is_audited(alloc, &left, anchor)?
-                        || !lasts(alloc, &left, false)?
-                        || !lasts(alloc, &left, true)?
-                        || !ends_well(alloc, &left, before)?
-                    {
-                        return None;
-                    }
                     seen.push(left).ok()?;
                 }
             }
         }
     }
     None
+}
+
+// How many calls of the disk a step makes, where each mishap at any of them is survived: each content that it may leave
+// goes on well.
+fn survives(alloc: Global, place: usize) -> Option<u32> {
+    let (_, well) = run_script(alloc, MemoryDisk::of(alloc, &[]).ok()?, 0, &[])?;
+    let (file, count) = well.files.get(place)?;
+    let anchor = anchor_in(file, file.len() / 256);
+    let before = well.given.get(..*count)?;
+    let (contents, calls) = left_in(alloc, file, place)?;
+    for content in &contents {
+        if !goes_on_well(alloc, content, anchor, before)? {
+            return None;
+        }
+    }
+    Some(calls)
 }
 
 // An opening of n records makes 5 + 3 * n calls, a signer's 3 * n - 1 more, and each append 4. The first life looks for

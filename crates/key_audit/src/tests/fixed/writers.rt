@@ -195,9 +195,10 @@ fn is_xmss_written(public: &XmssPublic, given: &Given) -> Option<bool> {
     Some(written.as_slice() == signature)
 }
 
-// Whether these signatures are written again, byte by byte.
-fn are_written(known: &[Bytes]) -> Option<bool> {
-    for (bytes, given) in known {
+// Whether the signatures of other programs are written again, byte by byte.
+fn are_written(alloc: Global) -> Option<bool> {
+    let known = known_of_each(alloc)?;
+    for (bytes, given) in &known {
         let is_written = match AnyPublic::read(bytes).ok()? {
             AnyPublic::Lms(key) => is_lms_written(&key, given)?,
             AnyPublic::Hss(key) => is_hss_written(&key, given)?,
@@ -212,9 +213,5 @@ fn are_written(known: &[Bytes]) -> Option<bool> {
 
 #[test]
 fn signatures_are_written(rt: HostRuntime) {
-    let written = match known_of_each(rt.alloc()) {
-        Some(known) => are_written(&known),
-        None => None,
-    };
-    assert_eq!(rt; written, Some(true));
+    assert_eq!(rt; are_written(rt.alloc()), Some(true));
 }
