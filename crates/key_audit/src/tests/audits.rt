@@ -38,8 +38,8 @@ pub(super) fn audited_twice<D: Disk + Drop>(
     }
 }
 
-// What audits of a store answer with an anchor of each count from none to five. Its tag is that of this file when it had
-// so many records, another one, and that of no record.
+// What audits of a store answer with an anchor of each count from none to five. Its tag is that of this file when it
+// had so many records, another one, and that of no record.
 fn with_anchors<D: Disk + Drop>(
     alloc: Global,
     store: &mut FileStore<D>,

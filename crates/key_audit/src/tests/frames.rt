@@ -156,7 +156,8 @@ fn signed_leaves<S: Store, R: Source>(signer: &Signer<S, R>) -> Option<u32> {
 // The public key, and the reply to the first frame.
 type First = (Option<AnyPublic>, Vec<u8>);
 
-// The place after a frame; after the first one the key and the reply are kept. None where a frame is answered otherwise.
+// The place after a frame; after the first one the key and the reply are kept. None where a frame is answered
+// otherwise.
 fn served<S: Store, R: Source>(
     alloc: Global,
     signer: &mut Signer<S, R>,

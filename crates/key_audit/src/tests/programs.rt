@@ -3,23 +3,21 @@
 use super::vectors::*;
 use super::*;
 
-// The bytes whose hexadecimal digits these parts are.
-pub(super) fn bytes_in(alloc: Global, parts: &[&str]) -> Option<Vec<u8>> {
+// The bytes whose hexadecimal digits these are.
+pub(super) fn bytes_in(alloc: Global, digits: &str) -> Option<Vec<u8>> {
     let mut bytes = Vec::new(alloc);
-    for part in parts {
-        for i in 0..part.len() / 2 {
-            let digits = part.get(2 * i..2 * i + 2)?;
-            bytes.push(u8::from_str_radix(digits, 16).ok()?).ok()?;
-        }
+    for i in 0..digits.len() / 2 {
+        let two = digits.get(2 * i..2 * i + 2)?;
+        bytes.push(u8::from_str_radix(two, 16).ok()?).ok()?;
     }
     Some(bytes)
 }
 
 // A message and its signature.
-type Known<'a> = (&'a str, &'a [&'a str]);
+type Known<'a> = (&'a str, &'a str);
 
 // A public key, and what was signed with it.
-type Signed<'a> = (&'a [&'a str], &'a [Known<'a>]);
+type Signed<'a> = (&'a str, &'a [Known<'a>]);
 
 // The other message, which is the last one, was signed with the leaf of the second signature.
 const LMS: Signed<'static> = (
@@ -57,7 +55,7 @@ pub(super) fn given_of(
     signature: usize,
 ) -> Option<Given> {
     let (_, known) = signed;
-    let message = bytes_in(alloc, &[known.get(message)?.0])?;
+    let message = bytes_in(alloc, known.get(message)?.0)?;
     let signature = bytes_in(alloc, known.get(signature)?.1)?;
     Some(Given { message, signature })
 }
