@@ -23,7 +23,8 @@ use model::{led_to, replies_to};
 // A key whose trees are quickly made.
 const CHEAP: &str = "lms:H5/W2";
 
-// The file of a key, and its tape: the source that the key is opened with gives what comes after the draws of one of LMS.
+// The file of a key, and its tape: the source that the key is opened with gives what comes after the draws of a key of
+// LMS.
 type Start<'a> = (&'a [u8], &'a [u8]);
 
 // Opens the file again.

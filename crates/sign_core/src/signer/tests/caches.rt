@@ -149,8 +149,8 @@ fn caches_make_each_block_once(rt: HostRuntime) {
 }
 
 // What is done with a new key, and then with the key that its file opens. A request that is signed makes the cache of
-// each current tree that stood before its name, and of no other, and each leaf of these trees once. A refusal that comes
-// before that makes none.
+// each current tree that stood before its name, and of no other, and each leaf of these trees once. A refusal that
+// comes before that makes none.
 const REOPENED: [Script; 17] = [
     // what comes before the caches makes none
     Script {
