@@ -213,6 +213,26 @@ fn right_beginnings(alloc: Global) -> Option<usize> {
     Some(ENDS.len())
 }
 
+// How many beginnings of the two requests, after which reads say that they gave the rest and write none of it, come to
+// what the beginning leads to with zeros after it.
+fn right_claims(alloc: Global) -> Option<usize> {
+    let tape = tape_of::<80>(0, 1);
+    let file = new_file(alloc, CHEAP, &tape, 0)?;
+    let start = (file.as_slice(), tape.as_slice());
+    for len in 0..ENDS.len() {
+        let given = CHANGED.get(..len)?;
+        let mut bytes = Vec::from_slice(alloc, given).ok()?;
+        bytes.resize(CHANGED.len(), 0).ok()?;
+        let wanted = led_to(alloc, start, &bytes, false)?;
+        let mut input = input_of(given, false);
+        input.claims = CHANGED.len().checked_sub(len)?;
+        if served(alloc, start, &mut input, &mut taking_all(alloc))? != wanted {
+            return Some(len);
+        }
+    }
+    Some(ENDS.len())
+}
+
 // What a byte is changed to, besides each change of a single bit: the edges of what names have.
 const EDGES: [u8; 8] = [0x00, 0x05, 0x20, 0x21, 0x7e, 0x7f, 0x80, 0xff];
 
@@ -288,10 +308,11 @@ fn first_other_way(alloc: Global) -> Option<usize> {
     Some(WAYS.len())
 }
 
-// Beginnings of frames, changed bytes, and frames in pieces.
+// Beginnings of frames, bytes that are claimed, changed bytes, and frames in pieces.
 #[test]
 fn inputs_lead_to_what_their_frames_lead_to(rt: HostRuntime) {
     assert_eq!(rt; right_beginnings(rt.alloc()), Some(21));
+    assert_eq!(rt; right_claims(rt.alloc()), Some(21));
     assert_eq!(rt; right_changes(rt.alloc()), Some(320));
     assert_eq!(rt; first_other_way(rt.alloc()), Some(12));
 }

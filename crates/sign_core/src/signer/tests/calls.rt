@@ -90,7 +90,8 @@ fn signs_all<S: Store, R: Source>(
 }
 
 // An input, of which a read gives at most so many bytes. It ends after them or fails there. Where it interrupts, it
-// does so once before each read; where it is stuck, without end after its bytes.
+// does so once before each read; where it is stuck, without end after its bytes. It may claim so many bytes more, which
+// its reads say that they gave, and write none of.
 #[derive(Drop)]
 pub(crate) struct Input<'a> {
     pub(crate) rest: &'a [u8],
@@ -98,6 +99,7 @@ pub(crate) struct Input<'a> {
     pub(crate) fails: bool,
     pub(crate) interrupts: bool,
     pub(crate) is_stuck: bool,
+    pub(crate) claims: usize,
     is_interrupted: bool,
 }
 
@@ -108,6 +110,11 @@ impl Read for Input<'_> {
             return Err(io::Error::from(ErrorKind::Interrupted));
         }
         let n = self.most.min(buffer.len()).min(self.rest.len());
+        if n == 0 && self.claims > 0 {
+            let claimed = self.claims.min(buffer.len());
+            self.claims -= claimed;
+            return Ok(claimed);
+        }
         if n == 0 && self.is_stuck {
             return Err(io::Error::from(ErrorKind::Interrupted));
         }
@@ -129,6 +136,7 @@ pub(crate) fn input_of(bytes: &[u8], fails: bool) -> Input<'_> {
         fails,
         interrupts: false,
         is_stuck: false,
+        claims: 0,
         is_interrupted: false,
     }
 }

@@ -42,12 +42,13 @@ enum Step<'a> {
     Left(&'a [u32]),
 }
 
-// Where the steps of a key stand: the next one, and the number that its source gives next. Where that step comes again
-// after a refusal of memory, whether its name was bound before it.
+// Where the steps of a key stand: the next one, and the number that its source gives next; whether memory was refused to
+// the opening for it. Where that step comes again after a refusal of memory, whether its name was bound before it.
 #[derive(Clone, Copy)]
 struct Place {
     step: usize,
     next: u8,
+    was_closed: bool,
     is_again: bool,
     was_bound: Option<bool>,
 }
@@ -56,6 +57,7 @@ struct Place {
 const BEGIN: Place = Place {
     step: 0,
     next: 50,
+    was_closed: false,
     is_again: false,
     was_bound: None,
 };
@@ -291,7 +293,8 @@ fn taken_up<S: Store, R: Source>(
     Some(at)
 }
 
-// The same, and the key's store then.
+// The same, and the key's store then. Where memory is refused to the opening the place stays, and the file is to be
+// opened again. None where that comes a second time.
 fn goes_on<S: Store + Drop>(
     alloc: Global,
     store: S,
@@ -300,10 +303,27 @@ fn goes_on<S: Store + Drop>(
     out: &mut Vec<u8>,
 ) -> Option<(S, Place)> {
     let next = Cell::new(place.next);
-    let mut signer = opened_by(alloc, store, Numbers { next: &next })?;
-    let after = taken_up(alloc, &mut signer, &next, steps, place, out);
-    let store = signer.into_store();
-    Some((store, after?))
+    match Signer::open(alloc, store, Numbers { next: &next }) {
+        Ok(signer) => {
+            let mut signer = signer;
+            let after = taken_up(alloc, &mut signer, &next, steps, place, out);
+            let store = signer.into_store();
+            Some((store, after?))
+        }
+        Err(refused) => {
+            if refused.fault != SignFault::NoMemoryToOpen || place.was_closed {
+                return None;
+            }
+            let (store, _random) = refused.given;
+            Some((
+                store,
+                Place {
+                    was_closed: true,
+                    ..place
+                },
+            ))
+        }
+    }
 }
 
 // How long a key's file is after these steps. None where one of them comes to something else at last.
@@ -424,6 +444,33 @@ const USED: [Step; 6] = [
 #[test]
 fn a_used_tree_is_replaced_at_last(rt: HostRuntime) {
     assert!(rt; len_of_new(rt.alloc(), TWO, &USED) == Some(1537));
+}
+
+// 33 new names, each with a signature of so many bytes, and a last step. Where it is wanted, the lowest tree is used up
+// after each name but the last one.
+fn of_names<'a>(alloc: Global, len: usize, uses_up: bool, last: Step<'a>) -> Option<Vec<Step<'a>>> {
+    let mut steps = match Vec::with_capacity(alloc, 66) {
+        Ok(steps) => steps,
+        Err(_) => Vec::with_capacity(alloc, 66).ok()?,
+    };
+    for number in 0..33 {
+        steps.push(Step::Sign(number, 1, Ok(len))).ok()?;
+        if uses_up && number != 32 {
+            steps.push(Step::Retire(32, None)).ok()?;
+        }
+    }
+    steps.push(last).ok()?;
+    Some(steps)
+}
+
+// The names of a key of two levels fill its lower tree, one after the other, and the last one begins another.
+#[test]
+fn names_fill_a_tree_and_begin_another_at_last(rt: HostRuntime) {
+    let len = match of_names(rt.alloc(), 17_428, false, Step::Left(&[30, 31])) {
+        Some(steps) => len_of_new(rt.alloc(), "hss:H5/W1,H5/W1", steps.as_slice()),
+        None => None,
+    };
+    assert!(rt; len == Some(9217));
 }
 
 // The source gives the key's I again.
@@ -614,6 +661,19 @@ const NEXT_OF_THREE: [Step; 2] = [Step::Sign(40, 1, Ok(3992)), Step::Left(&[30, 
 #[test]
 fn used_trees_begin_anew_at_last(rt: HostRuntime) {
     assert!(rt; begins_trees(rt.alloc(), THREE, &NEXT_OF_THREE, 101));
+}
+
+// The 32 lower trees of a key of three levels are used up by a name each, and the name after them begins both anew.
+#[test]
+fn lower_trees_are_used_up_at_last(rt: HostRuntime) {
+    let text = "hss:H5/W1,H5/W1,H5/W1";
+    let empty = MemoryStore::with_limit(rt.alloc(), 200);
+    let store = made_in(rt.alloc(), text, empty, false);
+    let refused = match of_names(rt.alloc(), 26_168, true, Step::Left(&[30, 31, 31])) {
+        Some(steps) => refused_with(rt.alloc(), store, steps.as_slice(), 101),
+        None => None,
+    };
+    assert!(rt; refused.is_some());
 }
 
 // The file of a key of two levels whose lower tree is full.
