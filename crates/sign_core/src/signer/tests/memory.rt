@@ -42,8 +42,8 @@ enum Step<'a> {
     Left(&'a [u32]),
 }
 
-// Where the steps of a key stand: the next one, and the number that its source gives next; whether memory was refused to
-// the opening for it. Where that step comes again after a refusal of memory, whether its name was bound before it.
+// Where the steps of a key stand: the next one, and the number that its source gives next; whether memory was refused
+// to the opening for it. Where that step comes again after a refusal of memory, whether its name was bound before it.
 #[derive(Clone, Copy)]
 struct Place {
     step: usize,
