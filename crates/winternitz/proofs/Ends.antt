@@ -5,6 +5,7 @@ use Rattle.std.proofs.lemmas.Bool.{cases_lt}
 use Rattle.std.proofs.lemmas.List.{get_or-take, length-take-le}
 use Rattle.std.proofs.lemmas.List.FromFn.{length-map-range_with_len, get_or-map-range_with_len, fill_by_all}
 use Rattle.winternitz.specs.Chain.{Steps, AreEnds, end_of, ends_of}
+use Rattle.winternitz.specs.Lanes.{lanes}
 
 -- the list of the ends is a list of ends
 pub are_ends : (step : Steps) (w : ℕ) (digits : List ℕ) (values : List (List ℕ))
@@ -35,8 +36,8 @@ first_at n i values within = get_or-take n values i [] within
 pub four_more : (value : ℕ → List ℕ) (place : ℕ) (old new : List (List ℕ))
     → ((i : ℕ) → i < place → slice_index_or old i [] ≡ value i)
     → ((i : ℕ) → i < place → slice_index_or new i [] ≡ slice_index_or old i [])
-    → ((j : ℕ) → j < 4 → slice_index_or new (place + j) [] ≡ value (place + j))
-    → (i : ℕ) → i < place + 4 → slice_index_or new i [] ≡ value i
+    → ((j : ℕ) → j < lanes → slice_index_or new (place + j) [] ≡ value (place + j))
+    → (i : ℕ) → i < place + lanes → slice_index_or new i [] ≡ value i
 four_more value place old new before kept made i low = elim (cases_lt i place) [
   | inl less ↦ kept i less ∙ before i less
   | inr past ↦

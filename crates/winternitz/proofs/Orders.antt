@@ -8,6 +8,7 @@ use Rattle.std.proofs.lemmas.Grind.{get_or_default_zero}
 use Rattle.std.proofs.lemmas.List.Elements.{All-from_get_or, All-get_or}
 use Rattle.std.proofs.lemmas.List.FromFn.{get_or-range_with_len, length-range_with_len, map-range_with_len_more}
 use Rattle.std.proofs.lemmas.List.Sorted.{All-permutation, Contains-permutation, length_permutation}
+use Rattle.winternitz.specs.Lanes.{lanes}
 
 -- one number more
 pub range_more : (n : ℕ) → range_with_len 0 (n + 1) ≡ range_with_len 0 n ++ n ∷ []
@@ -41,9 +42,9 @@ order_all n order moved i within =
 pub group_more : (f : ℕ → List ℕ) (order chains : List ℕ) (old new : List (List ℕ)) (place : ℕ)
     → ((k : ℕ) → k < place → slice_index_or old (slice_index order k) [] ≡ f (slice_index order k))
     → ((i : ℕ) → slice_index_or old i [] ≡ f i → slice_index_or new i [] ≡ f i)
-    → ((j : ℕ) → j < 4 → slice_index chains j ≡ slice_index order (place + j))
-    → ((j : ℕ) → j < 4 → slice_index_or new (slice_index chains j) [] ≡ f (slice_index chains j))
-    → (k : ℕ) → k < place + 4 → slice_index_or new (slice_index order k) [] ≡ f (slice_index order k)
+    → ((j : ℕ) → j < lanes → slice_index chains j ≡ slice_index order (place + j))
+    → ((j : ℕ) → j < lanes → slice_index_or new (slice_index chains j) [] ≡ f (slice_index chains j))
+    → (k : ℕ) → k < place + lanes → slice_index_or new (slice_index order k) [] ≡ f (slice_index order k)
 group_more f order chains old new place before kept group made k low = elim (cases_lt k place) [
   | inl less ↦ kept (slice_index order k) (before k less)
   | inr past ↦

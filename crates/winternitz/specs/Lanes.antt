@@ -1,8 +1,7 @@
 -- Blocks side by side: each word is a vector, with one lane for each block.
 use Rattle.std.specs.Prelude.{ℕ, List, [], ◌∷◌, map, slice_index, slice_index_or}
 
--- How many lanes there are. Another width changes this, the type of the vectors with their number in the code, and the
--- number in the invariants of loops over lanes.
+-- How many lanes there are. Another width changes this, and the type of the vectors with their number in the code.
 abbrev pub lanes : ℕ
 lanes = 4
 

@@ -16,8 +16,8 @@ mod rounds;
 #[cfg(test)]
 mod tests;
 
-/// How many blocks stand side by side. Another width changes this, the type of the vectors, `lanes` in
-/// `specs/Lanes.antt`, and the number in the invariants of loops over lanes.
+/// How many blocks stand side by side. Another width changes this, the type of the vectors, and `lanes` in
+/// `specs/Lanes.antt`.
 pub const LANES: usize = 4;
 
 /// A word of each block.

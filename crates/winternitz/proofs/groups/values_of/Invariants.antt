@@ -1,9 +1,10 @@
 -- The values of the lanes so far.
 use Rattle.std.proofs.Common.{◌≡◌, ℕ, ◌<◌, [], length, slice_index, slice_index_or}
+use Rattle.winternitz.specs.Lanes.{lanes}
 use Rattle.winternitz.proofs.groups.values_of.Given as goal
 
 abbrev pub invariant-loop-lane : goal.invariant-loop-lane
 invariant-loop-lane l = record {
-  long : length l.four ≡ 4;
+  long : length l.four ≡ lanes;
   each : (j : ℕ) → j < l.lane → slice_index_or l.four j [] ≡ slice_index_or l.values (slice_index l.chains j) [];
 }

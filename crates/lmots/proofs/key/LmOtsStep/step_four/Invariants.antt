@@ -1,11 +1,12 @@
 -- The messages of the lanes so far.
 use Rattle.std.proofs.Common.{◌≡◌, ℕ, ◌<◌, ◌++◌, [], length, slice_index, slice_index_or}
 use Rattle.lmots.specs.Hashes.{u8str, u16str, u32str}
+use Rattle.winternitz.specs.Lanes.{lanes}
 use Rattle.lmots.proofs.key.LmOtsStep.step_four.Given as goal
 
 abbrev pub invariant-loop-lane : goal.invariant-loop-lane
 invariant-loop-lane l = record {
-  long : length l.messages ≡ 4;
+  long : length l.messages ≡ lanes;
   each : (j : ℕ) → j < l.lane → slice_index_or l.messages j []
       ≡ l.self.identifier ++ u32str l.self.leaf ++ u16str (slice_index l.chains j) ++ u8str (slice_index l.at j) ++ slice_index_or l.values j [];
 }

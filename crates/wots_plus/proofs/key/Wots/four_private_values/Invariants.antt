@@ -1,11 +1,12 @@
 -- The blocks of the lanes so far; then the values of the lanes so far are written.
 use Rattle.std.proofs.Common.{◌≡◌, ℕ, ◌<◌, ◌+◌, ◌++◌, [], length, slice_index_or}
 use Rattle.wots_plus.specs.Address.{one_time}
+use Rattle.winternitz.specs.Lanes.{lanes}
 use Rattle.wots_plus.proofs.key.Wots.four_private_values.Given as goal
 
 abbrev pub invariant-loop-lane : goal.invariant-loop-lane
 invariant-loop-lane l = record {
-  long : length l.blocks ≡ 4;
+  long : length l.blocks ≡ lanes;
   each : (j : ℕ) → j < l.lane → slice_index_or l.blocks j [] ≡ l.self.seed.now.key ++ one_time l.self.leaf (l.chain + j) 0 0;
   size : (j : ℕ) → j < l.lane → length (slice_index_or l.blocks j []) ≡ 64;
 }
