@@ -8,11 +8,51 @@ use super::*;
 use hss::HssSigView;
 use lms::LmsSigView;
 use sign_core::{ServeFault, SignFault, serve, verify_any};
-use state_file::{FormatFault, Record};
+use state_file::{FormatFault, OpenFault, Record};
 use typecodes::{Refusal, coef};
 use xmss::XmssSigView;
 
 mod writers;
+
+// What an opening finds where a byte of a file of two records is another one, and why no key is made there: the Key's
+// gate, its kind, and the first byte of its version and of its tag; the kind and the first byte of the tag of the
+// record after it.
+const CHANGED: [(u64, OpenFault, FormatFault); 6] = [
+    (0, OpenFault::NoKey, FormatFault::NotKeyFile),
+    (1, OpenFault::NotKeyFile, FormatFault::KeyThere),
+    (10, OpenFault::Version, FormatFault::KeyThere),
+    (224, OpenFault::Damaged(0), FormatFault::KeyThere),
+    (257, OpenFault::Damaged(1), FormatFault::KeyThere),
+    (480, OpenFault::Damaged(1), FormatFault::KeyThere),
+];
+
+// The disk after one of these changes, which is found and then undone.
+fn changed_back<D: Disk + Drop>(
+    disk: D,
+    (at, opening, making): (u64, OpenFault, FormatFault),
+) -> Option<D> {
+    let mut disk = disk;
+    let mut byte = [0];
+    disk.read_at(at, &mut byte).ok()?;
+    disk.write_at(at, &[byte[0] ^ 0xff]).ok()?;
+    let opened = FileStore::open(disk).err()?;
+    let made = FileStore::format(opened.given).err()?;
+    if opened.fault != opening || made.fault != making {
+        return None;
+    }
+    let mut disk = made.given;
+    disk.write_at(at, &byte).ok()?;
+    Some(disk)
+}
+
+// The disk after all of them.
+fn changed_in_turn<D: Disk + Drop>(disk: D) -> Option<D> {
+    let mut disk = disk;
+    for change in CHANGED {
+        disk = changed_back(disk, change)?;
+    }
+    Some(disk)
+}
 
 // Whether the records of a key, whose leaves are all retired, are read again: no key is made where one is.
 fn is_opened_again<D: Disk + Drop>(disk: D) -> Option<bool> {
@@ -26,7 +66,7 @@ fn is_opened_again<D: Disk + Drop>(disk: D) -> Option<bool> {
         _ => false,
     };
     let is_end = store.load(2) == Ok(None) && store.limit() == 1 << 31;
-    let refused = FileStore::format(store.into_disk()).err()?;
+    let refused = FileStore::format(changed_in_turn(store.into_disk())?).err()?;
     Some(is_tagged && is_there && is_end && refused.fault == FormatFault::KeyThere)
 }
 
@@ -223,13 +263,47 @@ fn is_verified(public: &AnyPublic, given: &Given) -> Option<bool> {
     Some(is_valid && is_other && is_short && bytes == signature)
 }
 
+// Whether a signature is refused with each of its first bytes changed, in place.
+fn is_refused_changed(public: &AnyPublic, given: &mut Given) -> Option<bool> {
+    for place in 0..64usize {
+        *given.signature.get_mut(place)? ^= 0xff;
+        let answer = verify_any(public, &mut given.message.as_slice(), &given.signature);
+        *given.signature.get_mut(place)? ^= 0xff;
+        if answer.is_ok() {
+            return Some(false);
+        }
+    }
+    Some(true)
+}
+
+// Whether a signature is refused with a key of which any byte is changed, in place, or that key is.
+fn is_of_this_key(bytes: &mut Vec<u8>, given: &Given) -> Option<bool> {
+    for place in 0..bytes.len() {
+        *bytes.get_mut(place)? ^= 0x10;
+        let is_valid = match AnyPublic::read(bytes) {
+            Ok(public) => verify_any(
+                &public,
+                &mut given.message.as_slice(),
+                &given.signature,
+            ).is_ok(),
+            Err(_) => false,
+        };
+        *bytes.get_mut(place)? ^= 0x10;
+        if is_valid {
+            return Some(false);
+        }
+    }
+    Some(AnyPublic::read(bytes.get(1..)?).is_err())
+}
+
 // Whether keys, signatures and texts are read and verified.
 fn are_read(alloc: Global) -> Option<bool> {
-    let known = known_of_each(alloc)?;
-    for (bytes, given) in &known {
+    let mut known = known_of_each(alloc)?;
+    for (bytes, given) in known.iter_mut() {
         let public = AnyPublic::read(bytes).ok()?;
         let is_written = public.write().as_slice() == bytes.as_slice();
-        if !is_written || !is_verified(&public, given)? {
+        let is_refused = is_refused_changed(&public, given)? && is_of_this_key(bytes, given)?;
+        if !is_written || !is_refused || !is_verified(&public, given)? {
             return Some(false);
         }
     }

@@ -5,7 +5,7 @@
 use super::script::{Closed, create_on, open_on};
 use super::*;
 use sign_core::{ServeFault, SignFault, serve, verify_any};
-use state_file::OpenFault;
+use state_file::{FormatFault, OpenFault};
 
 // A frame, the number of its reply, how its serving ends, and whether the reply is that to the first frame.
 type Served = (&'static [u8], u8, Result<u64, ServeFault>, bool);
@@ -39,20 +39,24 @@ const STORE_FAILED: u8 = 25;
 
 const STOPPED: u8 = 26;
 
-// The disk of a new key, which is made at the second try where memory is refused at the first. Where memory was refused
-// to the disk itself the place is opened again, and the key is made once more if there is none.
+// The disk of a new key, which is made at the second try where memory is refused at the first, to the signer or to the
+// disk itself. Then the place is opened again, and the key is made once more if there is none. None where a key is
+// refused for anything else.
 fn keyed<D: Disk + Drop>(alloc: Global, spec: &str, disk: D) -> Option<D> {
-    let (disk, is_made) = create_on(alloc, spec, disk, 0)?;
-    if is_made {
-        return Some(disk);
+    let (disk, closed) = match create_on(alloc, spec, disk, 0)? {
+        Ok(disk) => return Some(disk),
+        Err(refused) => refused,
+    };
+    match closed {
+        Closed::Format(FormatFault::DeviceFailed)
+        | Closed::Signer(SignFault::OutOfMemory)
+        | Closed::Signer(SignFault::StoreFailed) => {}
+        _ => return None,
     }
     match FileStore::open(disk) {
         Ok(store) => Some(store.into_disk()),
         Err(refused) => match refused.fault {
-            OpenFault::NoKey => {
-                let (disk, is_made) = create_on(alloc, spec, refused.given, 0)?;
-                if is_made { Some(disk) } else { None }
-            }
+            OpenFault::NoKey => create_on(alloc, spec, refused.given, 0)?.ok(),
             _ => None,
         },
     }
@@ -173,8 +177,12 @@ fn served<S: Store, R: Source>(
     if number == STORE_FAILED && reply_to(alloc, signer, frame)?.0 != STOPPED {
         return None;
     }
-    if number != OUT_OF_MEMORY && number != STORE_FAILED {
-        if number != *wanted || end != *wanted_end || (*is_first_again && reply != first.1) {
+    let is_refused = number == OUT_OF_MEMORY || number == STORE_FAILED;
+    if end != *wanted_end && !(is_refused && end == Ok(1)) {
+        return None;
+    }
+    if !is_refused {
+        if number != *wanted || (*is_first_again && reply != first.1) {
             return None;
         }
         if place.frame == 0 {

@@ -5,7 +5,7 @@ use super::audits::audited_twice;
 use super::files::anchor_in;
 use super::*;
 use sign_core::SignFault;
-use state_file::{OpenFault, Pick};
+use state_file::{FormatFault, OpenFault, Pick};
 
 // What is done in one life of the disk, after which the signer is closed: the key is made, a letter is signed as its
 // own name, or leaves are retired.
@@ -32,9 +32,10 @@ const PICKS: [Pick; 5] = [
     Pick::Fill(0xFF),
 ];
 
-// Why no signer is there: the file isn't opened, or the signer isn't.
+// Why no signer is there: there is no empty file, the file isn't opened, or the signer isn't.
 #[derive(Clone, Copy)]
 pub(super) enum Closed {
+    Format(FormatFault),
     File(OpenFault),
     Signer(SignFault),
 }
@@ -58,23 +59,24 @@ pub(super) fn open_on<D: Disk + Drop>(
     }
 }
 
-// The disk after a key was made on it, and whether it was. Its source begins with this number.
+// The disk after a key was made on it. Else the disk, and why there is no key. The source begins with this number.
 pub(super) fn create_on<D: Disk + Drop>(
     alloc: Global,
     spec: &str,
     disk: D,
     next: u8,
-) -> Option<(D, bool)> {
+) -> Option<Result<D, (D, Closed)>> {
     let spec = Spec::parse(spec).ok()?;
     let store = match FileStore::format(disk) {
         Ok(store) => store,
-        Err(refused) => return Some((refused.given, false)),
+        Err(refused) => return Some(Err((refused.given, Closed::Format(refused.fault)))),
     };
     match Signer::create(alloc, spec, store, Numbers { next }) {
-        Ok(signer) => Some((signer.into_store().into_disk(), true)),
+        Ok(signer) => Some(Ok(signer.into_store().into_disk())),
         Err(refused) => {
+            let fault = refused.fault;
             let (store, _random) = refused.given;
-            Some((store.into_disk(), false))
+            Some(Err((store.into_disk(), Closed::Signer(fault))))
         }
     }
 }
@@ -111,7 +113,10 @@ fn live<D: Disk + Drop>(
             let (disk, closed) = refused;
             match closed {
                 Closed::File(OpenFault::NoKey) => match doing {
-                    Step::Create => create_on(alloc, TWO_LEVELS, disk, next),
+                    Step::Create => match create_on(alloc, TWO_LEVELS, disk, next)? {
+                        Ok(disk) => Some((disk, true)),
+                        Err((disk, _)) => Some((disk, false)),
+                    },
                     _ => Some((disk, false)),
                 },
                 _ => Some((disk, false)),
