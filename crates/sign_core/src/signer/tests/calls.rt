@@ -58,7 +58,8 @@ pub(crate) enum Call<'a> {
     // requests with messages of zeros that fail after so many bytes: each has this fault and leaves no byte, and after
     // each so many leaves are left
     Fail(u32, &'a [usize], SignFault, &'a [u32]),
-    // requests with one message of 200 bytes in pieces of these sizes, which have one signature
+    // requests with one message of 200 bytes in pieces of these sizes, which have one signature; also where reads say
+    // that they gave the last bytes, and write none
     InPieces(u32, &'a [usize]),
     // leaves are retired
     Retire(u32, Option<SignFault>),
@@ -162,26 +163,49 @@ fn all_fail<S: Store, R: Source>(
     Some(true)
 }
 
-// Whether a message has one signature, which verifies, in pieces of each of these sizes.
+// A text in pieces of this size, interrupted before each. Of so many of its last bytes the reads say that they gave
+// them, and write none.
+fn in_pieces<'a>(text: &'a [u8], (size, claims): (usize, usize)) -> Option<Input<'a>> {
+    let mut message = input_of(text.get(..text.len().checked_sub(claims)?)?, false);
+    message.most = size;
+    message.interrupts = true;
+    message.claims = claims;
+    Some(message)
+}
+
+// The signature of a text that is read so, whose last bytes are 0. It verifies for the text, and for the text read so.
+fn signed_in_pieces<S: Store, R: Source>(
+    alloc: Global,
+    signer: &mut Signer<S, R>,
+    name: &[u8],
+    text: &[u8],
+    pieces: (usize, usize),
+) -> Option<Vec<u8>> {
+    let name = Name::new(name).ok()?;
+    let mut out = Vec::new(alloc);
+    signer
+        .sign(&name, &mut in_pieces(text, pieces)?, &mut out)
+        .ok()?;
+    let public = signer.public_key();
+    verify_any(&public, &mut in_pieces(text, pieces)?, &out).ok()?;
+    verify_any(&public, &mut &*text, &out).ok()?;
+    Some(out)
+}
+
+// Whether a message has one signature in pieces of each of these sizes.
 fn is_one_in_pieces<S: Store, R: Source>(
     alloc: Global,
     signer: &mut Signer<S, R>,
     name: &[u8],
     sizes: &[usize],
 ) -> Option<bool> {
-    let name = Name::new(name).ok()?;
-    let text = tape_of::<200>(7, 1);
-    let mut first = Vec::new(alloc);
+    let mut text = tape_of::<200>(7, 1);
+    text.get_mut(150..)?.fill(0);
+    let first = signed_in_pieces(alloc, signer, name, &text, (200, 0))?;
     for size in sizes {
-        let mut out = Vec::new(alloc);
-        let mut message = input_of(&text, false);
-        message.most = *size;
-        message.interrupts = true;
-        signer.sign(&name, &mut message, &mut out).ok()?;
-        verify_any(&signer.public_key(), &mut text.as_slice(), &out).ok()?;
-        if first.is_empty() {
-            first = out;
-        } else if out != first {
+        let whole = signed_in_pieces(alloc, signer, name, &text, (*size, 0))?;
+        let claimed = signed_in_pieces(alloc, signer, name, &text, (*size, 50))?;
+        if whole != first || claimed != first {
             return Some(false);
         }
     }

@@ -43,13 +43,15 @@ enum Step<'a> {
 }
 
 // Where the steps of a key stand: the next one, and the number that its source gives next; whether memory was refused
-// to the opening for it. Where that step comes again after a refusal of memory, whether its name was bound before it.
+// to the opening for it. Where that step comes again after a refusal of memory, whether the store failed then, and
+// whether its name was bound before it.
 #[derive(Clone, Copy)]
 struct Place {
     step: usize,
     next: u8,
     was_closed: bool,
     is_again: bool,
+    is_failed: bool,
     was_bound: Option<bool>,
 }
 
@@ -59,11 +61,9 @@ const BEGIN: Place = Place {
     next: 50,
     was_closed: false,
     is_again: false,
+    is_failed: false,
     was_bound: None,
 };
-
-// The number that a source gives first after a store failed.
-const AFTER_FAILURE: u8 = 100;
 
 fn store_of<D: Disk + Drop>(disk: D) -> Option<FileStore<D>> {
     match FileStore::open(disk) {
@@ -161,7 +161,6 @@ fn request<S: Store, R: Source>(
 // until then. None where a request is answered otherwise, or refused a second time.
 fn requested<S: Store, R: Source>(
     signer: &mut Signer<S, R>,
-    next: &Cell<u8>,
     (number, message, wanted): (u32, u8, Result<usize, SignFault>),
     place: Place,
     out: &mut Vec<u8>,
@@ -182,7 +181,6 @@ fn requested<S: Store, R: Source>(
             signer.ledger.find(&name).is_some() == was_bound,
         ),
         Err(SignFault::StoreFailed) => {
-            next.set(AFTER_FAILURE);
             let again = request(signer, &name, message, out)?;
             (None, again == Err(SignFault::Stopped))
         }
@@ -195,6 +193,7 @@ fn requested<S: Store, R: Source>(
         true,
         Place {
             is_again: true,
+            is_failed: answer == Err(SignFault::StoreFailed),
             was_bound: kept,
             ..place
         },
@@ -204,7 +203,6 @@ fn requested<S: Store, R: Source>(
 // The same of leaves that are retired.
 fn retired<S: Store, R: Source>(
     signer: &mut Signer<S, R>,
-    next: &Cell<u8>,
     (upto, wanted): (u32, Option<SignFault>),
     place: Place,
 ) -> Option<(bool, Place)> {
@@ -215,9 +213,7 @@ fn retired<S: Store, R: Source>(
     }
     match fault {
         Some(SignFault::OutOfMemory) => {}
-        Some(SignFault::StoreFailed) if signer.retire(upto) == Err(SignFault::Stopped) => {
-            next.set(AFTER_FAILURE);
-        }
+        Some(SignFault::StoreFailed) if signer.retire(upto) == Err(SignFault::Stopped) => {}
         _ => return None,
     }
     if place.is_again {
@@ -227,6 +223,7 @@ fn retired<S: Store, R: Source>(
         true,
         Place {
             is_again: true,
+            is_failed: fault == Some(SignFault::StoreFailed),
             ..place
         },
     ))
@@ -243,18 +240,18 @@ fn taken<S: Store, R: Source>(
 ) -> Option<(bool, Place)> {
     match step {
         Step::Sign(number, message, wanted) => {
-            return requested(signer, next, (*number, *message, *wanted), place, out);
+            return requested(signer, (*number, *message, *wanted), place, out);
         }
         Step::Repeat(number, message, wanted) => {
             let mut again = Vec::new(alloc);
             let repeat = (*number, *message, *wanted);
-            let (is_closed, after) = requested(signer, next, repeat, place, &mut again)?;
+            let (is_closed, after) = requested(signer, repeat, place, &mut again)?;
             if !is_closed && again != *out {
                 return None;
             }
             return Some((is_closed, after));
         }
-        Step::Retire(upto, wanted) => return retired(signer, next, (*upto, *wanted), place),
+        Step::Retire(upto, wanted) => return retired(signer, (*upto, *wanted), place),
         Step::Left(counts) if signer.left().as_slice() != *counts => return None,
         Step::Left(_) => {}
         Step::Reopen(_, first) => next.set(*first),
@@ -282,7 +279,7 @@ fn taken_up<S: Store, R: Source>(
             ..after
         };
         // a file takes no memory where leaves of it are retired
-        let is_refused = at.is_again && at.next != AFTER_FAILURE;
+        let is_refused = at.is_again && !at.is_failed;
         if is_refused && matches!(step, Step::Retire(_, _)) {
             return None;
         }
@@ -667,13 +664,11 @@ fn used_trees_begin_anew_at_last(rt: HostRuntime) {
 #[test]
 fn lower_trees_are_used_up_at_last(rt: HostRuntime) {
     let text = "hss:H5/W1,H5/W1,H5/W1";
-    let empty = MemoryStore::with_limit(rt.alloc(), 200);
-    let store = made_in(rt.alloc(), text, empty, false);
-    let refused = match of_names(rt.alloc(), 26_168, true, Step::Left(&[30, 31, 31])) {
-        Some(steps) => refused_with(rt.alloc(), store, steps.as_slice(), 101),
+    let len = match of_names(rt.alloc(), 26_168, true, Step::Left(&[30, 31, 31])) {
+        Some(steps) => len_of_new(rt.alloc(), text, steps.as_slice()),
         None => None,
     };
-    assert!(rt; refused.is_some());
+    assert!(rt; len == Some(25_857));
 }
 
 // The file of a key of two levels whose lower tree is full.

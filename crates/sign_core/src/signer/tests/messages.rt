@@ -8,7 +8,7 @@ const COUNTS: [usize; 21] = [
 ];
 
 // What is done with new keys.
-const MESSAGES: [Script; 5] = [
+const MESSAGES: [Script; 7] = [
     // no failed message binds a name: each draws a C
     Script {
         text: LMS,
@@ -90,7 +90,7 @@ const MESSAGES: [Script; 5] = [
             len: 0,
         }],
     },
-    // a message has one signature, however it is cut
+    // a message has one signature, however it is cut, under a key of each scheme
     Script {
         text: LMS,
         tape: COUNTED,
@@ -100,6 +100,30 @@ const MESSAGES: [Script; 5] = [
             calls: &[Call::InPieces(1, &[1, 63, 64, 65, 200, 1000])],
             from: 1,
             said: &[Said::Bound(1, 0, Some(48))],
+            len: 0,
+        }],
+    },
+    Script {
+        text: TWO,
+        tape: COUNTED,
+        room: Some(100),
+        lives: &[Life {
+            drawn: (0, 160),
+            calls: &[Call::InPieces(1, &[1, 63, 64, 65, 200, 1000])],
+            from: 1,
+            said: &[Said::Extend(1, 0, 48), Said::Bound(1, 0, Some(128))],
+            len: 0,
+        }],
+    },
+    Script {
+        text: XMSS,
+        tape: COUNTED,
+        room: Some(100),
+        lives: &[Life {
+            drawn: (0, 96),
+            calls: &[Call::InPieces(1, &[1, 63, 64, 65, 200, 1000])],
+            from: 1,
+            said: &[Said::Bound(1, 0, None)],
             len: 0,
         }],
     },

@@ -144,7 +144,7 @@ fn a_source_that_fails_leaves_whole_trees(rt: HostRuntime) {
 }
 
 // An I that was drawn before is drawn alone, and refused.
-const REPEATED: [Script; 3] = [
+const REPEATED: [Script; 4] = [
     // the I of the key
     Script {
         text: TWO,
@@ -185,6 +185,39 @@ const REPEATED: [Script; 3] = [
                 Said::Extend(1, 0, 48),
                 Said::Extend(2, 0, 144),
                 Said::Bound(1, 0, Some(224)),
+            ],
+            len: 0,
+        }],
+    },
+    // that of a lower tree which another one replaced
+    Script {
+        text: TWO,
+        tape: Tape {
+            other: (272, 288, 3),
+            ..BLOCKS
+        },
+        room: Some(100),
+        lives: &[Life {
+            drawn: (0, 400),
+            calls: &[
+                Call::Sign(1, 1, None),
+                Call::Retire(32, None),
+                Call::Sign(2, 1, None),
+                Call::Retire(32, None),
+                Call::Sign(3, 1, Some(SignFault::RandomRepeated)),
+                Call::Left(&[30, 0]),
+                Call::Sign(3, 1, None),
+            ],
+            from: 1,
+            said: &[
+                Said::Extend(1, 0, 48),
+                Said::Bound(1, 0, Some(128)),
+                Said::Retire(32),
+                Said::Extend(1, 1, 160),
+                Said::Bound(2, 0, Some(240)),
+                Said::Retire(32),
+                Said::Extend(1, 2, 288),
+                Said::Bound(3, 0, Some(368)),
             ],
             len: 0,
         }],
