@@ -31,18 +31,19 @@ const MESSAGES: [Script; 7] = [
         tape: COUNTED,
         room: Some(100),
         lives: &[Life {
-            drawn: (0, 416),
+            drawn: (0, 1024),
             calls: &[
+                Call::Fail(1, &COUNTS, SignFault::MessageRead, &[31, 32]),
                 Call::Fail(
                     1,
-                    &[0, 1, 63, 64, 65, 16_384, 16_385, 40_000],
+                    &[63, 64, 65, 16_384, 16_385, 40_000],
                     SignFault::MessageRead,
                     &[31, 32],
                 ),
                 Call::Sign(1, 0, None),
             ],
             from: 1,
-            said: &[Said::Extend(1, 0, 48), Said::Bound(1, 0, Some(384))],
+            said: &[Said::Extend(1, 0, 48), Said::Bound(1, 0, Some(992))],
             len: 0,
         }],
     },
@@ -54,9 +55,10 @@ const MESSAGES: [Script; 7] = [
         lives: &[Life {
             drawn: (0, 96),
             calls: &[
+                Call::Fail(1, &COUNTS, SignFault::MessageRead, &[1024]),
                 Call::Fail(
                     1,
-                    &[0, 1, 65, 16_384, 16_385, 40_000],
+                    &[65, 16_384, 16_385, 40_000],
                     SignFault::MessageRead,
                     &[1024],
                 ),
@@ -77,12 +79,8 @@ const MESSAGES: [Script; 7] = [
             calls: &[
                 Call::SignFirst(1, &[0; 3]),
                 Call::First(1292, &[0; 4]),
-                Call::Fail(
-                    1,
-                    &[0, 1, 2, 3, 4, 16_384, 16_385, 40_000],
-                    SignFault::MessageRead,
-                    &[31],
-                ),
+                Call::Fail(1, &COUNTS, SignFault::MessageRead, &[31]),
+                Call::Fail(1, &[16_384, 16_385, 40_000], SignFault::MessageRead, &[31]),
                 Call::SignFirst(1, &[0; 3]),
             ],
             from: 1,
