@@ -671,6 +671,19 @@ fn lower_trees_are_used_up_at_last(rt: HostRuntime) {
     assert!(rt; len == Some(25_857));
 }
 
+// The same in memory.
+#[test]
+fn lower_trees_are_used_up_in_memory_at_last(rt: HostRuntime) {
+    let text = "hss:H5/W1,H5/W1,H5/W1";
+    let empty = MemoryStore::with_limit(rt.alloc(), 200);
+    let store = made_in(rt.alloc(), text, empty, false);
+    let refused = match of_names(rt.alloc(), 26_168, true, Step::Left(&[30, 31, 31])) {
+        Some(steps) => refused_with(rt.alloc(), store, steps.as_slice(), 101),
+        None => None,
+    };
+    assert!(rt; refused.is_some());
+}
+
 // The file of a key of two levels whose lower tree is full.
 fn full_file(alloc: Global) -> Option<MemoryDisk> {
     let place = FileStore::format(MemoryDisk::of(alloc, &[]).ok()?).ok()?;
