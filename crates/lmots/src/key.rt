@@ -12,11 +12,12 @@ ghost use Rattle.typecodes.specs.Message.{Digests};
 ghost use Rattle.typecodes.specs.Types.{chains_of, width_of};
 ghost use Rattle.winternitz.specs.Lanes.{lanes};
 
+use crate::chains::Chains;
 use crate::hashes::{MESSAGE, PUBLIC};
 use sha2::{Digest, Sha256};
-use typecodes::{Message, MessageFailed, OtsType, put};
-use winternitz::lanes::{LANES, sha256_of_55};
-use winternitz::{MOST_CHAINS, Step, Values, climb_from, climb_to, climb_whole, digits, feed};
+use typecodes::{Message, MessageFailed, OtsType};
+use winternitz::lanes::LANES;
+use winternitz::{Step, climb_from, climb_to, climb_whole, digits, feed};
 
 /// A leaf's one-time key, by the identifier I of its tree and its number q: what each hash of the
 /// key begins with (RFC 8554 4.2).
@@ -44,28 +45,11 @@ impl Step for LmOts {
         at: &[u8; LANES],
         values: &[[u8; 32]; LANES],
     ) -> [[u8; 32]; LANES] {
-        let mut messages = [[0; 55]; LANES];
-        for lane in 0..LANES {
-            messages[lane] = self.step_message(chains[lane], at[lane], &values[lane]);
-        }
-        sha256_of_55(&messages)
+        Chains::of(self).step_four(chains, at, values)
     }
 }
 
 impl LmOts {
-    // What a step hashes.
-    fn step_message(&self, chain: u16, at: u8, value: &[u8; 32]) -> [u8; 55]
-        ensures { result ≡ self.now.identifier ++ u32str self.now.leaf ++ u16str chain ++ u8str at ++ value.now }
-    {
-        let mut message = [0; 55];
-        let offset = put(&mut message, 0, &self.identifier);
-        let offset = put(&mut message, offset, &self.leaf.to_be_bytes());
-        let offset = put(&mut message, offset, &chain.to_be_bytes());
-        let offset = put(&mut message, offset, &[at]);
-        put(&mut message, offset, value);
-        message
-    }
-
     /// Q, the digest of a message that a signature with the randomizer C signs (RFC 8554 4.5).
     pub fn message_digest(&self, randomizer: &[u8; 32], message: &[u8]) -> [u8; 32]
         ensures { result ≡ message_digest_of self.now.identifier self.now.leaf randomizer.now message.now }
@@ -110,47 +94,17 @@ impl LmOts {
         hasher.finalize()
     }
 
-    // The private values of the first chains, four at a time.
-    fn private_values(&self, seed: &[u8; 32], count: usize) -> Values
-        requires { count ≤ 265 }
-        ensures { (i : ℕ) → i < count
-            → slice_index_or result i [] ≡ spec.private_value self.now.identifier self.now.leaf seed.now i }
-    {
-        let mut values = [[0; 32]; MOST_CHAINS];
-        let groups = count / LANES;
-        for group in 0..groups {
-            self.four_private_values(seed, LANES * group, &mut values);
-        }
-        for chain in LANES * groups..count {
-            values[chain] = self.private_value(seed, chain as u16);
-        }
-        values
-    }
-
-    // Four private values, from that of a chain on: a private value is made as step 0xff of its chain would be.
-    fn four_private_values(&self, seed: &[u8; 32], chain: usize, values: &mut Values)
-        requires { chain + lanes ≤ 265 }
-        ensures before { (i : ℕ) → i < chain → slice_index_or values.new i [] ≡ slice_index_or values.old i [] }
-        ensures made { (j : ℕ) → j < lanes → slice_index_or values.new (chain + j) []
-            ≡ spec.private_value self.now.identifier self.now.leaf seed.now (chain + j) }
-    {
-        let chains = numbers_from(chain as u16);
-        let made = self.step_four(&chains, &[0xff; LANES], &[*seed; LANES]);
-        for lane in 0..LANES {
-            values[chain + lane] = made[lane];
-        }
-    }
-
     /// The public hash of the key whose private values are made of a seed: each chain climbed from
     /// its private value to its end (RFC 8554 4.3).
     pub fn public_hash(&self, ots: OtsType, seed: &[u8; 32]) -> [u8; 32]
         ensures { result ≡ spec.public_hash self.now.identifier self.now.leaf
             (ends_of_seed self.now.identifier self.now.leaf ots seed.now) }
     {
-        let chains = usize::from(ots.chains());
-        let starts = self.private_values(seed, chains);
-        let ends = climb_whole(self, greatest_digit(ots), &starts[..chains]);
-        self.hash_of_ends(&ends[..chains])
+        let count = usize::from(ots.chains());
+        let chains = Chains::of(self);
+        let starts = chains.private_values(seed, count);
+        let ends = climb_whole(&chains, greatest_digit(ots), &starts[..count]);
+        self.hash_of_ends(&ends[..count])
     }
 
     // The public hash of the ends of all chains.
@@ -172,10 +126,11 @@ impl LmOts {
         ensures climbs { ClimbTo self.now.identifier self.now.leaf ots digest.now
             (values_in (chains_of ots) into.new) (ends_of_seed self.now.identifier self.now.leaf ots seed.now) }
     {
-        let chains = usize::from(ots.chains());
-        let starts = self.private_values(seed, chains);
-        let values = climb_to(self, &digits(ots.width(), digest), &starts[..chains]);
-        into.copy_from_slice(values[..chains].as_flattened());
+        let count = usize::from(ots.chains());
+        let chains = Chains::of(self);
+        let starts = chains.private_values(seed, count);
+        let values = climb_to(&chains, &digits(ots.width(), digest), &starts[..count]);
+        into.copy_from_slice(values[..count].as_flattened());
     }
 
     /// The public hash to which the values of a signature lead: each chain climbed from its digit of
@@ -199,21 +154,9 @@ impl LmOts {
             (result ≡ spec.public_hash self.now.identifier self.now.leaf ends) }
     {
         let digits = digits(ots.width(), digest);
-        let ends = climb_from(self, &digits, greatest_digit(ots), values);
+        let ends = climb_from(&Chains::of(self), &digits, greatest_digit(ots), values);
         self.hash_of_ends(&ends[..values.len()])
     }
-}
-
-// Four numbers in a row.
-fn numbers_from(first: u16) -> [u16; LANES]
-    requires { first + lanes < 65536 }
-    ensures { (j : ℕ) → j < lanes → slice_index result j ≡ first + j }
-{
-    let mut numbers = [first; LANES];
-    for lane in 0..LANES {
-        numbers[lane] = first + lane as u16;
-    }
-    numbers
 }
 
 // The greatest digit of a type, which is also how many steps each of its chains has.

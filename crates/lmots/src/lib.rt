@@ -19,6 +19,7 @@
 //! ```
 #![tactic(auto)]
 
+mod chains;
 mod hashes;
 mod key;
 #[cfg(test)]

@@ -8,5 +8,7 @@ pub mod Ends
 pub mod Concatenated
 pub mod Signing
 pub mod Chains
+mod Beginnings
+mod Rotations
 mod Vectors
-mod Orders
+mod Ways

@@ -59,3 +59,12 @@ walk_finished step c a n at d u v w before here within last =
     ∙ ap (λ p. walk step c p d v) here
     ∙ ap (walk step c (a + n) d) before
     ∙ walk-walk step c a (a + n) d u (omega arith) (omega arith)
+
+-- ---- the same walk of equal chains, places and values
+
+pub walk_same : (step : Steps) (c d a e b : ℕ) (u v w : List ℕ) → d ≡ c → e ≡ a → v ≡ u → w ≡ walk step d e b v → w ≡ walk step c a b u
+walk_same step c d a e b u v w chain begin value walked =
+    walked
+    ∙ ap (λ k. walk step k e b v) chain
+    ∙ ap (λ k. walk step c k b v) begin
+    ∙ ap (walk step c a b) value

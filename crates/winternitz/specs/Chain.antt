@@ -19,10 +19,6 @@ walk step c a b v = walk_on step c a (b - a) v
 abbrev pub walk_of : Steps → List ℕ → List ℕ → List (List ℕ) → ℕ → List ℕ
 walk_of step from to values i = walk step i (slice_index from i) (slice_index to i) (slice_index_or values i [])
 
--- and how many steps these are
-abbrev pub steps_of : List ℕ → List ℕ → ℕ → ℕ
-steps_of from to i = slice_index to i - slice_index from i
-
 -- the walk of chain i's value from the chain's digit to its end
 abbrev pub end_of : Steps → ℕ → List ℕ → List (List ℕ) → ℕ → List ℕ
 end_of step w digits values i = walk step i (slice_index digits i) (2 ^ w - 1) (slice_index_or values i [])

@@ -1,3 +1,4 @@
 pub mod Chain
 pub mod Digest
+pub mod Groups
 pub mod Lanes

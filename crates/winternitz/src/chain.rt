@@ -83,7 +83,7 @@ fn shortest(from: &[u8; LANES], to: &[u8; LANES]) -> u8
 }
 
 // The places of four chains after as many steps of each.
-fn added(from: &[u8; LANES], taken: u8) -> [u8; LANES]
+pub(crate) fn added(from: &[u8; LANES], taken: u8) -> [u8; LANES]
     requires { (j : ℕ) → j < lanes → slice_index from.now j + taken < 256 }
     ensures { (j : ℕ) → j < lanes → slice_index result j ≡ slice_index from.now j + taken }
 {

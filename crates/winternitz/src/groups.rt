@@ -1,14 +1,13 @@
-//! All chains of a key, climbed in groups of four.
+//! All chains of a key, climbed four at a time.
 
 ghost use Rattle.std.specs.Prelude.{◌≡◌, ◌≤◌, ◌<◌, ◌+◌, ℕ, List, [], length, slice_index, slice_index_or};
-ghost use Rattle.std.specs.List.{range_with_len};
-ghost use Rattle.std.specs.List.Sorted.{IsNonDecreasingBy, IsPermutation};
-ghost use Rattle.winternitz.specs.Chain.{steps_of, walk, walk_of};
+ghost use Rattle.winternitz.specs.Chain.{walk, walk_of};
+ghost use Rattle.winternitz.specs.Groups.{IsOnItsWay, IsWithin};
 ghost use Rattle.winternitz.specs.Lanes.{lanes};
 
-use crate::chain::{Step, climb, climb_four};
+use crate::chain::{Step, added, climb, climb_four};
 use crate::lanes::LANES;
-use arrayvec::ArrayVec;
+use crate::shares::{Shares, Turn};
 
 /// The greatest number of chains of a key, as many as width 1 has.
 pub const MOST_CHAINS: usize = 265;
@@ -56,8 +55,8 @@ fn the_same(place: u8) -> [u8; MOST_CHAINS]
     [place; MOST_CHAINS]
 }
 
-// Climbs each chain from its value by the steps from, .., to - 1 of its own. Chains that have as many steps, or nearly,
-// climb together.
+// Climbs each chain from its value by the steps from, .., to - 1 of its own: side by side as far as the lanes are
+// shared out among them, and what is left of each by itself.
 fn climb_each<S: Step>(step: &S, from: &[u8], to: &[u8], values: &[[u8; 32]]) -> Values
     requires few { length values.now ≤ 265 }
     requires from { length values.now ≤ length from.now }
@@ -66,101 +65,96 @@ fn climb_each<S: Step>(step: &S, from: &[u8], to: &[u8], values: &[[u8; 32]]) ->
     ensures { (i : ℕ) → i < length values.now
         → slice_index_or result i [] ≡ walk_of (S.step_of step.now) from.now to.now values.now i }
 {
-    let mut ends = [[0; 32]; MOST_CHAINS];
-    let order = by_length(from, to, values.len());
-    let groups = order.len() / LANES;
-    for group in 0..groups {
-        let chains = group_at(&order, LANES * group);
-        climb_group(step, &chains, from, to, values, &mut ends);
-    }
-    for place in LANES * groups..order.len() {
-        let chain = usize::from(order[place]);
-        ends[chain] = climb(step, order[place], from[chain], to[chain], &values[chain]);
-    }
+    let count = values.len();
+    let mut at = places(&from[..count]);
+    let mut ends = starts(values);
+    climb_together(step, &to[..count], &mut at, &mut ends);
+    climb_rest(step, &to[..count], &at, &mut ends);
     ends
 }
 
-// The numbers of the chains, those with the fewest steps first. `sorted` makes the list; this function adds what
-// follows from its being a permutation, so that `climb_each` has it as facts where it indexes by the list.
-fn by_length(from: &[u8], to: &[u8], count: usize) -> ArrayVec<u16, MOST_CHAINS>
-    requires { count ≤ 265 }
-    ensures order { IsPermutation (range_with_len 0 count) result.items }
-    ensures count { length result.items ≡ count }
-    ensures below { (k : ℕ) → k < count → slice_index result.items k < count }
-    ensures all { (chain : ℕ) → chain < count → (k : ℕ) × (k < count) × (slice_index result.items k ≡ chain) }
-    ensures shortest { IsNonDecreasingBy (steps_of from.now to.now) result.items }
+// The places of the first chains, and 0 for the others.
+fn places(from: &[u8]) -> [u8; MOST_CHAINS]
+    requires { length from.now ≤ 265 }
+    ensures long { length result ≡ 265 }
+    ensures each { (i : ℕ) → i < length from.now → slice_index result i ≡ slice_index from.now i }
 {
-    sorted(from, to, count)
-}
-
-// The numbers of the chains, sorted by how many steps each has.
-fn sorted(from: &[u8], to: &[u8], count: usize) -> ArrayVec<u16, MOST_CHAINS>
-    requires { count ≤ 265 }
-    ensures order { IsPermutation (range_with_len 0 count) result.items }
-    ensures shortest { IsNonDecreasingBy (steps_of from.now to.now) result.items }
-{
-    let mut order = ArrayVec::new();
-    for chain in 0..count {
-        order.push(chain as u16);
+    let mut at = the_same(0);
+    for i in 0..from.len() {
+        at[i] = from[i];
     }
-    order.sort_unstable_by_key(|chain| steps(from, to, *chain));
-    order
+    at
 }
 
-// How many steps a chain has.
-fn steps(from: &[u8], to: &[u8], chain: u16) -> u8
-    ensures { result ≡ steps_of from.now to.now chain }
+// The values of the first chains, and zeros for the others.
+fn starts(values: &[[u8; 32]]) -> Values
+    requires { length values.now ≤ 265 }
+    ensures { (i : ℕ) → i < length values.now → slice_index_or result i [] ≡ slice_index_or values.now i [] }
 {
-    byte_at(to, chain).saturating_sub(byte_at(from, chain))
-}
-
-// The byte of a chain, or 0 past the last one.
-fn byte_at(bytes: &[u8], chain: u16) -> u8
-    ensures { result ≡ slice_index bytes.now chain }
-{
-    bytes.get(usize::from(chain)).copied().unwrap_or(0)
-}
-
-// Four chains of an order, from a place on.
-fn group_at(order: &[u16], place: usize) -> [u16; LANES]
-    requires { place + lanes ≤ length order.now }
-    ensures { (j : ℕ) → j < lanes → slice_index result j ≡ slice_index order.now (place + j) }
-{
-    let mut chains = [0; LANES];
-    for lane in 0..LANES {
-        chains[lane] = order[place + lane];
+    let mut starts = [[0; 32]; MOST_CHAINS];
+    for i in 0..values.len() {
+        starts[i] = values[i];
     }
-    chains
+    starts
 }
 
-// Climbs four of the chains, and writes where they end. Ends that were right stay.
-fn climb_group<S: Step>(
+// Climbs chains side by side, in turns, until every lane has taken its share. Which chains climb together, and how far,
+// decides the time that it takes, and not where they stand: each stays on its way.
+fn climb_together<S: Step>(step: &S, to: &[u8], at: &mut [u8; MOST_CHAINS], ends: &mut Values)
+    requires few { length to.now ≤ 265 }
+    requires order { (i : ℕ) → i < length to.now → slice_index at.old i ≤ slice_index to.now i }
+    ensures { (from : List ℕ) (values : List (List ℕ)) (i : ℕ) → i < length to.now
+        → IsOnItsWay (S.step_of step.now) from at.old to.now values ends.old i
+        → IsOnItsWay (S.step_of step.now) from at.new to.now values ends.new i }
+{
+    let mut shares = Shares::of(to, at);
+    for _turn in 0..to.len() + LANES {
+        let Some(turn) = shares.next_turn(to, at) else {
+            return;
+        };
+        climb_by(step, &turn, to, at, ends);
+    }
+}
+
+// Climbs the four chains of a turn by its steps, side by side.
+fn climb_by<S: Step>(
     step: &S,
-    chains: &[u16; LANES],
-    from: &[u8],
+    turn: &Turn,
     to: &[u8],
-    values: &[[u8; 32]],
+    at: &mut [u8; MOST_CHAINS],
     ends: &mut Values,
 )
-    requires below { (j : ℕ) → j < lanes → slice_index chains.now j < length values.now }
-    requires few { length values.now ≤ 265 }
-    requires from { length values.now ≤ length from.now }
-    requires to { length values.now ≤ length to.now }
-    requires order { (i : ℕ) → i < length values.now → slice_index from.now i ≤ slice_index to.now i }
-    ensures kept { (i : ℕ) → slice_index_or ends.old i [] ≡ walk_of (S.step_of step.now) from.now to.now values.now i
-        → slice_index_or ends.new i [] ≡ walk_of (S.step_of step.now) from.now to.now values.now i }
-    ensures made { (j : ℕ) → j < lanes → slice_index_or ends.new (slice_index chains.now j) []
-        ≡ walk_of (S.step_of step.now) from.now to.now values.now (slice_index chains.now j) }
+    requires few { length to.now ≤ 265 }
+    requires reach { IsWithin turn.now.chains turn.now.steps at.old to.now }
+    ensures { (from : List ℕ) (values : List (List ℕ)) (i : ℕ)
+        → IsOnItsWay (S.step_of step.now) from at.old to.now values ends.old i
+        → IsOnItsWay (S.step_of step.now) from at.new to.now values ends.new i }
 {
-    let group = climb_four(
+    let begin = bytes_of(at, &turn.chains);
+    let end = added(&begin, turn.steps);
+    let climbed = climb_four(
         step,
-        chains,
-        &bytes_of(from, chains),
-        &bytes_of(to, chains),
-        &values_of(values, chains),
+        &turn.chains,
+        &begin,
+        &end,
+        &values_of(ends, &turn.chains),
     );
     for lane in 0..LANES {
-        ends[usize::from(chains[lane])] = group[lane];
+        let chain = usize::from(turn.chains[lane]);
+        at[chain] = end[lane];
+        ends[chain] = climbed[lane];
+    }
+}
+
+// Climbs what is left of each chain, by itself.
+fn climb_rest<S: Step>(step: &S, to: &[u8], at: &[u8; MOST_CHAINS], ends: &mut Values)
+    requires few { length to.now ≤ 265 }
+    requires order { (i : ℕ) → i < length to.now → slice_index at.now i ≤ slice_index to.now i }
+    ensures { (i : ℕ) → i < length to.now
+        → slice_index_or ends.new i [] ≡ walk_of (S.step_of step.now) at.now to.now ends.old i }
+{
+    for i in 0..to.len() {
+        ends[i] = climb(step, i as u16, at[i], to[i], &ends[i]);
     }
 }
 

@@ -11,10 +11,13 @@ use crate::lanes::constants::INITIAL;
 use crate::lanes::rounds::compress_words;
 use std::simd::u32x4;
 
+mod beginning;
 mod constants;
 mod rounds;
 #[cfg(test)]
 mod tests;
+
+pub use crate::lanes::beginning::Beginning;
 
 /// How many blocks stand side by side. Another width changes this, the type of the vectors, and `lanes` in
 /// `specs/Lanes.antt`.
@@ -68,29 +71,29 @@ pub fn compress(states: &States, blocks: &[[u8; 64]; LANES]) -> States
 {
     let mut words = [Words::splat(0); 16];
     for k in 0..16 {
-        words[k] = load(blocks, k);
+        words[k] = load(blocks, 4 * k);
     }
     compress_words(states, &words)
 }
 
-// Word k of the blocks.
-fn load(blocks: &[[u8; 64]; LANES], k: usize) -> Words
-    requires { k < 16 }
-    ensures { (j : ℕ) → j < lanes → slice_index result j ≡ word_at (slice_index_or blocks.now j []) (4 * k) }
+// The words at byte i of four lists of bytes.
+pub(crate) fn load<const N: usize>(bytes: &[[u8; N]; LANES], i: usize) -> Words
+    requires { i + 4 ≤ N }
+    ensures { (j : ℕ) → j < lanes → slice_index result j ≡ word_at (slice_index_or bytes.now j []) i }
 {
     let mut words = [0; LANES];
     for lane in 0..LANES {
-        words[lane] = word(&blocks[lane], 4 * k);
+        words[lane] = word(&bytes[lane], i);
     }
     Words::from_array(words)
 }
 
-// The word at byte i of a block (FIPS 180-4 5.2.1).
-fn word(block: &[u8; 64], i: usize) -> u32
-    requires { i + 4 ≤ 64 }
-    ensures { result ≡ word_at block.now i }
+// The word at byte i (FIPS 180-4 5.2.1).
+pub(crate) fn word(bytes: &[u8], i: usize) -> u32
+    requires { i + 4 ≤ length bytes.now }
+    ensures { result ≡ word_at bytes.now i }
 {
-    u32::from_be_bytes([block[i], block[i + 1], block[i + 2], block[i + 3]])
+    u32::from_be_bytes([bytes[i], bytes[i + 1], bytes[i + 2], bytes[i + 3]])
 }
 
 /// The bytes of the hash values.
@@ -113,37 +116,6 @@ fn digest(state: &[u32; 8]) -> [u8; 32]
         bytes[4 * i..4 * i + 4].copy_from_slice(&state[i].to_be_bytes());
     }
     bytes
-}
-
-/// SHA-256 of messages of 55 bytes, which fill a block with their padding.
-pub fn sha256_of_55(messages: &[[u8; 55]; LANES]) -> [[u8; 32]; LANES]
-    ensures { (j : ℕ) → j < lanes → slice_index_or result j [] ≡ sha256 (slice_index_or messages.now j []) }
-{
-    let mut blocks = [[0; 64]; LANES];
-    for lane in 0..LANES {
-        blocks[lane] = block_of_55(&messages[lane]);
-    }
-    digests(&compress(&initial(), &blocks))
-}
-
-// The block of a message of 55 bytes, whose compression gives the message's SHA-256. It is a function apart from
-// `padded_55` so that the long list of the block's bytes stays out of the goals about SHA-256.
-fn block_of_55(message: &[u8; 55]) -> [u8; 64]
-    ensures { digest_bytes (spec.compress initial_hash_256 result) 8 ≡ sha256 message.now }
-{
-    padded_55(message)
-}
-
-// A message of 55 bytes and its padding (FIPS 180-4 5.1.1).
-fn padded_55(message: &[u8; 55]) -> [u8; 64]
-    ensures { result ≡ message.now ++ 0x80 ∷ to_be_bytes w64 440 }
-{
-    let mut block = [0; 64];
-    block[..55].copy_from_slice(message);
-    block[55] = 0x80;
-    block[62] = 1;
-    block[63] = 0xb8;
-    block
 }
 
 /// SHA-256 of messages of 96 bytes, by the hash values after the first blocks and the last 32 bytes.

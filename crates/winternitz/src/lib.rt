@@ -8,8 +8,9 @@
 //! down. `chain_law`: a type of the tables has a chain for each digit.
 //!
 //! Chains climb in fours: `climb_whole`, `climb_to` and `climb_from` are the walks of all chains of a
-//! key, and `lanes` is SHA-256 of four blocks side by side (`specs/Lanes.antt`), by which a `Step` can
-//! take four steps at once. `feed` gives a message to a hash, piece by piece, for the digests that are signed.
+//! key, of whose steps each lane takes an equal part, and `lanes` is SHA-256 of four blocks side by side
+//! (`specs/Lanes.antt`), by which a `Step` can take four steps at once. `feed` gives a message to a hash,
+//! piece by piece, for the digests that are signed.
 //!
 //! ```rust
 //! use winternitz::{climb_from, digits};
@@ -25,6 +26,7 @@ mod groups;
 pub mod lanes;
 mod laws;
 mod message;
+mod shares;
 
 pub use crate::chain::{Step, climb, climb_four};
 pub use crate::digest::{Digits, digits};

@@ -54,9 +54,6 @@ unfolding Holds
 Holds256-prop hasher message =
     ×_prop (Coded-set coded_ℕ _ _) (×_prop (Coded-set (coded_list coded_ℕ) _ _) (Coded-set (coded_list coded_ℕ) _ _))
 
--- So is which words a state has, and how long a list is.
-pub state-prop : (state other : List ℕ) → IsProp (state ≡ other)
-state-prop state other = Coded-set (coded_list coded_ℕ) state other
-
+-- So is how long a list is.
 pub length-prop : (n m : ℕ) → IsProp (n ≡ m)
 length-prop n m = Coded-set coded_ℕ n m

@@ -3,11 +3,11 @@
 ghost use Rattle.std.specs.Prelude.{◌≡◌, ◌≤◌, ◌<◌, ◌++◌, ℕ, [], length, slice_index_or};
 ghost use Rattle.sha2.specs.Hashers.{Holds256};
 ghost use Rattle.wots_plus.specs.Address.{address_of};
-ghost use Rattle.wots_plus.specs.Hashes.{Holds256-prop, length-prop, prf, state-prop, to_byte};
+ghost use Rattle.wots_plus.specs.Hashes.{Holds256-prop, length-prop, prf, to_byte};
 ghost use Rattle.wots_plus.specs.Hashes as spec;
 ghost use Rattle.sha2.specs.Sha256.{compress, initial_hash_256};
 ghost use Rattle.typecodes.specs.Message.{Digests};
-ghost use Rattle.winternitz.specs.Lanes.{lanes};
+ghost use Rattle.winternitz.specs.Lanes.{lanes, words-prop};
 
 use crate::address::Address;
 use sha2::{Digest, Sha256};
@@ -120,7 +120,7 @@ pub struct Prf {
     begun: Sha256,
     state: [u32; 8],
     ghost holds: { Holds256 begun (to_byte 3 32 ++ key) } by { Holds256-prop begun (to_byte 3 32 ++ key) },
-    ghost kept: { state ≡ compress initial_hash_256 (to_byte 3 32 ++ key) } by { state-prop _ _ },
+    ghost kept: { state ≡ compress initial_hash_256 (to_byte 3 32 ++ key) } by { words-prop _ _ },
     ghost long: { length (to_byte 3 32 ++ key) ≡ 64 } by { length-prop _ _ },
 }
 

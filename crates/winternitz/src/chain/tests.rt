@@ -105,16 +105,33 @@ fn expect_climbs(rt: &impl Abort, digits: &[u8], values: &[[u8; 32]])
     }
 }
 
-// Numbers of chains that are whole groups and that aren't, with digits of all sizes.
+// The digits of chains in a row: the first one's, by how much each next one's is greater, modulo 256, and that of
+// chain 2. Among them are chains of all sizes, of one size, and one that has all of the steps.
+const ROWS: [(usize, usize, u8); 8] = [
+    (0, 37, 74),
+    (0, 1, 2),
+    (255, 0, 255),
+    (1, 0, 1),
+    (0, 0, 255),
+    (255, 0, 0),
+    (3, 85, 200),
+    (128, 128, 7),
+];
+
+// Numbers of chains that four divides and that it doesn't: each lane takes a part of the row, in which chains begin
+// and end anywhere.
 #[test]
 fn all_chains_climb_as_each_by_itself(rt: HostRuntime) {
-    let mut digits = [0; 265];
-    let mut values = [[0; 32]; 265];
-    for i in 0..265 {
-        digits[i] = (i * 37 % 256) as u8;
-        values[i] = [(i % 256) as u8; 32];
-    }
-    for count in [0, 1, 3, 4, 34, 67, 265usize] {
-        expect_climbs(&rt, &digits, &values[..count]);
+    for (first, more, third) in ROWS {
+        let mut digits = [0; 265];
+        let mut values = [[0; 32]; 265];
+        for i in 0..265 {
+            digits[i] = ((first + more * i) % 256) as u8;
+            values[i] = [(i % 256) as u8; 32];
+        }
+        digits[2] = third;
+        for count in [0, 1, 2, 3, 4, 5, 6, 7, 34, 67, 133, 265usize] {
+            expect_climbs(&rt, &digits, &values[..count]);
+        }
     }
 }

@@ -1,15 +1,36 @@
-use Rattle.std.proofs.Common.{◌∙◌, ◌+◌, ◌*◌, slice_index, ap, arith}
-use Rattle.winternitz.specs.Chain.{walk_of}
-use Rattle.winternitz.proofs.Orders.{group_more, right_in_order}
-use Rattle.winternitz.specs.Lanes.{lanes}
+use Rattle.std.proofs.Common.{◌<◌, length, arith}
+use Rattle.std.proofs.lemmas.List.{get_or-take, length-take-le}
+use Rattle.winternitz.proofs.Ways.{way_begun_of, way_finished}
 use Rattle.winternitz.proofs.groups.climb_each.Goals as goal
 
-pub loop-group-preserved : goal.loop-group-preserved
-loop-group-preserved g c = record {
-  long = omega arith;
-  done = λ k low. group_more _ _ c.group_at-chains.result _ _ (lanes * c.loop-group.group) c.loop-group.invariant.done c.climb_group.ensures.kept
-      (λ j lane. c.group_at-chains.ensures j lane ∙ ap (λ order. slice_index order (lanes * c.loop-group.group + j)) c.deref.ensures.0) c.climb_group.ensures.made k (omega arith);
-}
+pub climb_together-requires-clause-order : goal.climb_together-requires-clause-order
+climb_together-requires-clause-order g c = λ i low.
+    let n = length c.args.values.now in
+    let count = length-take-le n c.args.to.now c.requires.to in
+    let from_count = length-take-le n c.args.from.now c.requires.from in
+    let within : i < n = omega arith in
+    omega (arith, c.places-at.ensures.each i (omega arith), get_or-take n c.args.from.now i 0 within, get_or-take n c.args.to.now i 0 within, c.requires.order i within)
+
+pub climb_rest-requires-clause-order : goal.climb_rest-requires-clause-order
+climb_rest-requires-clause-order g c = λ i low.
+    let n = length c.args.values.now in
+    let count = length-take-le n c.args.to.now c.requires.to in
+    let from_count = length-take-le n c.args.from.now c.requires.from in
+    let within : i < n = omega arith in
+    let begun = way_begun_of (g.S.Step.step_of c.args.step.now) c.args.from.now c.places-at.result c.args.to.now c.args.values.now c.starts-ends.result n i within
+    (c.places-at.ensures.each i (omega arith)) (c.starts-ends.ensures i within) (c.requires.order i within) in
+    let way = c.climb_together.ensures c.args.from.now c.args.values.now i low begun in
+    way.within
 
 pub returns : goal.returns
-returns g c = λ i low. right_in_order (walk_of (g.S.Step.step_of c.args.step.now) c.args.from.now c.args.to.now c.args.values.now) _ _ _ i (λ k within. c.loop-place.invariant.done k (omega arith)) (c.by_length-order.ensures.all i (omega arith))
+returns g c = λ i low.
+    let step = g.S.Step.step_of c.args.step.now in
+    let n = length c.args.values.now in
+    let from = c.args.from.now in
+    let to = c.args.to.now in
+    let values = c.args.values.now in
+    let count = length-take-le n to c.requires.to in
+    let from_count = length-take-le n from c.requires.from in
+    let begun = way_begun_of step from c.places-at.result to values c.starts-ends.result n i low (c.places-at.ensures.each i (omega arith)) (c.starts-ends.ensures i low) (c.requires.order i low) in
+    let way = c.climb_together.ensures from values i (omega arith) begun in
+    way_finished step from _ to values _ n i _ low way (c.climb_rest.ensures i (omega arith))

@@ -7,5 +7,5 @@ use Rattle.winternitz.proofs.lanes.compress.Given as goal
 abbrev pub invariant-loop-k : goal.invariant-loop-k
 invariant-loop-k l = record {
   long : length l.words ≡ 16;
-  each : (j k : ℕ) → j < lanes → k < l.k → lane_at l.words k j ≡ word_at (slice_index_or l.blocks j []) (4 * k);
+  each : (j i : ℕ) → i < l.k → j < lanes → lane_at l.words i j ≡ word_at (slice_index_or l.blocks j []) (4 * i);
 }

@@ -19,13 +19,13 @@ climb_from-ends-requires-clause-order c = λ i within.
 value : (c : goal.After-hash_of_ends) → c.hash_of_ends.result ≡ public_hash c.args.self.now.identifier c.args.self.now.leaf
     (ends_of_signature c.args.self.now.identifier c.args.self.now.leaf c.args.ots c.args.digest.now c.args.values.now)
 value c =
-    let key = c.args.self.now in
+    let key = c.of.result.key in
     let count = c.digits-digits.ensures.count ∙ ap digit_count c.width.ensures.value ∙ digits_are_chains c.args.ots in
     let read = c.deref.ensures.0 ∙ c.digits-digits.ensures.computed ∙ ap (λ w. digits_of w c.args.digest.now) c.width.ensures.value in
     c.hash_of_ends.ensures
-    ∙ ap (public_hash key.identifier key.leaf)
+    ∙ rw (← c.of.ensures) (ap (public_hash key.identifier key.leaf)
     (chains.ends_are (step_of key.identifier key.leaf) (width_of c.args.ots) _ _ _ c.args.values.now _
-    (omega (arith, count, c.requires, ap length c.deref.ensures.0)) (omega (arith, c.requires, chains_at_most c.args.ots)) read c.greatest_digit.ensures c.climb_from-ends.ensures)
+    (omega (arith, count, c.requires, ap length c.deref.ensures.0)) (omega (arith, c.requires, chains_at_most c.args.ots)) read c.greatest_digit.ensures c.climb_from-ends.ensures))
 
 pub returns : goal.returns
 returns c = record {

@@ -1,0 +1,117 @@
+//! The chains of a one-time key.
+
+ghost use Rattle.std.specs.Prelude.{◌≡◌, ◌<◌, ◌≤◌, ℕ, ◌+◌, ◌++◌, [], length, slice_index, slice_index_or};
+ghost use Rattle.lmots.specs.Hashes.{u8str, u16str, u32str};
+ghost use Rattle.lmots.specs.Key as spec;
+ghost use Rattle.lmots.specs.Key.{step_of};
+ghost use Rattle.winternitz.specs.Lanes.{lanes, words-prop};
+
+use crate::key::LmOts;
+use typecodes::put;
+use winternitz::lanes::{Beginning, LANES};
+use winternitz::{MOST_CHAINS, Step, Values};
+
+/// The chains of a key. Their hashes all begin with I and q, which are hashed once.
+#[derive(Clone, Copy)]
+pub(crate) struct Chains {
+    pub(crate) key: LmOts,
+    beginning: Beginning,
+    ghost begins: { beginning.first ≡ key.identifier ++ u32str key.leaf } by { words-prop _ _ },
+}
+
+impl Step for Chains {
+    ghost step_of = { λ chains. step_of chains.key.identifier chains.key.leaf };
+
+    fn step(&self, chain: u16, at: u8, value: &[u8; 32]) -> [u8; 32] {
+        self.key.step(chain, at, value)
+    }
+
+    fn step_four(
+        &self,
+        chains: &[u16; LANES],
+        at: &[u8; LANES],
+        values: &[[u8; 32]; LANES],
+    ) -> [[u8; 32]; LANES] {
+        let mut ends = [[0; 35]; LANES];
+        for lane in 0..LANES {
+            ends[lane] = end_of_step(chains[lane], at[lane], &values[lane]);
+        }
+        self.beginning.hash_four(&ends)
+    }
+}
+
+impl Chains {
+    /// The chains of a key.
+    pub(crate) fn of(key: &LmOts) -> Chains
+        ensures { result.key ≡ key.now }
+    {
+        Chains {
+            key: *key,
+            beginning: Beginning::new(first_bytes(key)),
+        }
+    }
+
+    // The private values of the first chains, four at a time.
+    pub(crate) fn private_values(&self, seed: &[u8; 32], count: usize) -> Values
+        requires { count ≤ 265 }
+        ensures { (i : ℕ) → i < count
+            → slice_index_or result i [] ≡ spec.private_value self.now.key.identifier self.now.key.leaf seed.now i }
+    {
+        let mut values = [[0; 32]; MOST_CHAINS];
+        let groups = count / LANES;
+        for group in 0..groups {
+            self.four_private_values(seed, LANES * group, &mut values);
+        }
+        for chain in LANES * groups..count {
+            values[chain] = self.key.private_value(seed, chain as u16);
+        }
+        values
+    }
+
+    // Four private values, from that of a chain on: a private value is made as step 0xff of its chain would be.
+    fn four_private_values(&self, seed: &[u8; 32], chain: usize, values: &mut Values)
+        requires { chain + lanes ≤ 265 }
+        ensures before { (i : ℕ) → i < chain → slice_index_or values.new i [] ≡ slice_index_or values.old i [] }
+        ensures made { (j : ℕ) → j < lanes → slice_index_or values.new (chain + j) []
+            ≡ spec.private_value self.now.key.identifier self.now.key.leaf seed.now (chain + j) }
+    {
+        let chains = numbers_from(chain as u16);
+        let made = self.step_four(&chains, &[0xff; LANES], &[*seed; LANES]);
+        for lane in 0..LANES {
+            values[chain + lane] = made[lane];
+        }
+    }
+}
+
+// What every hash of a chain begins with: I and q.
+fn first_bytes(key: &LmOts) -> [u8; 20]
+    ensures { result ≡ key.now.identifier ++ u32str key.now.leaf }
+{
+    let mut bytes = [0; 20];
+    let offset = put(&mut bytes, 0, &key.identifier);
+    put(&mut bytes, offset, &key.leaf.to_be_bytes());
+    bytes
+}
+
+// What a step hashes after them.
+fn end_of_step(chain: u16, at: u8, value: &[u8; 32]) -> [u8; 35]
+    ensures { result ≡ u16str chain ++ u8str at ++ value.now }
+{
+    let mut bytes = [0; 35];
+    let offset = put(&mut bytes, 0, &chain.to_be_bytes());
+    let offset = put(&mut bytes, offset, &[at]);
+    put(&mut bytes, offset, value);
+    bytes
+}
+
+// Four numbers in a row.
+fn numbers_from(first: u16) -> [u16; LANES]
+    requires { first + lanes < 65536 }
+    ensures { (j : ℕ) → j < lanes → slice_index result j ≡ first + j }
+{
+    let mut numbers = [first; LANES];
+    for lane in 0..LANES {
+        numbers[lane] = first + lane as u16;
+    }
+    numbers
+}

@@ -1,0 +1,12 @@
+-- The words so far.
+use Rattle.std.proofs.Common.{◌≡◌, ℕ, ◌-◌, ◌*◌, ◌<◌, ◌≤◌, [], length, slice_index_or}
+use Rattle.sha2.specs.Sha256.{word_at}
+use Rattle.winternitz.specs.Lanes.{lane_at, lanes}
+use Rattle.winternitz.proofs.lanes.beginning.block_words.Given as goal
+
+abbrev pub invariant-loop-k : goal.invariant-loop-k
+invariant-loop-k l = record {
+  long : length l.words ≡ 16;
+  first : (j i : ℕ) → i < l.k → i < 5 → lane_at l.words i j ≡ lane_at l.first i j;
+  rest : (j i : ℕ) → i < l.k → 5 ≤ i → j < lanes → lane_at l.words i j ≡ word_at (slice_index_or l.tails j []) (4 * (i - 5));
+}

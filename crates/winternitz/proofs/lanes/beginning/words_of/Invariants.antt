@@ -1,0 +1,11 @@
+-- The words so far.
+use Rattle.std.proofs.Common.{◌≡◌, ℕ, ◌*◌, ◌<◌, length}
+use Rattle.sha2.specs.Sha256.{word_at}
+use Rattle.winternitz.specs.Lanes.{lane_at, lanes}
+use Rattle.winternitz.proofs.lanes.beginning.words_of.Given as goal
+
+abbrev pub invariant-loop-k : goal.invariant-loop-k
+invariant-loop-k l = record {
+  long : length l.words ≡ 5;
+  each : (j i : ℕ) → i < l.k → j < lanes → lane_at l.words i j ≡ word_at l.first (4 * i);
+}

@@ -1,0 +1,154 @@
+//! How the chains of a key are shared out among the lanes.
+//!
+//! The steps of all chains are laid in a row, chain after chain, and each lane takes a part of it; all parts are of one
+//! length. So no lane waits for a longer chain of another one. A chain in which a part begins is climbed in two lanes:
+//! its first steps at the beginning of the later lane, and the others at the end of the earlier one, which comes to it
+//! only then.
+
+ghost use Rattle.std.specs.Prelude.{◌≡◌, ◌≤◌, ◌<◌, ◌+◌, ◌*◌, ℕ, true, IfSome, length, slice_index};
+ghost use Rattle.winternitz.specs.Groups.{IsWithin};
+ghost use Rattle.winternitz.specs.Lanes.{lanes};
+
+use crate::lanes::LANES;
+
+/// Four chains that climb together, and by how many steps.
+#[derive(Clone, Copy)]
+pub(crate) struct Turn {
+    pub(crate) chains: [u16; LANES],
+    pub(crate) steps: u8,
+}
+
+/// What each lane has still to do.
+#[derive(Drop)]
+pub(crate) struct Shares {
+    // the chain at which each lane is
+    chains: [u16; LANES],
+    // how many of its steps are this lane's
+    own: [u8; LANES],
+    // how many steps each lane has still to take in all
+    left: usize,
+}
+
+impl Shares {
+    /// The parts of the row of chains, each of which has the steps from a place to its end. The caller gives at most
+    /// 265 chains, and a place for each.
+    pub(crate) fn of(to: &[u8], at: &[u8]) -> Shares
+        requires few { length to.now ≤ 265 }
+        requires long { length to.now ≤ length at.now }
+    {
+        let left = all_steps(to, at) / LANES;
+        let mut chains = [0; LANES];
+        let mut own = [0; LANES];
+        for lane in 0..LANES {
+            (chains[lane], own[lane]) = step_at(lane * left, 0, to, at);
+        }
+        Shares { chains, own, left }
+    }
+
+    /// The chains that climb together next, until a lane is at the end of its chain. None where every lane has taken
+    /// its part, or where a chain would stand in two lanes, as one that is longer than a part.
+    pub(crate) fn next_turn(&mut self, to: &[u8], at: &[u8]) -> Option<Turn>
+        requires few { length to.now ≤ 265 }
+        requires long { length to.now ≤ length at.now }
+        requires order { (i : ℕ) → i < length to.now → slice_index at.now i ≤ slice_index to.now i }
+        ensures { IfSome result (λ turn. IsWithin turn.chains turn.steps at.now to.now) }
+    {
+        self.pass_ends(to, at);
+        if self.left == 0 || !are_apart(&self.chains, to.len()) {
+            return None;
+        }
+        let steps = self.steps_together(to, at);
+        self.take(steps);
+        Some(Turn {
+            chains: self.chains,
+            steps,
+        })
+    }
+
+    // Each lane whose chain is at its end goes on to the next one.
+    fn pass_ends(&mut self, to: &[u8], at: &[u8])
+        requires few { length to.now ≤ 265 }
+        requires long { length to.now ≤ length at.now }
+    {
+        for lane in 0..LANES {
+            if self.own[lane] == 0 {
+                let next = usize::from(self.chains[lane]) + 1;
+                (self.chains[lane], self.own[lane]) = step_at(0, next, to, at);
+            }
+        }
+    }
+
+    // How many steps the chains take together: until one is at its end, or its lane has taken its part.
+    fn steps_together(&self, to: &[u8], at: &[u8]) -> u8
+        requires below { (j : ℕ) → j < lanes → slice_index self.now.chains j < length to.now }
+        requires long { length to.now ≤ length at.now }
+        requires order { (i : ℕ) → i < length to.now → slice_index at.now i ≤ slice_index to.now i }
+        ensures reach { IsWithin self.now.chains result at.now to.now }
+        ensures own { (j : ℕ) → j < lanes → result ≤ slice_index self.now.own j }
+        ensures left { result ≤ self.now.left }
+    {
+        let mut steps = self.left.min(255) as u8;
+        for lane in 0..LANES {
+            let chain = usize::from(self.chains[lane]);
+            steps = steps.min(self.own[lane]).min(to[chain] - at[chain]);
+        }
+        steps
+    }
+
+    // Each lane has taken so many steps.
+    fn take(&mut self, steps: u8)
+        requires own { (j : ℕ) → j < lanes → steps ≤ slice_index self.old.own j }
+        requires left { steps ≤ self.old.left }
+        ensures { self.new.chains ≡ self.old.chains }
+    {
+        self.left -= usize::from(steps);
+        for lane in 0..LANES {
+            self.own[lane] -= steps;
+        }
+    }
+}
+
+// How many steps all chains have.
+fn all_steps(to: &[u8], at: &[u8]) -> usize
+    requires few { length to.now ≤ 265 }
+    requires long { length to.now ≤ length at.now }
+    ensures { result ≤ 255 * 265 }
+{
+    let mut steps = 0;
+    for chain in 0..to.len() {
+        steps += usize::from(to[chain].saturating_sub(at[chain]));
+    }
+    steps
+}
+
+// The chain in which a step of the row lies, counted from a chain on, and how many of the chain's steps there are from
+// this one on; past the row the number of chains and none.
+fn step_at(nth: usize, first: usize, to: &[u8], at: &[u8]) -> (u16, u8)
+    requires few { length to.now ≤ 265 }
+    requires long { length to.now ≤ length at.now }
+{
+    let mut before = nth;
+    for chain in first..to.len() {
+        let steps = to[chain].saturating_sub(at[chain]);
+        if before < usize::from(steps) {
+            return (chain as u16, steps - before as u8);
+        }
+        before -= usize::from(steps);
+    }
+    (to.len() as u16, 0)
+}
+
+// Whether each lane has a chain of its own, and each chain is one of so many.
+fn are_apart(chains: &[u16; LANES], count: usize) -> bool
+    ensures { result ≡ true → (j : ℕ) → j < lanes → slice_index chains.now j < count }
+{
+    let mut end = count;
+    for lane in 0..LANES {
+        let chain = usize::from(chains[LANES - 1 - lane]);
+        if chain >= end {
+            return false;
+        }
+        end = chain;
+    }
+    true
+}
