@@ -246,6 +246,70 @@ def last_tag(bodies):
     return tag
 
 
+# ---- the records that a state file has
+
+
+def part(record, first, last):
+    """The bytes `first` to `last` of a slot, by its record, which begins with byte 1."""
+    return record[first - 1:last]
+
+
+def number(record, first, last):
+    return int.from_bytes(part(record, first, last), "big")
+
+
+def pairs_of(record):
+    """The eight pairs of codes of a Key."""
+    return [(number(record, at, at + 3), number(record, at + 4, at + 7)) for at in range(14, 78, 8)]
+
+
+def is_key(record):
+    """Whether bytes of kind 1 spell a Key: known types for its levels, and zeros where its scheme has no field."""
+    scheme, levels, pairs = record[11], record[12], pairs_of(record)
+    if part(record, 2, 11) != b"HBSSTATE" + u16(1) or any(part(record, 222, 223)):
+        return False
+    if not 1 <= levels <= (8 if scheme == HSS else 1) or any(pair != (0, 0) for pair in pairs[levels:]):
+        return False
+    if scheme == XMSS:
+        return pairs[0][0] in XMSS_HEIGHTS and pairs[0][1] == 0 and not any(part(record, 78, 93))
+    return (scheme in (LMS, HSS) and all(tree in HEIGHTS and ots in WIDTHS for tree, ots in pairs[:levels])
+            and not any(part(record, 126, 189)))
+
+
+def is_record(record):
+    """Whether the bytes 1 to 223 of a slot spell a record."""
+    kind, size = record[0], record[1]
+    if kind == 1:
+        return is_key(record)
+    if kind == 2:
+        return not any(part(record, 151, 223))
+    if kind == 3:
+        return (size <= 64 and is_name(part(record, 3, 2 + size)) and not any(part(record, 3 + size, 66))
+                and not any(part(record, 135, 223)))
+    if kind == 4:
+        return not any(part(record, 6, 223))
+    return kind == 5 and number(record, 2, 3) == 2 and not any(part(record, 4, 223))
+
+
+def records_of(content):
+    """The records of a state file up to its first closed gate, or the first fault that an opening finds (40 to 43)."""
+    if len(content) < 257 or content[0] != 0xA5:
+        raise Refused(40)
+    if content[1:10] != b"\x01HBSSTATE":
+        raise Refused(41)
+    if content[10:12] != u16(1):
+        raise Refused(42)
+    bodies, tag, start = [], bytes(32), 0
+    while content[start] == 0xA5:
+        record, found = content[start + 1:start + 224], content[start + 224:start + 256]
+        tag = sha256(tag, record)
+        start += 256
+        if len(content) <= start or found != tag or not is_record(record):
+            raise Refused(43, len(bodies))
+        bodies.append(record)
+    return bodies
+
+
 class Tape:
     """A source of random bytes that ends."""
     def __init__(self, content):
@@ -264,15 +328,17 @@ class Current:
         self.slot, self.tree, self.root, self.next = slot, tree, root, 0
         self.parent = None
 
+    def has_free(self, leaf):
+        return self.next <= leaf < self.tree.leaf_count()
+
     def is_free(self):
-        return self.next < self.tree.leaf_count()
+        return self.has_free(self.next)
 
 
 class Signer:
     """A key with its records (docs/FORMATS.md), in the scheme of its spec. `limit` is how many records it takes."""
     def __init__(self, spec, tape, limit=2**31):
         kind, text = spec.split(":")
-        self.limit = limit
         self.scheme = {"lms": LMS, "hss": HSS, "xmss": XMSS}[kind]
         if self.scheme == XMSS:
             code = {str(height): code for code, height in XMSS_HEIGHTS.items()}[text]
@@ -285,13 +351,70 @@ class Signer:
             identifier, seed = tape.draw(16), tape.draw(32)
             tree = LmsTree(self.pairs[0], identifier, seed)
             record = key_body(self.scheme, self.pairs, identifier, seed, bytes(32), bytes(32), tree.root())
+        self.begin(record, tree, tree.root(), limit)
+
+    def begin(self, record, tree, root, limit=2**31):
+        """A key of one record, whose root may be another than its tree's."""
+        self.limit = limit
         self.bodies = [record]
-        self.current = [Current(0, tree, tree.root())] + [None] * (len(self.pairs) - 1)
+        self.current = [Current(0, tree, root)] + [None] * (len(self.pairs) - 1)
         self.bound = {}
         self.identifiers = set() if self.scheme == XMSS else {tree.identifier}
         self.has_moved = False
-        # what a record says of a new tree, and what would be right
-        self.extends = {}
+
+    @classmethod
+    def of(cls, bodies):
+        """The key that has the records of a file; 44 at the first at which they stop being legal."""
+        key = cls.__new__(cls)
+        record = bodies[0]
+        key.scheme = record[11]
+        key.pairs = pairs_of(record)[:record[12]]
+        if key.scheme == XMSS:
+            tree = XmssTree(key.pairs[0][0], part(record, 94, 125), part(record, 126, 157), part(record, 158, 189))
+        else:
+            tree = LmsTree(key.pairs[0], part(record, 78, 93), part(record, 94, 125))
+        key.begin(record, tree, part(record, 190, 221))
+        for slot, record in enumerate(bodies[1:], 1):
+            if not key.takes(record):
+                raise Refused(44, slot)
+        if key.bodies != bodies:
+            raise ValueError("other records than the file's")
+        return key
+
+    def takes(self, record):
+        """Adds a record of a file, where it is legal as the next one."""
+        kind, bottom = record[0], self.current[-1]
+        if self.has_moved or kind == 1:
+            return False
+        if kind == 2:
+            return self.takes_extend(record)
+        if kind == 3:
+            name, leaf, randomizer = part(record, 3, 2 + record[1]), number(record, 67, 70), part(record, 71, 102)
+            if name in self.bound or not bottom or not bottom.has_free(leaf):
+                return False
+            if self.scheme == XMSS and any(randomizer):
+                return False
+            self.add_bound(name, leaf, randomizer, part(record, 103, 134))
+        elif kind == 4:
+            upto = number(record, 2, 5)
+            if not bottom or upto > bottom.tree.leaf_count():
+                return False
+            self.bodies.append(record)
+            bottom.next = max(bottom.next, upto)
+        else:
+            self.move()
+        return True
+
+    def takes_extend(self, record):
+        level, leaf, identifier = record[1], number(record, 3, 6), part(record, 7, 22)
+        if self.scheme != HSS or not 1 <= level < len(self.pairs) or identifier in self.identifiers:
+            return False
+        parent = self.current[level - 1]
+        if not parent or not parent.has_free(leaf):
+            return False
+        self.add_extend(level, leaf, LmsTree(self.pairs[level], identifier, part(record, 23, 54)),
+                        part(record, 55, 86), part(record, 87, 118), part(record, 119, 150))
+        return True
 
     def public(self):
         top = self.current[0]
