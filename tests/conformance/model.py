@@ -11,6 +11,8 @@ WIDTHS = {1: (1, 265, 7), 2: (2, 133, 6), 3: (4, 67, 4), 4: (8, 34, 0)}
 HEIGHTS = {5: 5, 6: 10, 7: 15, 8: 20, 9: 25}
 XMSS_HEIGHTS = {1: 10, 2: 16, 3: 20}
 LMS, HSS, XMSS = 1, 2, 3
+# the nodes of the trees that were made, by their secrets
+MADE = {}
 
 
 class Refused(Exception):
@@ -64,7 +66,6 @@ class LmsTree:
     def __init__(self, pair, identifier, seed):
         self.pair, self.identifier, self.seed = pair, identifier, seed
         self.height, self.values = HEIGHTS[pair[0]], WIDTHS[pair[1]]
-        self.levels = None
 
     def leaf_count(self):
         return 2**self.height
@@ -86,16 +87,17 @@ class LmsTree:
 
     def nodes(self):
         """The nodes by height, leaves first (RFC 8554 5.3)."""
-        if self.levels is None:
+        secret = self.pair, self.identifier, self.seed
+        if secret not in MADE:
             count = self.leaf_count()
             level = [sha256(self.identifier, u32(count + q), b"\x82\x82", self.public_hash(q)) for q in range(count)]
-            self.levels = [level]
+            levels = MADE[secret] = [level]
             while len(level) > 1:
                 first = len(level) // 2
                 level = [sha256(self.identifier, u32(first + j), b"\x83\x83", level[2 * j], level[2 * j + 1])
                          for j in range(first)]
-                self.levels.append(level)
-        return self.levels
+                levels.append(level)
+        return MADE[secret]
 
     def root(self):
         return self.nodes()[-1][0]
@@ -131,7 +133,6 @@ class XmssTree:
     def __init__(self, code, secret, prf_key, seed):
         self.code, self.secret, self.prf_key, self.seed = code, secret, prf_key, seed
         self.height = XMSS_HEIGHTS[code]
-        self.levels = None
         self.keyed = H((3).to_bytes(32, "big") + seed)
 
     def leaf_count(self):
@@ -170,14 +171,15 @@ class XmssTree:
         return values[0]
 
     def nodes(self):
-        if self.levels is None:
+        secret = self.code, self.secret, self.seed
+        if secret not in MADE:
             level = [self.leaf(i) for i in range(self.leaf_count())]
-            self.levels = [level]
+            levels = MADE[secret] = [level]
             while len(level) > 1:
-                height = len(self.levels) - 1
+                height = len(levels) - 1
                 level = [self.join(2, 0, height, j, level[2 * j], level[2 * j + 1]) for j in range(len(level) // 2)]
-                self.levels.append(level)
-        return self.levels
+                levels.append(level)
+        return MADE[secret]
 
     def root(self):
         return self.nodes()[-1][0]
