@@ -182,3 +182,6 @@ fn values_of(values: &[[u8; 32]], chains: &[u16; LANES]) -> [[u8; 32]; LANES]
     }
     four
 }
+
+#[cfg(test)]
+mod tests;

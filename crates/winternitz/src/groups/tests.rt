@@ -1,0 +1,56 @@
+//! How much of a key's chains the lanes climb.
+
+ghost use Rattle.std.specs.Prelude.{◌≤◌, length};
+
+use crate::Step;
+use crate::groups::{climb_together, starts, the_same};
+
+// A step that leaves a value as it is.
+struct Still;
+
+impl Step for Still {
+    ghost step_of = { λ self chain at value. value };
+
+    fn step(&self, _chain: u16, _at: u8, value: &[u8; 32]) -> [u8; 32] {
+        *value
+    }
+}
+
+// How many steps of chains from their first values are left when they have climbed side by side.
+fn left_by_lanes(digits: &[u8]) -> usize
+    requires { length digits.now ≤ 265 }
+{
+    let mut at = the_same(0);
+    let mut ends = starts(&[]);
+    climb_together(&Still, digits, &mut at, &mut ends);
+    let mut left: usize = 0;
+    for i in 0..digits.len() {
+        left = left.saturating_add(usize::from(digits[i].saturating_sub(at[i])));
+    }
+    left
+}
+
+// The digit of the first chain, by how much that of each next one is greater, modulo a number, and how many chains
+// there are. None is longer than the part of a lane.
+const KEYS: [(usize, usize, usize, usize); 7] = [
+    (1, 0, 2, 265),
+    (0, 1, 2, 265),
+    (1, 1, 4, 133),
+    (3, 7, 16, 67),
+    (255, 0, 256, 34),
+    (200, 37, 256, 34),
+    (9, 0, 256, 5),
+];
+
+// All steps but three at most are taken in lanes. No contract says so, since it changes no value.
+#[test]
+fn lanes_leave_three_steps_at_most(rt: HostRuntime) {
+    for (first, more, modulus, count) in KEYS {
+        let mut digits = [0; 265];
+        for i in 0..265 {
+            digits[i] = ((first + more * i) % modulus) as u8;
+        }
+        let left = left_by_lanes(&digits[..count]);
+        assert!(rt; left <= 3, "{left} steps of {count} chains are left");
+    }
+}
