@@ -9,7 +9,7 @@ pub record IsOnItsWay (step : Steps) (from at to : List ℕ) (values ends : List
   pub within : slice_index at i ≤ slice_index to i
   pub value : slice_index_or ends i [] ≡ walk_of step from at values i
 
--- the chains of all lanes are among those that climb, and each has so many steps left to its end
+-- the chains of all lanes are among those that climb, and each has at least so many steps left to its end
 abbrev pub IsWithin : List ℕ → ℕ → List ℕ → List ℕ → Type 0
 IsWithin chains steps at to = (j : ℕ) → j < lanes
     → (slice_index chains j < length to)

@@ -132,7 +132,7 @@ pub fn sha256_of_96(first: &States, last: &[[u8; 32]; LANES]) -> [[u8; 32]; LANE
 }
 
 // The second block of a message of 96 bytes, whose compression after the first gives the message's SHA-256. It is a
-// function apart from `padded_96` for the same reason as `block_of_55`.
+// function apart from `padded_96` so that the long list of the block's bytes stays out of the goals about SHA-256.
 fn last_of_96(last: &[u8; 32]) -> [u8; 64]
     ensures { (block : List ℕ) → length block ≡ 64
         → digest_bytes (spec.compress (spec.compress initial_hash_256 block) result) 8 ≡ sha256 (block ++ last.now) }

@@ -138,7 +138,7 @@ fn step_at(nth: usize, first: usize, to: &[u8], at: &[u8]) -> (u16, u8)
     (to.len() as u16, 0)
 }
 
-// Whether each lane has a chain of its own, and each chain is one of so many.
+// Whether each lane has a chain after that of the lane before, and so one of its own, and all are below a count.
 fn are_apart(chains: &[u16; LANES], count: usize) -> bool
     ensures { result ≡ true → (j : ℕ) → j < lanes → slice_index chains.now j < count }
 {

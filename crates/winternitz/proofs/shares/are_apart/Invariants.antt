@@ -1,4 +1,4 @@
--- The chains of the last lanes are in order, and below the count.
+-- The chains of the last lanes are below the count.
 use Rattle.std.proofs.Common.{ℕ, ◌+◌, ◌≤◌, ◌<◌, slice_index}
 use Rattle.winternitz.specs.Lanes.{lanes}
 use Rattle.winternitz.proofs.shares.are_apart.Given as goal
