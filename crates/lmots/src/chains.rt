@@ -11,7 +11,7 @@ use typecodes::put;
 use winternitz::lanes::{Beginning, LANES};
 use winternitz::{MOST_CHAINS, Step, Values};
 
-/// The chains of a key. Their hashes all begin with I and q, which are hashed once.
+/// The chains of a key. Their steps side by side begin with I and q, whose rounds they share.
 #[derive(Clone, Copy)]
 pub(crate) struct Chains {
     pub(crate) key: LmOts,

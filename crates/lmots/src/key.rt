@@ -45,6 +45,7 @@ impl Step for LmOts {
         at: &[u8; LANES],
         values: &[[u8; 32]; LANES],
     ) -> [[u8; 32]; LANES] {
+        // whoever climbs further takes `Chains`, which keeps what these steps begin with
         Chains::of(self).step_four(chains, at, values)
     }
 }
