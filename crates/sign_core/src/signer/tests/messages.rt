@@ -8,7 +8,7 @@ const COUNTS: [usize; 21] = [
 ];
 
 // What is done with new keys.
-const MESSAGES: [Script; 7] = [
+const MESSAGES: [Script; 9] = [
     // no failed message binds a name: each draws a C
     Script {
         text: LMS,
@@ -69,7 +69,7 @@ const MESSAGES: [Script; 7] = [
             len: 0,
         }],
     },
-    // a name keeps its signature after messages that fail
+    // a bound name keeps its signature after messages that fail, under a key of each scheme; nothing is drawn for them
     Script {
         text: LMS,
         tape: COUNTED,
@@ -85,6 +85,52 @@ const MESSAGES: [Script; 7] = [
             ],
             from: 1,
             said: &[Said::Bound(1, 0, Some(48))],
+            len: 0,
+        }],
+    },
+    Script {
+        text: TWO,
+        tape: COUNTED,
+        room: Some(100),
+        lives: &[Life {
+            drawn: (0, 160),
+            calls: &[
+                Call::SignFirst(1, &[0; 3]),
+                Call::First(2644, &[0, 0, 0, 1, 0, 0, 0, 0]),
+                Call::Fail(1, &COUNTS, SignFault::MessageRead, &[31, 31]),
+                Call::Fail(
+                    1,
+                    &[16_384, 16_385, 40_000],
+                    SignFault::MessageRead,
+                    &[31, 31],
+                ),
+                Call::SignFirst(1, &[0; 3]),
+            ],
+            from: 1,
+            said: &[Said::Extend(1, 0, 48), Said::Bound(1, 0, Some(128))],
+            len: 0,
+        }],
+    },
+    Script {
+        text: XMSS,
+        tape: COUNTED,
+        room: Some(100),
+        lives: &[Life {
+            drawn: (0, 96),
+            calls: &[
+                Call::SignFirst(1, &[0; 3]),
+                Call::First(2500, &[0; 4]),
+                Call::Fail(1, &COUNTS, SignFault::MessageRead, &[1023]),
+                Call::Fail(
+                    1,
+                    &[16_384, 16_385, 40_000],
+                    SignFault::MessageRead,
+                    &[1023],
+                ),
+                Call::SignFirst(1, &[0; 3]),
+            ],
+            from: 1,
+            said: &[Said::Bound(1, 0, None)],
             len: 0,
         }],
     },
