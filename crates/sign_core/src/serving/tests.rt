@@ -6,7 +6,7 @@ use crate::signer::tests::{
     Call, InFile, Input, LMS, add, begins_with, file_in, input_of, tape_of,
 };
 use crate::source::TapeSource;
-use state_file::{FileStore, MemoryDisk, Record};
+use state_file::{FileStore, MemoryDisk, MemoryStore, Record};
 use std::io::Read;
 use std::test::*;
 use std::{io, mem};
@@ -34,9 +34,14 @@ fn open<'a>(alloc: Global, (file, tape): Start<'a>) -> Option<InFile<'a>> {
     Signer::open(alloc, store, random).ok()
 }
 
+// A file without a key.
+fn empty_file(alloc: Global) -> Option<FileStore<MemoryDisk>> {
+    FileStore::format(MemoryDisk::of(alloc, &[]).ok()?).ok()
+}
+
 // The file of a new key, after so many of its leaves were retired.
 fn new_file(alloc: Global, text: &str, tape: &[u8], retired: u32) -> Option<Vec<u8>> {
-    let store = FileStore::format(MemoryDisk::of(alloc, &[]).ok()?).ok()?;
+    let store = empty_file(alloc)?;
     let calls = [Call::Retire(retired, None)];
     file_in(begins_with(alloc, text, store, TapeSource::new(tape), &calls)?)
 }

@@ -57,6 +57,24 @@ fn answer<S: Store, R: Source>(
     }
 }
 
+// What is replied where no frame comes any more, if anything, and what the exchange ends with after so many frames.
+fn ended(
+    rest: &[u8],
+    fails: bool,
+    count: u64,
+    output: &mut Vec<u8>,
+) -> Option<Result<u64, ServeFault>> {
+    let (number, fault) = if fails {
+        (27, ServeFault::MessageRead)
+    } else if rest.is_empty() {
+        return Some(Ok(count));
+    } else {
+        (35, ServeFault::FrameCut)
+    };
+    reply(output, number, &[])?;
+    Some(Err(fault))
+}
+
 // What an input, after which reads fail, or there is its end, leads to with a signer: what is written, and what the
 // exchange ends with.
 pub(super) fn replies_to<S: Store, R: Source>(
@@ -68,24 +86,14 @@ pub(super) fn replies_to<S: Store, R: Source>(
 ) -> Option<Result<u64, ServeFault>> {
     let mut rest = input;
     for count in 0..u64::MAX {
-        match first_of(rest) {
-            Some(frame) => {
-                answer(alloc, signer, &frame, output)?;
-                if !frame.is_whole {
-                    return Some(Err(ServeFault::MessageRead));
-                }
-                rest = frame.rest;
-            }
-            None if fails => {
-                reply(output, 27, &[])?;
-                return Some(Err(ServeFault::MessageRead));
-            }
-            None if rest.is_empty() => return Some(Ok(count)),
-            None => {
-                reply(output, 35, &[])?;
-                return Some(Err(ServeFault::FrameCut));
-            }
+        let Some(frame) = first_of(rest) else {
+            return ended(rest, fails, count, output);
+        };
+        answer(alloc, signer, &frame, output)?;
+        if !frame.is_whole {
+            return Some(Err(ServeFault::MessageRead));
         }
+        rest = frame.rest;
     }
     None
 }

@@ -10,8 +10,14 @@ enum Came {
     Cut,
 }
 
-// How an exchange comes out that has this output. Where it is cut, all requests that were read were answered: the file
-// is as they leave it, and what was written begins what is replied to them.
+// Whether an exchange was cut where its output failed, and all requests that were read were answered, which alone lead
+// to this: the file is as they leave it, and what was written begins what is replied to them.
+fn is_cut(came: &Exchange, read: &Exchange) -> bool {
+    let is_begun = read.output.starts_with(&came.output);
+    is_begun && came.end == Err(ServeFault::WriteFailed) && came.file == read.file
+}
+
+// How an exchange comes out that has this output.
 fn came_out(
     alloc: Global,
     start: Start<'_>,
@@ -24,13 +30,13 @@ fn came_out(
     if came == *whole {
         return Some(Came::Whole);
     }
-    let given = bytes.len().checked_sub(input.rest.len())?;
-    let read = led_to(alloc, start, bytes.get(..given)?, false)?;
-    let is_begun = read.output.starts_with(&came.output);
-    if came.end != Err(ServeFault::WriteFailed) || !is_begun || came.file != read.file {
-        return None;
+    let given = bytes.len().saturating_sub(input.rest.len());
+    let read = led_to(alloc, start, bytes.get(..given).unwrap_or_default(), false)?;
+    if is_cut(&came, &read) {
+        Some(Came::Cut)
+    } else {
+        None
     }
-    Some(Came::Cut)
 }
 
 // The exchange of an input whose output takes at most so many bytes at a time, and how many writes and flushes it has;
