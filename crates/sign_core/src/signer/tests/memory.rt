@@ -42,13 +42,15 @@ enum Step<'a> {
     Left(&'a [u32]),
 }
 
-// Where the steps of a key stand: the next one, and the number that its source gives next; whether memory was refused
-// to the opening for it. Where that step comes again after a refusal of memory, whether the store failed then, and
-// whether its name was bound before it.
+// Where the steps of a key stand: the next one, and the number that its source gives next; whether its file is closed
+// and opened again for it, how long the file is to be then, and whether memory was refused to that opening. Where that
+// step comes again after a refusal of memory, whether the store failed then, and whether its name was bound before it.
 #[derive(Clone, Copy)]
 struct Place {
     step: usize,
     next: u8,
+    is_closed: bool,
+    len: Option<u64>,
     was_closed: bool,
     is_again: bool,
     is_failed: bool,
@@ -59,11 +61,39 @@ struct Place {
 const BEGIN: Place = Place {
     step: 0,
     next: 50,
+    is_closed: false,
+    len: None,
     was_closed: false,
     is_again: false,
     is_failed: false,
     was_bound: None,
 };
+
+// The place after a step that is answered as it should be. The file is closed then where its length is given.
+fn after_step(place: Place, len: Option<u64>) -> Option<Place> {
+    Some(Place {
+        step: place.step.checked_add(1)?,
+        is_closed: len.is_some(),
+        len,
+        ..BEGIN
+    })
+}
+
+// The place of a step that comes again with what the source gives next, after memory was refused or the store failed,
+// and the file was closed; with whether its name was bound before. None where it comes again already.
+fn refused_at(place: Place, is_failed: bool, was_bound: Option<bool>) -> Option<Place> {
+    if place.is_again {
+        return None;
+    }
+    Some(Place {
+        is_closed: true,
+        len: None,
+        is_again: true,
+        is_failed,
+        was_bound,
+        ..place
+    })
+}
 
 fn store_of<D: Disk + Drop>(disk: D) -> Option<FileStore<D>> {
     match FileStore::open(disk) {
@@ -93,44 +123,67 @@ fn opened_by<S: Store + Drop, R: Source + Drop>(
     }
 }
 
-// The file of a new key in a formatted file, with this number drawn first.
-fn keyed<D: Disk + Drop>(alloc: Global, text: &str, store: FileStore<D>) -> Option<D> {
+// A store after a key of this spec was made in it with a source that begins with this number, and why there is none.
+fn created_in<S: Store + Drop>(
+    alloc: Global,
+    text: &str,
+    store: S,
+    first: u8,
+) -> Option<(S, Option<SignFault>)> {
+    if store.limit() == 0 {
+        return None;
+    }
     let spec = Spec::parse(text).ok()?;
-    let next = Cell::new(10);
+    let next = Cell::new(first);
     match Signer::create(alloc, spec, store, Numbers { next: &next }) {
-        Ok(signer) => Some(signer.into_store().into_disk()),
-        Err(_) => None,
+        Ok(signer) => Some((signer.into_store(), None)),
+        Err(refused) => {
+            let fault = refused.fault;
+            let (store, _random) = refused.given;
+            Some((store, Some(fault)))
+        }
+    }
+}
+
+// The store of a new key.
+fn keyed<S: Store + Drop>(alloc: Global, text: &str, store: S) -> Option<S> {
+    let (store, fault) = created_in(alloc, text, store, 10)?;
+    if fault.is_none() { Some(store) } else { None }
+}
+
+// A disk that is prepared for a key, at the second try where it failed at the first.
+fn formatted<D: Disk + Drop>(disk: D) -> Option<FileStore<D>> {
+    match FileStore::format(disk) {
+        Ok(store) => Some(store),
+        Err(refused) => match refused.fault {
+            FormatFault::DeviceFailed => FileStore::format(refused.given).ok(),
+            FormatFault::NotKeyFile | FormatFault::KeyThere => None,
+        },
+    }
+}
+
+// The file of a key that stands in this file, or of a new one.
+fn standing_on<D: Disk + Drop>(alloc: Global, text: &str, disk: D) -> Option<D> {
+    match FileStore::open(disk) {
+        Ok(store) => Some(store.into_disk()),
+        Err(refused) => match refused.fault {
+            OpenFault::NoKey => {
+                let store = FileStore::format(refused.given).ok()?;
+                Some(keyed(alloc, text, store)?.into_disk())
+            }
+            _ => None,
+        },
     }
 }
 
 // The file of a new key in this file. After a create that was refused for the device, it's the key that stands, or a
 // new one.
 fn made_on<D: Disk + Drop>(alloc: Global, text: &str, disk: D) -> Option<D> {
-    let spec = Spec::parse(text).ok()?;
-    let store = match FileStore::format(disk) {
-        Ok(store) => store,
-        Err(refused) => match refused.fault {
-            FormatFault::DeviceFailed => FileStore::format(refused.given).ok()?,
-            FormatFault::NotKeyFile | FormatFault::KeyThere => return None,
-        },
-    };
-    let next = Cell::new(0);
-    let (fault, store) = match Signer::create(alloc, spec, store, Numbers { next: &next }) {
-        Ok(signer) => return Some(signer.into_store().into_disk()),
-        Err(refused) => {
-            let (store, _) = refused.given;
-            (refused.fault, store)
-        }
-    };
+    let (store, fault) = created_in(alloc, text, formatted(disk)?, 0)?;
     match fault {
-        SignFault::OutOfMemory => keyed(alloc, text, store),
-        SignFault::StoreFailed => match FileStore::open(store.into_disk()) {
-            Ok(store) => Some(store.into_disk()),
-            Err(refused) => match refused.fault {
-                OpenFault::NoKey => keyed(alloc, text, FileStore::format(refused.given).ok()?),
-                _ => None,
-            },
-        },
+        None => Some(store.into_disk()),
+        Some(SignFault::OutOfMemory) => Some(keyed(alloc, text, store)?.into_disk()),
+        Some(SignFault::StoreFailed) => standing_on(alloc, text, store.into_disk()),
         _ => None,
     }
 }
@@ -156,15 +209,15 @@ fn request<S: Store, R: Source>(
     }
 }
 
-// Whether the file is closed and opened again after a request, and the place then. Where memory was refused no name
-// was bound, and the request comes again with what the source gives next. Where the store failed the signer is closed
-// until then. None where a request is answered otherwise, or refused a second time.
+// The place after a request. Where memory was refused no name was bound, and the request comes again with what the
+// source gives next. Where the store failed the signer is closed until then. None where a request is answered
+// otherwise, or refused a second time.
 fn requested<S: Store, R: Source>(
     signer: &mut Signer<S, R>,
     (number, message, wanted): (u32, u8, Result<usize, SignFault>),
     place: Place,
     out: &mut Vec<u8>,
-) -> Option<(bool, Place)> {
+) -> Option<Place> {
     let name = Name::new(&name_of(number)).ok()?;
     let was_bound = signer.ledger.find(&name).is_some();
     if place.was_bound.is_some() && place.was_bound != Some(was_bound) {
@@ -172,32 +225,35 @@ fn requested<S: Store, R: Source>(
     }
     let answer = request(signer, &name, message, out)?;
     if answer == wanted {
-        let step = place.step.checked_add(1)?;
-        return Some((false, Place { step, ..BEGIN }));
+        return after_step(place, None);
     }
-    let (kept, is_so) = match answer {
-        Err(SignFault::OutOfMemory) => (
-            Some(was_bound),
-            signer.ledger.find(&name).is_some() == was_bound,
-        ),
-        Err(SignFault::StoreFailed) => {
-            let again = request(signer, &name, message, out)?;
-            (None, again == Err(SignFault::Stopped))
+    match answer {
+        Err(SignFault::OutOfMemory) if signer.ledger.find(&name).is_some() == was_bound => {
+            refused_at(place, false, Some(was_bound))
         }
-        _ => return None,
-    };
-    if place.is_again || !is_so {
-        return None;
-    }
-    Some((
-        true,
-        Place {
-            is_again: true,
-            is_failed: answer == Err(SignFault::StoreFailed),
-            was_bound: kept,
-            ..place
+        Err(SignFault::StoreFailed) => match request(signer, &name, message, out)? {
+            Err(SignFault::Stopped) => refused_at(place, true, None),
+            _ => None,
         },
-    ))
+        _ => None,
+    }
+}
+
+// The same of a request that is answered by this signature.
+fn repeated<S: Store, R: Source>(
+    alloc: Global,
+    signer: &mut Signer<S, R>,
+    repeat: (u32, u8, Result<usize, SignFault>),
+    place: Place,
+    signature: &[u8],
+) -> Option<Place> {
+    let mut again = Vec::new(alloc);
+    let after = requested(signer, repeat, place, &mut again);
+    if again.is_empty() || again.as_slice() == signature {
+        after
+    } else {
+        None
+    }
 }
 
 // The same of leaves that are retired.
@@ -205,28 +261,18 @@ fn retired<S: Store, R: Source>(
     signer: &mut Signer<S, R>,
     (upto, wanted): (u32, Option<SignFault>),
     place: Place,
-) -> Option<(bool, Place)> {
+) -> Option<Place> {
     let fault = signer.retire(upto).err();
     if fault == wanted {
-        let step = place.step.checked_add(1)?;
-        return Some((false, Place { step, ..BEGIN }));
+        return after_step(place, None);
     }
     match fault {
-        Some(SignFault::OutOfMemory) => {}
-        Some(SignFault::StoreFailed) if signer.retire(upto) == Err(SignFault::Stopped) => {}
-        _ => return None,
+        Some(SignFault::OutOfMemory) => refused_at(place, false, None),
+        Some(SignFault::StoreFailed) if signer.retire(upto) == Err(SignFault::Stopped) => {
+            refused_at(place, true, None)
+        }
+        _ => None,
     }
-    if place.is_again {
-        return None;
-    }
-    Some((
-        true,
-        Place {
-            is_again: true,
-            is_failed: fault == Some(SignFault::StoreFailed),
-            ..place
-        },
-    ))
 }
 
 // The same of a step.
@@ -237,29 +283,37 @@ fn taken<S: Store, R: Source>(
     step: &Step<'_>,
     place: Place,
     out: &mut Vec<u8>,
-) -> Option<(bool, Place)> {
+) -> Option<Place> {
     match step {
         Step::Sign(number, message, wanted) => {
-            return requested(signer, (*number, *message, *wanted), place, out);
+            requested(signer, (*number, *message, *wanted), place, out)
         }
         Step::Repeat(number, message, wanted) => {
-            let mut again = Vec::new(alloc);
-            let repeat = (*number, *message, *wanted);
-            let (is_closed, after) = requested(signer, repeat, place, &mut again)?;
-            if !is_closed && again != *out {
-                return None;
-            }
-            return Some((is_closed, after));
+            repeated(
+                alloc,
+                signer,
+                (*number, *message, *wanted),
+                place,
+                out.as_slice(),
+            )
         }
-        Step::Retire(upto, wanted) => return retired(signer, (*upto, *wanted), place),
-        Step::Left(counts) if signer.left().as_slice() != *counts => return None,
-        Step::Left(_) => {}
-        Step::Reopen(_, first) => next.set(*first),
-        Step::ReopenByKey(_) => next.set(*signer.public_key().write().as_slice().get(12)?),
+        Step::Retire(upto, wanted) => retired(signer, (*upto, *wanted), place),
+        Step::Left(counts) => {
+            if signer.left().as_slice() == *counts {
+                after_step(place, None)
+            } else {
+                None
+            }
+        }
+        Step::Reopen(len, first) => {
+            next.set(*first);
+            after_step(place, Some(*len))
+        }
+        Step::ReopenByKey(len) => {
+            next.set(*signer.public_key().write().as_slice().get(12)?);
+            after_step(place, Some(*len))
+        }
     }
-    let is_closed = !matches!(step, Step::Left(_));
-    let step = place.step.checked_add(1)?;
-    Some((is_closed, Place { step, ..BEGIN }))
 }
 
 // The place of a key after the steps from one on, up to the next one for which its file is opened again.
@@ -273,17 +327,13 @@ fn taken_up<S: Store, R: Source>(
 ) -> Option<Place> {
     let mut at = place;
     for step in steps.get(place.step..)? {
-        let (is_closed, after) = taken(alloc, signer, next, step, at, out)?;
-        at = Place {
-            next: next.get(),
-            ..after
-        };
+        at = taken(alloc, signer, next, step, at, out)?;
+        at.next = next.get();
         // a file takes no memory where leaves of it are retired
-        let is_refused = at.is_again && !at.is_failed;
-        if is_refused && matches!(step, Step::Retire(_, _)) {
+        if at.is_again && !at.is_failed && matches!(step, Step::Retire(_, _)) {
             return None;
         }
-        if is_closed {
+        if at.is_closed {
             break;
         }
     }
@@ -335,15 +385,10 @@ fn len_after<D: Disk + Drop>(alloc: Global, disk: D, steps: &[Step<'_>]) -> Opti
         if after.step == steps.len() {
             return Some(len);
         }
-        let passed = match after.step.checked_sub(1) {
-            Some(before) => steps.get(before),
-            None => None,
-        };
-        match passed {
-            Some(Step::Reopen(wanted, _)) | Some(Step::ReopenByKey(wanted))
-                if !after.is_again && len != *wanted => return None,
-            _ => place = after,
+        if after.len.is_some() && after.len != Some(len) {
+            return None;
         }
+        place = after;
     }
     None
 }
@@ -504,20 +549,11 @@ fn fill_trees<S: Store + Drop>(store: S, text: &str) -> Option<S> {
 // A store of a new key, at the second try where memory was refused at the first; where that is wanted the key's trees
 // below the first level are full.
 fn made_in<S: Store + Drop>(alloc: Global, text: &str, store: S, is_full: bool) -> Option<S> {
-    let tape = [7; 48];
-    if store.limit() == 0 {
-        return None;
-    }
-    let spec = Spec::parse(text).ok()?;
-    let store = match Signer::create(alloc, spec, store, TapeSource::new(&tape)) {
-        Ok(signer) => signer.into_store(),
-        Err(refused) => {
-            if refused.fault != SignFault::OutOfMemory {
-                return None;
-            }
-            let (store, _random) = refused.given;
-            created(alloc, text, store, TapeSource::new(&tape))?.into_store()
-        }
+    let (store, fault) = created_in(alloc, text, store, 7)?;
+    let store = match fault {
+        None => store,
+        Some(SignFault::OutOfMemory) => keyed(alloc, text, store)?,
+        _ => return None,
     };
     if is_full {
         fill_trees(store, text)
@@ -526,8 +562,26 @@ fn made_in<S: Store + Drop>(alloc: Global, text: &str, store: S, is_full: bool) 
     }
 }
 
-// What steps of a key in memory come to, each of which comes again at once where memory was refused: whether its store
-// was refused memory for a name, so after something was drawn, and whether for leaves.
+// What a step of a key in memory comes to, which comes again at once where memory was refused: whether its store was
+// refused memory for a name, so after something was drawn, and whether for leaves.
+fn refused_once<S: Store, R: Source>(
+    alloc: Global,
+    signer: &mut Signer<S, R>,
+    next: &Cell<u8>,
+    step: &Step<'_>,
+    out: &mut Vec<u8>,
+) -> Option<(bool, bool)> {
+    let before = next.get();
+    let place = taken(alloc, signer, next, step, BEGIN, out)?;
+    let is_name = place.is_again && next.get() != before;
+    let is_retire = place.is_again && matches!(step, Step::Retire(_, _));
+    if place.is_again && taken(alloc, signer, next, step, place, out)?.is_again {
+        return None;
+    }
+    Some((is_name, is_retire))
+}
+
+// The same of steps.
 fn refused_in<S: Store, R: Source>(
     alloc: Global,
     signer: &mut Signer<S, R>,
@@ -535,20 +589,12 @@ fn refused_in<S: Store, R: Source>(
     steps: &[Step<'_>],
     out: &mut Vec<u8>,
 ) -> Option<(bool, bool)> {
-    let mut is_name = false;
-    let mut is_retire = false;
+    let mut came = (false, false);
     for step in steps {
-        let before = next.get();
-        let (is_refused, place) = taken(alloc, signer, next, step, BEGIN, out)?;
-        if is_refused {
-            is_name = is_name || next.get() != before;
-            is_retire = is_retire || matches!(step, Step::Retire(_, _));
-            if taken(alloc, signer, next, step, place, out)?.0 {
-                return None;
-            }
-        }
+        let (is_name, is_retire) = refused_once(alloc, signer, next, step, out)?;
+        came = (came.0 || is_name, came.1 || is_retire);
     }
-    Some((is_name, is_retire))
+    Some(came)
 }
 
 // What the same steps of the key in a store come to, which is opened for them with a source that begins with this
@@ -687,8 +733,7 @@ fn lower_trees_are_used_up_in_memory_at_last(rt: HostRuntime) {
 // The file of a key of two levels whose lower tree is full.
 fn full_file(alloc: Global) -> Option<MemoryDisk> {
     let place = FileStore::format(MemoryDisk::of(alloc, &[]).ok()?).ok()?;
-    let store = store_of(keyed(alloc, TWO, place)?)?;
-    Some(fill_trees(store, TWO)?.into_disk())
+    Some(made_in(alloc, TWO, place, true)?.into_disk())
 }
 
 // Its next name makes another tree.
@@ -820,35 +865,42 @@ fn a_cut_name_is_answered_at_last(rt: HostRuntime) {
     assert!(rt; not_left == Some((false, true)));
 }
 
-// The fault of the first request of a name, and where memory is refused for it, of the second.
-fn fault_twice<S: Store, R: Source>(
+// The fault of the first request of the name of a number under the key in a store, and where memory is refused for it,
+// of the second.
+fn fault_twice<S: Store + Drop>(
     alloc: Global,
-    signer: &mut Signer<S, R>,
+    store: S,
     number: u32,
 ) -> Option<(SignFault, Option<SignFault>)> {
-    let first = answer(alloc, signer, &name_of(number), &[1])?.err()?;
-    if first != SignFault::OutOfMemory {
-        return Some((first, None));
-    }
-    let second = answer(alloc, signer, &name_of(number), &[1])?.err();
+    let tape = tape_of::<32>(0, 1);
+    let name = name_of(number);
+    let mut signer = opened_by(alloc, store, TapeSource::new(&tape))?;
+    let first = answer(alloc, &mut signer, &name, &[1])?.err()?;
+    let second = match first {
+        SignFault::OutOfMemory => answer(alloc, &mut signer, &name, &[1])?.err(),
+        _ => None,
+    };
     Some((first, second))
 }
 
-const BOUND_BYTE: [Entry; 1] = [Entry::BoundByte(0, 1, 1)];
-
-// The faults of a new name under a key whose root isn't that of its tree, or where that is wanted, of a name that is
+// The faults of a new name under a key whose root isn't that of its tree, or of the name of the number 1, which is
 // bound to the digest of the byte 1.
-fn faults_of(alloc: Global, is_bound: bool) -> Option<(SignFault, Option<SignFault>)> {
-    let count = if is_bound { 1 } else { 0 };
-    let entries = &BOUND_BYTE[..count];
+fn faults_of(
+    alloc: Global,
+    entries: &[Entry<'_>],
+    number: u32,
+) -> Option<(SignFault, Option<SignFault>)> {
     let store = match listed(alloc, entries) {
-        Some(store) => store,
-        None => listed(alloc, entries)?,
+        Some(store) => Some(store),
+        None => listed(alloc, entries),
     };
-    let tape = tape_of::<32>(0, 1);
-    let mut signer = opened_by(alloc, store, TapeSource::new(&tape))?;
-    fault_twice(alloc, &mut signer, if is_bound { 1 } else { 2 })
+    fault_twice(alloc, store?, number)
 }
+
+// No record after the key; and the name of the number 1.
+const NO_NAME: &[Entry<'static>] = &[];
+
+const BOUND_BYTE: &[Entry<'static>] = &[Entry::BoundByte(0, 1, 1)];
 
 // What is found of such a root, and what the second request answers where memory is refused for the first.
 const FOUND: Option<(SignFault, Option<SignFault>)> = Some((SignFault::Damaged(0), None));
@@ -861,25 +913,25 @@ const FOUND_THEN: Option<(SignFault, Option<SignFault>)> = Some((
 // Want of memory comes before what is wrong in the records, and the next request says that.
 #[test]
 fn a_changed_root_is_found_at_last(rt: HostRuntime) {
-    let faults = faults_of(rt.alloc(), false);
+    let faults = faults_of(rt.alloc(), NO_NAME, 2);
     assert!(rt; faults == FOUND_THEN || faults == FOUND);
 }
 
 // This one passes only where no growth of the first request is refused.
 #[test]
 fn a_changed_root_is_found_at_first(rt: HostRuntime) {
-    assert!(rt; faults_of(rt.alloc(), false) == FOUND);
+    assert!(rt; faults_of(rt.alloc(), NO_NAME, 2) == FOUND);
 }
 
 // Under a bound name, too, want of memory comes before what is wrong in the records.
 #[test]
 fn a_changed_root_of_a_bound_name_is_found_at_last(rt: HostRuntime) {
-    let faults = faults_of(rt.alloc(), true);
+    let faults = faults_of(rt.alloc(), BOUND_BYTE, 1);
     assert!(rt; faults == FOUND_THEN || faults == FOUND);
 }
 
 // This one passes only where no growth of the first request is refused.
 #[test]
 fn a_changed_root_of_a_bound_name_is_found_at_first(rt: HostRuntime) {
-    assert!(rt; faults_of(rt.alloc(), true) == FOUND);
+    assert!(rt; faults_of(rt.alloc(), BOUND_BYTE, 1) == FOUND);
 }
