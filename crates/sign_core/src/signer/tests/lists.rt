@@ -147,23 +147,32 @@ const LISTS: [(&[Entry<'_>], Result<u32, SignFault>); 18] = [
     ),
 ];
 
-// The first of these lists that opens with something else, in memory or in a file; their count if none.
-fn first_other_list(alloc: Global) -> Option<usize> {
-    for (i, (entries, wanted)) in LISTS.iter().enumerate() {
-        let store = listed(alloc, entries)?;
-        let (in_memory, _) = opened(alloc, store, TapeSource::new(&[]))?;
-        let store = FileStore::open(filed(alloc, entries)?).ok()?;
-        let (in_file, _) = opened(alloc, store, TapeSource::new(&[]))?;
-        if in_memory != *wanted || in_file != *wanted {
-            return Some(i);
-        }
+// Whether a store opens with so many leaves at the first level, or with this fault.
+fn opens_with<S: Store + Drop>(
+    alloc: Global,
+    store: Option<S>,
+    wanted: Result<u32, SignFault>,
+) -> bool {
+    let Some(store) = store else {
+        return false;
+    };
+    match opened(alloc, store, TapeSource::new(&[])) {
+        Some((came, _)) => came == wanted,
+        None => false,
     }
-    Some(LISTS.len())
+}
+
+// The store of a file of these records after a key of one tree.
+fn stored(alloc: Global, entries: &[Entry<'_>]) -> Option<FileStore<MemoryDisk>> {
+    FileStore::open(filed(alloc, entries)?).ok()
 }
 
 #[test]
 fn lists_that_are_not_legal_do_not_open(rt: HostRuntime) {
-    assert_eq!(rt; first_other_list(rt.alloc()), Some(LISTS.len()));
+    for (entries, wanted) in LISTS {
+        assert!(rt; opens_with(rt.alloc(), listed(rt.alloc(), entries), wanted));
+        assert!(rt; opens_with(rt.alloc(), stored(rt.alloc(), entries), wanted));
+    }
 }
 
 // Lists, and their faults as those of a ledger.
@@ -272,50 +281,78 @@ const OF_OTHER_TREE: [Call; 5] = [
     Call::Left(&[31, 30]),
 ];
 
-// How long the file of the first key, in which leaf 3 is bound, is after these calls; and whether no record comes to
-// those of the second one.
-fn under_other_roots(alloc: Global) -> Option<(u64, bool)> {
+// A store after these records, which are added to it, and then these calls, all of which are answered so.
+fn goes_on_after<S: Store + Drop>(
+    alloc: Global,
+    store: Option<S>,
+    entries: &[Entry<'_>],
+    calls: &[Call<'_>],
+) -> Option<S> {
     let tape = tape_of::<112>(0, 1);
+    let store = with_records(store?, entries)?;
+    goes_on_with(alloc, store, TapeSource::new(&tape), calls)
+}
+
+// How long the file of the first key, in which leaf 3 is bound, is after these calls.
+fn under_other_root(alloc: Global) -> Option<u64> {
+    let store = stored(alloc, &[Entry::Bound(3, 0)]);
+    let store = goes_on_after(alloc, store, &[], &OF_OTHER_ROOT)?;
+    store.into_disk().len().ok()
+}
+
+// Whether no record comes to those of the second one.
+fn is_under_other_tree(alloc: Global) -> Option<bool> {
     let key = tape_of::<48>(0, 1);
-    let store = FileStore::open(filed(alloc, &[Entry::Bound(3, 0)])?).ok()?;
-    let store = goes_on_with(alloc, store, TapeSource::new(&tape), &OF_OTHER_ROOT)?;
-    let len = store.into_disk().len().ok()?;
     let store = MemoryStore::with_limit(alloc, 100);
-    let store = begins_with(alloc, TWO, store, TapeSource::new(&key), &[])?;
-    let store = with_records(store, &TREE)?;
-    let mut store = goes_on_with(alloc, store, TapeSource::new(&tape), &OF_OTHER_TREE)?;
-    Some((len, store.load(4) == Ok(None)))
+    let store = begins_with(alloc, TWO, store, TapeSource::new(&key), &[]);
+    let mut store = goes_on_after(alloc, store, &TREE, &OF_OTHER_TREE)?;
+    Some(store.load(4) == Ok(None))
 }
 
 #[test]
 fn changed_roots_are_found(rt: HostRuntime) {
-    assert!(rt; under_other_roots(rt.alloc()) == Some((513, true)));
+    assert!(rt; under_other_root(rt.alloc()) == Some(513));
+    assert!(rt; is_under_other_tree(rt.alloc()) == Some(true));
 }
 
-// Whether a file that has an illegal record opens with nothing up to a call that fails, with 45 from there up to
-// another, and with the place of that record from there on. The first of these calls, and how many answer 45.
-fn failing_in_turn(alloc: Global, entries: &[Entry<'_>], place: u32) -> Option<(bool, u32)> {
+// The fault with which a disk's file opens, if its store can be opened.
+fn fault_on<D: Disk + Drop>(alloc: Global, disk: D) -> Option<SignFault> {
+    let store = FileStore::open(disk).ok()?;
+    opened(alloc, store, TapeSource::new(&[]))?.0.err()
+}
+
+// The fault with which this file opens where this call of its disk fails.
+fn fault_at(alloc: Global, file: &[u8], call: u32) -> Option<SignFault> {
+    let mut disk = MemoryDisk::of(alloc, file).ok()?;
+    disk.fail_at(call);
+    fault_on(alloc, disk)
+}
+
+// Whether a file that has an illegal record opens with nothing where one of its disk's first calls fails, with 45 where
+// one of so many calls after these does, and with the place of that record from there on.
+fn is_failing_in_turn(
+    alloc: Global,
+    entries: &[Entry<'_>],
+    place: u32,
+    count: u32,
+) -> Option<bool> {
     let file = filed(alloc, entries)?.stop(Pick::New).ok()?;
-    let mut is_opened = false;
-    let mut count = 0u32;
-    let mut is_past = false;
-    for n in 1..41u32 {
-        let mut disk = MemoryDisk::of(alloc, &file).ok()?;
-        disk.fail_at(n);
-        let answer = match FileStore::open(disk) {
-            Ok(store) => opened(alloc, store, TapeSource::new(&[]))?.0.err(),
-            Err(_) => None,
+    let mut counts = [0u32; 3];
+    let mut last = 0;
+    for call in 1..41u32 {
+        let kind = match fault_at(alloc, &file, call) {
+            None => 0,
+            Some(SignFault::DeviceFailed) => 1,
+            Some(SignFault::Illegal(at)) if at == place => 2,
+            _ => return None,
         };
-        if answer == Some(SignFault::DeviceFailed) && !is_past {
-            is_opened = true;
-            count = count.saturating_add(1);
-        } else if answer == Some(SignFault::Illegal(place)) {
-            is_past = true;
-        } else if answer.is_some() || is_opened || is_past {
-            return Some((false, n));
+        if kind < last {
+            return None;
         }
+        last = kind;
+        counts[kind] = counts[kind].saturating_add(1);
     }
-    Some((is_opened && is_past, count))
+    Some(counts[1] == count && counts[2] > 0)
 }
 
 // The record that comes first decides: slot 0 is read in two calls and each one after it in three, up to the
@@ -327,7 +364,7 @@ fn a_failed_device_and_an_illegal_record(rt: HostRuntime) {
         Entry::Bound(0, 0),
         Entry::Bound(1, 1),
     ];
-    assert_eq!(rt; failing_in_turn(rt.alloc(), &first, 1), Some((true, 5)));
+    assert!(rt; is_failing_in_turn(rt.alloc(), &first, 1, 5) == Some(true));
     let second = [Entry::Bound(0, 0), Entry::Bound(0, 1), Entry::Bound(1, 2)];
-    assert_eq!(rt; failing_in_turn(rt.alloc(), &second, 2), Some((true, 8)));
+    assert!(rt; is_failing_in_turn(rt.alloc(), &second, 2, 8) == Some(true));
 }

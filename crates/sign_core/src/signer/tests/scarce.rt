@@ -186,30 +186,37 @@ const TRIES: [(Option<u32>, Option<u32>, &[Try], u32); 5] = [
     (None, Some(2), OPENS, 31),
 ];
 
-// How many leaves a key has left after these tries. None where one comes out otherwise.
-fn left_after(
+// The store of a row: with a key that has one name, where it is to be opened.
+fn store_of(
     alloc: Global,
     (appends, loads): (Option<u32>, Option<u32>),
     tries: &[Try],
-) -> Option<u32> {
-    let tape = tape_of::<96>(0, 1);
+) -> Option<Scarce> {
+    let tape = tape_of::<80>(0, 1);
     let mut store = empty_store(alloc, appends, None);
     if matches!(tries.first(), Some(Try::Open(_))) {
         let name = [Call::Sign(1, 1, None)];
         store = begins_with(alloc, LMS, store, TapeSource::new(&tape), &name)?;
     }
     store.loads = loads;
+    Some(store)
+}
+
+// How many leaves a key has left after these tries in a store. None where one comes out otherwise.
+fn left_after<S: Store + Drop>(alloc: Global, store: Option<S>, tries: &[Try]) -> Option<u32> {
+    let tape = tape_of::<96>(0, 1);
     let random = TapeSource::new(&tape);
-    let (count, store, _) = first_other_try(alloc, LMS, store, random, tries)?;
+    let (count, store, random) = first_other_try(alloc, LMS, store?, random, tries)?;
     if count != tries.len() {
         return None;
     }
-    opened(alloc, store, TapeSource::new(&[]))?.0.ok()
+    opened(alloc, store, random)?.0.ok()
 }
 
 #[test]
 fn a_create_or_an_opening_without_memory_comes_again(rt: HostRuntime) {
     for (appends, loads, tries, left) in TRIES {
-        assert!(rt; left_after(rt.alloc(), (appends, loads), tries) == Some(left));
+        let store = store_of(rt.alloc(), (appends, loads), tries);
+        assert!(rt; left_after(rt.alloc(), store, tries) == Some(left));
     }
 }
