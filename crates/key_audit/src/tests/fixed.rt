@@ -70,16 +70,21 @@ fn is_opened_again<D: Disk + Drop>(disk: D) -> Option<bool> {
     Some(is_tagged && is_there && is_end && refused.fault == FormatFault::KeyThere)
 }
 
-// Whether a signer has so many leaves left, caches where it should, and a public key that is read again.
-fn has<S: Store, R: Source>(signer: &Signer<S, R>, left: &[u32], caches: &[(u8, bool)]) -> bool {
-    for (level, is_cached) in caches {
-        if signer.cache_leaves(*level).is_some() != *is_cached {
-            return false;
-        }
-    }
-    let public = signer.public_key();
-    let is_read = AnyPublic::read(public.write().as_slice()) == Ok(public);
-    is_read && signer.left().as_slice() == left
+// Whether a key is read as it is written.
+fn is_read_again(public: &AnyPublic) -> bool {
+    AnyPublic::read(public.write().as_slice()) == Ok(*public)
+}
+
+// Whether a signer has so many leaves left, caches of its first three levels where it should, and a public key that is
+// read again.
+fn has<S: Store, R: Source>(signer: &Signer<S, R>, left: &[u32], caches: [bool; 3]) -> bool {
+    let is_cached = [
+        signer.cache_leaves(0).is_some(),
+        signer.cache_leaves(1).is_some(),
+        signer.cache_leaves(2).is_some(),
+    ];
+    let is_read = is_read_again(&signer.public_key());
+    is_read && is_cached == caches && signer.left().as_slice() == left
 }
 
 // Whether the signer of a new key of one tree signs nothing after its leaves were retired; and the store then.
@@ -87,7 +92,7 @@ fn retired<S: Store + Drop>(alloc: Global, store: S) -> Option<(S, bool)> {
     let name = Name::new(b"fw-1").ok()?;
     let mut out = Vec::new(alloc);
     let mut signer = created(alloc, ONE_TREE, store, Numbers { next: 0 })?;
-    let is_new = has(&signer, &[32], &[(0, false)]);
+    let is_new = has(&signer, &[32], [false; 3]);
     let beyond = signer.retire(33) == Err(SignFault::RetireRange);
     let is_retired = signer.retire(32) == Ok(()) && signer.retire(5) == Ok(());
     let signed = signer.sign(&name, &mut [1].as_slice(), &mut out);
@@ -144,7 +149,7 @@ fn is_refused<S: Store, R: Source>(alloc: Global, signer: &mut Signer<S, R>) -> 
     let name = Name::new(b"fw-1").ok()?;
     let changed = signer.sign(&name, &mut [2].as_slice(), &mut out);
     let is_retired = signer.retire(1) == Ok(()) && signer.retire(33) == Err(SignFault::RetireRange);
-    let is_so = has(signer, &[31, 31], &[(1, true), (2, false)]);
+    let is_so = has(signer, &[31, 31], [true, true, false]);
     let mut room = [0; 64];
     let mut output = room.as_mut_slice();
     let mut input = b"\x04fw-1\0\0\0\x01\x02\0\0\0\0\0\x04fw-1\0\0\0\x02\x01".as_slice();
@@ -158,7 +163,7 @@ fn is_refused<S: Store, R: Source>(alloc: Global, signer: &mut Signer<S, R>) -> 
 // cache any more, and the leaf of the second name is in the block that its tree's cache keeps.
 fn are_repeated<S: Store, R: Source>(signer: &mut Signer<S, R>, signatures: Signatures) -> bool {
     let (first, second, mut output) = signatures;
-    let is_so = has(signer, &[30, 31], &[(0, true), (1, true)]);
+    let is_so = has(signer, &[30, 31], [true, true, false]);
     let made = (signer.cache_leaves(0), signer.cache_leaves(1));
     let is_first = sign_byte(signer, b"fw-1", 1, &mut output).is_some() && output == first;
     let is_second = sign_byte(signer, b"fw-2", 2, &mut output).is_some() && output == second;
@@ -234,66 +239,79 @@ fn known_of_each(alloc: Global) -> Option<Vec<Bytes>> {
     Some(all)
 }
 
-// Whether a signature is valid, and not for another message, nor without its last byte; and its views have all its
-// bytes, and the key's scheme by itself says that it is valid.
-fn is_verified(public: &AnyPublic, given: &Given) -> Option<bool> {
+// Whether the view of a signature has all its bytes, and the key's scheme by itself says that it is valid.
+fn is_verified_alone(public: &AnyPublic, given: &Given) -> bool {
     let signature = given.signature.as_slice();
-    let (_, cut) = signature.split_last()?;
+    let message = &mut given.message.as_slice();
+    let (is_whole, verdict) = match public {
+        AnyPublic::Lms(key) => (
+            matches!(LmsSigView::read(signature), Ok(view) if view.bytes() == signature),
+            lms::verify(key, message, signature),
+        ),
+        AnyPublic::Hss(key) => (
+            matches!(HssSigView::read(signature), Ok(view) if view.bytes() == signature),
+            hss::verify(key, message, signature),
+        ),
+        AnyPublic::Xmss(key) => (
+            matches!(XmssSigView::read(key.tree, signature), Ok(view) if view.bytes() == signature),
+            xmss::verify(key, message, signature),
+        ),
+    };
+    is_whole && verdict == Ok(())
+}
+
+// Whether a signature is valid, and not for another message, nor without its last byte.
+fn is_verified(public: &AnyPublic, given: &Given) -> bool {
+    let signature = given.signature.as_slice();
+    let len = signature.len().saturating_sub(1);
+    let cut = signature.get(..len).unwrap_or_default();
     let valid = verify_any(public, &mut given.message.as_slice(), signature);
     let other = verify_any(public, &mut b"other".as_slice(), signature);
     let short = verify_any(public, &mut given.message.as_slice(), cut);
     let is_other = matches!(other, Err(Refusal::RootMismatch(_)));
     let is_short = matches!(short, Err(Refusal::Unreadable(_)));
-    let message = &mut given.message.as_slice();
-    let (bytes, valid_alone) = match public {
-        AnyPublic::Lms(key) => (
-            LmsSigView::read(signature).ok()?.bytes(),
-            lms::verify(key, message, signature),
-        ),
-        AnyPublic::Hss(key) => (
-            HssSigView::read(signature).ok()?.bytes(),
-            hss::verify(key, message, signature),
-        ),
-        AnyPublic::Xmss(key) => (
-            XmssSigView::read(key.tree, signature).ok()?.bytes(),
-            xmss::verify(key, message, signature),
-        ),
-    };
-    let is_valid = valid == Ok(()) && valid_alone == Ok(());
-    Some(is_valid && is_other && is_short && bytes == signature)
+    valid == Ok(()) && is_other && is_short && is_verified_alone(public, given)
+}
+
+// Whether a signature is valid under the key of these bytes.
+fn is_valid_under(bytes: &[u8], given: &Given) -> bool {
+    match AnyPublic::read(bytes) {
+        Ok(public) => verify_any(&public, &mut given.message.as_slice(), &given.signature).is_ok(),
+        Err(_) => false,
+    }
+}
+
+// Changes these bits of the byte at a place, if there is one.
+fn change_bits(bytes: &mut [u8], place: usize, bits: u8) {
+    if let Some(byte) = bytes.get_mut(place) {
+        *byte ^= bits;
+    }
 }
 
 // Whether a signature is refused with each of its first bytes changed, in place.
-fn is_refused_changed(public: &AnyPublic, given: &mut Given) -> Option<bool> {
+fn is_refused_changed(bytes: &[u8], given: &mut Given) -> bool {
     for place in 0..64usize {
-        *given.signature.get_mut(place)? ^= 0xff;
-        let answer = verify_any(public, &mut given.message.as_slice(), &given.signature);
-        *given.signature.get_mut(place)? ^= 0xff;
-        if answer.is_ok() {
-            return Some(false);
+        change_bits(&mut given.signature, place, 0xff);
+        let is_valid = is_valid_under(bytes, given);
+        change_bits(&mut given.signature, place, 0xff);
+        if is_valid {
+            return false;
         }
     }
-    Some(true)
+    true
 }
 
 // Whether a signature is refused with a key of which any byte is changed, in place, or that key is.
-fn is_of_this_key(bytes: &mut Vec<u8>, given: &Given) -> Option<bool> {
+fn is_of_this_key(bytes: &mut Vec<u8>, given: &Given) -> bool {
     for place in 0..bytes.len() {
-        *bytes.get_mut(place)? ^= 0x10;
-        let is_valid = match AnyPublic::read(bytes) {
-            Ok(public) => verify_any(
-                &public,
-                &mut given.message.as_slice(),
-                &given.signature,
-            ).is_ok(),
-            Err(_) => false,
-        };
-        *bytes.get_mut(place)? ^= 0x10;
+        change_bits(bytes, place, 0x10);
+        let is_valid = is_valid_under(bytes, given);
+        change_bits(bytes, place, 0x10);
         if is_valid {
-            return Some(false);
+            return false;
         }
     }
-    Some(AnyPublic::read(bytes.get(1..)?).is_err())
+    AnyPublic::read(bytes.get(1..).unwrap_or_default()).is_err()
 }
 
 // Whether keys, signatures and texts are read and verified.
@@ -302,8 +320,8 @@ fn are_read(alloc: Global) -> Option<bool> {
     for (bytes, given) in known.iter_mut() {
         let public = AnyPublic::read(bytes).ok()?;
         let is_written = public.write().as_slice() == bytes.as_slice();
-        let is_refused = is_refused_changed(&public, given)? && is_of_this_key(bytes, given)?;
-        if !is_written || !is_refused || !is_verified(&public, given)? {
+        let is_refused = is_refused_changed(bytes, given) && is_of_this_key(bytes, given);
+        if !is_written || !is_refused || !is_verified(&public, given) {
             return Some(false);
         }
     }

@@ -81,13 +81,16 @@ fn opened<D: Disk + Drop>(
     }
 }
 
-// The reply to a frame, whose room is made at the second try where memory is refused at the first, its number, and how
-// its serving ends. The reply's body is a valid signature of the frame's last byte, or empty.
+// The number of a reply, the reply itself, and how the serving of its frame ends.
+type Reply = (u8, Vec<u8>, Result<u64, ServeFault>);
+
+// The reply to a frame, whose room is made at the second try where memory is refused at the first. Its body is a valid
+// signature of the frame's last byte, or empty.
 fn reply_to<S: Store, R: Source>(
     alloc: Global,
     signer: &mut Signer<S, R>,
     frame: &[u8],
-) -> Option<(u8, Vec<u8>, Result<u64, ServeFault>)> {
+) -> Option<Reply> {
     let mut output = match Vec::with_capacity(alloc, 3000) {
         Ok(output) => output,
         Err(_) => Vec::with_capacity(alloc, 3000).ok()?,
@@ -160,39 +163,55 @@ fn signed_leaves<S: Store, R: Source>(signer: &Signer<S, R>) -> Option<u32> {
 // The public key, and the reply to the first frame.
 type First = (Option<AnyPublic>, Vec<u8>);
 
-// The place after a frame; after the first one the key and the reply are kept. None where a frame is answered
-// otherwise.
+// Whether a frame is answered so by this key; after the first one the key and the reply are kept.
+fn is_answer(frame: usize, reply: Reply, public: AnyPublic, first: &mut First) -> bool {
+    let Some((_, wanted, wanted_end, is_first_again)) = FRAMES.get(frame) else {
+        return false;
+    };
+    let (number, bytes, end) = reply;
+    let is_wanted = number == *wanted && end == *wanted_end;
+    if frame == 0 {
+        *first = (Some(public), bytes);
+        return is_wanted;
+    }
+    is_wanted && first.0 == Some(public) && (!*is_first_again || bytes == first.1)
+}
+
+// Whether the serving of a frame that memory is refused to ends so.
+fn is_end(frame: usize, end: Result<u64, ServeFault>) -> bool {
+    match FRAMES.get(frame) {
+        Some((_, _, wanted_end, _)) => end == Ok(1) || end == *wanted_end,
+        None => false,
+    }
+}
+
+// The place after a frame. None where it is answered otherwise.
 fn served<S: Store, R: Source>(
     alloc: Global,
     signer: &mut Signer<S, R>,
     place: Place,
     first: &mut First,
 ) -> Option<Place> {
-    let (frame, wanted, wanted_end, is_first_again) = FRAMES.get(place.frame)?;
+    let (frame, _, _, _) = FRAMES.get(place.frame)?;
     let signed = signed_leaves(signer)?;
     if place.signed.is_some() && place.signed != Some(signed) {
         return None;
     }
-    let (number, reply, end) = reply_to(alloc, signer, frame)?;
-    if number == STORE_FAILED && reply_to(alloc, signer, frame)?.0 != STOPPED {
-        return None;
+    let reply = reply_to(alloc, signer, frame)?;
+    let number = reply.0;
+    let is_right = match number {
+        OUT_OF_MEMORY => is_end(place.frame, reply.2),
+        STORE_FAILED => match reply_to(alloc, signer, frame) {
+            Some(again) => again.0 == STOPPED && is_end(place.frame, reply.2),
+            None => false,
+        },
+        _ => is_answer(place.frame, reply, signer.public_key(), first),
+    };
+    if is_right {
+        place_after(place, number, signed)
+    } else {
+        None
     }
-    let is_refused = number == OUT_OF_MEMORY || number == STORE_FAILED;
-    if end != *wanted_end && !(is_refused && end == Ok(1)) {
-        return None;
-    }
-    if !is_refused {
-        if number != *wanted || (*is_first_again && reply != first.1) {
-            return None;
-        }
-        if place.frame == 0 {
-            *first = (Some(signer.public_key()), reply);
-        }
-        if first.0 != Some(signer.public_key()) {
-            return None;
-        }
-    }
-    place_after(place, number, signed)
 }
 
 // The disk of a key after the frames from a place on, up to the next one for which its file is opened again, with how

@@ -5,28 +5,34 @@ use super::audits::{Audited, audited};
 use super::files::{Entry, KEY, opened_at_last, stored};
 use super::*;
 
-// What is answered to the file of these records, and whether an anchor of more records is refused for that: at first,
-// or at last, where the file is opened again if memory was refused, and audited once more. The file itself is made at
-// the second try where memory is refused at the first.
-fn audited_file(alloc: Global, entries: &[Entry<'_>], at_first: bool) -> Option<(Audited, bool)> {
-    let made = match stored(alloc, entries) {
-        Some(store) => store,
-        None => stored(alloc, entries)?,
-    };
-    let mut store = opened_at_last(made.into_disk())?;
-    let beyond = Anchor {
-        count: 9,
-        tag: [0; 32],
-    };
+// An anchor of more records than a file here has.
+const BEYOND: Anchor = Anchor {
+    count: 9,
+    tag: [0; 32],
+};
+
+// What is answered to a disk's file, without an anchor and with that one: at first, or at last, where the file is
+// opened again if memory was refused, and audited once more.
+fn audited_on<D: Disk + Drop>(alloc: Global, disk: D, at_first: bool) -> Option<[Audited; 2]> {
+    let mut store = opened_at_last(disk)?;
     let mut answers = [Err(AuditFault::NoKey); 2];
-    for (answer, anchor) in answers.iter_mut().zip([None, Some(beyond)]) {
+    for (answer, anchor) in answers.iter_mut().zip([None, Some(BEYOND)]) {
         *answer = audited(alloc, &mut store, anchor);
         if *answer == Err(AuditFault::OutOfMemory) && !at_first {
             store = opened_at_last(store.into_disk())?;
             *answer = audited(alloc, &mut store, anchor);
         }
     }
-    Some((answers[0], answers[1] == Err(AuditFault::AnchorCount)))
+    Some(answers)
+}
+
+// The same of the file of these records, which is made at the second try where memory is refused at the first.
+fn audited_file(alloc: Global, entries: &[Entry<'_>], at_first: bool) -> Option<[Audited; 2]> {
+    let made = match stored(alloc, entries) {
+        Some(store) => Some(store),
+        None => stored(alloc, entries),
+    };
+    audited_on(alloc, made?.into_disk(), at_first)
 }
 
 // The records of a key with five more.
@@ -46,7 +52,7 @@ const BOUND_TWICE: &[Entry<'static>] = &[KEY, Entry::Bound(0, b"a"), Entry::Boun
 fn legal_records_are_audited_at_last(rt: HostRuntime) {
     assert_eq!(rt;
         audited_file(rt.alloc(), ENTRIES, false),
-        Some((Ok((6, Some(21), None)), true))
+        Some([Ok((6, Some(21), None)), Err(AuditFault::AnchorCount)])
     );
 }
 
@@ -54,7 +60,7 @@ fn legal_records_are_audited_at_last(rt: HostRuntime) {
 fn an_illegal_record_is_found_at_last(rt: HostRuntime) {
     assert_eq!(rt;
         audited_file(rt.alloc(), BOUND_TWICE, false),
-        Some((Err(AuditFault::Illegal(2)), false))
+        Some([Err(AuditFault::Illegal(2)); 2])
     );
 }
 
@@ -63,7 +69,7 @@ fn an_illegal_record_is_found_at_last(rt: HostRuntime) {
 fn legal_records_are_audited_at_first(rt: HostRuntime) {
     assert_eq!(rt;
         audited_file(rt.alloc(), ENTRIES, true),
-        Some((Ok((6, Some(21), None)), true))
+        Some([Ok((6, Some(21), None)), Err(AuditFault::AnchorCount)])
     );
 }
 
