@@ -865,22 +865,29 @@ fn a_cut_name_is_answered_at_last(rt: HostRuntime) {
     assert!(rt; not_left == Some((false, true)));
 }
 
-// The fault of the first request of the name of a number under the key in a store, and where memory is refused for it,
-// of the second.
-fn fault_twice<S: Store + Drop>(
+// The fault of the first request of the name of a number, and where memory is refused for it, of the second.
+fn fault_twice<S: Store, R: Source>(
+    alloc: Global,
+    signer: &mut Signer<S, R>,
+    number: u32,
+) -> Option<(SignFault, Option<SignFault>)> {
+    let first = answer(alloc, signer, &name_of(number), &[1])?.err()?;
+    if first != SignFault::OutOfMemory {
+        return Some((first, None));
+    }
+    let second = answer(alloc, signer, &name_of(number), &[1])?.err();
+    Some((first, second))
+}
+
+// The same under the key in a store.
+fn faults_in<S: Store + Drop>(
     alloc: Global,
     store: S,
     number: u32,
 ) -> Option<(SignFault, Option<SignFault>)> {
     let tape = tape_of::<32>(0, 1);
-    let name = name_of(number);
     let mut signer = opened_by(alloc, store, TapeSource::new(&tape))?;
-    let first = answer(alloc, &mut signer, &name, &[1])?.err()?;
-    let second = match first {
-        SignFault::OutOfMemory => answer(alloc, &mut signer, &name, &[1])?.err(),
-        _ => None,
-    };
-    Some((first, second))
+    fault_twice(alloc, &mut signer, number)
 }
 
 // The faults of a new name under a key whose root isn't that of its tree, or of the name of the number 1, which is
@@ -894,7 +901,7 @@ fn faults_of(
         Some(store) => Some(store),
         None => listed(alloc, entries),
     };
-    fault_twice(alloc, store?, number)
+    faults_in(alloc, store?, number)
 }
 
 // No record after the key; and the name of the number 1.
