@@ -11,4 +11,5 @@ pub mod Chains
 mod Beginnings
 mod Rotations
 mod Vectors
+mod Words
 mod Ways

@@ -1,6 +1,8 @@
 -- Blocks side by side: each word is a vector, with one lane for each block.
-use Rattle.std.specs.Prelude.{◌≡◌, ℕ, List, [], ◌∷◌, map, slice_index, slice_index_or}
+use Rattle.std.specs.Prelude.{◌≡◌, ℕ, ◌+◌, List, [], ◌∷◌, ◌++◌, drop, map, slice_index, slice_index_or, take}
 use Rattle.std.specs.Coded.{Coded-set, coded_list, coded_ℕ}
+use Rattle.std.specs.Int.{w16, w32, from_be_bytes, to_be_bytes}
+use Rattle.sha2.specs.Sha256.{digest_bytes}
 
 -- How many lanes there are. Another width changes this, and the type of the vectors with their number in the code.
 abbrev pub lanes : ℕ
@@ -19,6 +21,24 @@ abbrev pub lane_state : List (List ℕ) → ℕ → List ℕ
 lane_state x j =
     lane_at x 0 j ∷ lane_at x 1 j ∷ lane_at x 2 j ∷ lane_at x 3 j
     ∷ lane_at x 4 j ∷ lane_at x 5 j ∷ lane_at x 6 j ∷ lane_at x 7 j ∷ []
+
+-- the bytes of the hash value in lane j
+abbrev pub value_in : List (List ℕ) → ℕ → List ℕ
+value_in x j = digest_bytes (lane_state x j) 8
+
+-- the four bytes of a list at byte i
+abbrev pub four_bytes : List ℕ → ℕ → List ℕ
+four_bytes bytes i =
+    slice_index bytes i ∷ slice_index bytes (i + 1) ∷ slice_index bytes (i + 2) ∷ slice_index bytes (i + 3) ∷ []
+
+-- the word of the last three bytes of one word and the first byte of another
+abbrev pub joined_word : ℕ → ℕ → ℕ
+joined_word x y = from_be_bytes w32 (drop 1 (to_be_bytes w32 x) ++ take 1 (to_be_bytes w32 y))
+
+-- what a step of a chain hashes after the beginning that all steps of a key share: the number of the chain, that of the
+-- step, and the value (RFC 8554 4.3)
+abbrev pub step_bytes : ℕ → ℕ → List ℕ → List ℕ
+step_bytes chain at value = to_be_bytes w16 chain ++ at ∷ value
 
 -- Which words or bytes a list has is a fact: two proofs of it are one.
 pub words-prop : (words other : List ℕ) → IsProp (words ≡ other)

@@ -2,3 +2,4 @@ pub mod Chain
 pub mod Digest
 pub mod Groups
 pub mod Lanes
+pub mod Beginning

@@ -31,6 +31,26 @@ pub trait Step {
         }
         after
     }
+
+    /// So many steps of each of four chains, each from its own place. A hash with lanes can keep the values as words
+    /// until all steps are taken. The caller keeps the last places below 256.
+    fn steps_four(
+        &self,
+        chains: &[u16; LANES],
+        from: &[u8; LANES],
+        steps: u8,
+        values: &[[u8; 32]; LANES],
+    ) -> [[u8; 32]; LANES]
+        requires { (j : ℕ) → j < lanes → slice_index from.now j + steps < 256 }
+        ensures { (j : ℕ) → j < lanes → slice_index_or result j [] ≡ walk (step_of self.now) (slice_index chains.now j)
+            (slice_index from.now j) (slice_index from.now j + steps) (slice_index_or values.now j []) }
+    {
+        let mut values = *values;
+        for taken in 0..steps {
+            values = self.step_four(chains, &added(from, taken), &values);
+        }
+        values
+    }
 }
 
 /// The value after the steps from, .., to - 1 of a chain (RFC 8554 4.3, RFC 8391 3.1.2). The caller keeps `from` at
@@ -60,10 +80,7 @@ pub fn climb_four<S: Step>(
         (slice_index chains.now j) (slice_index from.now j) (slice_index to.now j) (slice_index_or values.now j []) }
 {
     let shortest = shortest(from, to);
-    let mut values = *values;
-    for taken in 0..shortest {
-        values = step.step_four(chains, &added(from, taken), &values);
-    }
+    let values = step.steps_four(chains, from, shortest, values);
     climb_rest(step, chains, &added(from, shortest), to, &values)
 }
 
@@ -82,8 +99,8 @@ fn shortest(from: &[u8; LANES], to: &[u8; LANES]) -> u8
     shortest
 }
 
-// The places of four chains after as many steps of each.
-pub(crate) fn added(from: &[u8; LANES], taken: u8) -> [u8; LANES]
+/// The places of four chains after as many steps of each. The caller keeps them below 256.
+pub fn added(from: &[u8; LANES], taken: u8) -> [u8; LANES]
     requires { (j : ℕ) → j < lanes → slice_index from.now j + taken < 256 }
     ensures { (j : ℕ) → j < lanes → slice_index result j ≡ slice_index from.now j + taken }
 {

@@ -5,7 +5,7 @@ ghost use Rattle.winternitz.specs.Chain.{walk, walk_of};
 ghost use Rattle.winternitz.specs.Groups.{IsOnItsWay, IsWithin};
 ghost use Rattle.winternitz.specs.Lanes.{lanes};
 
-use crate::chain::{Step, added, climb, climb_four};
+use crate::chain::{Step, added, climb};
 use crate::lanes::LANES;
 use crate::shares::{Shares, Turn};
 
@@ -131,14 +131,9 @@ fn climb_by<S: Step>(
         → IsOnItsWay (S.step_of step.now) from at.new to.now values ends.new i }
 {
     let begin = bytes_of(at, &turn.chains);
+    let values = values_of(ends, &turn.chains);
+    let climbed = step.steps_four(&turn.chains, &begin, turn.steps, &values);
     let end = added(&begin, turn.steps);
-    let climbed = climb_four(
-        step,
-        &turn.chains,
-        &begin,
-        &end,
-        &values_of(ends, &turn.chains),
-    );
     for lane in 0..LANES {
         let chain = usize::from(turn.chains[lane]);
         at[chain] = end[lane];

@@ -1,11 +1,11 @@
 //! SHA-256 of blocks side by side, one in each lane of a vector. In each lane it is the SHA-256 of the library `sha2`.
 
-ghost use Rattle.std.specs.Prelude.{◌≡◌, ℕ, ◌+◌, ◌*◌, ◌<◌, ◌≤◌, List, [], ◌∷◌, ◌++◌, length};
+ghost use Rattle.std.specs.Prelude.{◌≡◌, ℕ, ◌+◌, ◌*◌, ◌<◌, ◌≤◌, ◌^◌, List, [], ◌∷◌, ◌++◌, length};
 ghost use Rattle.std.specs.Prelude.{slice_index, slice_index_or};
-ghost use Rattle.std.specs.Int.{w64, to_be_bytes};
+ghost use Rattle.std.specs.Int.{w32, to_be_bytes};
 ghost use Rattle.sha2.specs.Sha256 as spec;
 ghost use Rattle.sha2.specs.Sha256.{digest_bytes, initial_hash_256, padding, sha256, word_at};
-ghost use Rattle.winternitz.specs.Lanes.{lanes, lane_state};
+ghost use Rattle.winternitz.specs.Lanes.{four_bytes, lanes, lane_state, value_in};
 
 use crate::lanes::constants::INITIAL;
 use crate::lanes::rounds::compress_words;
@@ -91,14 +91,15 @@ pub(crate) fn load<const N: usize>(bytes: &[[u8; N]; LANES], i: usize) -> Words
 // The word at byte i (FIPS 180-4 5.2.1).
 pub(crate) fn word(bytes: &[u8], i: usize) -> u32
     requires { i + 4 ≤ length bytes.now }
-    ensures { result ≡ word_at bytes.now i }
+    ensures word { result ≡ word_at bytes.now i }
+    ensures bytes { to_be_bytes w32 result ≡ four_bytes bytes.now i }
 {
     u32::from_be_bytes([bytes[i], bytes[i + 1], bytes[i + 2], bytes[i + 3]])
 }
 
 /// The bytes of the hash values.
 pub fn digests(states: &States) -> [[u8; 32]; LANES]
-    ensures { (j : ℕ) → j < lanes → slice_index_or result j [] ≡ digest_bytes (lane_state states.now j) 8 }
+    ensures { (j : ℕ) → j < lanes → slice_index_or result j [] ≡ value_in states.now j }
 {
     let mut digests = [[0; 32]; LANES];
     for lane in 0..LANES {
@@ -116,6 +117,51 @@ fn digest(state: &[u32; 8]) -> [u8; 32]
         bytes[4 * i..4 * i + 4].copy_from_slice(&state[i].to_be_bytes());
     }
     bytes
+}
+
+/// The words of a value of 32 bytes in each lane.
+pub fn in_words(values: &[[u8; 32]; LANES]) -> States
+    ensures { (j : ℕ) → j < lanes → value_in result j ≡ slice_index_or values.now j [] }
+{
+    let mut words = [[0; 8]; LANES];
+    for lane in 0..LANES {
+        words[lane] = words_of(&values[lane]);
+    }
+    [
+        side_by_side(&words, 0),
+        side_by_side(&words, 1),
+        side_by_side(&words, 2),
+        side_by_side(&words, 3),
+        side_by_side(&words, 4),
+        side_by_side(&words, 5),
+        side_by_side(&words, 6),
+        side_by_side(&words, 7),
+    ]
+}
+
+// The words of which bytes consist.
+pub(crate) fn words_of<const B: usize, const N: usize>(bytes: &[u8; B]) -> [u32; N]
+    requires { B ≡ 4 * N }
+    ensures bytes { digest_bytes result N ≡ bytes.now }
+    ensures fit { (k : ℕ) → k < N → slice_index result k < 2 ^ 32 }
+{
+    let mut words = [0; N];
+    for k in 0..N {
+        words[k] = word(bytes, 4 * k);
+    }
+    words
+}
+
+// Word k of each lane.
+pub(crate) fn side_by_side<const N: usize>(words: &[[u32; N]; LANES], k: usize) -> Words
+    requires { k < N }
+    ensures { (j : ℕ) → j < lanes → slice_index result j ≡ slice_index (slice_index_or words.now j []) k }
+{
+    let mut side_by_side = [0; LANES];
+    for lane in 0..LANES {
+        side_by_side[lane] = words[lane][k];
+    }
+    Words::from_array(side_by_side)
 }
 
 /// SHA-256 of messages of 96 bytes, by the hash values after the first blocks and the last 32 bytes.

@@ -28,7 +28,7 @@ mod laws;
 mod message;
 mod shares;
 
-pub use crate::chain::{Step, climb, climb_four};
+pub use crate::chain::{Step, added, climb, climb_four};
 pub use crate::digest::{Digits, digits};
 pub use crate::groups::{MOST_CHAINS, Values, climb_from, climb_to, climb_whole};
 pub use crate::laws::chain_law;

@@ -1,87 +1,145 @@
-//! SHA-256 of messages of 55 bytes that begin alike.
+//! SHA-256 of messages of 55 bytes that begin alike from hash to hash, as the steps of a chain do (RFC 8554 4.3).
 
-ghost use Rattle.std.specs.Prelude.{◌≡◌, ℕ, ◌-◌, ◌*◌, ◌<◌, ◌≤◌, ◌∷◌, ◌++◌, [], length, slice_index, slice_index_or};
+ghost use Rattle.std.specs.Prelude.{◌≡◌, ℕ, ◌+◌, ◌-◌, ◌*◌, ◌<◌, ◌≤◌, ◌^◌, ◌∷◌, ◌++◌, [], length};
+ghost use Rattle.std.specs.Prelude.{slice_index, slice_index_or};
 ghost use Rattle.std.specs.Int.{w64, to_be_bytes};
-ghost use Rattle.sha2.specs.Sha256.{first_words, initial_hash_256, rounds, sha256, word_at};
-ghost use Rattle.winternitz.specs.Lanes.{lane, lanes, words-prop};
+ghost use Rattle.std.proofs.Props.{props};
+ghost use Rattle.sha2.specs.Sha256.{digest_bytes, initial_hash_256, rounds, sha256, word_at};
+ghost use Rattle.winternitz.specs.Lanes.{joined_word, lane, lanes, lane_state, step_bytes, value_in};
 
-use crate::lanes::rounds::{compress_from_five, constant, five_rounds};
-use crate::lanes::{LANES, Words, digests, in_each, in_lane, initial, load, word};
+use crate::lanes::rounds::{add, compress_from_five, constant, five_rounds, shifted, shifted_left};
+use crate::lanes::{LANES, States, Words, initial, side_by_side, words_of};
 
-/// What messages of 55 bytes have in common that begin with the same 20 bytes: the rounds over these five words are
-/// made only once (FIPS 180-4 6.2.2).
+/// What the messages of the lanes begin with, 20 bytes each. The rounds over these five words are made only once
+/// (FIPS 180-4 6.2.2).
 #[derive(Clone, Copy)]
 pub struct Beginning {
-    /// The 20 bytes.
-    pub first: [u8; 20],
+    // The 20 bytes of each lane, as words.
+    word0: Words,
+    word1: Words,
+    word2: Words,
+    word3: Words,
+    word4: Words,
     // The working variables after five rounds.
-    working: [u32; 8],
-    ghost begun: { working ≡ rounds initial_hash_256 (first_words first 5) 5 } by { words-prop _ _ },
+    a: Words,
+    b: Words,
+    c: Words,
+    d: Words,
+    e: Words,
+    f: Words,
+    g: Words,
+    h: Words,
+    ghost fit: { (j : ℕ) → j < lanes → (k : ℕ) → k < 5
+        → slice_index (lane j (word0 ∷ word1 ∷ word2 ∷ word3 ∷ word4 ∷ [])) k < 2 ^ 32 } by { Prim.hlevel props },
+    ghost begun: { (j : ℕ) → j < lanes → lane_state (a ∷ b ∷ c ∷ d ∷ e ∷ f ∷ g ∷ h ∷ []) j
+        ≡ rounds initial_hash_256 (lane j (word0 ∷ word1 ∷ word2 ∷ word3 ∷ word4 ∷ [])) 5 } by { Prim.hlevel props },
 }
 
 impl Beginning {
-    /// What messages have in common that begin with these 20 bytes.
-    pub fn new(first: [u8; 20]) -> Beginning
-        ensures { result.first ≡ first }
-    {
-        let working = in_lane(&five_rounds(&words_of(&first), initial()), 0);
-        Beginning { first, working }
-    }
+    ghost use Rattle.winternitz.specs.Beginning.{first_in};
 
-    /// SHA-256 of four messages side by side, by the 35 bytes with which each of them ends.
-    pub fn hash_four(&self, ends: &[[u8; 35]; LANES]) -> [[u8; 32]; LANES]
-        ensures { (j : ℕ) → j < lanes
-            → slice_index_or result j [] ≡ sha256 (self.now.first ++ slice_index_or ends.now j []) }
+    /// What messages begin with in each lane.
+    pub fn new(first: &[[u8; 20]; LANES]) -> Beginning
+        ensures { (j : ℕ) → j < lanes → first_in result j ≡ slice_index_or first.now j [] }
     {
-        let mut tails = [[0; 44]; LANES];
-        for lane in 0..LANES {
-            tails[lane] = padded(&ends[lane]);
+        let words = first_words(first);
+        let [a, b, c, d, e, f, g, h] = five_rounds(&words, initial());
+        let [word0, word1, word2, word3, word4] = words;
+        Beginning {
+            word0,
+            word1,
+            word2,
+            word3,
+            word4,
+            a,
+            b,
+            c,
+            d,
+            e,
+            f,
+            g,
+            h,
         }
-        let words = block_words(&words_of(&self.first), &tails);
-        digests(&compress_from_five(&initial(), &words, in_each(&self.working)))
+    }
+
+    /// SHA-256 of a message in each lane, which goes on with the numbers of a chain and of a step, two bytes and one,
+    /// and with a value. Values are given and made as the words of which they consist.
+    pub fn hash(&self, chains: &[u16; LANES], at: &[u8; LANES], values: &States) -> States
+        ensures { (j : ℕ) → j < lanes → value_in result j ≡ sha256 (first_in self.now j
+            ++ step_bytes (slice_index chains.now j) (slice_index at.now j) (value_in values.now j)) }
+    {
+        let first = [self.word0, self.word1, self.word2, self.word3, self.word4];
+        let working = [
+            self.a, self.b, self.c, self.d, self.e, self.f, self.g, self.h,
+        ];
+        let words = block_words(&first, numbers(chains, at), values);
+        compress_from_five(&initial(), &words, working)
     }
 }
 
-// The words of the first 20 bytes, the same in each lane.
-fn words_of(first: &[u8; 20]) -> [Words; 5]
-    ensures words { (j : ℕ) → j < lanes → (k : ℕ) → k < 5
-        → slice_index (lane j result) k ≡ word_at first.now (4 * k) }
-    ensures long { length first.now ≡ 20 }
+// The words of the first 20 bytes.
+fn first_words(first: &[[u8; 20]; LANES]) -> [Words; 5]
+    ensures bytes { (j : ℕ) → j < lanes → digest_bytes (lane j result) 5 ≡ slice_index_or first.now j [] }
+    ensures fit { (j : ℕ) → j < lanes → (k : ℕ) → k < 5 → slice_index (lane j result) k < 2 ^ 32 }
+    ensures long { length result ≡ 5 }
 {
-    let mut words = [Words::splat(0); 5];
-    for k in 0..5 {
-        words[k] = constant(word(first, 4 * k));
+    let mut words = [[0; 5]; LANES];
+    for lane in 0..LANES {
+        words[lane] = words_of(&first[lane]);
     }
-    words
+    [
+        side_by_side(&words, 0),
+        side_by_side(&words, 1),
+        side_by_side(&words, 2),
+        side_by_side(&words, 3),
+        side_by_side(&words, 4),
+    ]
 }
 
-// The last 35 of 55 bytes and their padding (FIPS 180-4 5.1.1).
-fn padded(end: &[u8; 35]) -> [u8; 44]
-    ensures bytes { result ≡ end.now ++ 0x80 ∷ to_be_bytes w64 440 }
-    ensures long { length end.now ≡ 35 }
+// The numbers of chains and of steps, three bytes together.
+fn numbers(chains: &[u16; LANES], at: &[u8; LANES]) -> Words
+    ensures { (j : ℕ) → j < lanes → slice_index result j ≡ slice_index chains.now j * 2 ^ 8 + slice_index at.now j }
 {
-    let mut tail = [0; 44];
-    tail[..35].copy_from_slice(end);
-    tail[35] = 0x80;
-    tail[42] = 1;
-    tail[43] = 0xb8;
-    tail
+    let mut numbers = [0; LANES];
+    for lane in 0..LANES {
+        numbers[lane] = u32::from(chains[lane]) * 256 + u32::from(at[lane]);
+    }
+    Words::from_array(numbers)
 }
 
-// The words of blocks: the first five, and those of the 44 bytes with which each block ends.
-fn block_words(first: &[Words; 5], tails: &[[u8; 44]; LANES]) -> [Words; 16]
+// The words of blocks: the first five, and those of a number of three bytes, a value, and the padding of a message of
+// 55 bytes (FIPS 180-4 5.1.1). The value's bytes stand three bytes behind the ends of words.
+fn block_words(first: &[Words; 5], numbers: Words, values: &States) -> [Words; 16]
     ensures first { (j : ℕ) → j < lanes → (k : ℕ) → k < 5
         → slice_index (lane j result) k ≡ slice_index (lane j first.now) k }
-    ensures rest { (j : ℕ) → j < lanes → (k : ℕ) → 5 ≤ k → k < 16
-        → slice_index (lane j result) k ≡ word_at (slice_index_or tails.now j []) (4 * (k - 5)) }
+    ensures rest { (j : ℕ) → j < lanes → (chain at k : ℕ) → chain < 2 ^ 16 → at < 2 ^ 8
+        → slice_index numbers j ≡ chain * 2 ^ 8 + at → 5 ≤ k → k < 16 → slice_index (lane j result) k
+        ≡ word_at (step_bytes chain at (value_in values.now j) ++ 0x80 ∷ to_be_bytes w64 440) (4 * (k - 5)) }
 {
-    let mut words = [Words::splat(0); 16];
-    for k in 0..16 {
-        words[k] = if k < 5 {
-            first[k]
-        } else {
-            load(tails, 4 * (k - 5))
-        };
-    }
-    words
+    [
+        first[0],
+        first[1],
+        first[2],
+        first[3],
+        first[4],
+        joined(numbers, values[0]),
+        joined(values[0], values[1]),
+        joined(values[1], values[2]),
+        joined(values[2], values[3]),
+        joined(values[3], values[4]),
+        joined(values[4], values[5]),
+        joined(values[5], values[6]),
+        joined(values[6], values[7]),
+        joined(values[7], constant(0x8000_0000)),
+        constant(0),
+        constant(440),
+    ]
+}
+
+// The last three bytes of a word and the first byte of another.
+#[inline(always)]
+fn joined(x: Words, y: Words) -> Words
+    ensures { (j : ℕ) → j < lanes → slice_index result j ≡ joined_word (slice_index x j) (slice_index y j) }
+{
+    add(shifted_left(x, 8), shifted(y, 24))
 }

@@ -1,7 +1,15 @@
-use Rattle.std.proofs.Common.{◌∙◌, sym, arith}
-use Rattle.winternitz.proofs.Vectors.{slice_index-lane}
+use Rattle.std.proofs.Common.{◌∙◌, ap, slice_index}
+use Rattle.winternitz.specs.Lanes.{joined_word, lane_at}
+use Rattle.winternitz.proofs.Words.{tail_words}
 use Rattle.winternitz.proofs.lanes.beginning.block_words.Goals as goal
 
-pub returns-clause-first : goal.returns-clause-first
-returns-clause-first c = λ j low k within.
-    slice_index-lane c.loop-k.words j k ∙ c.loop-k.invariant.first j k (omega arith) within ∙ sym (slice_index-lane c.args.first.now j k)
+pub returns-clause-rest : goal.returns-clause-rest
+returns-clause-rest c = λ j low chain at k chain_low at_low is.
+    let first = c.args.first.now in
+    let values = c.args.values.now in
+    tail_words (lane_at first 0 j) (lane_at first 1 j) (lane_at first 2 j) (lane_at first 3 j) (lane_at first 4 j) _ _ _ _ _ _ _ _ _ _ _
+    (slice_index c.args.numbers j) (lane_at values 0 j) (lane_at values 1 j) (lane_at values 2 j) (lane_at values 3 j)
+    (lane_at values 4 j) (lane_at values 5 j) (lane_at values 6 j) (lane_at values 7 j) chain at
+    (c.joined.ensures j low) (c.joined-2.ensures j low) (c.joined-3.ensures j low) (c.joined-4.ensures j low) (c.joined-5.ensures j low)
+    (c.joined-6.ensures j low) (c.joined-7.ensures j low) (c.joined-8.ensures j low) (c.joined-9.ensures j low ∙ ap (joined_word (lane_at values 7 j)) (c.constant.ensures j low))
+    (c.constant-2.ensures j low) (c.constant-3.ensures j low) is at_low chain_low k

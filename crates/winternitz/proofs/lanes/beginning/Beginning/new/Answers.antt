@@ -1,18 +1,16 @@
-use Rattle.std.proofs.Common.{◌∙◌, ◌<◌, sym, ap, arith}
-use Rattle.sha2.proofs.Schedule256.{slice_index-first_words}
-use Rattle.sha2.specs.Sha256.{first_words, initial_hash_256, rounds}
-use Rattle.winternitz.specs.Lanes.{lane, lanes}
-use Rattle.winternitz.proofs.Vectors.{rounds_same}
+use Rattle.std.proofs.Common.{◌∙◌, ◌<◌, ◌^◌, ap, subst, slice_index}
+use Rattle.sha2.specs.Sha256.{initial_hash_256, rounds}
+use Rattle.winternitz.specs.Lanes.{lane}
+use Rattle.winternitz.proofs.Words.{lane_of_five}
 use Rattle.winternitz.proofs.lanes.beginning.Beginning.new.Goals as goal
 
 pub invariant_of-result : goal.invariant_of-result
-invariant_of-result c = record {
-  begun =
-      let low : 0 < lanes = omega arith in
-      let first = c.args.first in
-      let words = c.words_of.result in
-      c.in_lane-working.ensures ∙ c.five_rounds.ensures 0 low
-      ∙ ap (λ h. rounds h (lane 0 words) 5) (c.initial.ensures 0 low)
-      ∙ rounds_same initial_hash_256 (lane 0 words) (first_words first 5) 5
-      (λ k within. c.words_of.ensures.words 0 low k within ∙ sym (slice_index-first_words first 5 k within));
-}
+invariant_of-result c =
+    let words = c.first_words-words.result in
+    record {
+      fit = λ j low k within. subst (λ ws. slice_index ws k < 2 ^ 32) (lane_of_five words j c.first_words-words.ensures.long)
+          (c.first_words-words.ensures.fit j low k within);
+      begun = λ j low. c.five_rounds.ensures j low
+          ∙ ap (λ h. rounds h (lane j words) 5) (c.initial.ensures j low)
+          ∙ ap (λ ws. rounds initial_hash_256 ws 5) (lane_of_five words j c.first_words-words.ensures.long);
+    }

@@ -2,9 +2,9 @@
 use Rattle.std.proofs.Common.{◌≡◌, ℕ, ◌<◌, ◌+◌, [], slice_index, slice_index_or}
 use Rattle.winternitz.specs.Chain.{walk}
 use Rattle.winternitz.specs.Lanes.{lanes}
-use Rattle.winternitz.proofs.chain.climb_four.Given as goal
+use Rattle.winternitz.proofs.chain.Step.steps_four.Given as goal
 
 abbrev pub invariant-loop-taken : goal.invariant-loop-taken
 invariant-loop-taken g l = (j : ℕ) → j < lanes
     → slice_index_or l.values j []
-    ≡ walk (g.S.Step.step_of l.step) (slice_index l.chains j) (slice_index l.from j) (slice_index l.from j + l.taken) (slice_index_or l.fn.values j [])
+    ≡ walk (g.Self.Step.step_of l.self) (slice_index l.chains j) (slice_index l.from j) (slice_index l.from j + l.taken) (slice_index_or l.fn.values j [])

@@ -1,0 +1,10 @@
+use Rattle.std.proofs.Common.{◌∙◌, [], arith, slice_index_or}
+use Rattle.winternitz.proofs.Words.{eight_same}
+use Rattle.winternitz.proofs.lanes.in_words.Goals as goal
+
+pub returns : goal.returns
+returns c = λ j low.
+    eight_same (slice_index_or c.loop-lane.words j []) _ _ _ _ _ _ _ _ (c.side_by_side.ensures j low) (c.side_by_side-2.ensures j low)
+    (c.side_by_side-3.ensures j low) (c.side_by_side-4.ensures j low) (c.side_by_side-5.ensures j low) (c.side_by_side-6.ensures j low)
+    (c.side_by_side-7.ensures j low) (c.side_by_side-8.ensures j low)
+    ∙ c.loop-lane.invariant.each j (omega arith)
