@@ -62,9 +62,10 @@ walk_finished step c a n at d u v w before here within last =
 
 -- ---- the same walk of equal chains, places and values
 
-pub walk_same : (step : Steps) (c d a e b : ℕ) (u v w : List ℕ) → d ≡ c → e ≡ a → v ≡ u → w ≡ walk step d e b v → w ≡ walk step c a b u
-walk_same step c d a e b u v w chain begin value walked =
+pub walk_same : (step : Steps) (c d a e b f : ℕ) (u v w : List ℕ) → d ≡ c → e ≡ a → f ≡ b → v ≡ u → w ≡ walk step d e f v → w ≡ walk step c a b u
+walk_same step c d a e b f u v w chain begin end value walked =
     walked
-    ∙ ap (λ k. walk step k e b v) chain
-    ∙ ap (λ k. walk step c k b v) begin
+    ∙ ap (λ k. walk step k e f v) chain
+    ∙ ap (λ k. walk step c k f v) begin
+    ∙ ap (λ k. walk step c a k v) end
     ∙ ap (walk step c a b) value

@@ -1,6 +1,5 @@
 use Rattle.std.proofs.Common.{rules, ◌≡◌, ◌∙◌, ◌+◌, ◌<◌, ◌≤◌, arith, ap, sym, [], length, slice_index, slice_index_or}
 use Rattle.winternitz.specs.Lanes.{lanes}
-use Rattle.winternitz.specs.Chain.{walk}
 use Rattle.winternitz.proofs.Walks.{walk_same}
 use Rattle.winternitz.proofs.Ways.{way_further}
 use Rattle.winternitz.proofs.groups.climb_by.Goals as goal
@@ -23,6 +22,7 @@ loop-lane-preserved g c =
       ways = λ from values i before. way_further _ _ _ _ _ _ c.from-chain.result _ _
           (omega (arith, c.loop-lane.invariant.places)) (omega (arith, c.loop-lane.invariant.values))
           (omega (arith, begin, end)) (omega (arith, begin, end, far))
-          (walk_same _ _ _ _ _ _ _ _ _ chain begin (c.values_of-values.ensures j low ∙ ap (λ k. slice_index_or c.args.ends.now k []) chain) (c.steps_four-climbed.ensures j low ∙ ap (λ b. walk _ _ (slice_index c.bytes_of-begin.result j) b _) (sym (c.added-end.ensures j low))))
+          (walk_same _ _ _ _ _ _ _ _ _ _ chain begin (sym (c.added-end.ensures j low))
+          (c.values_of-values.ensures j low ∙ ap (λ k. slice_index_or c.args.ends.now k []) chain) (c.steps_four-climbed.ensures j low))
           from values i before (c.loop-lane.invariant.ways from values i before);
     }
