@@ -1,1 +1,3 @@
 pub mod Signing
+mod Steps
+mod Messages

@@ -1,22 +1,25 @@
 //! The chains of a one-time key.
 
 ghost use Rattle.std.specs.Prelude.{◌≡◌, ◌<◌, ◌≤◌, ℕ, ◌+◌, ◌++◌, [], length, slice_index, slice_index_or};
-ghost use Rattle.lmots.specs.Hashes.{u8str, u16str, u32str};
+ghost use Rattle.std.proofs.Props.{props};
+ghost use Rattle.lmots.specs.Hashes.{u32str};
 ghost use Rattle.lmots.specs.Key as spec;
 ghost use Rattle.lmots.specs.Key.{step_of};
-ghost use Rattle.winternitz.specs.Lanes.{lanes, words-prop};
+ghost use Rattle.winternitz.specs.Beginning.{first_in};
+ghost use Rattle.winternitz.specs.Lanes.{lanes};
 
 use crate::key::LmOts;
 use typecodes::put;
-use winternitz::lanes::{Beginning, LANES};
-use winternitz::{MOST_CHAINS, Step, Values};
+use winternitz::lanes::{Beginning, LANES, digests, in_words};
+use winternitz::{MOST_CHAINS, Step, Values, added};
 
 /// The chains of a key. Their steps side by side begin with I and q, whose rounds they share.
 #[derive(Clone, Copy)]
 pub(crate) struct Chains {
     pub(crate) key: LmOts,
     beginning: Beginning,
-    ghost begins: { beginning.first ≡ key.identifier ++ u32str key.leaf } by { words-prop _ _ },
+    ghost begins: { (j : ℕ) → j < lanes → first_in beginning j ≡ key.identifier ++ u32str key.leaf }
+        by { Prim.hlevel props },
 }
 
 impl Step for Chains {
@@ -32,11 +35,21 @@ impl Step for Chains {
         at: &[u8; LANES],
         values: &[[u8; 32]; LANES],
     ) -> [[u8; 32]; LANES] {
-        let mut ends = [[0; 35]; LANES];
-        for lane in 0..LANES {
-            ends[lane] = end_of_step(chains[lane], at[lane], &values[lane]);
+        digests(&self.beginning.hash(chains, at, &in_words(values)))
+    }
+
+    fn steps_four(
+        &self,
+        chains: &[u16; LANES],
+        from: &[u8; LANES],
+        steps: u8,
+        values: &[[u8; 32]; LANES],
+    ) -> [[u8; 32]; LANES] {
+        let mut words = in_words(values);
+        for taken in 0..steps {
+            words = self.beginning.hash(chains, &added(from, taken), &words);
         }
-        self.beginning.hash_four(&ends)
+        digests(&words)
     }
 }
 
@@ -47,7 +60,7 @@ impl Chains {
     {
         Chains {
             key: *key,
-            beginning: Beginning::new(first_bytes(key)),
+            beginning: Beginning::new(&[first_bytes(&key.identifier, key.leaf); LANES]),
         }
     }
 
@@ -84,23 +97,12 @@ impl Chains {
 }
 
 // What every hash of a chain begins with: I and q.
-fn first_bytes(key: &LmOts) -> [u8; 20]
-    ensures { result ≡ key.now.identifier ++ u32str key.now.leaf }
+pub(crate) fn first_bytes(identifier: &[u8; 16], leaf: u32) -> [u8; 20]
+    ensures { result ≡ identifier.now ++ u32str leaf }
 {
     let mut bytes = [0; 20];
-    let offset = put(&mut bytes, 0, &key.identifier);
-    put(&mut bytes, offset, &key.leaf.to_be_bytes());
-    bytes
-}
-
-// What a step hashes after them.
-fn end_of_step(chain: u16, at: u8, value: &[u8; 32]) -> [u8; 35]
-    ensures { result ≡ u16str chain ++ u8str at ++ value.now }
-{
-    let mut bytes = [0; 35];
-    let offset = put(&mut bytes, 0, &chain.to_be_bytes());
-    let offset = put(&mut bytes, offset, &[at]);
-    put(&mut bytes, offset, value);
+    let offset = put(&mut bytes, 0, identifier);
+    put(&mut bytes, offset, &leaf.to_be_bytes());
     bytes
 }
 

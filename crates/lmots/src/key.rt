@@ -13,6 +13,7 @@ ghost use Rattle.typecodes.specs.Types.{chains_of, width_of};
 ghost use Rattle.winternitz.specs.Lanes.{lanes};
 
 use crate::chains::Chains;
+use crate::four::FourKeys;
 use crate::hashes::{MESSAGE, PUBLIC};
 use sha2::{Digest, Sha256};
 use typecodes::{Message, MessageFailed, OtsType};
@@ -108,6 +109,20 @@ impl LmOts {
         self.hash_of_ends(&ends[..count])
     }
 
+    /// The public hashes of the keys of four leaves of a tree, whose private values are made of one seed: as
+    /// `public_hash`, but side by side.
+    pub fn four_public_hashes(
+        identifier: [u8; 16],
+        leaves: [u32; LANES],
+        ots: OtsType,
+        seed: &[u8; 32],
+    ) -> [[u8; 32]; LANES]
+        ensures { (j : ℕ) → j < lanes → let q = slice_index leaves j in
+            slice_index_or result j [] ≡ spec.public_hash identifier q (ends_of_seed identifier q ots seed.now) }
+    {
+        FourKeys::of(identifier, leaves).public_hashes(ots, seed)
+    }
+
     // The public hash of the ends of all chains.
     fn hash_of_ends(&self, ends: &[[u8; 32]]) -> [u8; 32]
         ensures { result ≡ spec.public_hash self.now.identifier self.now.leaf ends.now }
@@ -161,7 +176,7 @@ impl LmOts {
 }
 
 // The greatest digit of a type, which is also how many steps each of its chains has.
-fn greatest_digit(ots: OtsType) -> u8
+pub(crate) fn greatest_digit(ots: OtsType) -> u8
     ensures { result ≡ 2 ^ width_of ots - 1 }
 {
     ((1u16 << ots.width()) - 1) as u8

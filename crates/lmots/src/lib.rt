@@ -20,6 +20,7 @@
 #![tactic(auto)]
 
 mod chains;
+mod four;
 mod hashes;
 mod key;
 #[cfg(test)]
