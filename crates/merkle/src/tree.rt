@@ -49,7 +49,7 @@ pub trait TreeHash: NodeHash {
 
 /// Node `index` of height 2 and all nodes under it, listed as `fill` lists them, from four leaves at once.
 pub(crate) fn nodes_over_four<T: TreeHash>(tree: &mut T, index: u32) -> [[u8; 32]; 7]
-    requires { index < 2 ^ 23 }
+    requires { index < 2 ^ (25 - 2) }
     ensures value { result ≡ nodes_under (T.leaf_of tree.old) (T.join_of tree.old) 0 2 index }
     ensures counted { T.made tree.new ≡ T.made tree.old + 4 }
     ensures leaves { T.leaf_of tree.new ≡ T.leaf_of tree.old }
