@@ -8,6 +8,11 @@
 //! leaves of one block at most; `root_from_path` gives the last node of the ascent, and the path of
 //! leaf q leads from it to the root.
 //!
+//! Leaves are made four at a time where four stand under one node of height 2, by
+//! `TreeHash::four_leaves`: a tree whose hash has lanes makes these together, any other one by one.
+//! One by one are also made the leaves of a tree or of a cache's block that is less than 2 high, and
+//! those under the two lowest nodes of a path that is made without a cache.
+//!
 //! ```rust
 //! use merkle::{PathCache, path, root, root_from_path};
 //!

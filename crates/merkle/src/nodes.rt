@@ -4,10 +4,11 @@ ghost use Rattle.std.specs.Prelude.{◌≡◌, ◌≤◌, ◌<◌, ◌+◌, ◌-
 ghost use Rattle.merkle.specs.Tree.{Leaves, Joins, node};
 ghost use Rattle.merkle.specs.Nodes.{nodes_under, path_from};
 
-use crate::tree::{TreeHash, node_at};
+use crate::tree::{TreeHash, node_at, nodes_over_four};
 
 /// Writes the nodes from node `index` of height `base + depth` down to those of height `base`, `2^(depth + 1) - 1` in
-/// all. Of what stands under a node of height `base` nothing is kept.
+/// all. Of what stands under a node of height `base` nothing is kept. Leaves are made four at a time where `base`
+/// is at least 2, or is 0 with a `depth` of at least 2.
 pub(crate) fn fill<T: TreeHash>(
     tree: &mut T,
     base: u8,
@@ -25,6 +26,10 @@ pub(crate) fn fill<T: TreeHash>(
 {
     if depth == 0 {
         into[0] = node_at(tree, base, index);
+        return;
+    }
+    if base == 0 && depth == 2 {
+        into.copy_from_slice(&nodes_over_four(tree, index));
         return;
     }
     let below = depth - 1;

@@ -6,10 +6,12 @@ use crate::tree::{NodeHash, TreeHash};
 use typecodes::Count;
 
 /// Byte 0 of leaf i is i + 1; of a node it is the sum of its children's, byte 1 is their height and
-/// byte 2 the node's index. `made` counts leaves as it runs, `count` for the contract.
+/// byte 2 the node's index. `made` counts leaves as it runs, `count` for the contract, and `fours`
+/// how often four were asked for together.
 #[derive(Drop)]
 pub(crate) struct Sums {
     pub(crate) made: u32,
+    pub(crate) fours: u32,
     count: Count,
 }
 
@@ -19,6 +21,7 @@ impl Sums {
     {
         Sums {
             made: 0,
+            fours: 0,
             count: Count::new(),
         }
     }
@@ -50,6 +53,16 @@ impl TreeHash for Sums {
         leaf[0] = ((i % 256) as u8).wrapping_add(1);
         leaf
     }
+
+    fn four_leaves(&mut self, first: u32) -> [[u8; 32]; 4] {
+        self.fours = self.fours.wrapping_add(1);
+        [
+            self.leaf(first),
+            self.leaf(first + 1),
+            self.leaf(first + 2),
+            self.leaf(first + 3),
+        ]
+    }
 }
 
 /// Three bytes, the rest zero.
@@ -59,4 +72,32 @@ pub(crate) fn node(sum: u8, height: u8, index: u8) -> [u8; 32] {
     node[1] = height;
     node[2] = index;
     node
+}
+
+/// The node at this place in a tree of height 5 or less, by the sum of the n leaves below it, of which the first one
+/// has the index n * `index`: n times that, and the numbers from 1 to n.
+pub(crate) fn worked_out(height: u8, index: u32) -> [u8; 32] {
+    if height == 0 {
+        return node((index.wrapping_add(1) % 256) as u8, 0, 0);
+    }
+    let leaves = [1u32, 2, 4, 8, 16, 32][usize::from(height.min(5))];
+    let to_leaves = [1u32, 3, 10, 36, 136, 528][usize::from(height.min(5))];
+    let sum = leaves
+        .wrapping_mul(leaves)
+        .wrapping_mul(index)
+        .wrapping_add(to_leaves);
+    node((sum % 256) as u8, height - 1, (index % 256) as u8)
+}
+
+/// Whether these are the siblings of leaf q and of the nodes over it, the lowest first.
+pub(crate) fn is_path(nodes: &[[u8; 32]], q: u32) -> bool {
+    let (mut height, mut over) = (0u8, q);
+    for found in nodes {
+        if *found != worked_out(height, over ^ 1) {
+            return false;
+        }
+        height = height.saturating_add(1);
+        over /= 2;
+    }
+    true
 }

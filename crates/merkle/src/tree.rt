@@ -1,6 +1,7 @@
 //! Trees by their leaves and their join: their roots and authentication paths.
 
-ghost use Rattle.std.specs.Prelude.{◌≡◌, ◌≤◌, ◌<◌, ◌+◌, ◌-◌, ◌^◌, ℕ, List, length};
+ghost use Rattle.std.specs.Prelude.{◌≡◌, ◌≤◌, ◌<◌, ◌+◌, ◌-◌, ◌^◌, ℕ, List, [], length, slice_index_or};
+ghost use Rattle.merkle.specs.Nodes.{nodes_under};
 ghost use Rattle.merkle.specs.Tree.{node, root_of, path_of, sibling};
 
 /// How a hash tree's nodes are made from those below them.
@@ -27,9 +28,41 @@ pub trait TreeHash: NodeHash {
         ensures counted { made self.new ≡ made self.old + 1 }
         ensures leaves { leaf_of self.new ≡ leaf_of self.old }
         ensures joins { Self.join_of self.new ≡ Self.join_of self.old };
+
+    /// Leaves first, .., first + 3, which count as four leaves made. They are made one by one, but for a tree whose
+    /// hash has lanes, which makes them together.
+    fn four_leaves(&mut self, first: u32) -> [[u8; 32]; 4]
+        requires inside { first + 3 < 2 ^ 32 }
+        ensures values { (j : ℕ) → j < 4 → slice_index_or result j [] ≡ leaf_of self.old (first + j) }
+        ensures counted { made self.new ≡ made self.old + 4 }
+        ensures leaves { leaf_of self.new ≡ leaf_of self.old }
+        ensures joins { Self.join_of self.new ≡ Self.join_of self.old }
+    {
+        [
+            self.leaf(first),
+            self.leaf(first + 1),
+            self.leaf(first + 2),
+            self.leaf(first + 3),
+        ]
+    }
 }
 
-/// Node `index` of a height, from the leaves below it.
+/// Node `index` of height 2 and all nodes under it, listed as `fill` lists them, from four leaves at once.
+pub(crate) fn nodes_over_four<T: TreeHash>(tree: &mut T, index: u32) -> [[u8; 32]; 7]
+    requires { index < 2 ^ (25 - 2) }
+    ensures value { result ≡ nodes_under (T.leaf_of tree.old) (T.join_of tree.old) 0 2 index }
+    ensures counted { T.made tree.new ≡ T.made tree.old + 4 }
+    ensures leaves { T.leaf_of tree.new ≡ T.leaf_of tree.old }
+    ensures joins { T.join_of tree.new ≡ T.join_of tree.old }
+{
+    let leaves = tree.four_leaves(4 * index);
+    let left = tree.join(0, 2 * index, &leaves[0], &leaves[1]);
+    let right = tree.join(0, 2 * index + 1, &leaves[2], &leaves[3]);
+    let top = tree.join(1, index, &left, &right);
+    [leaves[0], leaves[1], left, leaves[2], leaves[3], right, top]
+}
+
+/// Node `index` of a height, from the leaves below it, made four at a time where the height is at least 2.
 pub(crate) fn node_at<T: TreeHash>(tree: &mut T, height: u8, index: u32) -> [u8; 32]
     requires height { height ≤ 25 }
     requires inside { index < 2 ^ (25 - height) }
@@ -41,6 +74,9 @@ pub(crate) fn node_at<T: TreeHash>(tree: &mut T, height: u8, index: u32) -> [u8;
 {
     if height == 0 {
         return tree.leaf(index);
+    }
+    if height == 2 {
+        return nodes_over_four(tree, index)[6];
     }
     let below = height - 1;
     let left = node_at(tree, below, 2 * index);

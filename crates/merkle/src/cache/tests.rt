@@ -5,7 +5,7 @@ mod memory;
 use crate::ascent::root_from_path;
 use crate::cache::PathCache;
 use crate::out_of_memory::OutOfMemory;
-use crate::sums::{Sums, node};
+use crate::sums::{Sums, is_path, node, worked_out};
 use crate::tree::{TreeHash, path, root};
 use std::alloc::Global;
 use std::test::Fail;
@@ -185,6 +185,54 @@ fn caches_begin_with_the_block_of_a_leaf(rt: HostRuntime) -> Result<(), Fail> {
         assert!(rt;
             begins_with_block(rt.alloc(), height, q, other, made)?,
             "at height {height}, leaf {q}"
+        );
+    }
+    Ok(())
+}
+
+// The height of a tree, how many leaves a cache has made after the paths of all leaves in turn, and how often four
+// together: when it was new, and by then. The blocks of height 2 and 3 have two leaves each.
+const FOURS: [(u8, u32, u32, u32); 6] = [
+    (0, 1, 0, 0),
+    (1, 3, 0, 0),
+    (2, 6, 0, 0),
+    (3, 14, 0, 0),
+    (4, 28, 4, 7),
+    (5, 60, 8, 15),
+];
+
+// Whether a cache gives the root and the paths of all leaves in turn, and makes so many leaves for that, four together
+// so often.
+fn gives_all(
+    alloc: Global,
+    height: u8,
+    leaves: u32,
+    new: u32,
+    fours: u32,
+) -> Result<bool, OutOfMemory> {
+    if height > 5 {
+        return Ok(false);
+    }
+    let mut cache = PathCache::new(alloc, Sums::new(), height)?;
+    if cache.root() != worked_out(height, 0) || cache.tree.fours != new {
+        return Ok(false);
+    }
+    let mut nodes = [[0; 32]; 5];
+    let nodes = &mut nodes[..usize::from(height)];
+    for q in 0..2u32.pow(u32::from(height)) {
+        if growth(&mut cache, q, nodes).is_none() || !is_path(nodes, q) {
+            return Ok(false);
+        }
+    }
+    Ok(cache.tree.made == leaves && cache.tree.fours == fours)
+}
+
+#[test]
+fn blocks_are_made_four_leaves_together(rt: HostRuntime) -> Result<(), Fail> {
+    for (height, leaves, new, fours) in FOURS {
+        assert!(rt;
+            gives_all(rt.alloc(), height, leaves, new, fours)?,
+            "at height {height}"
         );
     }
     Ok(())

@@ -1,8 +1,11 @@
 //! Roots and paths of a tree whose values can be worked out by hand.
 
+ghost use Rattle.std.specs.Prelude.{◌%◌, replicate, slice_set};
+
 use crate::ascent::root_from_path;
-use crate::sums::{Sums, node};
-use crate::tree::{TreeHash, path, root};
+use crate::sums::{Sums, is_path, node, worked_out};
+use crate::tree::{NodeHash, TreeHash, path, root};
+use typecodes::Count;
 
 #[test]
 fn a_tree_of_height_three(rt: HostRuntime) {
@@ -29,4 +32,86 @@ fn a_tree_of_height_zero(rt: HostRuntime) {
     path(&mut tree, 0, 0, &mut nodes);
     assert_eq!(rt; tree.made, 2);
     assert_eq!(rt; root_from_path(&tree, 0, &leaf, &nodes), leaf);
+}
+
+// The height of a tree, how many leaves it has, and how often its root and one of its paths make four together.
+const FOURS: [(u8, u32, u32, u32); 6] = [
+    (0, 1, 0, 0),
+    (1, 2, 0, 0),
+    (2, 4, 1, 0),
+    (3, 8, 2, 1),
+    (4, 16, 4, 3),
+    (5, 32, 8, 7),
+];
+
+// Whether the root of a tree is right, from so many leaves, made four together so often.
+fn is_root(height: u8, leaves: u32, fours: u32) -> bool {
+    if height > 5 {
+        return false;
+    }
+    let mut tree = Sums::new();
+    root(&mut tree, height) == worked_out(height, 0) && tree.made == leaves && tree.fours == fours
+}
+
+// Whether a path is right, from all leaves but its own, made four together so often.
+fn is_path_of(height: u8, q: u32, fours: u32) -> bool {
+    if height > 5 || q >= 2u32.pow(u32::from(height)) {
+        return false;
+    }
+    let mut tree = Sums::new();
+    let mut nodes = [[0; 32]; 5];
+    let nodes = &mut nodes[..usize::from(height)];
+    path(&mut tree, height, q, nodes);
+    let others = 2u32.pow(u32::from(height)) - 1;
+    is_path(nodes, q) && tree.made == others && tree.fours == fours
+}
+
+#[test]
+fn leaves_are_made_four_together(rt: HostRuntime) {
+    for (height, leaves, in_root, in_path) in FOURS {
+        assert!(rt; is_root(height, leaves, in_root), "at height {height}");
+        for q in 0..leaves {
+            assert!(rt;
+                is_path_of(height, q, in_path),
+                "at height {height}, leaf {q}"
+            );
+        }
+    }
+}
+
+// A tree without lanes: byte 0 of leaf i is i, and a node is its left child.
+#[derive(Drop)]
+struct OneByOne {
+    made: Count,
+}
+
+impl NodeHash for OneByOne {
+    ghost join_of = { λ _ _ _ left _. left };
+
+    fn join(&self, _height: u8, _index: u32, left: &[u8; 32], _right: &[u8; 32]) -> [u8; 32] {
+        *left
+    }
+}
+
+impl TreeHash for OneByOne {
+    ghost leaf_of = { λ _ i. slice_set (replicate 32 0) 0 (i % 256) };
+
+    ghost made = { λ tree. tree.made };
+
+    fn leaf(&mut self, i: u32) -> [u8; 32] {
+        self.made.add_one();
+        let mut leaf = [0; 32];
+        leaf[0] = (i % 256) as u8;
+        leaf
+    }
+}
+
+#[test]
+fn four_leaves_one_by_one(rt: HostRuntime) {
+    let mut tree = OneByOne { made: Count::new() };
+    let wanted = [node(8, 0, 0), node(9, 0, 0), node(10, 0, 0), node(11, 0, 0)];
+    assert_eq!(rt; tree.four_leaves(8), wanted);
+    let mut nodes = [[0; 32]; 3];
+    path(&mut tree, 3, 2, &mut nodes);
+    assert_eq!(rt; nodes, [node(3, 0, 0), node(0, 0, 0), node(4, 0, 0)]);
 }
