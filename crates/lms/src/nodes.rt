@@ -1,12 +1,14 @@
 //! The nodes of a tree, by the standard's hashes.
 
-ghost use Rattle.std.specs.Prelude.{◌≡◌, ◌++◌};
+ghost use Rattle.std.specs.Prelude.{◌≡◌, ◌<◌, ◌++◌, ℕ, [], slice_index, slice_index_or};
 ghost use Rattle.sha2.specs.Hashers.{Holds256};
 ghost use Rattle.lms.specs.Nodes.{join_of, leaf_of, node_number};
 ghost use Rattle.lmots.specs.Hashes.{u16str, u32str};
+ghost use Rattle.winternitz.specs.Lanes.{lanes};
 
 use merkle::NodeHash;
 use sha2::{Digest, Sha256};
+use winternitz::lanes::LANES;
 
 // D_LEAF and D_INTR (RFC 8554 5.3).
 const LEAF: u16 = 0x8282;
@@ -28,6 +30,22 @@ impl Nodes {
         let mut hasher = self.hasher(self.number(0, leaf), LEAF);
         hasher.update(public_hash);
         hasher.finalize()
+    }
+
+    // The nodes of four leaves.
+    pub(crate) fn four_leaves(
+        &self,
+        leaves: &[u32; LANES],
+        public_hashes: &[[u8; 32]; LANES],
+    ) -> [[u8; 32]; LANES]
+        ensures { (j : ℕ) → j < lanes → slice_index_or result j [] ≡ leaf_of self.now.identifier self.now.height
+            (slice_index leaves.now j) (slice_index_or public_hashes.now j []) }
+    {
+        let mut nodes = [[0; 32]; LANES];
+        for lane in 0..LANES {
+            nodes[lane] = self.leaf(leaves[lane], &public_hashes[lane]);
+        }
+        nodes
     }
 
     // The number of a node, by its height and its index among those of its height. Hashes take its

@@ -1,12 +1,13 @@
 //! Secrets, and the trees that they make.
 
-ghost use Rattle.std.specs.Prelude.{◌≡◌};
+ghost use Rattle.std.specs.Prelude.{◌≡◌, ◌+◌};
 ghost use Rattle.typecodes.specs.Types.{height_of};
 
 use crate::nodes::Nodes;
 use lmots::LmOts;
 use merkle::{NodeHash, TreeHash};
 use typecodes::{Count, LmsPair};
+use winternitz::lanes::LANES;
 
 /// What an LMS key is made from (RFC 8554 5.2 and Appendix A). It has no `Debug`, since its seed is secret.
 #[derive(Clone, Copy)]
@@ -55,6 +56,19 @@ impl LmsTree {
     }
 }
 
+impl LmsTree {
+    // Four leaves more are made.
+    fn count_four(&mut self)
+        ensures secret { self.new.secret ≡ self.old.secret }
+        ensures made { self.new.made ≡ self.old.made + 4 }
+    {
+        self.made.add_one();
+        self.made.add_one();
+        self.made.add_one();
+        self.made.add_one();
+    }
+}
+
 impl NodeHash for LmsTree {
     ghost use Rattle.lms.specs.Secret.{joins_of, secret_of};
 
@@ -81,5 +95,14 @@ impl TreeHash for LmsTree {
         };
         let public_hash = key.public_hash(secret.pair.ots, &secret.seed);
         secret.nodes().leaf(i, &public_hash)
+    }
+
+    fn four_leaves(&mut self, first: u32) -> [[u8; 32]; LANES] {
+        let leaves = [first, first + 1, first + 2, first + 3];
+        self.count_four();
+        let secret = &self.secret;
+        let public_hashes =
+            LmOts::four_public_hashes(secret.identifier, leaves, secret.pair.ots, &secret.seed);
+        secret.nodes().four_leaves(&leaves, &public_hashes)
     }
 }
