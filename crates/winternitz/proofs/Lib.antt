@@ -11,5 +11,6 @@ pub mod Chains
 mod Beginnings
 mod Rotations
 mod Vectors
+mod Long
 mod Words
 mod Ways

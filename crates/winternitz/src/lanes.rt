@@ -13,11 +13,13 @@ use std::simd::u32x4;
 
 mod beginning;
 mod constants;
+mod long;
 mod rounds;
 #[cfg(test)]
 mod tests;
 
 pub use crate::lanes::beginning::Beginning;
+pub use crate::lanes::long::sha256_of_four;
 
 /// How many blocks stand side by side. Another width changes this, the type of the vectors, and `lanes` in
 /// `specs/Lanes.antt`.

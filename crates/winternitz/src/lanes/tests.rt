@@ -1,7 +1,10 @@
 //! Each lane beside `sha2`, on bytes that differ from lane to lane.
 
+ghost use Rattle.std.specs.Prelude.{◌≤◌};
+
 use crate::lanes::{
     Beginning, LANES, compress, in_each, in_lane, initial, sha256_of_96, sha256_of_128,
+    sha256_of_four,
 };
 use sha2::{Digest, Sha256};
 
@@ -69,6 +72,37 @@ fn messages_after_a_block_have_their_digests(rt: HostRuntime) {
             );
         }
     }
+}
+
+// 22 bytes and 0 to 265 values of 32, and lengths about those from which on the padding takes a block more
+// (FIPS 180-4 5.1.1).
+#[test]
+fn messages_of_any_length_have_their_digests(rt: HostRuntime) {
+    for length in [22, 54, 1110, 2166, 4278, 8502, 0, 55, 56, 63, 64, 119, 120] {
+        let mut messages = [[0; 8576]; LANES];
+        for lane in 0..LANES {
+            messages[lane] = scrambled(lane, length as u32);
+        }
+        let begun = messages;
+        assert!(rt; length <= 8504);
+        let digests = sha256_of_four(&mut messages, length);
+        for lane in 0..LANES {
+            assert_eq!(rt;
+                digests[lane],
+                digest_of(&begun[lane], length),
+                "lane {lane} of length {length}"
+            );
+        }
+    }
+}
+
+// The digest of the first bytes.
+fn digest_of(bytes: &[u8; 8576], length: usize) -> [u8; 32]
+    requires { length ≤ 8576 }
+{
+    let mut hasher = Sha256::new();
+    hasher.update(&bytes[..length]);
+    hasher.finalize()
 }
 
 // FIPS 180-4 5.3.3 gives the initial hash value.
