@@ -18,8 +18,7 @@ use winternitz::{MOST_CHAINS, Step, Values, added};
 pub(crate) struct Chains {
     pub(crate) key: LmOts,
     beginning: Beginning,
-    ghost begins: { (j : ℕ) → j < lanes → first_in beginning j ≡ key.identifier ++ u32str key.leaf }
-        by { Prim.hlevel props },
+    ghost begins: { (j : ℕ) → j < lanes → first_in beginning j ≡ key.identifier ++ u32str key.leaf } by { Prim.hlevel props },
 }
 
 impl Step for Chains {

@@ -3,7 +3,6 @@
 ghost use Rattle.std.specs.Prelude.{◌≡◌, ◌<◌, ◌≤◌, ℕ, ◌+◌, ◌-◌, ◌*◌, ◌^◌, ◌++◌, List, [], length, slice_index};
 ghost use Rattle.std.specs.Prelude.{slice_index_or, take};
 ghost use Rattle.std.proofs.Props.{props};
-ghost use Rattle.sha2.specs.Sha256.{sha256};
 ghost use Rattle.lmots.specs.Hashes.{public_separator, u16str, u32str};
 ghost use Rattle.lmots.specs.Key as spec;
 ghost use Rattle.lmots.specs.Key.{chain_value, ends_of_seed};
@@ -14,9 +13,8 @@ ghost use Rattle.winternitz.specs.Lanes.{lanes, value_in};
 use crate::chains::first_bytes;
 use crate::hashes::PUBLIC;
 use crate::key::greatest_digit;
-use sha2::{Digest, Sha256};
 use typecodes::{OtsType, put};
-use winternitz::lanes::{Beginning, LANES, States, digests, in_words};
+use winternitz::lanes::{Beginning, LANES, States, digests, in_words, sha256_of_four};
 
 /// Where the ends of chains begin in the message of which a public hash is made: after I, q and D_PBLC.
 const ENDS: usize = 22;
@@ -32,8 +30,7 @@ pub(crate) struct FourKeys {
     identifier: [u8; 16],
     leaves: [u32; LANES],
     beginning: Beginning,
-    ghost begins: { (j : ℕ) → j < lanes → first_in beginning j ≡ identifier ++ u32str (slice_index leaves j) }
-        by { Prim.hlevel props },
+    ghost begins: { (j : ℕ) → j < lanes → first_in beginning j ≡ identifier ++ u32str (slice_index leaves j) } by { Prim.hlevel props },
 }
 
 impl FourKeys {
@@ -121,24 +118,4 @@ fn put_value(message: &mut [u8; ROOM], offset: usize, value: &[u8; 32])
     ensures { take (offset + 32) message.new ≡ take offset message.old ++ value.now }
 {
     put(message, offset, value);
-}
-
-fn sha256_of_four(messages: &mut Messages, length: usize) -> [[u8; 32]; LANES]
-    requires { length + 72 ≤ 8574 }
-    ensures { (j : ℕ) → j < lanes → slice_index_or result j [] ≡ sha256 (take length (slice_index_or messages.old j [])) }
-{
-    let mut made = [[0; 32]; LANES];
-    for lane in 0..LANES {
-        made[lane] = sha256_of_one(&messages[lane], length);
-    }
-    made
-}
-
-fn sha256_of_one(message: &[u8; ROOM], length: usize) -> [u8; 32]
-    requires { length + 72 ≤ 8574 }
-    ensures { result ≡ sha256 (take length message.now) }
-{
-    let mut hasher = Sha256::new();
-    hasher.update(&message[..length]);
-    hasher.finalize()
 }

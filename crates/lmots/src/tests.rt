@@ -193,6 +193,28 @@ fn public_hash_ends_every_chain(rt: HostRuntime) {
         0x2c, 0x4c,
     ];
     assert_eq!(rt; KEY.public_hash(OtsType::W4, &RISING), four_bits);
+    let types = [
+        (OtsType::W1, one_bit),
+        (OtsType::W2, two_bits),
+        (OtsType::W4, four_bits),
+    ];
+    for (ots, expected) in types {
+        expect_fours(&rt, &KEY, ots, &RISING, expected);
+    }
+}
+
+// A key among three others, in each lane: each lane has the public hash of its leaf.
+fn expect_fours(rt: &impl Abort, key: &LmOts, ots: OtsType, seed: &[u8; 32], expected: [u8; 32]) {
+    let other = LmOts { leaf: 77, ..*key };
+    let beside = other.public_hash(ots, seed);
+    for lane in 0..LANES {
+        let mut leaves = [other.leaf; LANES];
+        leaves[lane] = key.leaf;
+        let mut hashes = [beside; LANES];
+        hashes[lane] = expected;
+        let made = LmOts::four_public_hashes(key.identifier, leaves, ots, seed);
+        assert_eq!(rt; made, hashes, "lane {lane}");
+    }
 }
 
 // A key and a signature of type LMOTS_SHA256_N32_W8 that Bouncy Castle made. The hash below leads
@@ -228,6 +250,7 @@ const REAL_MESSAGE: [u8; 32] = [
 #[test]
 fn a_real_seed_makes_the_public_hash(rt: HostRuntime) {
     assert_eq!(rt; REAL_KEY.public_hash(OtsType::W8, &REAL_SEED), REAL_HASH);
+    expect_fours(&rt, &REAL_KEY, OtsType::W8, &REAL_SEED, REAL_HASH);
 }
 
 #[test]

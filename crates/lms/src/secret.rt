@@ -62,10 +62,11 @@ impl LmsTree {
         ensures secret { self.new.secret ≡ self.old.secret }
         ensures made { self.new.made ≡ self.old.made + 4 }
     {
-        self.made.add_one();
-        self.made.add_one();
-        self.made.add_one();
-        self.made.add_one();
+        let made = &mut self.made;
+        made.add_one();
+        made.add_one();
+        made.add_one();
+        made.add_one();
     }
 }
 
@@ -101,8 +102,12 @@ impl TreeHash for LmsTree {
         let leaves = [first, first + 1, first + 2, first + 3];
         self.count_four();
         let secret = &self.secret;
-        let public_hashes =
-            LmOts::four_public_hashes(secret.identifier, leaves, secret.pair.ots, &secret.seed);
+        let public_hashes = LmOts::four_public_hashes(
+            secret.identifier,
+            leaves,
+            secret.pair.ots,
+            &secret.seed,
+        );
         secret.nodes().four_leaves(&leaves, &public_hashes)
     }
 }

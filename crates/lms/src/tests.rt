@@ -1,7 +1,8 @@
 //! Refusals in the order of the checks, and a signature that is made here by the standard's formulas,
 //! over SHA-256 alone.
 
-use crate::{LmsPublic, LmsSigView, verify};
+use crate::{LmsPublic, LmsSecret, LmsSigView, LmsTree, verify};
+use merkle::TreeHash;
 use sha2::{Digest, Sha256};
 use std::io;
 use std::io::Read;
@@ -279,6 +280,27 @@ fn tree() -> [[u8; 32]; 64] {
         nodes[r] = inner.finalize();
     }
     nodes
+}
+
+// The leaves of that tree, one by one and four at a time from each leaf on.
+#[test]
+fn leaves_are_made_one_by_one_and_in_fours(rt: HostRuntime) {
+    let nodes = tree();
+    let mut seed = [0; 32];
+    for i in 0..32u8 {
+        seed[usize::from(i)] = 32 + i;
+    }
+    let mut made = LmsTree::new(LmsSecret {
+        pair: PAIR,
+        identifier: IDENTIFIER,
+        seed,
+    });
+    for first in 0..29u32 {
+        let at = 32 + first as usize;
+        let four = [nodes[at], nodes[at + 1], nodes[at + 2], nodes[at + 3]];
+        assert_eq!(rt; made.leaf(first), nodes[at], "{first}");
+        assert_eq!(rt; made.four_leaves(first), four, "{first}");
+    }
 }
 
 // The digits of a digest with those of its checksum, a byte each (4.4 and 4.5).

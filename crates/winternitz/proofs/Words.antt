@@ -34,7 +34,6 @@ digest_long h zero = refl
 digest_long h (suc n) =
     omega (arith, digest_long h n, length-append (digest_bytes h n) (to_be_bytes w32 (slice_index h n)))
 
-
 quad_small : (a b c d : ℕ) → a < 256 → b < 256 → c < 256 → d < 256 → (i : ℕ) → slice_index (a ∷ b ∷ c ∷ d ∷ []) i < 256
 quad_small a b c d a_low b_low c_low d_low zero = a_low
 quad_small a b c d a_low b_low c_low d_low (suc zero) = b_low
@@ -63,9 +62,11 @@ take_four v i room =
     ∙ ap (λ xs. xs ++ slice_index v (i + 3) ∷ []) (ap (λ n. take n v) (sym e3) ∙ three
     ∙ ap (λ xs. xs ++ slice_index v (i + 2) ∷ []) (ap (λ n. take n v) (sym e2) ∙ two
     ∙ ap (λ xs. xs ++ slice_index v (i + 1) ∷ []) one))
-    ∙ rw (append_assoc (take i v) (slice_index v i ∷ []) (slice_index v (i + 1) ∷ []),
+    ∙ rw (
+      append_assoc (take i v) (slice_index v i ∷ []) (slice_index v (i + 1) ∷ []),
       append_assoc (take i v) (slice_index v i ∷ slice_index v (i + 1) ∷ []) (slice_index v (i + 2) ∷ []),
-      append_assoc (take i v) (slice_index v i ∷ slice_index v (i + 1) ∷ slice_index v (i + 2) ∷ []) (slice_index v (i + 3) ∷ [])) refl
+      append_assoc (take i v) (slice_index v i ∷ slice_index v (i + 1) ∷ slice_index v (i + 2) ∷ []) (slice_index v (i + 3) ∷ []),
+    ) refl
 
 -- the bytes of the words of which bytes consist are these bytes
 bytes_until : (h v : List ℕ) (n i : ℕ) → length v ≡ 4 * n

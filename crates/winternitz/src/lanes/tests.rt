@@ -3,8 +3,8 @@
 ghost use Rattle.std.specs.Prelude.{◌≤◌};
 
 use crate::lanes::{
-    Beginning, LANES, compress, in_each, in_lane, initial, sha256_of_96, sha256_of_128,
-    sha256_of_four,
+    Beginning, LANES, compress, digests, in_each, in_lane, in_words, initial, sha256_of_96,
+    sha256_of_128, sha256_of_four,
 };
 use sha2::{Digest, Sha256};
 
@@ -19,25 +19,45 @@ fn scrambled<const N: usize>(lane: usize, round: u32) -> [u8; N] {
     bytes
 }
 
+// The numbers of a chain and of a step in each lane, the least and the greatest among them.
+const CHAINS: [u16; LANES] = [0, 3, 0x0102, 0xffff];
+
+const STEPS: [u8; LANES] = [0xff, 0, 7, 254];
+
 #[test]
 fn messages_that_begin_alike_have_their_digests(rt: HostRuntime) {
     for round in 0..8 {
-        let first = scrambled(0, round + 200);
-        let mut ends = [[0; 35]; LANES];
+        let mut first = [[0; 20]; LANES];
+        let mut values = [[0; 32]; LANES];
         for lane in 0..LANES {
-            ends[lane] = scrambled(lane, round);
+            first[lane] = scrambled(lane, round + 200);
+            values[lane] = scrambled(lane, round);
         }
-        let digests = Beginning::new(first).hash_four(&ends);
+        let hashed = Beginning::new(&first).hash(&CHAINS, &STEPS, &in_words(&values));
+        let digests = digests(&hashed);
         for lane in 0..LANES {
             let mut hasher = Sha256::new();
-            hasher.update(&first);
-            hasher.update(&ends[lane]);
+            hasher.update(&first[lane]);
+            hasher.update(&CHAINS[lane].to_be_bytes());
+            hasher.update(&[STEPS[lane]]);
+            hasher.update(&values[lane]);
             assert_eq!(rt;
                 digests[lane],
                 hasher.finalize(),
                 "lane {lane} of round {round}"
             );
         }
+    }
+}
+
+#[test]
+fn words_have_the_bytes_that_they_were_read_from(rt: HostRuntime) {
+    for round in 0..8 {
+        let mut values = [[0; 32]; LANES];
+        for lane in 0..LANES {
+            values[lane] = scrambled(lane, round);
+        }
+        assert_eq!(rt; digests(&in_words(&values)), values, "round {round}");
     }
 }
 

@@ -1,4 +1,4 @@
-use Rattle.std.proofs.Common.{◌≡◌, ◌∙◌, ◌+◌, ◌*◌, [], ap, arith, rules, slice_index, slice_index_or, take, replicate}
+use Rattle.std.proofs.Common.{◌≡◌, ◌∙◌, ◌+◌, ◌*◌, [], ap, arith, slice_index, slice_index_or, take}
 use Rattle.std.proofs.lemmas.List.{get_or-replicate}
 use Rattle.sha2.specs.Sha256.{sha256}
 use Rattle.typecodes.specs.Types.{chains_of}

@@ -1,7 +1,6 @@
 -- The ends of the chains so far stand in the messages.
 use Rattle.std.proofs.Common.{◌≡◌, ℕ, ◌<◌, ◌+◌, ◌*◌, [], slice_index, slice_index_or, take}
 use Rattle.lmots.proofs.Messages.{message_until}
-use Rattle.typecodes.specs.Types.{width_of}
 use Rattle.winternitz.specs.Lanes.{lanes}
 use Rattle.lmots.proofs.four.FourKeys.public_hashes.Given as goal
 
