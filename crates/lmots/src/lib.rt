@@ -2,8 +2,9 @@
 //!
 //! Its model is `specs/Key.antt`: the standard's hashes, each as a formula over SHA-256. Its contract
 //! for the crates above: `hash_from_signature` gives the public hash of the chain ends to which a
-//! signature's values lead, and `public_hash` that of the ends to which a seed's do. `sign_digest`
-//! writes the values of a seed's signature, which climb to the seed's ends.
+//! signature's values lead, `public_hash` that of the ends to which a seed's do, and
+//! `four_public_hashes` those of four leaves, made side by side. `sign_digest` writes the values of a
+//! seed's signature, which climb to the seed's ends.
 //!
 //! ```rust
 //! use lmots::LmOts;
