@@ -161,7 +161,7 @@ impl OffsetFile for StateFile {
     }
 
     fn sync(&mut self) -> io::Result<()> {
-        let answer = self.file.sync_all();
+        let answer = self.file.sync_data();
         self.trace.note(&Event::Synced(kind_kept(&answer)));
         answer
     }
