@@ -5,7 +5,7 @@ ghost use Rattle.std.proofs.Props.{props};
 ghost use Rattle.lmots.specs.Hashes.{u32str};
 ghost use Rattle.lmots.specs.Key as spec;
 ghost use Rattle.lmots.specs.Key.{step_of};
-ghost use Rattle.winternitz.specs.Beginning.{first_in};
+ghost use Rattle.winternitz.specs.Beginning.{BeginsWith};
 ghost use Rattle.winternitz.specs.Lanes.{lanes};
 
 use crate::key::LmOts;
@@ -18,7 +18,7 @@ use winternitz::{MOST_CHAINS, Step, Values, added};
 pub(crate) struct Chains {
     pub(crate) key: LmOts,
     beginning: Beginning,
-    ghost begins: { (j : ℕ) → j < lanes → first_in beginning j ≡ key.identifier ++ u32str key.leaf } by { Prim.hlevel props },
+    ghost begins: { BeginsWith beginning (λ _. key.identifier ++ u32str key.leaf) } by { Prim.hlevel props },
 }
 
 impl Step for Chains {

@@ -7,7 +7,7 @@ ghost use Rattle.lmots.specs.Hashes.{public_separator, u16str, u32str};
 ghost use Rattle.lmots.specs.Key as spec;
 ghost use Rattle.lmots.specs.Key.{chain_value, ends_of_seed};
 ghost use Rattle.typecodes.specs.Types.{chains_of};
-ghost use Rattle.winternitz.specs.Beginning.{first_in};
+ghost use Rattle.winternitz.specs.Beginning.{BeginsWith};
 ghost use Rattle.winternitz.specs.Lanes.{lanes, value_in};
 
 use crate::chains::first_bytes;
@@ -30,7 +30,7 @@ pub(crate) struct FourKeys {
     identifier: [u8; 16],
     leaves: [u32; LANES],
     beginning: Beginning,
-    ghost begins: { (j : ℕ) → j < lanes → first_in beginning j ≡ identifier ++ u32str (slice_index leaves j) } by { Prim.hlevel props },
+    ghost begins: { BeginsWith beginning (λ j. identifier ++ u32str (slice_index leaves j)) } by { Prim.hlevel props },
 }
 
 impl FourKeys {

@@ -1,10 +1,17 @@
 -- What messages begin with in each lane.
-use Rattle.std.specs.Prelude.{ℕ, List, [], ◌∷◌}
+use Rattle.std.specs.Prelude.{◌≡◌, ℕ, ◌<◌, List, [], ◌∷◌}
 use Rattle.sha2.specs.Sha256.{digest_bytes}
-use Rattle.winternitz.specs.Lanes.{lane}
+use Rattle.winternitz.specs.Lanes.{lane, lanes}
 use Rattle.winternitz.specs.declared.lanes.beginning.Beginning.{Beginning}
+
+-- its words, side by side
+abbrev pub words_in : Beginning → List (List ℕ)
+words_in b = b.word0 ∷ b.word1 ∷ b.word2 ∷ b.word3 ∷ b.word4 ∷ []
 
 -- the first 20 bytes of the messages in lane j
 abbrev pub first_in : Beginning → ℕ → List ℕ
-first_in beginning j =
-    digest_bytes (lane j (beginning.word0 ∷ beginning.word1 ∷ beginning.word2 ∷ beginning.word3 ∷ beginning.word4 ∷ [])) 5
+first_in beginning j = digest_bytes (lane j (words_in beginning)) 5
+
+-- the messages of each lane begin with these bytes
+abbrev pub BeginsWith : Beginning → (ℕ → List ℕ) → Type 0
+BeginsWith beginning first = (j : ℕ) → j < lanes → first_in beginning j ≡ first j
