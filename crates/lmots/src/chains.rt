@@ -95,7 +95,7 @@ impl Chains {
     }
 }
 
-// What every hash of a chain begins with: I and q.
+// What every hash of a key begins with: I and q.
 pub(crate) fn first_bytes(identifier: &[u8; 16], leaf: u32) -> [u8; 20]
     ensures { result ≡ identifier.now ++ u32str leaf }
 {

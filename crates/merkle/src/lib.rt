@@ -9,8 +9,8 @@
 //! leaf q leads from it to the root.
 //!
 //! Leaves are made four at a time where four stand under one node of height 2, by
-//! `TreeHash::four_leaves`: a tree whose hash has lanes makes these together, any other one by one.
-//! One by one are also made the leaves of a tree or of a cache's block that is less than 2 high, and
+//! `TreeHash::four_leaves`: a tree may make these together, and makes them one by one otherwise. The
+//! leaves of a tree or of a cache's block that is less than 2 high are made one by one, and so are
 //! those under the two lowest nodes of a path that is made without a cache.
 //!
 //! ```rust

@@ -29,8 +29,8 @@ pub trait TreeHash: NodeHash {
         ensures leaves { leaf_of self.new ≡ leaf_of self.old }
         ensures joins { Self.join_of self.new ≡ Self.join_of self.old };
 
-    /// Leaves first, .., first + 3, which count as four leaves made. They are made one by one, but for a tree whose
-    /// hash has lanes, which makes them together.
+    /// Leaves first, .., first + 3, which count as four leaves made. They are made one by one, but for a tree that has
+    /// a function of its own, which may make them together.
     fn four_leaves(&mut self, first: u32) -> [[u8; 32]; 4]
         requires inside { first + 3 < 2 ^ 32 }
         ensures values { (j : ℕ) → j < 4 → slice_index_or result j [] ≡ leaf_of self.old (first + j) }
