@@ -39,16 +39,6 @@ impl Step for LmOts {
         hasher.update(value);
         hasher.finalize()
     }
-
-    fn step_four(
-        &self,
-        chains: &[u16; LANES],
-        at: &[u8; LANES],
-        values: &[[u8; 32]; LANES],
-    ) -> [[u8; 32]; LANES] {
-        // whoever climbs further takes `Chains`, which keeps what these steps begin with
-        Chains::of(self).step_four(chains, at, values)
-    }
 }
 
 impl LmOts {

@@ -2,6 +2,7 @@
 //! says so they are another program's.
 
 use crate::LmOts;
+use crate::chains::Chains;
 use sha2::{Digest, Sha256};
 use std::process::Abort;
 use typecodes::OtsType;
@@ -58,7 +59,7 @@ fn four_steps_are_steps(rt: HostRuntime) {
     let chains = [3, 0x0102, 0, 264];
     let at = [7, 254, 0, 255];
     let values = [RISING, [0; 32], [0xff; 32], [7; 32]];
-    let after = KEY.step_four(&chains, &at, &values);
+    let after = Chains::of(&KEY).step_four(&chains, &at, &values);
     for lane in 0..LANES {
         let plain = KEY.step(chains[lane], at[lane], &values[lane]);
         assert_eq!(rt; after[lane], plain, "lane {lane}");
@@ -84,7 +85,7 @@ fn each_length_climbs_in_each_lane(rt: HostRuntime) {
 fn expect_four(rt: &impl Abort, to: &[u8; LANES]) {
     let chains = [3, 0x0102, 0, 264];
     let values = [RISING, [0; 32], [0xff; 32], [7; 32]];
-    let ends = climb_four(&KEY, &chains, &[0; LANES], to, &values);
+    let ends = climb_four(&Chains::of(&KEY), &chains, &[0; LANES], to, &values);
     for lane in 0..LANES {
         let end = climb(&KEY, chains[lane], 0, to[lane], &values[lane]);
         assert_eq!(rt; ends[lane], end, "lane {lane} of {to:?}");
@@ -194,21 +195,42 @@ fn public_hash_ends_every_chain(rt: HostRuntime) {
     ];
     assert_eq!(rt; KEY.public_hash(OtsType::W4, &RISING), four_bits);
     let types = [
-        (OtsType::W1, one_bit),
-        (OtsType::W2, two_bits),
-        (OtsType::W4, four_bits),
+        (OtsType::W1, one_bit, BESIDE_ONE_BIT),
+        (OtsType::W2, two_bits, BESIDE_TWO_BITS),
+        (OtsType::W4, four_bits, BESIDE_FOUR_BITS),
     ];
-    for (ots, expected) in types {
-        expect_fours(&rt, &KEY, ots, &RISING, expected);
+    for (ots, expected, beside) in types {
+        expect_fours(&rt, &KEY, ots, &RISING, (expected, beside));
     }
 }
 
-// A key among three others, in each lane: each lane has the public hash of its leaf.
-fn expect_fours(rt: &impl Abort, key: &LmOts, ots: OtsType, seed: &[u8; 32], expected: [u8; 32]) {
-    let other = LmOts { leaf: 77, ..*key };
-    let beside = other.public_hash(ots, seed);
+// The same of leaf 77 in the place of 5.
+const BESIDE_ONE_BIT: [u8; 32] = [
+    0x72, 0x9b, 0x70, 0xa7, 0xee, 0xeb, 0xea, 0xe6, 0x4a, 0xb9, 0x04, 0x67, 0x57, 0x82, 0x7e, 0x74,
+    0xc1, 0xd0, 0x89, 0x73, 0x97, 0x73, 0x4c, 0xb9, 0xd3, 0xe8, 0x7c, 0xb4, 0x95, 0x0b, 0x27, 0xe6,
+];
+
+const BESIDE_TWO_BITS: [u8; 32] = [
+    0x0d, 0x34, 0x21, 0xd3, 0x0c, 0x59, 0x73, 0x75, 0x08, 0x80, 0xcd, 0x1a, 0xdf, 0x2e, 0xff, 0x36,
+    0x69, 0x2d, 0xf2, 0x06, 0xe7, 0xcb, 0x6c, 0xc6, 0x7e, 0x4f, 0x65, 0xea, 0x01, 0x35, 0x3d, 0x36,
+];
+
+const BESIDE_FOUR_BITS: [u8; 32] = [
+    0xaa, 0xcf, 0x54, 0xbe, 0x53, 0xfc, 0x73, 0x47, 0x1b, 0x97, 0x64, 0x99, 0xd3, 0x5d, 0x72, 0x0a,
+    0x3d, 0x99, 0x1a, 0x35, 0x24, 0x27, 0xd1, 0x13, 0x67, 0xb3, 0xdf, 0x35, 0xfb, 0x20, 0xfe, 0xe3,
+];
+
+// A key in each lane, with leaf 77 of its tree in the three others: each lane has the public hash of its leaf, of which
+// the second one is leaf 77's.
+fn expect_fours(
+    rt: &impl Abort,
+    key: &LmOts,
+    ots: OtsType,
+    seed: &[u8; 32],
+    (expected, beside): ([u8; 32], [u8; 32]),
+) {
     for lane in 0..LANES {
-        let mut leaves = [other.leaf; LANES];
+        let mut leaves = [77; LANES];
         leaves[lane] = key.leaf;
         let mut hashes = [beside; LANES];
         hashes[lane] = expected;
@@ -232,6 +254,12 @@ const REAL_HASH: [u8; 32] = [
     0xa4, 0x8e, 0xf8, 0x5d, 0x58, 0x14, 0x62, 0xdd, 0xfb, 0x85, 0x08, 0xd8, 0xf5, 0x1e, 0xe7, 0x80,
 ];
 
+// That of leaf 77 of the same tree, by the formulas.
+const REAL_BESIDE: [u8; 32] = [
+    0xed, 0xf6, 0x75, 0xfb, 0x2b, 0x89, 0x11, 0x73, 0xd6, 0x97, 0xe3, 0x13, 0xbd, 0x78, 0xcd, 0xbf,
+    0x08, 0xd1, 0x5f, 0x18, 0x42, 0xcf, 0x35, 0x4c, 0xaf, 0x5e, 0x4a, 0xf5, 0xe6, 0x4f, 0xd6, 0x4f,
+];
+
 const REAL_SEED: [u8; 32] = [
     0xfc, 0xa7, 0x97, 0x5d, 0x72, 0x83, 0xe7, 0xe9, 0x1d, 0xe6, 0xdf, 0x40, 0x83, 0x1c, 0xf1, 0x41,
     0x60, 0xf9, 0x28, 0xa5, 0x60, 0x91, 0x7f, 0x08, 0x9d, 0x1c, 0x79, 0x18, 0x8b, 0x06, 0xc0, 0xac,
@@ -250,7 +278,13 @@ const REAL_MESSAGE: [u8; 32] = [
 #[test]
 fn a_real_seed_makes_the_public_hash(rt: HostRuntime) {
     assert_eq!(rt; REAL_KEY.public_hash(OtsType::W8, &REAL_SEED), REAL_HASH);
-    expect_fours(&rt, &REAL_KEY, OtsType::W8, &REAL_SEED, REAL_HASH);
+    expect_fours(
+        &rt,
+        &REAL_KEY,
+        OtsType::W8,
+        &REAL_SEED,
+        (REAL_HASH, REAL_BESIDE),
+    );
 }
 
 #[test]

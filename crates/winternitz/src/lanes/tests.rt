@@ -94,11 +94,13 @@ fn messages_after_a_block_have_their_digests(rt: HostRuntime) {
     }
 }
 
-// 22 bytes and 0 to 265 values of 32, and lengths about those from which on the padding takes a block more
-// (FIPS 180-4 5.1.1).
+// 22 bytes and 0 to 265 values of 32, a message whose padding takes all the room, and lengths about those from which on
+// the padding takes a block more (FIPS 180-4 5.1.1).
 #[test]
 fn messages_of_any_length_have_their_digests(rt: HostRuntime) {
-    for length in [22, 54, 1110, 2166, 4278, 8502, 0, 55, 56, 63, 64, 119, 120] {
+    for length in [
+        22, 54, 1110, 2166, 4278, 8502, 8504, 0, 55, 56, 63, 64, 119, 120,
+    ] {
         let mut messages = [[0; 8576]; LANES];
         for lane in 0..LANES {
             messages[lane] = scrambled(lane, length as u32);
