@@ -1,49 +1,48 @@
 use super::*;
+use crate::signer::tests::{LMS, answer, created, opened};
 use hss::HssPublic;
 use lms::LmsPublic;
-use state_file::MemoryStore;
+use state_file::{MemoryStore, Store};
 use std::alloc::Global;
 use std::test::*;
-use typecodes::{LevelCount, Name, Refusal, Spec};
+use typecodes::{LevelCount, Refusal};
 
-// The example of the crate's documentation: whether what is signed verifies, and how many leaves are left in the
-// key that is opened then.
-fn as_documented(alloc: Global) -> Option<(bool, u32)> {
+// The signature of a message under the name of the example, with its key and the store then. None where it doesn't
+// verify, or the key isn't read as it is written.
+fn signed_in<S: Store + Drop, R: Source + Drop>(
+    alloc: Global,
+    (store, random): (S, R),
+    message: &[u8],
+) -> Option<(Vec<u8>, AnyPublic, S)> {
+    let mut signer = created(alloc, LMS, store, random)?;
+    let answered = answer(alloc, &mut signer, b"fw-1", message);
+    let public = signer.public_key();
+    let store = signer.into_store();
+    if AnyPublic::read(public.write().as_slice()) != Ok(public) {
+        return None;
+    }
+    Some((answered?.ok()?, public, store))
+}
+
+// The example of the crate's documentation: how many leaves are left in the key that is opened after it signed.
+fn as_documented(alloc: Global) -> Option<Result<u32, SignFault>> {
     let random = [7; 80];
     let store = MemoryStore::with_limit(alloc, 100);
-    let spec = Spec::parse("lms:H5/W8").ok()?;
-    let mut signer = Signer::create(alloc, spec, store, TapeSource::new(&random)).ok()?;
-    let name = Name::new(b"fw-1").ok()?;
-    let mut signature = Vec::new(alloc);
-    signer
-        .sign(&name, &mut b"firmware".as_slice(), &mut signature)
-        .ok()?;
-    let public = signer.public_key();
-    let is_read = AnyPublic::read(public.write().as_slice()) == Ok(public);
-    let answer = verify_any(&public, &mut b"firmware".as_slice(), &signature);
-    let signer = Signer::open(alloc, signer.into_store(), TapeSource::new(&random)).ok()?;
-    Some((
-        is_read && answer == Ok(()),
-        *signer.left().as_slice().first()?,
-    ))
+    let (_, _, store) = signed_in(alloc, (store, TapeSource::new(&random)), b"firmware")?;
+    Some(opened(alloc, store, TapeSource::new(&random))?.0)
 }
 
 #[test]
 fn what_is_signed_verifies(rt: HostRuntime) {
-    assert_eq!(rt; as_documented(rt.alloc()), Some((true, 31)));
+    assert!(rt; as_documented(rt.alloc()) == Some(Ok(31)));
 }
 
 // A key of one LMS tree, and its signature of a message.
 fn signed(alloc: Global, message: &[u8]) -> Option<(LmsPublic, Vec<u8>)> {
     let random = [7; 80];
     let store = MemoryStore::with_limit(alloc, 100);
-    let spec = Spec::parse("lms:H5/W8").ok()?;
-    let mut signer = Signer::create(alloc, spec, store, TapeSource::new(&random)).ok()?;
-    let mut signature = Vec::new(alloc);
-    let mut text = message;
-    let name = Name::new(b"fw-1").ok()?;
-    signer.sign(&name, &mut text, &mut signature).ok()?;
-    match signer.public_key() {
+    let (signature, public, _) = signed_in(alloc, (store, TapeSource::new(&random)), message)?;
+    match public {
         AnyPublic::Lms(top) => Some((top, signature)),
         AnyPublic::Hss(_) | AnyPublic::Xmss(_) => None,
     }
@@ -65,7 +64,7 @@ fn as_levels(alloc: Global, count: u8) -> Option<(Result<(), Refusal>, usize)> {
 
 #[test]
 fn a_signature_verifies_by_its_scheme(rt: HostRuntime) {
-    assert_eq!(rt; as_levels(rt.alloc(), 1), Some((Ok(()), 0)));
+    assert!(rt; as_levels(rt.alloc(), 1) == Some((Ok(()), 0)));
     let refused = Err(Refusal::LevelMismatch);
-    assert_eq!(rt; as_levels(rt.alloc(), 2), Some((refused, 1)));
+    assert!(rt; as_levels(rt.alloc(), 2) == Some((refused, 1)));
 }

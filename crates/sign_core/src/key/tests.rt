@@ -38,13 +38,10 @@ fn spelled(key: Option<AnyPublic>, first: &[u8]) -> Option<usize> {
 #[test]
 fn keys_are_read_as_they_are_written(rt: HostRuntime) {
     let lms = Some(AnyPublic::Lms(LMS));
-    assert_eq!(rt; spelled(lms, &[0, 0, 0, 5, 0, 0, 0, 4, 1, 1]), Some(56));
-    assert_eq!(rt;
-        spelled(of_levels(2), &[0, 0, 0, 2, 0, 0, 0, 5, 0, 0]),
-        Some(60)
-    );
+    assert!(rt; spelled(lms, &[0, 0, 0, 5, 0, 0, 0, 4, 1, 1]) == Some(56));
+    assert!(rt; spelled(of_levels(2), &[0, 0, 0, 2, 0, 0, 0, 5, 0, 0]) == Some(60));
     let xmss = Some(AnyPublic::Xmss(XMSS));
-    assert_eq!(rt; spelled(xmss, &[0, 0, 0, 2, 3, 3, 3, 3, 3, 3]), Some(68));
+    assert!(rt; spelled(xmss, &[0, 0, 0, 2, 3, 3, 3, 3, 3, 3]) == Some(68));
 }
 
 // What is wrong with so many zeros as a key, if anything.
@@ -55,7 +52,7 @@ fn zeros_as_key(length: usize) -> Option<KeyFault> {
 #[test]
 fn a_length_names_the_scheme(rt: HostRuntime) {
     for length in [0, 1, 55, 57, 59, 61, 67, 69, 70usize] {
-        assert_eq!(rt; zeros_as_key(length), Some(KeyFault::Length(length)));
+        assert!(rt; zeros_as_key(length) == Some(KeyFault::Length(length)));
     }
     for (length, cause) in [
         (56, Cause::UnknownType),
@@ -63,7 +60,7 @@ fn a_length_names_the_scheme(rt: HostRuntime) {
         (68, Cause::UnknownType),
     ] {
         let fault = KeyFault::Unreadable(ReadFault { place: 0, cause });
-        assert_eq!(rt; zeros_as_key(length), Some(fault));
+        assert!(rt; zeros_as_key(length) == Some(fault));
     }
 }
 
@@ -86,9 +83,9 @@ fn each_scheme_verifies(rt: HostRuntime) {
         of_levels(1),
         Some(AnyPublic::Xmss(XMSS)),
     ] {
-        assert_eq!(rt; zeros_under(key, &[0; 4]), Some((cut, 7)));
+        assert!(rt; zeros_under(key, &[0; 4]) == Some((cut, 7)));
     }
     let other = Err(Refusal::RootMismatch(0));
     let key = Some(AnyPublic::Xmss(XMSS));
-    assert_eq!(rt; zeros_under(key, &[0; 2692]), Some((other, 0)));
+    assert!(rt; zeros_under(key, &[0; 2692]) == Some((other, 0)));
 }

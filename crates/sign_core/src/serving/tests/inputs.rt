@@ -75,7 +75,7 @@ fn is_so(
 #[test]
 fn frames_are_replied_to_by_their_rules(rt: HostRuntime) {
     for (retired, bytes, output, end) in INPUTS {
-        assert_eq!(rt; is_so(rt.alloc(), retired, bytes, output, end), Some(true));
+        assert!(rt; is_so(rt.alloc(), retired, bytes, output, end) == Some(true));
     }
 }
 
@@ -106,7 +106,7 @@ fn is_changed_and_repeated(alloc: Global) -> Option<(bool, usize)> {
 
 #[test]
 fn a_changed_message_is_refused_and_the_first_repeated(rt: HostRuntime) {
-    assert_eq!(rt; is_changed_and_repeated(rt.alloc()), Some((true, 513)));
+    assert!(rt; is_changed_and_repeated(rt.alloc()) == Some((true, 513)));
 }
 
 // How an input is given: at most so many bytes at a time, with a failure at its end, and with interruptions.

@@ -1,6 +1,6 @@
 //! A long message takes no more memory than a short one, and serving takes none besides what signing takes, however
 //! much the frames claim: each of these tests has as many growths of memory. They are counted from outside. In each the
-//! message, or the frames with it, take no memory, and what is written is made in one growth.
+//! frames, with the message, and what is written are made in one growth each.
 
 use super::*;
 
@@ -9,48 +9,61 @@ const NAME: &[u8] = b"fw-1";
 // The beginning of a frame, but for the size of its message.
 const HEAD: &[u8] = b"\x04fw-1";
 
+// Where its message begins.
+const MESSAGE: usize = 9;
+
 // What follows the request: the same name with another message, and a frame that claims 2^32 - 1 bytes.
 const CLAIMED: &[u8] = b"\x04fw-1\0\0\0\x01\x01\0\xff\xff\xff\xffabc";
 
-// How long the signature of a message of so many zeros is. None where it doesn't verify.
-fn signed<S: Store, R: Source>(
-    signer: &mut Signer<S, R>,
-    size: u32,
-    signature: &mut Vec<u8>,
+// The request of a message of so many zeros, and these frames.
+fn frames_with(alloc: Global, size: u32) -> Option<Vec<u8>> {
+    let mut frames = Vec::with_capacity(alloc, 70_000).ok()?;
+    frames.extend_from_slice(HEAD).ok()?;
+    frames.extend_from_slice(&size.to_be_bytes()).ok()?;
+    frames.resize(MESSAGE.checked_add(size as usize)?, 0).ok()?;
+    frames.extend_from_slice(CLAIMED).ok()?;
+    Some(frames)
+}
+
+// How long a signature of a message is. None where it doesn't verify.
+fn verified_len<S: Store, R: Source>(
+    signer: &Signer<S, R>,
+    message: &[u8],
+    signature: &[u8],
 ) -> Option<usize> {
-    let name = Name::new(NAME).ok()?;
-    let mut message = io::repeat(0).take(u64::from(size));
-    signer.sign(&name, &mut message, signature).ok()?;
-    let mut again = io::repeat(0).take(u64::from(size));
-    verify_any(&signer.public_key(), &mut again, signature).ok()?;
+    let mut text = message;
+    verify_any(&signer.public_key(), &mut text, signature).ok()?;
     Some(signature.len())
 }
 
-// The same by an exchange of such frames, which begin with the message's.
+// How long the signature of a message is.
+fn signed<S: Store, R: Source>(
+    signer: &mut Signer<S, R>,
+    message: &[u8],
+    out: &mut Vec<u8>,
+) -> Option<usize> {
+    let mut rest = message;
+    signer.sign(&Name::new(NAME).ok()?, &mut rest, out).ok()?;
+    verified_len(signer, message, out)
+}
+
+// The same of the message in these frames.
 fn signed_in_frame<S: Store, R: Source>(
     alloc: Global,
     signer: &mut Signer<S, R>,
-    size: u32,
+    (frames, message): (&[u8], &[u8]),
     out: &mut Vec<u8>,
 ) -> Option<usize> {
-    let announced = size.to_be_bytes();
-    let message = io::repeat(0).take(u64::from(size));
-    let mut frames = HEAD
-        .chain(announced.as_slice())
-        .chain(message)
-        .chain(CLAIMED);
-    if serve(alloc, signer, &mut frames, out) != Err(ServeFault::MessageRead) {
+    let mut input = frames;
+    if serve(alloc, signer, &mut input, out) != Err(ServeFault::MessageRead) {
         return None;
     }
-    // two replies of 5 bytes follow
+    // it stands after its number and size, and two replies of 5 bytes follow
     let replied = out.len().checked_sub(10)?;
-    let signature = out.get(5..replied)?;
-    let mut again = io::repeat(0).take(u64::from(size));
-    verify_any(&signer.public_key(), &mut again, signature).ok()?;
-    Some(signature.len())
+    verified_len(signer, message, out.get(5..replied)?)
 }
 
-// The same of a new key in a store.
+// The same of a new key in a store, and a message of so many zeros.
 fn of_new_key<S: Store + Drop>(
     alloc: Global,
     store: Option<S>,
@@ -58,13 +71,18 @@ fn of_new_key<S: Store + Drop>(
     is_in_frame: bool,
 ) -> Option<usize> {
     let tape = tape_of::<80>(0, 1);
-    let mut output = Vec::with_capacity(alloc, 2000).ok()?;
+    let frames = frames_with(alloc, size)?;
+    let given = (
+        frames.as_slice(),
+        frames.get(MESSAGE..MESSAGE.checked_add(size as usize)?)?,
+    );
+    let mut out = Vec::with_capacity(alloc, 2000).ok()?;
     let store = begins_with(alloc, LMS, store?, TapeSource::new(&tape), &[])?;
     let mut signer = Signer::open(alloc, store, TapeSource::new(&tape[48..])).ok()?;
     if is_in_frame {
-        signed_in_frame(alloc, &mut signer, size, &mut output)
+        signed_in_frame(alloc, &mut signer, given, &mut out)
     } else {
-        signed(&mut signer, size, &mut Vec::new(alloc))
+        signed(&mut signer, given.1, &mut Vec::new(alloc))
     }
 }
 

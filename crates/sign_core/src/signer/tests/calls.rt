@@ -286,7 +286,7 @@ pub(super) fn first_other_call<S: Store, R: Source>(
 }
 
 // The signer of a new key of this spec.
-pub(super) fn created<S: Store + Drop, R: Source + Drop>(
+pub(crate) fn created<S: Store + Drop, R: Source + Drop>(
     alloc: Global,
     text: &str,
     store: S,
@@ -334,7 +334,7 @@ pub(super) fn goes_on_with<S: Store + Drop, R: Source + Drop>(
 }
 
 // How many leaves a store opens with at the first level, or its fault; and the store.
-pub(super) fn opened<S: Store + Drop, R: Source + Drop>(
+pub(crate) fn opened<S: Store + Drop, R: Source + Drop>(
     alloc: Global,
     store: S,
     random: R,

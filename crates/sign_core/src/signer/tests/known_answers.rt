@@ -113,5 +113,5 @@ fn first_other_of(alloc: Global, keys: &[Known<'_>]) -> Option<(usize, usize)> {
 
 #[test]
 fn keys_and_signatures_are_made_again(rt: HostRuntime) {
-    assert_eq!(rt; first_other_of(rt.alloc(), &KEYS), Some((KEYS.len(), 0)));
+    assert!(rt; first_other_of(rt.alloc(), &KEYS) == Some((KEYS.len(), 0)));
 }

@@ -242,5 +242,5 @@ const REPEATED: [Script; 4] = [
 
 #[test]
 fn a_repeated_identifier_is_drawn_alone(rt: HostRuntime) {
-    assert_eq!(rt; first_other_script(rt.alloc(), &REPEATED), REPEATED.len());
+    assert!(rt; first_other_script(rt.alloc(), &REPEATED) == REPEATED.len());
 }
