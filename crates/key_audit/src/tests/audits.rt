@@ -158,10 +158,7 @@ fn lists_are_judged_before_anchors(rt: HostRuntime) {
                 *answers = [*wanted, other_tag, other_tag];
             }
         }
-        assert_eq!(rt;
-            answers(rt.alloc(), entries, *closed),
-            Some((*wanted, with_anchors))
-        );
+        assert!(rt; answers(rt.alloc(), entries, *closed) == Some((*wanted, with_anchors)));
     }
 }
 
@@ -196,7 +193,7 @@ fn calls_of_audit(alloc: Global) -> Option<(u32, u32)> {
 // the first one has none of; and then the anchor's tag and the last one.
 #[test]
 fn each_failing_call_is_answered(rt: HostRuntime) {
-    assert_eq!(rt; calls_of_audit(rt.alloc()), Some((14, 10)));
+    assert!(rt; calls_of_audit(rt.alloc()) == Some((14, 10)));
 }
 
 // A key, the names under which it signs, and what is reported of it then: how many records there are and leaves are
@@ -245,6 +242,6 @@ fn is_reported(alloc: Global, key: &Reported) -> Option<bool> {
 #[test]
 fn keys_of_each_scheme_are_reported(rt: HostRuntime) {
     for key in KEYS {
-        assert_eq!(rt; is_reported(rt.alloc(), key), Some(true));
+        assert!(rt; is_reported(rt.alloc(), key) == Some(true));
     }
 }

@@ -117,7 +117,7 @@ fn a_room_is_made(rt: HostRuntime) {
 #[test]
 fn a_key_is_made_in_a_room(rt: HostRuntime) {
     let room = Room::of(rt.alloc(), &[], u32::MAX, u64::MAX);
-    assert_eq!(rt; is_kept_on(rt.alloc(), room), Some(true));
+    assert!(rt; is_kept_on(rt.alloc(), room) == Some(true));
 }
 
 // The signatures of two names, and an output with room for one of them.
@@ -203,25 +203,25 @@ fn signs_in<S: Store + Drop>(
 #[test]
 fn a_name_is_signed(rt: HostRuntime) {
     let store = stored(rt.alloc(), &[]);
-    assert_eq!(rt; signs_in(rt.alloc(), store, false, false), Some(true));
+    assert!(rt; signs_in(rt.alloc(), store, false, false) == Some(true));
 }
 
 #[test]
 fn other_requests_are_refused(rt: HostRuntime) {
     let store = stored(rt.alloc(), &[]);
-    assert_eq!(rt; signs_in(rt.alloc(), store, false, true), Some(true));
+    assert!(rt; signs_in(rt.alloc(), store, false, true) == Some(true));
 }
 
 #[test]
 fn a_tree_is_replaced(rt: HostRuntime) {
     let store = stored(rt.alloc(), &[]);
-    assert_eq!(rt; signs_in(rt.alloc(), store, true, false), Some(true));
+    assert!(rt; signs_in(rt.alloc(), store, true, false) == Some(true));
 }
 
 #[test]
 fn a_name_of_an_old_tree_is_repeated(rt: HostRuntime) {
     let store = stored(rt.alloc(), &[]);
-    assert_eq!(rt; signs_in(rt.alloc(), store, true, true), Some(true));
+    assert!(rt; signs_in(rt.alloc(), store, true, true) == Some(true));
 }
 
 // A public key, and a message with its signature.
@@ -337,5 +337,5 @@ fn signatures_are_there(rt: HostRuntime) {
 
 #[test]
 fn signatures_are_read(rt: HostRuntime) {
-    assert_eq!(rt; are_read(rt.alloc()), Some(true));
+    assert!(rt; are_read(rt.alloc()) == Some(true));
 }

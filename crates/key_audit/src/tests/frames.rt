@@ -263,10 +263,10 @@ fn answered(alloc: Global, spec: &str) -> Option<(usize, u32)> {
 
 #[test]
 fn one_tree_serves_at_last(rt: HostRuntime) {
-    assert_eq!(rt; answered(rt.alloc(), ONE_TREE), Some((8, 3)));
+    assert!(rt; answered(rt.alloc(), ONE_TREE) == Some((8, 3)));
 }
 
 #[test]
 fn two_levels_serve_at_last(rt: HostRuntime) {
-    assert_eq!(rt; answered(rt.alloc(), TWO_LEVELS), Some((8, 4)));
+    assert!(rt; answered(rt.alloc(), TWO_LEVELS) == Some((8, 4)));
 }

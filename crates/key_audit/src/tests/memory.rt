@@ -45,63 +45,51 @@ const ENTRIES: &[Entry<'static>] = &[
     Entry::Bound(10, b"d"),
 ];
 
+// What is answered to them.
+const LEGAL: [Audited; 2] = [Ok((6, Some(21), None)), Err(AuditFault::AnchorCount)];
+
 // A name that is bound twice.
 const BOUND_TWICE: &[Entry<'static>] = &[KEY, Entry::Bound(0, b"a"), Entry::Bound(1, b"a")];
 
 #[test]
 fn legal_records_are_audited_at_last(rt: HostRuntime) {
-    assert_eq!(rt;
-        audited_file(rt.alloc(), ENTRIES, false),
-        Some([Ok((6, Some(21), None)), Err(AuditFault::AnchorCount)])
-    );
+    assert!(rt; audited_file(rt.alloc(), ENTRIES, false) == Some(LEGAL));
 }
 
 #[test]
 fn an_illegal_record_is_found_at_last(rt: HostRuntime) {
-    assert_eq!(rt;
-        audited_file(rt.alloc(), BOUND_TWICE, false),
-        Some([Err(AuditFault::Illegal(2)); 2])
+    assert!(rt;
+        audited_file(rt.alloc(), BOUND_TWICE, false) == Some([Err(AuditFault::Illegal(2)); 2])
     );
 }
 
 // This fails where memory is refused in an audit, and there alone.
 #[test]
 fn legal_records_are_audited_at_first(rt: HostRuntime) {
-    assert_eq!(rt;
-        audited_file(rt.alloc(), ENTRIES, true),
-        Some([Ok((6, Some(21), None)), Err(AuditFault::AnchorCount)])
-    );
+    assert!(rt; audited_file(rt.alloc(), ENTRIES, true) == Some(LEGAL));
 }
 
 #[test]
 fn copies_are_found_at_last(rt: HostRuntime) {
-    assert_eq!(rt;
-        check_copies(rt.alloc(), (ONE_TREE, 48, b"ab", b"a"), None, false),
-        Some(Err(GivenFault::LeafTwice(0, 2)))
-    );
+    let answer = check_copies(rt.alloc(), (ONE_TREE, 48, b"ab", b"a"), None, false);
+    assert!(rt; answer == Some(Err(GivenFault::LeafTwice(0, 2))));
 }
 
 #[test]
 fn two_levels_are_accepted_at_last(rt: HostRuntime) {
-    assert_eq!(rt;
-        check_copies(rt.alloc(), (TWO_LEVELS, 48, b"ab", b""), None, false),
-        Some(Ok(()))
-    );
+    let answer = check_copies(rt.alloc(), (TWO_LEVELS, 48, b"ab", b""), None, false);
+    assert!(rt; answer == Some(Ok(())));
 }
 
 #[test]
 fn copies_of_two_levels_are_found_at_last(rt: HostRuntime) {
-    assert_eq!(rt;
-        check_copies(rt.alloc(), (TWO_LEVELS, 48, b"a", b"a"), None, false),
-        Some(Err(GivenFault::LeafTwice(0, 1)))
-    );
+    let answer = check_copies(rt.alloc(), (TWO_LEVELS, 48, b"a", b"a"), None, false);
+    assert!(rt; answer == Some(Err(GivenFault::LeafTwice(0, 1))));
 }
 
 // This fails where memory is refused in the first check, and there alone.
 #[test]
 fn copies_are_found_at_first(rt: HostRuntime) {
-    assert_eq!(rt;
-        check_copies(rt.alloc(), (ONE_TREE, 48, b"ab", b"a"), None, true),
-        Some(Err(GivenFault::LeafTwice(0, 2)))
-    );
+    let answer = check_copies(rt.alloc(), (ONE_TREE, 48, b"ab", b"a"), None, true);
+    assert!(rt; answer == Some(Err(GivenFault::LeafTwice(0, 2))));
 }

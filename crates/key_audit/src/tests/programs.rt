@@ -131,6 +131,6 @@ const CHECKS: &[(Scheme, &[(usize, usize)], Result<(), GivenFault>)] = &[
 #[test]
 fn signatures_of_other_programs_are_checked(rt: HostRuntime) {
     for (scheme, order, wanted) in CHECKS {
-        assert_eq!(rt; check_known(rt.alloc(), *scheme, order), Some(*wanted));
+        assert!(rt; check_known(rt.alloc(), *scheme, order) == Some(*wanted));
     }
 }

@@ -279,30 +279,30 @@ fn survives(alloc: Global, place: usize) -> Option<u32> {
 // a key by 2, and prepares the place by 4.
 #[test]
 fn a_create_survives(rt: HostRuntime) {
-    assert_eq!(rt; survives(rt.alloc(), 0), Some(10));
+    assert!(rt; survives(rt.alloc(), 0) == Some(10));
 }
 
 #[test]
 fn the_first_name_survives(rt: HostRuntime) {
-    assert_eq!(rt; survives(rt.alloc(), 1), Some(18));
+    assert!(rt; survives(rt.alloc(), 1) == Some(18));
 }
 
 #[test]
 fn the_second_name_survives(rt: HostRuntime) {
-    assert_eq!(rt; survives(rt.alloc(), 2), Some(26));
+    assert!(rt; survives(rt.alloc(), 2) == Some(26));
 }
 
 #[test]
 fn the_third_name_survives(rt: HostRuntime) {
-    assert_eq!(rt; survives(rt.alloc(), 3), Some(32));
+    assert!(rt; survives(rt.alloc(), 3) == Some(32));
 }
 
 #[test]
 fn retired_leaves_survive(rt: HostRuntime) {
-    assert_eq!(rt; survives(rt.alloc(), 4), Some(38));
+    assert!(rt; survives(rt.alloc(), 4) == Some(38));
 }
 
 #[test]
 fn a_name_after_retired_leaves_survives(rt: HostRuntime) {
-    assert_eq!(rt; survives(rt.alloc(), 5), Some(44));
+    assert!(rt; survives(rt.alloc(), 5) == Some(44));
 }
