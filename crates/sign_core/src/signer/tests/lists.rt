@@ -169,9 +169,9 @@ fn stored(alloc: Global, entries: &[Entry<'_>]) -> Option<FileStore<MemoryDisk>>
 
 #[test]
 fn lists_that_are_not_legal_do_not_open(rt: HostRuntime) {
-    for (entries, wanted) in LISTS {
-        assert!(rt; opens_with(rt.alloc(), listed(rt.alloc(), entries), wanted));
-        assert!(rt; opens_with(rt.alloc(), stored(rt.alloc(), entries), wanted));
+    for (entries, wanted) in &LISTS {
+        assert!(rt; opens_with(rt.alloc(), listed(rt.alloc(), entries), *wanted));
+        assert!(rt; opens_with(rt.alloc(), stored(rt.alloc(), entries), *wanted));
     }
 }
 
