@@ -21,7 +21,7 @@ use winternitz::lanes::LANES;
 use winternitz::{Step, climb_from, climb_to, climb_whole, digits, feed};
 
 /// A leaf's one-time key, by the identifier I of its tree and its number q: what each hash of the
-/// key begins with (RFC 8554 4.2).
+/// key begins with (RFC 8554 4.2). As a `Step` it takes steps one by one; its own calls climb four chains at a time.
 #[derive(Clone, Copy, Debug, PartialEq, Eq)]
 pub struct LmOts {
     /// I, 16 bytes.

@@ -66,11 +66,12 @@ fn four_steps_are_steps(rt: HostRuntime) {
     }
 }
 
-// Each number of steps in each lane, with other numbers in the lanes beside it: the ends are those of each chain by
-// itself.
+// Each number of steps in each lane, with the same in the lanes beside it, which then take all of them, and with other
+// ones: the ends are those of each chain by itself.
 #[test]
 fn each_length_climbs_in_each_lane(rt: HostRuntime) {
     for steps in 0..=255u8 {
+        expect_four(&rt, &[steps; LANES]);
         let to = [
             steps,
             steps.wrapping_add(64),

@@ -34,19 +34,6 @@ digest_long h zero = refl
 digest_long h (suc n) =
     omega (arith, digest_long h n, length-append (digest_bytes h n) (to_be_bytes w32 (slice_index h n)))
 
-quad_small : (a b c d : ℕ) → a < 256 → b < 256 → c < 256 → d < 256 → (i : ℕ) → slice_index (a ∷ b ∷ c ∷ d ∷ []) i < 256
-quad_small a b c d a_low b_low c_low d_low zero = a_low
-quad_small a b c d a_low b_low c_low d_low (suc zero) = b_low
-quad_small a b c d a_low b_low c_low d_low (suc (suc zero)) = c_low
-quad_small a b c d a_low b_low c_low d_low (suc (suc (suc zero))) = d_low
-quad_small a b c d a_low b_low c_low d_low (suc (suc (suc (suc i)))) = omega arith
-
--- a word has the four bytes of which it was made
-pub word_bytes : (a b c d x : ℕ) → a < 256 → b < 256 → c < 256 → d < 256 → x ≡ from_be_bytes w32 (a ∷ b ∷ c ∷ d ∷ [])
-    → to_be_bytes w32 x ≡ a ∷ b ∷ c ∷ d ∷ []
-word_bytes a b c d x a_low b_low c_low d_low is =
-    be_bytes_4 (a ∷ b ∷ c ∷ d ∷ []) x refl (quad_small a b c d a_low b_low c_low d_low) is
-
 -- four elements more
 take_four : (v : List ℕ) (i : ℕ) → i + 4 ≤ length v
     → take (i + 4) v ≡ take i v ++ slice_index v i ∷ slice_index v (i + 1) ∷ slice_index v (i + 2) ∷ slice_index v (i + 3) ∷ []

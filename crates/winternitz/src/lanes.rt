@@ -21,8 +21,7 @@ mod tests;
 pub use crate::lanes::beginning::Beginning;
 pub use crate::lanes::long::sha256_of_four;
 
-/// How many blocks stand side by side. Another width changes this, the type of the vectors, and `lanes` in
-/// `specs/Lanes.antt`.
+/// How many blocks stand side by side. What another number changes besides, docs/ADDING.md lists.
 pub const LANES: usize = 4;
 
 /// A word of each block.

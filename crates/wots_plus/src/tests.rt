@@ -145,8 +145,8 @@ fn four_steps_are_steps(rt: HostRuntime) {
     }
 }
 
-// Each number of steps in each lane, with other numbers in the lanes beside it: the ends are those of each chain by
-// itself.
+// Each number of steps in each lane, with the same in the lanes beside it, which then take all of them, and with other
+// ones: the ends are those of each chain by itself.
 #[test]
 fn each_length_climbs_in_each_lane(rt: HostRuntime) {
     let seed = Prf::new(SEED);
@@ -155,6 +155,7 @@ fn each_length_climbs_in_each_lane(rt: HostRuntime) {
         leaf: 0x01020304,
     };
     for steps in 0..16u8 {
+        expect_four(&rt, &key, &[steps; LANES]);
         let to = [steps, (steps + 4) % 16, (steps + 8) % 16, (steps + 12) % 16];
         expect_four(&rt, &key, &to);
     }

@@ -58,10 +58,11 @@ fn four_chains_climb_as_each_by_itself(rt: HostRuntime) {
     }
 }
 
-// Each number of steps in each lane, with other numbers in the lanes beside it.
+// Each number of steps in each lane, with the same in the lanes beside it, and with other ones.
 #[test]
 fn each_length_climbs_in_each_lane(rt: HostRuntime) {
     for steps in 0..=255u8 {
+        expect_four(&rt, &[0; LANES], &[steps; LANES]);
         let to = [
             steps,
             steps.wrapping_add(64),
