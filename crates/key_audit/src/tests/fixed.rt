@@ -8,7 +8,9 @@ use super::*;
 use hss::HssSigView;
 use lms::LmsSigView;
 use sign_core::{ServeFault, SignFault, serve, verify_any};
-use state_file::{FormatFault, OpenFault, Record};
+use state_file::{FormatFault, OpenFault, Record, StoreFault};
+use std::io;
+use std::io::{ErrorKind, Read};
 use typecodes::{Refusal, coef};
 use xmss::XmssSigView;
 
@@ -54,11 +56,37 @@ fn changed_in_turn<D: Disk + Drop>(disk: D) -> Option<D> {
     Some(disk)
 }
 
-// Whether the records of a key, whose leaves are all retired, are read again: no key is made where one is.
-fn is_opened_again<D: Disk + Drop>(disk: D) -> Option<bool> {
+// Adds a record that retires all leaves to a store of a key.
+fn added<D: Disk + Drop>(store: &mut FileStore<D>) -> Option<Result<(), StoreFault>> {
+    if store.count() == 0 {
+        return None;
+    }
+    Some(store.append(&Record::Retire { upto: 32 }))
+}
+
+// Whether a store has stopped: nothing of it is read then, and nothing added.
+fn has_stopped<D: Disk + Drop>(store: &mut FileStore<D>) -> bool {
+    let is_tagged = store.count() == 0 || store.tag_at(0) != Err(StoreFault::Stopped);
+    let is_read = store.load(0) != Err(StoreFault::Stopped);
+    !is_tagged && !is_read && added(store) == Some(Err(StoreFault::Stopped))
+}
+
+// Whether a disk that has room for seven records refuses another one, and its store has stopped then.
+fn stops_when_full<D: Disk + Drop>(disk: D) -> Option<bool> {
+    let mut store = FileStore::open(disk).ok()?;
+    for _ in store.count()..7 {
+        added(&mut store)?.ok()?;
+    }
+    let is_full = added(&mut store)? == Err(StoreFault::DeviceFailed);
+    Some(is_full && has_stopped(&mut store))
+}
+
+// The disk after the records of a key, whose leaves are all retired, are read again, and whether they are right: no key
+// is made where one is.
+fn opened_again<D: Disk + Drop>(disk: D) -> Option<(D, bool)> {
     let mut store = FileStore::open(disk).ok()?;
     if store.count() != 2 {
-        return Some(false);
+        return None;
     }
     let is_tagged = store.tag_at(1).is_ok();
     let is_there = match store.load(1) {
@@ -67,7 +95,8 @@ fn is_opened_again<D: Disk + Drop>(disk: D) -> Option<bool> {
     };
     let is_end = store.load(2) == Ok(None) && store.limit() == 1 << 31;
     let refused = FileStore::format(changed_in_turn(store.into_disk())?).err()?;
-    Some(is_tagged && is_there && is_end && refused.fault == FormatFault::KeyThere)
+    let is_right = is_tagged && is_there && is_end && refused.fault == FormatFault::KeyThere;
+    Some((refused.given, is_right))
 }
 
 // Whether a key is read as it is written.
@@ -105,7 +134,8 @@ fn is_kept_on<D: Disk + Drop>(alloc: Global, disk: Option<D>) -> Option<bool> {
     let (store, is_right) = retired(alloc, FileStore::format(disk?).ok()?)?;
     let mut disk = store.into_disk();
     let is_right = is_right && disk.len() == Ok(513);
-    Some(is_right && is_opened_again(disk)?)
+    let (disk, is_again) = opened_again(disk)?;
+    Some(is_right && is_again && stops_when_full(disk)?)
 }
 
 #[test]
@@ -142,6 +172,9 @@ fn sign_names<S: Store, R: Source>(
     Some((first, second, output))
 }
 
+// The replies 21, 34 and 27.
+const REFUSED: &[u8] = b"\x15\0\0\0\0\x22\0\0\0\0\x1b\0\0\0\0";
+
 // Whether a signer of one name refuses what it should; also in frames: another message under that name, a name that is
 // none, and that name with one byte of two that are announced.
 fn is_refused<S: Store, R: Source>(alloc: Global, signer: &mut Signer<S, R>) -> Option<bool> {
@@ -154,9 +187,9 @@ fn is_refused<S: Store, R: Source>(alloc: Global, signer: &mut Signer<S, R>) -> 
     let mut output = room.as_mut_slice();
     let mut input = b"\x04fw-1\0\0\0\x01\x02\0\0\0\0\0\x04fw-1\0\0\0\x02\x01".as_slice();
     let end = serve(alloc, signer, &mut input, &mut output);
-    // 15 bytes are written
-    let is_served = end == Err(ServeFault::MessageRead) && output.len() == 64 - 15;
-    Some(changed == Err(SignFault::Changed) && is_retired && is_so && is_served)
+    let is_served = end == Err(ServeFault::MessageRead) && output.len() == 64 - REFUSED.len();
+    let is_replied = room.starts_with(REFUSED);
+    Some(changed == Err(SignFault::Changed) && is_retired && is_so && is_served && is_replied)
 }
 
 // Whether both names have their signatures again, and no cache makes a leaf for that: the first name's tree has no
@@ -260,7 +293,17 @@ fn is_verified_alone(public: &AnyPublic, given: &Given) -> bool {
     is_whole && verdict == Ok(())
 }
 
-// Whether a signature is valid, and not for another message, nor without its last byte.
+// A message that can't be read.
+#[derive(Drop)]
+struct Unread;
+
+impl Read for Unread {
+    fn read(&mut self, _: &mut [u8]) -> io::Result<usize> {
+        Err(io::Error::from(ErrorKind::BrokenPipe))
+    }
+}
+
+// Whether a signature is valid, and not for another message, nor one that can't be read, nor without its last byte.
 fn is_verified(public: &AnyPublic, given: &Given) -> bool {
     let signature = given.signature.as_slice();
     let len = signature.len().saturating_sub(1);
@@ -268,9 +311,10 @@ fn is_verified(public: &AnyPublic, given: &Given) -> bool {
     let valid = verify_any(public, &mut given.message.as_slice(), signature);
     let other = verify_any(public, &mut b"other".as_slice(), signature);
     let short = verify_any(public, &mut given.message.as_slice(), cut);
+    let is_unread = verify_any(public, &mut Unread, signature) == Err(Refusal::MessageRead);
     let is_other = matches!(other, Err(Refusal::RootMismatch(_)));
     let is_short = matches!(short, Err(Refusal::Unreadable(_)));
-    valid == Ok(()) && is_other && is_short && is_verified_alone(public, given)
+    valid == Ok(()) && is_other && is_short && is_unread && is_verified_alone(public, given)
 }
 
 // Whether a signature is valid under the key of these bytes.

@@ -177,10 +177,10 @@ fn is_answer(frame: usize, reply: Reply, public: AnyPublic, first: &mut First) -
     is_wanted && first.0 == Some(public) && (!*is_first_again || bytes == first.1)
 }
 
-// Whether the serving of a frame that memory is refused to ends so.
+// Whether the serving of a frame ends so, also where memory is refused to it: the rest of its message is skipped then.
 fn is_end(frame: usize, end: Result<u64, ServeFault>) -> bool {
     match FRAMES.get(frame) {
-        Some((_, _, wanted_end, _)) => end == Ok(1) || end == *wanted_end,
+        Some((_, _, wanted_end, _)) => end == *wanted_end,
         None => false,
     }
 }

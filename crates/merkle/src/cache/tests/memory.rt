@@ -3,13 +3,18 @@
 
 use super::*;
 
-// How many leaves a cache of height 5 makes with the path of its last leaf, which is in another block than the first.
-fn made(alloc: Global) -> Result<u64, OutOfMemory> {
+// How many leaves a cache of height 5 makes with the path of its last leaf, which is in another block than the first,
+// and what its root begins with.
+fn made(alloc: Global) -> Result<(u64, [u8; 3]), OutOfMemory> {
     let mut cache = PathCache::new(alloc, Sums::new(), 5)?;
     let mut nodes = [[0; 32]; 5];
     cache.path_at(31, &mut nodes);
-    Ok(cache.leaves_made())
+    let root = cache.root();
+    Ok((cache.leaves_made(), [root[0], root[1], root[2]]))
 }
+
+// The root's first byte is the sum of 1 to 32, modulo 256; it is the only join of nodes of height 4.
+const MADE: Result<(u64, [u8; 3]), OutOfMemory> = Ok((36, [16, 4, 0]));
 
 #[test]
 fn a_cache_is_made_at_last(rt: HostRuntime) {
@@ -17,13 +22,13 @@ fn a_cache_is_made_at_last(rt: HostRuntime) {
         Err(OutOfMemory) => made(rt.alloc()),
         made => made,
     };
-    assert_eq!(rt; made, Ok(36));
+    assert_eq!(rt; made, MADE);
 }
 
 // This fails where memory is refused in `new`, and there alone.
 #[test]
 fn a_cache_is_made_at_first(rt: HostRuntime) {
-    assert_eq!(rt; made(rt.alloc()), Ok(36));
+    assert_eq!(rt; made(rt.alloc()), MADE);
 }
 
 #[test]

@@ -223,13 +223,19 @@ const LEDGERS: [(&[Entry<'_>], Option<LedgerFault>); 13] = [
     (&[Entry::Key(LMS), Entry::Moved], None),
 ];
 
+// A list of records.
+pub(super) fn records_of(alloc: Global, entries: &[Entry<'_>]) -> Option<Vec<Record>> {
+    let mut records = Vec::new(alloc);
+    for entry in entries {
+        records.push(record_of(entry)?).ok()?;
+    }
+    Some(records)
+}
+
 // The first of these lists that has another fault as a ledger; their count if none.
 fn first_other_ledger(alloc: Global) -> Option<usize> {
     for (i, (entries, fault)) in LEDGERS.iter().enumerate() {
-        let mut records = Vec::new(alloc);
-        for entry in *entries {
-            records.push(record_of(entry)?).ok()?;
-        }
+        let records = records_of(alloc, entries)?;
         if Ledger::replay(alloc, &records).err() != *fault {
             return Some(i);
         }

@@ -1,9 +1,10 @@
 //! Files whose calls are answered at the second try where memory is refused at the first. `tests/run` runs these with
 //! each growth of memory refused in turn.
 
-use super::lists::{Entry, listed, with_records};
+use super::lists::{Entry, listed, records_of, with_records};
 use super::sources::has_records;
 use super::*;
+use crate::ledger::LedgerFault;
 use state_file::{FormatFault, OpenFault};
 use std::cell::Cell;
 
@@ -422,8 +423,9 @@ fn one_tree_signs_at_last(rt: HostRuntime) {
 }
 
 // The first name of a key makes its trees.
-const TWO_LEVELS: [Step; 4] = [
+const TWO_LEVELS: [Step; 5] = [
     Step::Reopen(257, 50),
+    Step::Left(&[32, 0]),
     Step::Sign(40, 1, Ok(2644)),
     Step::Reopen(769, 150),
     Step::Left(&[31, 31]),
@@ -488,19 +490,23 @@ fn a_used_tree_is_replaced_at_last(rt: HostRuntime) {
     assert!(rt; len_of_new(rt.alloc(), TWO, &USED) == Some(1537));
 }
 
-// 33 new names, each with a signature of so many bytes, and a last step. Where it is wanted, the lowest tree is used up
-// after each name but the last one.
+// 33 new names, each with a signature of so many bytes, and a last step. Where it is wanted, the lowest tree of a key of
+// three levels is used up after each name but the last one, before which no lower tree has a leaf left.
 fn of_names<'a>(alloc: Global, len: usize, uses_up: bool, last: Step<'a>) -> Option<Vec<Step<'a>>> {
-    let mut steps = match Vec::with_capacity(alloc, 66) {
+    let mut steps = match Vec::with_capacity(alloc, 67) {
         Ok(steps) => steps,
-        Err(_) => Vec::with_capacity(alloc, 66).ok()?,
+        Err(_) => Vec::with_capacity(alloc, 67).ok()?,
     };
-    for number in 0..33 {
+    for number in 0..32 {
         steps.push(Step::Sign(number, 1, Ok(len))).ok()?;
-        if uses_up && number != 32 {
+        if uses_up {
             steps.push(Step::Retire(32, None)).ok()?;
         }
     }
+    if uses_up {
+        steps.push(Step::Left(&[31, 0, 0])).ok()?;
+    }
+    steps.push(Step::Sign(32, 1, Ok(len))).ok()?;
     steps.push(last).ok()?;
     Some(steps)
 }
@@ -785,6 +791,19 @@ fn fault_by<S: Store + Drop, R: Source + Drop>(
     Some((store, answered?.err()))
 }
 
+// The fault of a name of a new key in a file, whose first try this is; else memory was refused, or none was.
+fn fault_in_a_file(alloc: Global) -> Option<SignFault> {
+    let tape = tape_of::<32>(0, 1);
+    let store = store_of(new_disk(alloc, LMS)?)?;
+    fault_by(alloc, store, TapeSource::new(&tape))?.1
+}
+
+// This one passes only where the file isn't refused memory for the name's record, which is a failure of its device.
+#[test]
+fn a_name_is_bound_in_a_file_at_first(rt: HostRuntime) {
+    assert!(rt; fault_in_a_file(rt.alloc()) != Some(SignFault::StoreFailed));
+}
+
 // The same of a new name of a key of two levels whose source ends after the draws of the lower tree, or at once where
 // that tree is recorded.
 fn ends_short<S: Store + Drop>(alloc: Global, store: S) -> Option<(S, Option<SignFault>)> {
@@ -941,4 +960,32 @@ fn a_changed_root_of_a_bound_name_is_found_at_last(rt: HostRuntime) {
 #[test]
 fn a_changed_root_of_a_bound_name_is_found_at_first(rt: HostRuntime) {
     assert!(rt; faults_of(rt.alloc(), BOUND_BYTE, 1) == FOUND);
+}
+
+// What a ledger of legal records answers, and a second one where memory is refused for the first. The records are made
+// at the second try where memory is refused at the first.
+fn replayed(alloc: Global) -> Option<(Option<LedgerFault>, Option<LedgerFault>)> {
+    let entries = [Entry::Key(LMS), Entry::Bound(3, 0), Entry::Bound(7, 1)];
+    let records = match records_of(alloc, &entries) {
+        Some(records) => records,
+        None => records_of(alloc, &entries)?,
+    };
+    let first = Ledger::replay(alloc, &records).err();
+    if first.is_none() {
+        return Some((None, None));
+    }
+    Some((first, Ledger::replay(alloc, &records).err()))
+}
+
+#[test]
+fn records_are_replayed_at_last(rt: HostRuntime) {
+    let came = replayed(rt.alloc());
+    let refused = Some((Some(LedgerFault::OutOfMemory), None));
+    assert!(rt; came == Some((None, None)) || came == refused);
+}
+
+// This one passes only where no growth of the first ledger is refused.
+#[test]
+fn records_are_replayed_at_first(rt: HostRuntime) {
+    assert!(rt; replayed(rt.alloc()) == Some((None, None)));
 }
