@@ -32,7 +32,7 @@ fn hash_of_nothing(rt: HostRuntime) {
         0x24, 0x27, 0xae, 0x41, 0xe4, 0x64, 0x9b, 0x93, 0x4c, 0xa4, 0x95, 0x99, 0x1b, 0x78, 0x52,
         0xb8, 0x55,
     ];
-    assert_eq!(rt; Sha256::digest(b"".as_slice()), expected);
+    assert!(rt; Sha256::digest(b"".as_slice()) == expected);
 }
 
 #[test]
@@ -43,14 +43,14 @@ fn step_hashes_its_place(rt: HostRuntime) {
         0xef, 0x62, 0x70, 0x4c, 0x08, 0x6a, 0x8f, 0x7f, 0xef, 0x3e, 0x17, 0x7a, 0x2d, 0xcc, 0xc3,
         0x22, 0x02,
     ];
-    assert_eq!(rt; KEY.step(3, 7, &RISING), low);
+    assert!(rt; KEY.step(3, 7, &RISING) == low);
     // H(I || 00000005 || 0102 || fe || value)
     let high = [
         0xe4, 0xdd, 0xae, 0x40, 0x91, 0x02, 0xed, 0x73, 0xe2, 0x94, 0xc6, 0xe7, 0x60, 0x5d, 0xe8,
         0xe4, 0x4b, 0x4a, 0xf5, 0x9e, 0xc3, 0x2b, 0x05, 0x19, 0x01, 0x29, 0x2c, 0xb9, 0x24, 0xf4,
         0x7a, 0x5a,
     ];
-    assert_eq!(rt; KEY.step(0x0102, 254, &RISING), high);
+    assert!(rt; KEY.step(0x0102, 254, &RISING) == high);
 }
 
 // Four steps side by side, each with a chain, a place and a value of its own.
@@ -62,7 +62,7 @@ fn four_steps_are_steps(rt: HostRuntime) {
     let after = Chains::of(&KEY).step_four(&chains, &at, &values);
     for lane in 0..LANES {
         let plain = KEY.step(chains[lane], at[lane], &values[lane]);
-        assert_eq!(rt; after[lane], plain, "lane {lane}");
+        assert!(rt; after[lane] == plain, "lane {lane}");
     }
 }
 
@@ -89,7 +89,7 @@ fn expect_four(rt: &impl Abort, to: &[u8; LANES]) {
     let ends = climb_four(&Chains::of(&KEY), &chains, &[0; LANES], to, &values);
     for lane in 0..LANES {
         let end = climb(&KEY, chains[lane], 0, to[lane], &values[lane]);
-        assert_eq!(rt; ends[lane], end, "lane {lane} of {to:?}");
+        assert!(rt; ends[lane] == end, "lane {lane} of {to:?}");
     }
 }
 
@@ -101,7 +101,7 @@ fn digest_takes_the_randomizer(rt: HostRuntime) {
         0x89, 0xc7, 0x56, 0x75, 0xa3, 0xca, 0x70, 0x90, 0x51, 0xf7, 0x37, 0x43, 0xd0, 0xe6, 0x6e,
         0x84, 0xaa,
     ];
-    assert_eq!(rt; KEY.message_digest(&RISING, b"abc"), expected);
+    assert!(rt; KEY.message_digest(&RISING, b"abc") == expected);
 }
 
 // A reader's text has the digest of its bytes, around the length of one piece and of two.
@@ -112,7 +112,7 @@ fn digest_of_a_reader(rt: HostRuntime) {
         let mut message = &text[..length];
         let expected = KEY.message_digest(&RISING, message);
         let digest = KEY.message_digest_from(&RISING, &mut message);
-        assert_eq!(rt; (digest, message.len()), (Ok(expected), 0), "{length}");
+        assert!(rt; (digest, message.len()) == (Ok(expected), 0), "{length}");
     }
 }
 
@@ -123,7 +123,7 @@ fn assert_leads_to(rt: &impl Abort, ots: OtsType, digest: &[u8; 32], expected: [
         *byte = (k % 251) as u8;
     }
     let (values, _) = bytes[..32 * usize::from(ots.chains())].as_chunks();
-    assert_eq!(rt; KEY.hash_from_signature(ots, digest, values), expected);
+    assert!(rt; KEY.hash_from_signature(ots, digest, values) == expected);
 }
 
 // H(I || 00000005 || 8080 || y[0] || .. || y[p-1]), where y[i] is value i after the steps
@@ -171,7 +171,7 @@ fn private_values_come_from_the_seed(rt: HostRuntime) {
         0x8c, 0xa1, 0x01, 0xeb, 0xf5, 0xf6, 0xa1, 0x98, 0x9a, 0xe7, 0xd3, 0xf4, 0x7c, 0x75, 0xfe,
         0x00, 0x25,
     ];
-    assert_eq!(rt; KEY.private_value(&RISING, 3), expected);
+    assert!(rt; KEY.private_value(&RISING, 3) == expected);
 }
 
 // H(I || 00000005 || 8080 || y[0] || .. || y[p-1]), where y[i] is private value i after all steps.
@@ -182,19 +182,19 @@ fn public_hash_ends_every_chain(rt: HostRuntime) {
         0x53, 0xe6, 0xe6, 0x54, 0x9d, 0x14, 0xd0, 0xa0, 0x91, 0x35, 0x90, 0xad, 0xf1, 0xfe, 0x13,
         0x45, 0x98,
     ];
-    assert_eq!(rt; KEY.public_hash(OtsType::W1, &RISING), one_bit);
+    assert!(rt; KEY.public_hash(OtsType::W1, &RISING) == one_bit);
     let two_bits = [
         0xee, 0x52, 0x82, 0x40, 0xe4, 0x6a, 0x78, 0x76, 0x03, 0xab, 0xe0, 0x60, 0x43, 0xfa, 0xfa,
         0xbf, 0x2c, 0x49, 0xee, 0x07, 0xc5, 0x2a, 0x70, 0xe2, 0x02, 0xbc, 0xb3, 0x7a, 0xca, 0xaf,
         0x8c, 0x0e,
     ];
-    assert_eq!(rt; KEY.public_hash(OtsType::W2, &RISING), two_bits);
+    assert!(rt; KEY.public_hash(OtsType::W2, &RISING) == two_bits);
     let four_bits = [
         0x7a, 0x52, 0x25, 0xaa, 0xc5, 0x94, 0x0d, 0x04, 0xd0, 0x50, 0x5e, 0x70, 0xcd, 0xdc, 0x9d,
         0x56, 0x02, 0xf9, 0x4b, 0x71, 0x8a, 0x0d, 0x39, 0x6b, 0xce, 0xb2, 0xbf, 0xe9, 0xa9, 0xb2,
         0x2c, 0x4c,
     ];
-    assert_eq!(rt; KEY.public_hash(OtsType::W4, &RISING), four_bits);
+    assert!(rt; KEY.public_hash(OtsType::W4, &RISING) == four_bits);
     let types = [
         (OtsType::W1, one_bit, BESIDE_ONE_BIT),
         (OtsType::W2, two_bits, BESIDE_TWO_BITS),
@@ -236,7 +236,7 @@ fn expect_fours(
         let mut hashes = [beside; LANES];
         hashes[lane] = expected;
         let made = LmOts::four_public_hashes(key.identifier, leaves, ots, seed);
-        assert_eq!(rt; made, hashes, "lane {lane}");
+        assert!(rt; made == hashes, "lane {lane}");
     }
 }
 
@@ -278,7 +278,7 @@ const REAL_MESSAGE: [u8; 32] = [
 
 #[test]
 fn a_real_seed_makes_the_public_hash(rt: HostRuntime) {
-    assert_eq!(rt; REAL_KEY.public_hash(OtsType::W8, &REAL_SEED), REAL_HASH);
+    assert!(rt; REAL_KEY.public_hash(OtsType::W8, &REAL_SEED) == REAL_HASH);
     expect_fours(
         &rt,
         &REAL_KEY,
@@ -291,9 +291,8 @@ fn a_real_seed_makes_the_public_hash(rt: HostRuntime) {
 #[test]
 fn a_real_signature_leads_to_the_public_hash(rt: HostRuntime) {
     let digest = REAL_KEY.message_digest(&REAL_RANDOMIZER, &REAL_MESSAGE);
-    assert_eq!(rt;
-        REAL_KEY.hash_from_signature(OtsType::W8, &digest, REAL_VALUES.as_chunks().0),
-        REAL_HASH
+    assert!(rt;
+        REAL_KEY.hash_from_signature(OtsType::W8, &digest, REAL_VALUES.as_chunks().0) == REAL_HASH
     );
 }
 
@@ -303,7 +302,7 @@ fn assert_signs(rt: &impl Abort, ots: OtsType, expected: [u8; 32]) {
     let mut bytes = [0; 32 * 265];
     let values = &mut bytes[..32 * usize::from(ots.chains())];
     KEY.sign_digest(ots, &RISING, &REAL_HASH, values);
-    assert_eq!(rt; Sha256::digest(&*values), expected);
+    assert!(rt; Sha256::digest(&*values) == expected);
 }
 
 #[test]
@@ -337,7 +336,7 @@ fn a_real_seed_signs(rt: HostRuntime) {
         &REAL_KEY.message_digest(&REAL_RANDOMIZER, &REAL_MESSAGE),
         &mut values,
     );
-    assert_eq!(rt; values, REAL_VALUES);
+    assert!(rt; values == REAL_VALUES);
 }
 
 const REAL_VALUES: [u8; 32 * 34] = [

@@ -49,7 +49,7 @@ fn keys_are_read(rt: HostRuntime) {
     let mut key = ZERO_KEY;
     key.identifier[0] = 1;
     key.root[31] = 2;
-    assert_eq!(rt; LmsPublic::read(&bytes), Ok(key));
+    assert!(rt; LmsPublic::read(&bytes) == Ok(key));
     let mut longer = [0; 57];
     longer[..56].copy_from_slice(&bytes);
     for (bytes, place, cause) in [
@@ -57,16 +57,15 @@ fn keys_are_read(rt: HostRuntime) {
         (&longer[..55], 24, Cause::Truncated),
         (&longer, 56, Cause::Trailing),
     ] {
-        assert_eq!(rt;
-            LmsPublic::read(bytes),
-            Err(fault(place, cause)),
+        assert!(rt;
+            LmsPublic::read(bytes) == Err(fault(place, cause)),
             "at {place}"
         );
     }
     bytes[7] = 9;
-    assert_eq!(rt; LmsPublic::read(&bytes), Err(fault(4, Cause::UnknownType)));
+    assert!(rt; LmsPublic::read(&bytes) == Err(fault(4, Cause::UnknownType)));
     bytes[3] = 10;
-    assert_eq!(rt; LmsPublic::read(&bytes), Err(fault(0, Cause::UnknownType)));
+    assert!(rt; LmsPublic::read(&bytes) == Err(fault(0, Cause::UnknownType)));
 }
 
 // What the bytes are refused with, under the key of zeros.
@@ -78,7 +77,7 @@ fn refusal(rt: &impl Abort, signature: &[u8]) -> Refusal {
 #[test]
 fn signatures_are_refused(rt: HostRuntime) {
     let zeros = zero_signature();
-    assert_eq!(rt; refusal(&rt, &zeros), Refusal::RootMismatch(0));
+    assert!(rt; refusal(&rt, &zeros) == Refusal::RootMismatch(0));
     let mut longer = [0; 1293];
     longer[..1292].copy_from_slice(&zeros);
     for (signature, place, cause) in [
@@ -87,7 +86,7 @@ fn signatures_are_refused(rt: HostRuntime) {
         (&longer, 1292, Cause::Trailing),
     ] {
         let expected = Refusal::Unreadable(fault(place, cause));
-        assert_eq!(rt; refusal(&rt, signature), expected, "at {place}");
+        assert!(rt; refusal(&rt, signature) == expected, "at {place}");
     }
     for (changed, byte, place, cause) in [
         (7, 9, 4, Cause::UnknownType),
@@ -100,7 +99,7 @@ fn signatures_are_refused(rt: HostRuntime) {
         let mut signature = zeros;
         signature[changed] = byte;
         let expected = Refusal::Unreadable(fault(place, cause));
-        assert_eq!(rt; refusal(&rt, &signature), expected, "byte {changed}");
+        assert!(rt; refusal(&rt, &signature) == expected, "byte {changed}");
     }
 }
 
@@ -109,7 +108,7 @@ fn the_last_leaf_is_read(rt: HostRuntime) {
     let mut signature = zero_signature();
     signature[3] = 31;
     assert!(rt; LmsSigView::read(&signature).is_ok());
-    assert_eq!(rt; refusal(&rt, &signature), Refusal::RootMismatch(0));
+    assert!(rt; refusal(&rt, &signature) == Refusal::RootMismatch(0));
 }
 
 // A signature that was read is refused as that of its level: the types come first, and leave the message.
@@ -121,17 +120,11 @@ fn levels_are_reported(rt: HostRuntime) -> Result<(), Fail> {
     let mut message: &[u8] = b"message";
     for (tree, ots) in [(LmsType::H10, OtsType::W8), (LmsType::H5, OtsType::W4)] {
         key.pair = LmsPair { tree, ots };
-        assert_eq!(rt;
-            view.verify(&key, &mut message, 2),
-            Err(Refusal::TypeMismatch(2))
-        );
-        assert_eq!(rt; message.len(), 7);
+        assert!(rt; view.verify(&key, &mut message, 2) == Err(Refusal::TypeMismatch(2)));
+        assert!(rt; message.len() == 7);
     }
     key.pair = PAIR;
-    assert_eq!(rt;
-        view.verify(&key, &mut message, 2),
-        Err(Refusal::RootMismatch(2))
-    );
+    assert!(rt; view.verify(&key, &mut message, 2) == Err(Refusal::RootMismatch(2)));
     assert!(rt; message.is_empty());
     Ok(())
 }
@@ -150,15 +143,14 @@ fn assert_len(
     assert!(rt; len <= 9324);
     assert!(rt; offset < len);
     let pair = LmsPair { tree, ots };
-    assert_eq!(rt; pair.signature_len(), len as u32);
+    assert!(rt; pair.signature_len() == (len as u32));
     zeros[7] = codes[0];
     zeros[offset] = codes[1];
     let view = LmsSigView::read(zeros)?;
-    assert_eq!(rt; view.types(), pair);
-    assert_eq!(rt; view.bytes().len(), len);
-    assert_eq!(rt;
-        LmsSigView::read(&zeros[..len - 1]).err(),
-        Some(fault(len as u32 - 32, Cause::Truncated))
+    assert!(rt; view.types() == pair);
+    assert!(rt; view.bytes().len() == len);
+    assert!(rt;
+        LmsSigView::read(&zeros[..len - 1]).err() == Some(fault(len as u32 - 32, Cause::Truncated))
     );
     Ok(())
 }
@@ -190,8 +182,8 @@ fn types_are_compared(rt: HostRuntime) {
     let mut longer = [0; 2348];
     longer[7] = 3;
     longer[2187] = 5;
-    assert_eq!(rt; refusal(&rt, &longer), Refusal::TypeMismatch(0));
-    assert_eq!(rt; refusal(&rt, &higher_signature()), Refusal::TypeMismatch(0));
+    assert!(rt; refusal(&rt, &longer) == Refusal::TypeMismatch(0));
+    assert!(rt; refusal(&rt, &higher_signature()) == Refusal::TypeMismatch(0));
 }
 
 // A tree of height 10 has the leaves 0 to 1023.
@@ -200,13 +192,10 @@ fn leaves_of_a_higher_tree(rt: HostRuntime) -> Result<(), Fail> {
     let mut bytes = higher_signature();
     bytes[2] = 3;
     bytes[3] = 255;
-    assert_eq!(rt; LmsSigView::read(&bytes)?.q(), 1023);
+    assert!(rt; LmsSigView::read(&bytes)?.q() == 1023);
     bytes[2] = 4;
     bytes[3] = 0;
-    assert_eq!(rt;
-        LmsSigView::read(&bytes).err(),
-        Some(fault(0, Cause::LeafOutOfRange))
-    );
+    assert!(rt; LmsSigView::read(&bytes).err() == Some(fault(0, Cause::LeafOutOfRange)));
     Ok(())
 }
 
@@ -219,16 +208,16 @@ fn parts_are_lent(rt: HostRuntime) -> Result<(), Fail> {
         bytes[offset..offset + 32].copy_from_slice(&[value; 32]);
     }
     let view = LmsSigView::read(&bytes)?;
-    assert_eq!(rt; view.q(), 17);
-    assert_eq!(rt; view.types(), PAIR);
-    assert_eq!(rt; *view.c(), [1; 32]);
-    assert_eq!(rt; *view.chain(0), [2; 32]);
-    assert_eq!(rt; *view.chain(1), [0; 32]);
-    assert_eq!(rt; *view.chain(33), [3; 32]);
-    assert_eq!(rt; *view.node(0), [4; 32]);
-    assert_eq!(rt; *view.node(3), [0; 32]);
-    assert_eq!(rt; *view.node(4), [5; 32]);
-    assert_eq!(rt; view.bytes(), bytes.as_slice());
+    assert!(rt; view.q() == 17);
+    assert!(rt; view.types() == PAIR);
+    assert!(rt; *view.c() == [1; 32]);
+    assert!(rt; *view.chain(0) == [2; 32]);
+    assert!(rt; *view.chain(1) == [0; 32]);
+    assert!(rt; *view.chain(33) == [3; 32]);
+    assert!(rt; *view.node(0) == [4; 32]);
+    assert!(rt; *view.node(3) == [0; 32]);
+    assert!(rt; *view.node(4) == [5; 32]);
+    assert!(rt; view.bytes() == bytes.as_slice());
     Ok(())
 }
 
@@ -298,8 +287,8 @@ fn leaves_are_made_one_by_one_and_in_fours(rt: HostRuntime) {
     for first in 0..29u32 {
         let at = 32 + first as usize;
         let four = [nodes[at], nodes[at + 1], nodes[at + 2], nodes[at + 3]];
-        assert_eq!(rt; made.leaf(first), nodes[at], "{first}");
-        assert_eq!(rt; made.four_leaves(first), four, "{first}");
+        assert!(rt; made.leaf(first) == nodes[at], "{first}");
+        assert!(rt; made.four_leaves(first) == four, "{first}");
     }
 }
 
@@ -343,18 +332,17 @@ fn assert_changes_refused(rt: &impl Abort, key: &LmsPublic, signature: &[u8; 129
         let mut changed = *signature;
         changed[offset] ^= 1;
         let mut message: &[u8] = b"message";
-        assert_eq!(rt;
-            verify(key, &mut message, &changed),
-            Err(Refusal::RootMismatch(0)),
+        assert!(rt;
+            verify(key, &mut message, &changed) == Err(Refusal::RootMismatch(0)),
             "byte {offset}"
         );
     }
     let mut higher = *signature;
     higher[1131] = 6;
     let mut message: &[u8] = b"message";
-    assert_eq!(rt;
-        verify(key, &mut message, &higher),
-        Err(Refusal::Unreadable(fault(1292, Cause::Truncated)))
+    assert!(rt;
+        verify(key, &mut message, &higher)
+            == Err(Refusal::Unreadable(fault(1292, Cause::Truncated)))
     );
 }
 
@@ -367,7 +355,7 @@ fn signatures_are_verified(rt: HostRuntime) {
         0x3c, 0xa9, 0xd9, 0xd4, 0xc7, 0xfa, 0xc8, 0x1d, 0x6a, 0x42, 0x8c, 0xa5, 0xab, 0x34, 0x54,
         0xf8, 0x3b,
     ];
-    assert_eq!(rt; nodes[1], root);
+    assert!(rt; nodes[1] == root);
     let key = LmsPublic {
         pair: PAIR,
         identifier: IDENTIFIER,
@@ -376,13 +364,13 @@ fn signatures_are_verified(rt: HostRuntime) {
     for q in [0, 5, 31] {
         let signature = sign(&nodes, q, b"message");
         let mut message: &[u8] = b"message";
-        assert_eq!(rt; verify(&key, &mut message, &signature), Ok(()), "leaf {q}");
+        assert!(rt;
+            verify(&key, &mut message, &signature) == Ok(()),
+            "leaf {q}"
+        );
         assert!(rt; message.is_empty());
         let mut other: &[u8] = b"massage";
-        assert_eq!(rt;
-            verify(&key, &mut other, &signature),
-            Err(Refusal::RootMismatch(0))
-        );
+        assert!(rt; verify(&key, &mut other, &signature) == Err(Refusal::RootMismatch(0)));
         assert_changes_refused(&rt, &key, &signature);
     }
 }
@@ -407,7 +395,7 @@ fn each_beginning_is_cut_in_a_field(rt: HostRuntime) {
     let signature = sign(&tree(), 5, b"message");
     for end in 0..1292u32 {
         let cut = Refusal::Unreadable(fault(cut_field(end), Cause::Truncated));
-        assert_eq!(rt; refusal(&rt, &signature[..end as usize]), cut, "{end}");
+        assert!(rt; refusal(&rt, &signature[..end as usize]) == cut, "{end}");
     }
 }
 
@@ -469,12 +457,11 @@ fn random_pieces_lead_to_the_verdict_on_the_whole(rt: HostRuntime) {
         let mut other = signature;
         other[40] ^= 1;
         let refused = Err(Refusal::RootMismatch(0));
-        assert_eq!(rt;
+        assert!(rt;
             (
                 verdicts(&key, &signature, message, seed),
                 verdicts(&key, &other, message, seed)
-            ),
-            ((Ok(()), Ok(())), (refused, refused)),
+            ) == ((Ok(()), Ok(())), (refused, refused)),
             "{seed}"
         );
     }
@@ -513,7 +500,7 @@ fn failing_messages_are_reported(rt: HostRuntime) {
         ] {
             let mut message = Failing { left: count };
             let verdict = verify(&ZERO_KEY, &mut message, signature);
-            assert_eq!(rt; (verdict, message.left), (Err(refusal), left), "{count}");
+            assert!(rt; (verdict, message.left) == (Err(refusal), left), "{count}");
         }
     }
 }

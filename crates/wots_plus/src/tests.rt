@@ -36,35 +36,35 @@ fn addresses_have_eight_words(rt: HostRuntime) {
         chain: 2,
         hash: 3,
     };
-    assert_eq!(rt;
-        one_time.bytes(1),
-        [
-            0, 0, 0, 0, 0, 0, 0, 0, 0, 0, 0, 0, 0, 0, 0, 0, 0, 0, 0, 1, 0, 0, 0, 2, 0, 0, 0, 3, 0,
-            0, 0, 1,
-        ]
+    assert!(rt;
+        one_time.bytes(1)
+            == [
+                0, 0, 0, 0, 0, 0, 0, 0, 0, 0, 0, 0, 0, 0, 0, 0, 0, 0, 0, 1, 0, 0, 0, 2, 0, 0, 0, 3,
+                0, 0, 0, 1,
+            ]
     );
     let l_tree = Address::LTree {
         leaf: 0x01020304,
         height: 6,
         index: 7,
     };
-    assert_eq!(rt;
-        l_tree.bytes(0),
-        [
-            0, 0, 0, 0, 0, 0, 0, 0, 0, 0, 0, 0, 0, 0, 0, 1, 1, 2, 3, 4, 0, 0, 0, 6, 0, 0, 0, 7, 0,
-            0, 0, 0,
-        ]
+    assert!(rt;
+        l_tree.bytes(0)
+            == [
+                0, 0, 0, 0, 0, 0, 0, 0, 0, 0, 0, 0, 0, 0, 0, 1, 1, 2, 3, 4, 0, 0, 0, 6, 0, 0, 0, 7,
+                0, 0, 0, 0,
+            ]
     );
     let hash_tree = Address::HashTree {
         height: 4,
         index: 5,
     };
-    assert_eq!(rt;
-        hash_tree.bytes(2),
-        [
-            0, 0, 0, 0, 0, 0, 0, 0, 0, 0, 0, 0, 0, 0, 0, 2, 0, 0, 0, 0, 0, 0, 0, 4, 0, 0, 0, 5, 0,
-            0, 0, 2,
-        ]
+    assert!(rt;
+        hash_tree.bytes(2)
+            == [
+                0, 0, 0, 0, 0, 0, 0, 0, 0, 0, 0, 0, 0, 0, 0, 2, 0, 0, 0, 0, 0, 0, 0, 4, 0, 0, 0, 5,
+                0, 0, 0, 2,
+            ]
     );
 }
 
@@ -76,25 +76,25 @@ fn keyed_hashes_begin_with_their_number(rt: HostRuntime) {
         0xff, 0x31, 0x6a, 0x13, 0x39, 0x6b, 0x06, 0x6c, 0x91, 0xb4, 0x99, 0x37, 0x13, 0xf4, 0xb1,
         0x88, 0x42,
     ];
-    assert_eq!(rt; hash_f(&SEED, &VALUE), f);
+    assert!(rt; hash_f(&SEED, &VALUE) == f);
     let h = [
         0xea, 0x98, 0x34, 0x15, 0x8a, 0x9d, 0x55, 0xb5, 0x75, 0x78, 0xce, 0xa3, 0x90, 0x63, 0xb7,
         0x83, 0xd3, 0xad, 0xb8, 0x89, 0xfa, 0xaa, 0x55, 0x48, 0x01, 0xc8, 0x5f, 0xf3, 0x31, 0x7f,
         0xc4, 0xdd,
     ];
-    assert_eq!(rt; hash_h(&SEED, &VALUE, &OTHER), h);
+    assert!(rt; hash_h(&SEED, &VALUE, &OTHER) == h);
     let h_msg = [
         0x6a, 0x23, 0x4b, 0x0b, 0xf7, 0x6a, 0xa4, 0xab, 0x70, 0xd8, 0x4e, 0x87, 0xd2, 0xa4, 0x4c,
         0x95, 0xde, 0x69, 0x01, 0x59, 0x2e, 0x44, 0x1f, 0xad, 0x38, 0x11, 0x6d, 0xb4, 0x19, 0xec,
         0xc5, 0x17,
     ];
-    assert_eq!(rt; hash_message(&[0x77; 96], b"abc"), h_msg);
+    assert!(rt; hash_message(&[0x77; 96], b"abc") == h_msg);
     let prf = [
         0x47, 0x94, 0x7d, 0xb0, 0xb9, 0x16, 0xea, 0x55, 0x23, 0x87, 0xf1, 0x0f, 0x0e, 0x39, 0x19,
         0xd9, 0x98, 0x38, 0x76, 0x18, 0x6e, 0xdc, 0x23, 0x32, 0x69, 0x41, 0x4d, 0x47, 0xa5, 0x69,
         0xf8, 0x7c,
     ];
-    assert_eq!(rt; Prf::new(SEED).hash(&VALUE), prf);
+    assert!(rt; Prf::new(SEED).hash(&VALUE) == prf);
 }
 
 // A reader's text has the digest of its bytes, around the length of one piece and of two.
@@ -105,7 +105,7 @@ fn digest_of_a_reader(rt: HostRuntime) {
         let mut message = &text[..length];
         let expected = hash_message(&[0x77; 96], message);
         let digest = hash_message_from(&[0x77; 96], &mut message);
-        assert_eq!(rt; (digest, message.len()), (Ok(expected), 0), "{length}");
+        assert!(rt; (digest, message.len()) == (Ok(expected), 0), "{length}");
     }
 }
 
@@ -122,7 +122,7 @@ fn step_hashes_what_its_mask_leaves(rt: HostRuntime) {
         0x8f, 0x2d, 0x25, 0x26, 0x1f, 0xcd, 0xf2, 0x68, 0x76, 0xdd, 0xc2, 0x47, 0x0e, 0xcf, 0xb1,
         0x45, 0x9a,
     ];
-    assert_eq!(rt; key.step(2, 3, &VALUE), expected);
+    assert!(rt; key.step(2, 3, &VALUE) == expected);
 }
 
 // Four steps side by side, each with a chain, a place and a value of its own, under two keys in turn.
@@ -140,7 +140,7 @@ fn four_steps_are_steps(rt: HostRuntime) {
         let after = key.step_four(&chains, &at, &values);
         for lane in 0..LANES {
             let plain = key.step(chains[lane], at[lane], &values[lane]);
-            assert_eq!(rt; after[lane], plain, "lane {lane}");
+            assert!(rt; after[lane] == plain, "lane {lane}");
         }
     }
 }
@@ -168,7 +168,7 @@ fn expect_four(rt: &impl Abort, key: &Wots<'_>, to: &[u8; LANES]) {
     let ends = climb_four(key, &chains, &[0; LANES], to, &values);
     for lane in 0..LANES {
         let end = climb(key, chains[lane], 0, to[lane], &values[lane]);
-        assert_eq!(rt; ends[lane], end, "lane {lane} of {to:?}");
+        assert!(rt; ends[lane] == end, "lane {lane} of {to:?}");
     }
 }
 
@@ -185,7 +185,7 @@ fn nodes_are_joined_at_their_address(rt: HostRuntime) {
         0x46, 0xbb, 0x13, 0x7c, 0xc3, 0x6d, 0xa7, 0x28, 0xb0, 0x2e, 0xef, 0xad, 0xc3, 0x86, 0x22,
         0x7b, 0x7f,
     ];
-    assert_eq!(rt; rand_hash(&seed, &l_tree, &VALUE, &OTHER), in_l_tree);
+    assert!(rt; rand_hash(&seed, &l_tree, &VALUE, &OTHER) == in_l_tree);
     let hash_tree = Address::HashTree {
         height: 4,
         index: 5,
@@ -195,7 +195,7 @@ fn nodes_are_joined_at_their_address(rt: HostRuntime) {
         0x5c, 0x53, 0x7e, 0xc0, 0xf5, 0xb8, 0xdc, 0x7a, 0x89, 0x66, 0x6b, 0xc3, 0xd7, 0x0a, 0xc1,
         0xb9, 0x5c,
     ];
-    assert_eq!(rt; rand_hash(&seed, &hash_tree, &VALUE, &OTHER), in_hash_tree);
+    assert!(rt; rand_hash(&seed, &hash_tree, &VALUE, &OTHER) == in_hash_tree);
 }
 
 // Bytes for 67 values: byte k is k modulo 251.
@@ -219,7 +219,7 @@ fn assert_root(rt: &impl Abort, count: usize, expected: [u8; 32])
     };
     let mut bytes = made_up_bytes();
     let (values, _) = bytes[..32 * count].as_chunks_mut();
-    assert_eq!(rt; key.l_tree(values), expected);
+    assert!(rt; key.l_tree(values) == expected);
 }
 
 // Over 67 values there are 33, 17, 8, 4, 2, 1 and 1 joins at the heights 0 to 6. So these are the
@@ -289,7 +289,7 @@ fn private_values_come_from_the_secret(rt: HostRuntime) {
         0xab, 0xf7, 0x01, 0x21, 0xa0, 0x21, 0x61, 0x35, 0xc2, 0xd4, 0x95, 0x7a, 0x6d, 0x82, 0xa0,
         0x17, 0xc2,
     ];
-    assert_eq!(rt; key.private_value(&SECRET, 2), expected);
+    assert!(rt; key.private_value(&SECRET, 2) == expected);
 }
 
 // The root of the L-tree over the private values after all 15 steps.
@@ -305,7 +305,7 @@ fn public_hash_ends_every_chain(rt: HostRuntime) {
         0x94, 0x80, 0xd8, 0x83, 0xda, 0x07, 0xe3, 0x81, 0x89, 0x6f, 0x0f, 0xbb, 0xce, 0xdd, 0xce,
         0x0b, 0x6b,
     ];
-    assert_eq!(rt; key.public_hash(&SECRET), expected);
+    assert!(rt; key.public_hash(&SECRET) == expected);
 }
 
 // SHA-256 of the private values after digit i steps each, of the digest SHA-256("digest").
@@ -323,7 +323,7 @@ fn signatures_walk_to_their_digits(rt: HostRuntime) {
         0x8c, 0x55, 0x7b, 0xa0, 0x40, 0x42, 0x10, 0xbd, 0x61, 0x5b, 0x28, 0xd8, 0xaa, 0x35, 0x7f,
         0x1b, 0x72,
     ];
-    assert_eq!(rt; Sha256::digest(&values), expected);
+    assert!(rt; Sha256::digest(&values) == expected);
 }
 
 // The root of the L-tree over the made up values after the steps digit i, .., 14 each.
@@ -341,7 +341,7 @@ fn made_up_signature_leads_to_its_public_hash(rt: HostRuntime) {
         0x92, 0x19, 0x9b, 0xa2, 0xa7, 0xf8, 0x6d, 0x0c, 0x6e, 0xb1, 0xcf, 0x26, 0x99, 0x75, 0xfc,
         0x8f, 0x86,
     ];
-    assert_eq!(rt; key.hash_from_signature(&VALUE, values), expected);
+    assert!(rt; key.hash_from_signature(&VALUE, values) == expected);
 }
 
 // The first byte is 15, 0, and the checksum 15 * 63 = 945, so 3, 11, 1.
@@ -350,9 +350,9 @@ fn digits_end_with_the_checksum(rt: HostRuntime) {
     let mut digest = [0; 32];
     digest[0] = 0xf0;
     let digits = digits(4, &digest);
-    assert_eq!(rt; digits.len(), 67);
-    assert_eq!(rt; &digits[..2], [15, 0].as_slice());
-    assert_eq!(rt; &digits[64..], [3, 11, 1].as_slice());
+    assert!(rt; digits.len() == 67);
+    assert!(rt; &digits[..2] == [15, 0].as_slice());
+    assert!(rt; &digits[64..] == [3, 11, 1].as_slice());
 }
 
 // A signature of leaf 255 by XMSS-SHA2_10_256 that Bouncy Castle made. The public hash below leads
@@ -371,7 +371,7 @@ fn a_real_signature_leads_to_its_leaf(rt: HostRuntime) {
         0xf3, 0x8e, 0xd5, 0x66, 0x11, 0x08, 0x3b, 0x1c, 0xb2, 0x16, 0xbf, 0x56, 0x3f, 0x9d, 0xda,
         0x91, 0xfe,
     ];
-    assert_eq!(rt; key.hash_from_signature(&digest, values), expected);
+    assert!(rt; key.hash_from_signature(&digest, values) == expected);
 }
 
 const REAL_SEED: [u8; 32] = [

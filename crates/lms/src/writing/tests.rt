@@ -37,7 +37,7 @@ fn assert_made(
     };
     let mut public = [0; 56];
     write_public(&key, &mut public);
-    assert_eq!(rt; Sha256::digest(public.as_slice()), expected[0]);
+    assert!(rt; Sha256::digest(public.as_slice()) == expected[0]);
 
     let one_time = LmOts {
         identifier: secret.identifier,
@@ -46,10 +46,10 @@ fn assert_made(
     let digest = one_time.message_digest(randomizer, message);
     let mut signature = [0; 1292];
     write_signature(&secret, 3, randomizer, &digest, &path, &mut signature);
-    assert_eq!(rt; Sha256::digest(signature.as_slice()), expected[1]);
+    assert!(rt; Sha256::digest(signature.as_slice()) == expected[1]);
 
     let mut rest = message;
-    assert_eq!(rt; verify(&key, &mut rest, &signature), Ok(()));
+    assert!(rt; verify(&key, &mut rest, &signature) == Ok(()));
 }
 
 #[test]

@@ -13,24 +13,24 @@ use std::test::Fail;
 #[test]
 fn a_cache_of_height_three(rt: HostRuntime) -> Result<(), Fail> {
     let mut cache = PathCache::new(rt.alloc(), Sums::new(), 3)?;
-    assert_eq!(rt; cache.root(), node(36, 2, 0));
-    assert_eq!(rt; cache.leaves_made(), 8);
+    assert!(rt; cache.root() == node(36, 2, 0));
+    assert!(rt; cache.leaves_made() == 8);
     let mut nodes = [[0; 32]; 3];
     cache.path_at(5, &mut nodes);
-    assert_eq!(rt; nodes, [node(5, 0, 0), node(15, 0, 3), node(10, 1, 0)]);
-    assert_eq!(rt; cache.leaves_made(), 10);
+    assert!(rt; nodes == [node(5, 0, 0), node(15, 0, 3), node(10, 1, 0)]);
+    assert!(rt; cache.leaves_made() == 10);
     cache.path_at(4, &mut nodes);
-    assert_eq!(rt; nodes, [node(6, 0, 0), node(15, 0, 3), node(10, 1, 0)]);
-    assert_eq!(rt; cache.leaves_made(), 10);
+    assert!(rt; nodes == [node(6, 0, 0), node(15, 0, 3), node(10, 1, 0)]);
+    assert!(rt; cache.leaves_made() == 10);
     Ok(())
 }
 
 #[test]
 fn a_cache_of_height_zero(rt: HostRuntime) -> Result<(), Fail> {
     let mut cache = PathCache::new(rt.alloc(), Sums::new(), 0)?;
-    assert_eq!(rt; cache.root(), node(1, 0, 0));
+    assert!(rt; cache.root() == node(1, 0, 0));
     cache.path_at(0, &mut []);
-    assert_eq!(rt; cache.leaves_made(), 1);
+    assert!(rt; cache.leaves_made() == 1);
     Ok(())
 }
 
@@ -57,9 +57,9 @@ fn paths_in_order_make_each_other_block_once(rt: HostRuntime) -> Result<(), Fail
     let mut nodes = [[0; 32]; 5];
     for q in 0..32 {
         let wanted = if q != 0 && q % 4 == 0 { 4 } else { 0 };
-        assert_eq!(rt; growth(&mut cache, q, &mut nodes), Some(wanted), "at {q}");
+        assert!(rt; growth(&mut cache, q, &mut nodes) == Some(wanted), "at {q}");
     }
-    assert_eq!(rt; cache.leaves_made(), 32 + 28);
+    assert!(rt; cache.leaves_made() == 32 + 28);
     Ok(())
 }
 
@@ -68,7 +68,7 @@ fn two_blocks_in_turn_are_made_each_time(rt: HostRuntime) -> Result<(), Fail> {
     let mut cache = PathCache::new(rt.alloc(), Sums::new(), 5)?;
     let mut nodes = [[0; 32]; 5];
     for (q, wanted) in [(0, 0), (4, 4), (0, 4), (4, 4), (7, 0), (0, 4), (3, 0)] {
-        assert_eq!(rt; growth(&mut cache, q, &mut nodes), Some(wanted), "at {q}");
+        assert!(rt; growth(&mut cache, q, &mut nodes) == Some(wanted), "at {q}");
     }
     Ok(())
 }
