@@ -490,8 +490,8 @@ fn a_used_tree_is_replaced_at_last(rt: HostRuntime) {
     assert!(rt; len_of_new(rt.alloc(), TWO, &USED) == Some(1537));
 }
 
-// 33 new names, each with a signature of so many bytes, and a last step. Where it is wanted, the lowest tree of a key of
-// three levels is used up after each name but the last one, before which no lower tree has a leaf left.
+// 33 new names, each with a signature of so many bytes, and a last step. Where it is wanted, the lowest tree of a key
+// of three levels is used up after each name but the last one, before which no lower tree has a leaf left.
 fn of_names<'a>(alloc: Global, len: usize, uses_up: bool, last: Step<'a>) -> Option<Vec<Step<'a>>> {
     let mut steps = match Vec::with_capacity(alloc, 67) {
         Ok(steps) => steps,
