@@ -791,7 +791,8 @@ fn fault_by<S: Store + Drop, R: Source + Drop>(
     Some((store, answered?.err()))
 }
 
-// The fault of a name of a new key in a file, whose first try this is; else memory was refused, or none was.
+// The fault of the first request of a name in the file of a new key, which is made and opened at the second try where
+// memory was refused at the first. None where the name is signed.
 fn fault_in_a_file(alloc: Global) -> Option<SignFault> {
     let tape = tape_of::<32>(0, 1);
     let store = store_of(new_disk(alloc, LMS)?)?;
@@ -804,8 +805,8 @@ fn a_name_is_bound_in_a_file_at_first(rt: HostRuntime) {
     assert!(rt; fault_in_a_file(rt.alloc()) != Some(SignFault::StoreFailed));
 }
 
-// The same of a new name of a key of two levels whose source ends after the draws of the lower tree, or at once where
-// that tree is recorded.
+// What a new name is answered by a key of two levels whose source ends after the draws of the lower tree, or at once
+// where that tree is recorded; and the store then.
 fn ends_short<S: Store + Drop>(alloc: Global, store: S) -> Option<(S, Option<SignFault>)> {
     let mut store = store;
     let tape = tape_of::<80>(48, 1);
