@@ -50,8 +50,8 @@ fn changed_back<D: Disk + Drop>(
 // The disk after all of them.
 fn changed_in_turn<D: Disk + Drop>(disk: D) -> Option<D> {
     let mut disk = disk;
-    for change in CHANGED {
-        disk = changed_back(disk, change)?;
+    for change in &CHANGED {
+        disk = changed_back(disk, *change)?;
     }
     Some(disk)
 }
@@ -150,26 +150,20 @@ fn a_key_is_made_in_a_room(rt: HostRuntime) {
     assert!(rt; is_kept_on(rt.alloc(), room) == Some(true));
 }
 
-// The signatures of two names, and an output with room for one of them.
-type Signatures = (Vec<u8>, Vec<u8>, Vec<u8>);
-
-// Signs the byte 1 under a name: its signature. Where the tree that did so is to be replaced, its leaves are retired,
-// and the byte 2 is signed under a second name: that signature, too, and the output.
+// Signs the byte 1 under a name. Where the tree that did so is to be replaced, its leaves are retired, and the byte 2
+// is signed under a second name.
 fn sign_names<S: Store, R: Source>(
-    alloc: Global,
     signer: &mut Signer<S, R>,
     replaces: bool,
-) -> Option<Signatures> {
-    let mut first = Vec::new(alloc);
-    let mut second = Vec::new(alloc);
-    let mut output = Vec::new(alloc);
-    sign_byte(signer, b"fw-1", 1, &mut first)?;
+    first: &mut Vec<u8>,
+    second: &mut Vec<u8>,
+) -> Option<()> {
+    sign_byte(signer, b"fw-1", 1, first)?;
     if replaces {
         signer.retire(32).ok()?;
-        sign_byte(signer, b"fw-2", 2, &mut second)?;
-        output = Vec::with_capacity(alloc, 2644).ok()?;
+        sign_byte(signer, b"fw-2", 2, second)?;
     }
-    Some((first, second, output))
+    Some(())
 }
 
 // The replies 21, 34 and 27.
@@ -177,10 +171,13 @@ const REFUSED: &[u8] = b"\x15\0\0\0\0\x22\0\0\0\0\x1b\0\0\0\0";
 
 // Whether a signer of one name refuses what it should; also in frames: another message under that name, a name that is
 // none, and that name with one byte of two that are announced.
-fn is_refused<S: Store, R: Source>(alloc: Global, signer: &mut Signer<S, R>) -> Option<bool> {
-    let mut out = Vec::new(alloc);
+fn is_refused<S: Store, R: Source>(
+    alloc: Global,
+    signer: &mut Signer<S, R>,
+    out: &mut Vec<u8>,
+) -> Option<bool> {
     let name = Name::new(b"fw-1").ok()?;
-    let changed = signer.sign(&name, &mut [2].as_slice(), &mut out);
+    let changed = signer.sign(&name, &mut [2].as_slice(), out);
     let is_retired = signer.retire(1) == Ok(()) && signer.retire(33) == Err(SignFault::RetireRange);
     let is_so = has(signer, &[31, 31], [true, true, false]);
     let mut room = [0; 64];
@@ -194,12 +191,15 @@ fn is_refused<S: Store, R: Source>(alloc: Global, signer: &mut Signer<S, R>) -> 
 
 // Whether both names have their signatures again, and no cache makes a leaf for that: the first name's tree has no
 // cache any more, and the leaf of the second name is in the block that its tree's cache keeps.
-fn are_repeated<S: Store, R: Source>(signer: &mut Signer<S, R>, signatures: Signatures) -> bool {
-    let (first, second, mut output) = signatures;
+fn are_repeated<S: Store, R: Source>(
+    signer: &mut Signer<S, R>,
+    (first, second): (&[u8], &[u8]),
+    output: &mut Vec<u8>,
+) -> bool {
     let is_so = has(signer, &[30, 31], [true, true, false]);
     let made = (signer.cache_leaves(0), signer.cache_leaves(1));
-    let is_first = sign_byte(signer, b"fw-1", 1, &mut output).is_some() && output == first;
-    let is_second = sign_byte(signer, b"fw-2", 2, &mut output).is_some() && output == second;
+    let is_first = sign_byte(signer, b"fw-1", 1, output).is_some() && output.as_slice() == first;
+    let is_second = sign_byte(signer, b"fw-2", 2, output).is_some() && output.as_slice() == second;
     let is_made = (signer.cache_leaves(0), signer.cache_leaves(1)) == made;
     is_so && is_first && is_second && is_made
 }
@@ -211,14 +211,15 @@ fn signs<S: Store, R: Source>(
     replaces: bool,
     is_tried: bool,
 ) -> Option<bool> {
-    let signatures = sign_names(alloc, signer, replaces)?;
-    if !is_tried {
-        return Some(true);
-    }
-    if replaces {
-        Some(are_repeated(signer, signatures))
-    } else {
-        is_refused(alloc, signer)
+    let mut first = Vec::new(alloc);
+    let mut second = Vec::new(alloc);
+    sign_names(signer, replaces, &mut first, &mut second)?;
+    let room = if replaces { 2644 } else { 0 };
+    let mut output = Vec::with_capacity(alloc, room).ok()?;
+    match (is_tried, replaces) {
+        (false, _) => Some(true),
+        (true, true) => Some(are_repeated(signer, (&first, &second), &mut output)),
+        (true, false) => is_refused(alloc, signer, &mut output),
     }
 }
 
@@ -260,16 +261,14 @@ fn a_name_of_an_old_tree_is_repeated(rt: HostRuntime) {
 // A public key, and a message with its signature.
 type Bytes = (Vec<u8>, Given);
 
-// One of each scheme, of other programs.
-fn known_of_each(alloc: Global) -> Option<Vec<Bytes>> {
-    let mut all = Vec::new(alloc);
-    for (scheme, place) in [(Scheme::Lms, 1), (Scheme::Hss, 0), (Scheme::Model, 0)] {
-        let signed = signed_with(scheme);
-        let public = bytes_in(alloc, signed.0)?;
-        all.push((public, given_of(alloc, signed, place, place)?))
-            .ok()?;
-    }
-    Some(all)
+// One of each scheme, of other programs, with its place among those.
+const ONE_OF_EACH: [(Scheme, usize); 3] = [(Scheme::Lms, 1), (Scheme::Hss, 0), (Scheme::Model, 0)];
+
+// Its key, message and signature.
+fn known(alloc: Global, scheme: Scheme, place: usize) -> Option<Bytes> {
+    let signed = signed_with(scheme);
+    let public = bytes_in(alloc, signed.0)?;
+    Some((public, given_of(alloc, signed, place, place)?))
 }
 
 // Whether the view of a signature has all its bytes, and the key's scheme by itself says that it is valid.
@@ -358,28 +357,37 @@ fn is_of_this_key(bytes: &mut Vec<u8>, given: &Given) -> bool {
     AnyPublic::read(bytes.get(1..).unwrap_or_default()).is_err()
 }
 
-// Whether keys, signatures and texts are read and verified.
-fn are_read(alloc: Global) -> Option<bool> {
-    let mut known = known_of_each(alloc)?;
-    for (bytes, given) in known.iter_mut() {
-        let public = AnyPublic::read(bytes).ok()?;
-        let is_written = public.write().as_slice() == bytes.as_slice();
-        let is_refused = is_refused_changed(bytes, given) && is_of_this_key(bytes, given);
-        if !is_written || !is_refused || !is_verified(&public, given) {
-            return Some(false);
-        }
-    }
+// Whether a key and its signature are read and verified.
+fn is_read(known: Option<Bytes>) -> bool {
+    let Some((mut bytes, mut given)) = known else {
+        return false;
+    };
+    let Ok(public) = AnyPublic::read(&bytes) else {
+        return false;
+    };
+    let is_written = public.write().as_slice() == bytes.as_slice();
+    let is_refused = is_refused_changed(&bytes, &mut given) && is_of_this_key(&mut bytes, &given);
+    is_written && is_refused && is_verified(&public, &given)
+}
+
+// Whether texts are read.
+fn are_texts_read() -> bool {
     let is_name = Name::new(b"fw-1").is_ok() && Name::new(b"").is_err();
     let is_spec = Spec::parse("hss:H10/W8,H5/W4").is_ok() && Spec::parse("lms:H6/W8").is_err();
-    Some(is_name && is_spec && coef(&[0x12, 0x34], 7, 1) == 0 && coef(&[0x12, 0x34], 0, 4) == 1)
+    is_name && is_spec && coef(&[0x12, 0x34], 7, 1) == 0 && coef(&[0x12, 0x34], 0, 4) == 1
 }
 
 #[test]
 fn signatures_are_there(rt: HostRuntime) {
-    assert!(rt; known_of_each(rt.alloc()).is_some());
+    for (scheme, place) in &ONE_OF_EACH {
+        assert!(rt; known(rt.alloc(), *scheme, *place).is_some());
+    }
 }
 
 #[test]
 fn signatures_are_read(rt: HostRuntime) {
-    assert!(rt; are_read(rt.alloc()) == Some(true));
+    for (scheme, place) in &ONE_OF_EACH {
+        assert!(rt; is_read(known(rt.alloc(), *scheme, *place)));
+    }
+    assert!(rt; are_texts_read());
 }

@@ -13,7 +13,8 @@ const PAIR: LmsPair = LmsPair {
     ots: OtsType::W8,
 };
 
-// A secret's key with its leaf 3's signature of a message have these digests, and are verified.
+// A secret's key with its leaf 3's signature of a message have these digests, and are verified. The root by all leaves
+// is that of the key.
 fn assert_made(
     rt: &impl Abort,
     secret: &LmsSecret,
@@ -35,6 +36,7 @@ fn assert_made(
         identifier: secret.identifier,
         root: root_from_path(&tree, 3, &leaf, &path),
     };
+    assert!(rt; merkle::root(&mut tree, 5) == key.root);
     let mut public = [0; 56];
     write_public(&key, &mut public);
     assert!(rt; Sha256::digest(public.as_slice()) == expected[0]);

@@ -51,8 +51,8 @@ const SIGNATURE: [u8; 32] = [
     0x97, 0x95, 0xa2, 0x86, 0x86, 0xc5, 0xf8, 0x88, 0x20, 0x20, 0x2b, 0xcf, 0x49, 0x40, 0x7b, 0x3b,
 ];
 
-// The root, the randomizer and the digest are those expected, and the key's and the signature's bytes have the
-// expected digests.
+// The root, by a path and by all leaves, the randomizer and the digest are those expected, and the bytes of the key and
+// of the signature have the expected digests.
 #[test]
 fn rising_bytes(rt: HostRuntime) {
     let mut tree = XmssTree::new(SECRET);
@@ -75,6 +75,7 @@ fn rising_bytes(rt: HostRuntime) {
 
     for (what, made, expected) in [
         ("root", root, ROOT),
+        ("root of the tree", merkle::root(&mut tree, 10), ROOT),
         ("key", Sha256::digest(public.as_slice()), PUBLIC),
         ("randomizer", randomizer, RANDOMIZER),
         ("digest", digest, DIGEST),

@@ -81,13 +81,11 @@ fn path_in(view: &LmsSigView<'_>) -> Option<[[u8; 32]; 5]> {
     if view.types() != PAIR {
         return None;
     }
-    Some([
-        *view.node(0),
-        *view.node(1),
-        *view.node(2),
-        *view.node(3),
-        *view.node(4),
-    ])
+    let mut path = [[0; 32]; 5];
+    for k in 0..5u8 {
+        path[usize::from(k)] = *view.node(k);
+    }
+    Some(path)
 }
 
 // A level of a signature by its secret and its tree's root, with the leaf, C and the path of the signature.
@@ -172,18 +170,10 @@ fn is_xmss_written(public: &XmssPublic, given: &Given) -> Option<bool> {
     let signature = given.signature.as_slice();
     let view = XmssSigView::read(XmssType::H10, signature).ok()?;
     let secret = XMSS_SECRET;
-    let path = [
-        *view.node(0),
-        *view.node(1),
-        *view.node(2),
-        *view.node(3),
-        *view.node(4),
-        *view.node(5),
-        *view.node(6),
-        *view.node(7),
-        *view.node(8),
-        *view.node(9),
-    ];
+    let mut path = [[0; 32]; 10];
+    for k in 0..10u8 {
+        path[usize::from(k)] = *view.node(k);
+    }
     let leaf = view.index();
     if leaf >= 1024 {
         return None;
@@ -195,23 +185,19 @@ fn is_xmss_written(public: &XmssPublic, given: &Given) -> Option<bool> {
     Some(written.as_slice() == signature)
 }
 
-// Whether the signatures of other programs are written again, byte by byte.
-fn are_written(alloc: Global) -> Option<bool> {
-    let known = known_of_each(alloc)?;
-    for (bytes, given) in &known {
-        let is_written = match AnyPublic::read(bytes).ok()? {
-            AnyPublic::Lms(key) => is_lms_written(&key, given)?,
-            AnyPublic::Hss(key) => is_hss_written(&key, given)?,
-            AnyPublic::Xmss(key) => is_xmss_written(&key, given)?,
-        };
-        if !is_written {
-            return Some(false);
-        }
+// Whether the signature of another program is written again, byte by byte.
+fn is_written(known: Option<Bytes>) -> Option<bool> {
+    let (bytes, given) = known?;
+    match AnyPublic::read(&bytes).ok()? {
+        AnyPublic::Lms(key) => is_lms_written(&key, &given),
+        AnyPublic::Hss(key) => is_hss_written(&key, &given),
+        AnyPublic::Xmss(key) => is_xmss_written(&key, &given),
     }
-    Some(true)
 }
 
 #[test]
 fn signatures_are_written(rt: HostRuntime) {
-    assert!(rt; are_written(rt.alloc()) == Some(true));
+    for (scheme, place) in &ONE_OF_EACH {
+        assert!(rt; is_written(known(rt.alloc(), *scheme, *place)) == Some(true));
+    }
 }

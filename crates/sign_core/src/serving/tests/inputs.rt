@@ -74,8 +74,8 @@ fn is_so(
 
 #[test]
 fn frames_are_replied_to_by_their_rules(rt: HostRuntime) {
-    for (retired, bytes, output, end) in INPUTS {
-        assert!(rt; is_so(rt.alloc(), retired, bytes, output, end) == Some(true));
+    for (retired, bytes, output, end) in &INPUTS {
+        assert!(rt; is_so(rt.alloc(), *retired, bytes, output, *end) == Some(true));
     }
 }
 
@@ -119,7 +119,7 @@ struct Way {
 }
 
 // An input of these bytes that is given so.
-fn given_by(bytes: &[u8], way: Way) -> Input<'_> {
+fn given_by<'a>(bytes: &'a [u8], way: &Way) -> Input<'a> {
     let mut input = input_of(bytes, way.fails);
     input.most = way.most;
     input.interrupts = way.interrupts;
@@ -137,6 +137,16 @@ fn end_of(
     let wanted = led_to(alloc, start, bytes, input.fails)?;
     let came = served(alloc, start, input, &mut taking_all(alloc))?;
     if came == wanted { Some(came.end) } else { None }
+}
+
+// Whether bytes that are given so end with this, and come to what they lead to.
+fn ends_with(
+    alloc: Global,
+    start: Start<'_>,
+    (bytes, way): (&[u8], &Way),
+    end: Result<u64, ServeFault>,
+) -> bool {
+    end_of(alloc, start, bytes, &mut given_by(bytes, way)) == Some(end)
 }
 
 const CUT: Result<u64, ServeFault> = Err(ServeFault::FrameCut);
@@ -207,9 +217,9 @@ const BEGINNINGS: [Way; 5] = [
 fn right_beginnings(alloc: Global, start: Start<'_>) -> usize {
     for (len, end) in ENDS.iter().enumerate() {
         let bytes = CHANGED.get(..len).unwrap_or_default();
-        for way in BEGINNINGS {
+        for way in &BEGINNINGS {
             let wanted = if way.fails { UNREAD } else { *end };
-            if end_of(alloc, start, bytes, &mut given_by(bytes, way)) != Some(wanted) {
+            if !ends_with(alloc, start, (bytes, way), wanted) {
                 return len;
             }
         }
@@ -289,7 +299,7 @@ fn right_ways(alloc: Global, start: Start<'_>, frames: &[u8]) -> usize {
             is_stuck: false,
         };
         let wanted = if *fails { UNREAD } else { Ok(6) };
-        if end_of(alloc, start, frames, &mut given_by(frames, way)) != Some(wanted) {
+        if !ends_with(alloc, start, (frames, &way), wanted) {
             return i;
         }
     }

@@ -39,33 +39,42 @@ fn came_out(
     }
 }
 
-// The exchange of an input whose output takes at most so many bytes at a time, and how many writes and flushes it has;
-// and how many of them cut the exchange where each in turn is odd in this way.
-fn cut_by(
+// How many writes and flushes the exchange of an input has whose output takes at most so many bytes at a time.
+fn calls_of(
     alloc: Global,
     start: Start<'_>,
     bytes: &[u8],
     most: usize,
-    odd: Odd,
-) -> Option<(u32, u32, u32)> {
-    let whole = led_to(alloc, start, bytes, false)?;
+    whole: &Exchange,
+) -> Option<(u32, u32)> {
     let mut output = taking_all(alloc);
     output.most = most;
-    if came_out(alloc, start, bytes, &mut output, &whole)? != Came::Whole {
-        return None;
+    match came_out(alloc, start, bytes, &mut output, whole)? {
+        Came::Whole => Some((output.writes, output.flushes)),
+        Came::Cut => None,
     }
-    let (writes, flushes) = (output.writes, output.flushes);
+}
+
+// How many of the first calls of such an output cut the exchange, each of which is odd in turn in this way.
+fn cut_by(
+    alloc: Global,
+    start: Start<'_>,
+    bytes: &[u8],
+    (most, odd, calls): (usize, Odd, u32),
+    whole: &Exchange,
+) -> Option<u32> {
     let mut cut = 0u32;
-    for before in 0..writes.checked_add(flushes)? {
+    for before in 0..calls {
         let mut output = taking_all(alloc);
         output.most = most;
         output.odd = odd;
         output.before = Some(before);
-        if came_out(alloc, start, bytes, &mut output, &whole)? == Came::Cut {
-            cut = cut.checked_add(1)?;
-        }
+        cut = match came_out(alloc, start, bytes, &mut output, whole)? {
+            Came::Whole => cut,
+            Came::Cut => cut.checked_add(1)?,
+        };
     }
-    Some((writes, flushes, cut))
+    Some(cut)
 }
 
 // A name that is signed, the same with another message, and a name that is none; after them the input is cut.
@@ -80,10 +89,12 @@ fn cuts_as_it_should(alloc: Global, bytes: &[u8], most: usize, replies: u32) -> 
     let tape = tape_of::<112>(0, 1);
     let file = new_file(alloc, CHEAP, &tape, 0)?;
     let start = (file.as_slice(), tape.as_slice());
-    let (writes, flushes, failed) = cut_by(alloc, start, bytes, most, Odd::Fails)?;
-    let (_, _, without) = cut_by(alloc, start, bytes, most, Odd::TakesNothing)?;
-    let (_, _, interrupted) = cut_by(alloc, start, bytes, most, Odd::IsInterrupted)?;
+    let whole = led_to(alloc, start, bytes, false)?;
+    let (writes, flushes) = calls_of(alloc, start, bytes, most, &whole)?;
     let all = writes.checked_add(flushes)?;
+    let failed = cut_by(alloc, start, bytes, (most, Odd::Fails, all), &whole)?;
+    let without = cut_by(alloc, start, bytes, (most, Odd::TakesNothing, all), &whole)?;
+    let interrupted = cut_by(alloc, start, bytes, (most, Odd::IsInterrupted, all), &whole)?;
     Some(failed == all && without == writes && interrupted == 0 && flushes == replies)
 }
 
@@ -111,8 +122,8 @@ fn is_the_same_by_bytes(alloc: Global) -> Option<bool> {
 // A reply that can't be written ends the exchange, and one may be written by single bytes.
 #[test]
 fn replies_are_written_or_end_the_exchange(rt: HostRuntime) {
-    for (bytes, most, replies) in REPLIES {
-        assert!(rt; cuts_as_it_should(rt.alloc(), bytes, most, replies) == Some(true));
+    for (bytes, most, replies) in &REPLIES {
+        assert!(rt; cuts_as_it_should(rt.alloc(), bytes, *most, *replies) == Some(true));
     }
     assert!(rt; is_the_same_by_bytes(rt.alloc()) == Some(true));
 }

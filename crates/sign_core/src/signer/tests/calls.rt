@@ -4,6 +4,7 @@ use super::*;
 use sha2::{Digest, Sha256};
 use std::io;
 use std::io::{ErrorKind, Read};
+use typecodes::Refusal;
 
 // The six digits after n are the number of the name.
 pub(super) fn name_of(number: u32) -> [u8; 7] {
@@ -58,8 +59,11 @@ pub(crate) enum Call<'a> {
     // requests with messages of zeros that fail after so many bytes: each has this fault and leaves no byte, and after
     // each so many leaves are left
     Fail(u32, &'a [usize], SignFault, &'a [u32]),
-    // requests with one message of 200 bytes in pieces of these sizes, which have one signature; also where reads say
-    // that they gave the last bytes, and write none
+    // the same of messages that are interrupted without end after so many bytes
+    Stick(u32, &'a [usize], SignFault, &'a [u32]),
+    // requests with one message of 32,684 bytes in pieces of these sizes, which have one signature; also where reads
+    // say that they gave the last 5,000 bytes, and write none; that signature isn't valid for a message that is
+    // interrupted without end
     InPieces(u32, &'a [usize]),
     // leaves are retired
     Retire(u32, Option<SignFault>),
@@ -142,20 +146,22 @@ pub(crate) fn input_of(bytes: &[u8], fails: bool) -> Input<'_> {
     }
 }
 
-// Whether each request of a name has this fault and leaves no byte, whose message fails after one of these counts of
-// bytes, and so many leaves are left after it.
+// Whether each request of a name has this fault and leaves no byte, whose message fails, or is stuck, after one of
+// these counts of bytes, and so many leaves are left after it.
 fn all_fail<S: Store, R: Source>(
     alloc: Global,
     signer: &mut Signer<S, R>,
     name: &[u8],
-    counts: &[usize],
+    (counts, is_stuck): (&[usize], bool),
     (fault, left): (SignFault, &[u32]),
 ) -> Option<bool> {
     let name = Name::new(name).ok()?;
     for count in counts {
         let zeros = vec![in alloc; 0u8; *count].ok()?;
         let mut out = Vec::new(alloc);
-        let answer = signer.sign(&name, &mut input_of(&zeros, true), &mut out);
+        let mut message = input_of(&zeros, true);
+        message.is_stuck = is_stuck;
+        let answer = signer.sign(&name, &mut message, &mut out);
         if answer != Err(fault) || !out.is_empty() || signer.left().as_slice() != left {
             return Some(false);
         }
@@ -192,24 +198,41 @@ fn signed_in_pieces<S: Store, R: Source>(
     Some(out)
 }
 
-// Whether a message has one signature in pieces of each of these sizes.
+// A message of two pieces, the second of which isn't full: 113 numbers, each in 100 bytes, and zeros after them. What a
+// read that claims zeros of the second piece leaves in the buffer is zeros, also where the first piece is still there.
+fn long_text(alloc: Global) -> Option<Vec<u8>> {
+    let mut text = Vec::with_capacity(alloc, 32_768).ok()?;
+    for i in 0..226u8 {
+        text.resize(text.len().checked_add(100)?, i + 1).ok()?;
+        if i % 113 == 112 {
+            text.resize(text.len().checked_add(5084)?, 0).ok()?;
+        }
+    }
+    text.truncate(32_684);
+    Some(text)
+}
+
+// Whether a message has one signature in pieces of each of these sizes, which isn't valid for one that is interrupted
+// without end.
 fn is_one_in_pieces<S: Store, R: Source>(
     alloc: Global,
     signer: &mut Signer<S, R>,
     name: &[u8],
     sizes: &[usize],
 ) -> Option<bool> {
-    let mut text = tape_of::<200>(7, 1);
-    text.get_mut(150..)?.fill(0);
-    let first = signed_in_pieces(alloc, signer, name, &text, (200, 0))?;
+    let text = long_text(alloc)?;
+    let first = signed_in_pieces(alloc, signer, name, &text, (usize::MAX, 0))?;
     for size in sizes {
         let whole = signed_in_pieces(alloc, signer, name, &text, (*size, 0))?;
-        let claimed = signed_in_pieces(alloc, signer, name, &text, (*size, 50))?;
+        let claimed = signed_in_pieces(alloc, signer, name, &text, (*size, 5000))?;
         if whole != first || claimed != first {
             return Some(false);
         }
     }
-    Some(true)
+    let mut stuck = input_of(&text, true);
+    stuck.is_stuck = true;
+    let verdict = verify_any(&signer.public_key(), &mut stuck, &first);
+    Some(verdict == Err(Refusal::MessageRead))
 }
 
 // The fault of a request, if any, and whether its signature is the first one that was given.
@@ -253,6 +276,11 @@ fn is_answered<S: Store, R: Source>(
         Call::SignAll(from, to) => signs_all(alloc, signer, (*from, *to), false),
         Call::UseUp(from, to) => signs_all(alloc, signer, (*from, *to), true),
         Call::Fail(number, counts, fault, left) => {
+            let counts = (*counts, false);
+            all_fail(alloc, signer, &name_of(*number), counts, (*fault, *left))
+        }
+        Call::Stick(number, counts, fault, left) => {
+            let counts = (*counts, true);
             all_fail(alloc, signer, &name_of(*number), counts, (*fault, *left))
         }
         Call::InPieces(number, sizes) => is_one_in_pieces(alloc, signer, &name_of(*number), sizes),

@@ -32,42 +32,55 @@ impl Source for Numbers<'_> {
 // What is done with a key: its file, which is so long, is closed, and opened again with a source that begins with this
 // number, or with the first byte of the I of a key of more levels; a request of the name of a number with a message of
 // one byte, whose signature is so long, or its fault; one that is answered by the signature of the one before it;
-// leaves that are retired, and what this answers; how many leaves are left.
+// leaves that are retired, with Ok(0), or the fault; how many leaves are left.
 #[derive(Clone, Copy)]
 enum Step<'a> {
     Reopen(u64, u8),
     ReopenByKey(u64),
     Sign(u32, u8, Result<usize, SignFault>),
     Repeat(u32, u8, Result<usize, SignFault>),
-    Retire(u32, Option<SignFault>),
+    Retire(u32, Result<usize, SignFault>),
     Left(&'a [u32]),
 }
 
-// Where the steps of a key stand: the next one, and the number that its source gives next; whether its file is closed
-// and opened again for it, how long the file is to be then, and whether memory was refused to that opening. Where that
-// step comes again after a refusal of memory, whether the store failed then, and whether its name was bound before it.
+// Where the steps of a key stand: the next one, and the number that its source gives next; whether the key is in a
+// file, which is closed where memory was refused or the store failed; whether it's closed now and opened again for that
+// step, how long it is to be then, and whether memory was refused to that opening. Where that step comes again after a
+// refusal of memory, whether the store failed then, and whether its name was bound before it. Whether memory was
+// refused for a name after something was drawn for it, and whether for leaves.
 #[derive(Clone, Copy)]
 struct Place {
     step: usize,
     next: u8,
+    is_in_file: bool,
     is_closed: bool,
     len: Option<u64>,
     was_closed: bool,
     is_again: bool,
     is_failed: bool,
     was_bound: Option<bool>,
+    is_name_refused: bool,
+    is_retire_refused: bool,
 }
 
-// The place before the first step.
-const BEGIN: Place = Place {
+// The places before the first step of a key in a file, and in memory.
+const IN_FILE: Place = Place {
     step: 0,
     next: 50,
+    is_in_file: true,
     is_closed: false,
     len: None,
     was_closed: false,
     is_again: false,
     is_failed: false,
     was_bound: None,
+    is_name_refused: false,
+    is_retire_refused: false,
+};
+
+const IN_MEMORY: Place = Place {
+    is_in_file: false,
+    ..IN_FILE
 };
 
 // The place after a step that is answered as it should be. The file is closed then where its length is given.
@@ -76,18 +89,22 @@ fn after_step(place: Place, len: Option<u64>) -> Option<Place> {
         step: place.step.checked_add(1)?,
         is_closed: len.is_some(),
         len,
-        ..BEGIN
+        was_closed: false,
+        is_again: false,
+        is_failed: false,
+        was_bound: None,
+        ..place
     })
 }
 
-// The place of a step that comes again with what the source gives next, after memory was refused or the store failed,
-// and the file was closed; with whether its name was bound before. None where it comes again already.
+// The place of a step that comes again with what the source gives next, after memory was refused or the store failed;
+// with whether its name was bound before. None where it comes again already.
 fn refused_at(place: Place, is_failed: bool, was_bound: Option<bool>) -> Option<Place> {
     if place.is_again {
         return None;
     }
     Some(Place {
-        is_closed: true,
+        is_closed: place.is_in_file,
         len: None,
         is_again: true,
         is_failed,
@@ -189,50 +206,102 @@ fn made_on<D: Disk + Drop>(alloc: Global, text: &str, disk: D) -> Option<D> {
     }
 }
 
-// What a request of one byte answers, with the length of its signature. It leaves no byte where it is refused.
+// What a request of one byte answers, with the length of its signature, which is valid. It leaves no byte where it is
+// refused.
 fn request<S: Store, R: Source>(
     signer: &mut Signer<S, R>,
-    name: &Name,
+    number: u32,
     message: u8,
     out: &mut Vec<u8>,
 ) -> Option<Result<usize, SignFault>> {
-    match signer.sign(name, &mut [message].as_slice(), out) {
-        Ok(()) => {
-            verify_any(&signer.public_key(), &mut [message].as_slice(), out).ok()?;
-            Some(Ok(out.len()))
-        }
-        Err(fault) => {
-            if !out.is_empty() {
-                return None;
-            }
-            Some(Err(fault))
-        }
+    let name = Name::new(&name_of(number)).ok()?;
+    let came = signer.sign(&name, &mut [message].as_slice(), out).err();
+    let is_right = match came {
+        None => verify_any(&signer.public_key(), &mut [message].as_slice(), out).is_ok(),
+        Some(_) => out.is_empty(),
+    };
+    match came {
+        _ if !is_right => None,
+        None => Some(Ok(out.len())),
+        Some(fault) => Some(Err(fault)),
     }
 }
 
-// The place after a request. Where memory was refused no name was bound, and the request comes again with what the
-// source gives next. Where the store failed the signer is closed until then. None where a request is answered
-// otherwise, or refused a second time.
-fn requested<S: Store, R: Source>(
+// What a step answers, whose signature is the one before it where it repeats that.
+fn called<S: Store, R: Source>(
+    alloc: Global,
     signer: &mut Signer<S, R>,
-    (number, message, wanted): (u32, u8, Result<usize, SignFault>),
+    step: &Step<'_>,
+    out: &mut Vec<u8>,
+) -> Option<Result<usize, SignFault>> {
+    match step {
+        Step::Sign(number, message, _) => request(signer, *number, *message, out),
+        Step::Repeat(number, message, _) => {
+            let mut again = Vec::new(alloc);
+            let came = request(signer, *number, *message, &mut again);
+            if again.is_empty() || again == *out {
+                came
+            } else {
+                None
+            }
+        }
+        Step::Retire(upto, _) => match signer.retire(*upto) {
+            Ok(()) => Some(Ok(0)),
+            Err(fault) => Some(Err(fault)),
+        },
+        Step::Left(counts) if signer.left().as_slice() != *counts => None,
+        Step::Left(_) | Step::Reopen(_, _) | Step::ReopenByKey(_) => Some(Ok(0)),
+    }
+}
+
+// What a step is to answer, and how long the file is to be that is closed then.
+fn wanted_of(step: &Step<'_>) -> (Result<usize, SignFault>, Option<u64>) {
+    match step {
+        Step::Sign(_, _, wanted) | Step::Repeat(_, _, wanted) | Step::Retire(_, wanted) => {
+            (*wanted, None)
+        }
+        Step::Left(_) => (Ok(0), None),
+        Step::Reopen(len, _) | Step::ReopenByKey(len) => (Ok(0), Some(*len)),
+    }
+}
+
+// Whether the name of a request is bound.
+fn is_bound<S: Store, R: Source>(signer: &Signer<S, R>, step: &Step<'_>) -> bool {
+    match step {
+        Step::Sign(number, _, _) | Step::Repeat(number, _, _) => {
+            match Name::new(&name_of(*number)) {
+                Ok(name) => signer.ledger.find(&name).is_some(),
+                Err(_) => false,
+            }
+        }
+        _ => false,
+    }
+}
+
+// The place after a step. Where memory was refused no name was bound, and the step comes again with what the source
+// gives next. Where the store failed the signer is closed until then. None where a step is answered otherwise, or
+// refused a second time.
+fn taken<S: Store, R: Source>(
+    alloc: Global,
+    signer: &mut Signer<S, R>,
+    step: &Step<'_>,
     place: Place,
     out: &mut Vec<u8>,
 ) -> Option<Place> {
-    let name = Name::new(&name_of(number)).ok()?;
-    let was_bound = signer.ledger.find(&name).is_some();
+    let was_bound = is_bound(signer, step);
     if place.was_bound.is_some() && place.was_bound != Some(was_bound) {
         return None;
     }
-    let answer = request(signer, &name, message, out)?;
-    if answer == wanted {
-        return after_step(place, None);
+    let (wanted, len) = wanted_of(step);
+    let came = called(alloc, signer, step, out)?;
+    if came == wanted {
+        return after_step(place, len);
     }
-    match answer {
-        Err(SignFault::OutOfMemory) if signer.ledger.find(&name).is_some() == was_bound => {
+    match came {
+        Err(SignFault::OutOfMemory) if is_bound(signer, step) == was_bound => {
             refused_at(place, false, Some(was_bound))
         }
-        Err(SignFault::StoreFailed) => match request(signer, &name, message, out)? {
+        Err(SignFault::StoreFailed) => match called(alloc, signer, step, out)? {
             Err(SignFault::Stopped) => refused_at(place, true, None),
             _ => None,
         },
@@ -240,84 +309,35 @@ fn requested<S: Store, R: Source>(
     }
 }
 
-// The same of a request that is answered by this signature.
-fn repeated<S: Store, R: Source>(
-    alloc: Global,
-    signer: &mut Signer<S, R>,
-    repeat: (u32, u8, Result<usize, SignFault>),
-    place: Place,
-    signature: &[u8],
-) -> Option<Place> {
-    let mut again = Vec::new(alloc);
-    let after = requested(signer, repeat, place, &mut again);
-    if again.is_empty() || again.as_slice() == signature {
-        after
-    } else {
-        None
-    }
-}
-
-// The same of leaves that are retired.
-fn retired<S: Store, R: Source>(
-    signer: &mut Signer<S, R>,
-    (upto, wanted): (u32, Option<SignFault>),
-    place: Place,
-) -> Option<Place> {
-    let fault = signer.retire(upto).err();
-    if fault == wanted {
-        return after_step(place, None);
-    }
-    match fault {
-        Some(SignFault::OutOfMemory) => refused_at(place, false, None),
-        Some(SignFault::StoreFailed) if signer.retire(upto) == Err(SignFault::Stopped) => {
-            refused_at(place, true, None)
-        }
-        _ => None,
-    }
-}
-
-// The same of a step.
-fn taken<S: Store, R: Source>(
-    alloc: Global,
-    signer: &mut Signer<S, R>,
-    next: &Cell<u8>,
-    step: &Step<'_>,
-    place: Place,
-    out: &mut Vec<u8>,
-) -> Option<Place> {
+// The number that the source is to give next after a step.
+fn next_after<S: Store, R: Source>(signer: &Signer<S, R>, step: &Step<'_>, next: u8) -> u8 {
     match step {
-        Step::Sign(number, message, wanted) => {
-            requested(signer, (*number, *message, *wanted), place, out)
-        }
-        Step::Repeat(number, message, wanted) => {
-            repeated(
-                alloc,
-                signer,
-                (*number, *message, *wanted),
-                place,
-                out.as_slice(),
-            )
-        }
-        Step::Retire(upto, wanted) => retired(signer, (*upto, *wanted), place),
-        Step::Left(counts) => {
-            if signer.left().as_slice() == *counts {
-                after_step(place, None)
-            } else {
-                None
-            }
-        }
-        Step::Reopen(len, first) => {
-            next.set(*first);
-            after_step(place, Some(*len))
-        }
-        Step::ReopenByKey(len) => {
-            next.set(*signer.public_key().write().as_slice().get(12)?);
-            after_step(place, Some(*len))
-        }
+        Step::Reopen(_, first) => *first,
+        Step::ReopenByKey(_) => signer
+            .public_key()
+            .write()
+            .as_slice()
+            .get(12)
+            .copied()
+            .unwrap_or(next),
+        _ => next,
     }
 }
 
-// The place of a key after the steps from one on, up to the next one for which its file is opened again.
+// The place after a step, for which something was drawn or not, with what the source gives next and what was refused.
+fn noted(after: Place, step: &Step<'_>, is_drawn: bool, next: u8) -> Place {
+    let is_refused = after.is_again && !after.is_failed;
+    let is_retire = matches!(step, Step::Retire(_, _));
+    Place {
+        next,
+        is_name_refused: after.is_name_refused || (is_refused && is_drawn),
+        is_retire_refused: after.is_retire_refused || (is_refused && is_retire),
+        ..after
+    }
+}
+
+// The place of a key after the steps from one on, each of which comes twice at most, up to the next one for which its
+// file is opened again.
 fn taken_up<S: Store, R: Source>(
     alloc: Global,
     signer: &mut Signer<S, R>,
@@ -327,13 +347,18 @@ fn taken_up<S: Store, R: Source>(
     out: &mut Vec<u8>,
 ) -> Option<Place> {
     let mut at = place;
-    for step in steps.get(place.step..)? {
-        at = taken(alloc, signer, next, step, at, out)?;
-        at.next = next.get();
-        // a file takes no memory where leaves of it are retired
-        if at.is_again && !at.is_failed && matches!(step, Step::Retire(_, _)) {
-            return None;
-        }
+    for _ in 0..200u32 {
+        let Some(step) = steps.get(at.step) else {
+            break;
+        };
+        let before = next.get();
+        let after = taken(alloc, signer, step, at, out)?;
+        at = noted(
+            after,
+            step,
+            next.get() != before,
+            next_after(signer, step, next.get()),
+        );
         if at.is_closed {
             break;
         }
@@ -341,7 +366,7 @@ fn taken_up<S: Store, R: Source>(
     Some(at)
 }
 
-// The same, and the key's store then. Where memory is refused to the opening the place stays, and the file is to be
+// The same, and the key's store then. Where memory is refused to the opening the place stays, and the store is to be
 // opened again. None where that comes a second time.
 fn goes_on<S: Store + Drop>(
     alloc: Global,
@@ -355,18 +380,20 @@ fn goes_on<S: Store + Drop>(
         Ok(signer) => {
             let mut signer = signer;
             let after = taken_up(alloc, &mut signer, &next, steps, place, out);
-            let store = signer.into_store();
-            Some((store, after?))
+            Some((signer.into_store(), after?))
         }
         Err(refused) => {
             if refused.fault != SignFault::NoMemoryToOpen || place.was_closed {
                 return None;
             }
             let (store, _random) = refused.given;
+            let next = next.get();
+            let was_closed = true;
             Some((
                 store,
                 Place {
-                    was_closed: true,
+                    next,
+                    was_closed,
                     ..place
                 },
             ))
@@ -374,20 +401,43 @@ fn goes_on<S: Store + Drop>(
     }
 }
 
-// How long a key's file is after these steps. None where one of them comes to something else at last.
+// The same of all steps of a key in memory.
+fn goes_on_in_memory<S: Store + Drop>(
+    alloc: Global,
+    store: S,
+    steps: &[Step<'_>],
+    next: u8,
+    out: &mut Vec<u8>,
+) -> Option<(S, Place)> {
+    let place = Place { next, ..IN_MEMORY };
+    let (store, after) = goes_on(alloc, store, steps, place, out)?;
+    let (store, after) = if after.was_closed {
+        goes_on(alloc, store, steps, after, out)?
+    } else {
+        (store, after)
+    };
+    if after.step == steps.len() {
+        Some((store, after))
+    } else {
+        None
+    }
+}
+
+// How long a key's file is after these steps. None where one of them comes to something else at last, or memory is
+// refused for leaves.
 fn len_after<D: Disk + Drop>(alloc: Global, disk: D, steps: &[Step<'_>]) -> Option<u64> {
     let mut out = Vec::new(alloc);
     let mut disk = disk;
-    let mut place = BEGIN;
+    let mut place = IN_FILE;
     for _ in 0..=steps.len() {
         let (store, after) = goes_on(alloc, store_of(disk)?, steps, place, &mut out)?;
         disk = store.into_disk();
         let len = disk.len().ok()?;
+        if after.is_retire_refused || (after.len.is_some() && after.len != Some(len)) {
+            return None;
+        }
         if after.step == steps.len() {
             return Some(len);
-        }
-        if after.len.is_some() && after.len != Some(len) {
-            return None;
         }
         place = after;
     }
@@ -463,11 +513,11 @@ fn an_xmss_key_signs_at_last(rt: HostRuntime) {
 // Retired leaves stay so, in a file of two records.
 const RETIRED: [Step; 6] = [
     Step::Reopen(257, 50),
-    Step::Retire(33, Some(SignFault::RetireRange)),
-    Step::Retire(32, None),
+    Step::Retire(33, Err(SignFault::RetireRange)),
+    Step::Retire(32, Ok(0)),
     Step::Reopen(513, 60),
     Step::Sign(1, 1, Err(SignFault::Exhausted)),
-    Step::Retire(5, None),
+    Step::Retire(5, Ok(0)),
 ];
 
 #[test]
@@ -479,7 +529,7 @@ fn leaves_are_retired_at_last(rt: HostRuntime) {
 const USED: [Step; 6] = [
     Step::Reopen(257, 50),
     Step::Sign(1, 1, Ok(2644)),
-    Step::Retire(32, None),
+    Step::Retire(32, Ok(0)),
     Step::Reopen(1025, 60),
     Step::Sign(2, 2, Ok(2644)),
     Step::Left(&[30, 31]),
@@ -490,35 +540,31 @@ fn a_used_tree_is_replaced_at_last(rt: HostRuntime) {
     assert!(rt; len_of_new(rt.alloc(), TWO, &USED) == Some(1537));
 }
 
-// 33 new names, each with a signature of so many bytes, and a last step. Where it is wanted, the lowest tree of a key
-// of three levels is used up after each name but the last one, before which no lower tree has a leaf left.
-fn of_names<'a>(alloc: Global, len: usize, uses_up: bool, last: Step<'a>) -> Option<Vec<Step<'a>>> {
-    let mut steps = match Vec::with_capacity(alloc, 67) {
-        Ok(steps) => steps,
-        Err(_) => Vec::with_capacity(alloc, 67).ok()?,
-    };
-    for number in 0..32 {
-        steps.push(Step::Sign(number, 1, Ok(len))).ok()?;
-        if uses_up {
-            steps.push(Step::Retire(32, None)).ok()?;
-        }
+// The names of a key of two levels fill its lower tree, one after the other, and the last one begins another.
+fn filling() -> [Step<'static>; 34] {
+    let mut steps = [Step::Left(&[30, 31]); 34];
+    for number in 0..33u32 {
+        steps[number as usize] = Step::Sign(number, 1, Ok(17_428));
     }
-    if uses_up {
-        steps.push(Step::Left(&[31, 0, 0])).ok()?;
-    }
-    steps.push(Step::Sign(32, 1, Ok(len))).ok()?;
-    steps.push(last).ok()?;
-    Some(steps)
+    steps
 }
 
-// The names of a key of two levels fill its lower tree, one after the other, and the last one begins another.
 #[test]
 fn names_fill_a_tree_and_begin_another_at_last(rt: HostRuntime) {
-    let len = match of_names(rt.alloc(), 17_428, false, Step::Left(&[30, 31])) {
-        Some(steps) => len_of_new(rt.alloc(), "hss:H5/W1,H5/W1", steps.as_slice()),
-        None => None,
-    };
-    assert!(rt; len == Some(9217));
+    assert!(rt; len_of_new(rt.alloc(), "hss:H5/W1,H5/W1", &filling()) == Some(9217));
+}
+
+// The lowest tree of a key of three levels is used up after each of 32 names. Before the next one no lower tree has a
+// leaf left.
+fn using_up() -> [Step<'static>; 67] {
+    let mut steps = [Step::Left(&[30, 31, 31]); 67];
+    for number in 0..32u32 {
+        steps[2 * number as usize] = Step::Sign(number, 1, Ok(26_168));
+        steps[2 * number as usize + 1] = Step::Retire(32, Ok(0));
+    }
+    steps[64] = Step::Left(&[31, 0, 0]);
+    steps[65] = Step::Sign(32, 1, Ok(26_168));
+    steps
 }
 
 // The source gives the key's I again.
@@ -568,92 +614,41 @@ fn made_in<S: Store + Drop>(alloc: Global, text: &str, store: S, is_full: bool) 
     }
 }
 
-// What a step of a key in memory comes to, which comes again at once where memory was refused: whether its store was
-// refused memory for a name, so after something was drawn, and whether for leaves.
-fn refused_once<S: Store, R: Source>(
-    alloc: Global,
-    signer: &mut Signer<S, R>,
-    next: &Cell<u8>,
-    step: &Step<'_>,
-    out: &mut Vec<u8>,
-) -> Option<(bool, bool)> {
-    let before = next.get();
-    let place = taken(alloc, signer, next, step, BEGIN, out)?;
-    let is_name = place.is_again && next.get() != before;
-    let is_retire = place.is_again && matches!(step, Step::Retire(_, _));
-    if place.is_again && taken(alloc, signer, next, step, place, out)?.is_again {
-        return None;
-    }
-    Some((is_name, is_retire))
-}
-
-// The same of steps.
-fn refused_in<S: Store, R: Source>(
-    alloc: Global,
-    signer: &mut Signer<S, R>,
-    next: &Cell<u8>,
-    steps: &[Step<'_>],
-    out: &mut Vec<u8>,
-) -> Option<(bool, bool)> {
-    let mut came = (false, false);
-    for step in steps {
-        let (is_name, is_retire) = refused_once(alloc, signer, next, step, out)?;
-        came = (came.0 || is_name, came.1 || is_retire);
-    }
-    Some(came)
-}
-
-// What the same steps of the key in a store come to, which is opened for them with a source that begins with this
-// number; the number that the source gives next, and the store then.
-fn refused_to<S: Store + Drop>(
-    alloc: Global,
-    store: S,
-    first: u8,
-    steps: &[Step<'_>],
-    out: &mut Vec<u8>,
-) -> Option<(S, (bool, bool, u8))> {
-    let next = Cell::new(first);
-    let mut signer = opened_by(alloc, store, Numbers { next: &next })?;
-    let refused = refused_in(alloc, &mut signer, &next, steps, out);
-    let store = signer.into_store();
-    let (is_name, is_retire) = refused?;
-    Some((store, (is_name, is_retire, next.get())))
-}
-
-// The same, where the store has so many records then.
+// The place after all of these steps of the key in a store in memory, which has so many records then.
 fn refused_with<S: Store + Drop>(
     alloc: Global,
     store: Option<S>,
     steps: &[Step<'_>],
     records: u32,
-) -> Option<(bool, bool, u8)> {
-    let (mut store, refused) = refused_to(alloc, store?, 50, steps, &mut Vec::new(alloc))?;
-    if !has_records(&mut store, records) {
-        return None;
+) -> Option<Place> {
+    let (mut store, place) = goes_on_in_memory(alloc, store?, steps, 50, &mut Vec::new(alloc))?;
+    if has_records(&mut store, records) {
+        Some(place)
+    } else {
+        None
     }
-    Some(refused)
 }
 
 // Ten names of a key, after eight of which more leaves are retired.
 const TEN: [Step; 19] = [
     Step::Sign(0, 1, Ok(1292)),
     Step::Sign(1, 1, Ok(1292)),
-    Step::Retire(6, None),
+    Step::Retire(6, Ok(0)),
     Step::Sign(2, 1, Ok(1292)),
-    Step::Retire(9, None),
+    Step::Retire(9, Ok(0)),
     Step::Sign(3, 1, Ok(1292)),
-    Step::Retire(12, None),
+    Step::Retire(12, Ok(0)),
     Step::Sign(4, 1, Ok(1292)),
-    Step::Retire(15, None),
+    Step::Retire(15, Ok(0)),
     Step::Sign(5, 1, Ok(1292)),
     Step::Sign(6, 1, Ok(1292)),
-    Step::Retire(21, None),
+    Step::Retire(21, Ok(0)),
     Step::Sign(7, 1, Ok(1292)),
-    Step::Retire(24, None),
+    Step::Retire(24, Ok(0)),
     Step::Sign(8, 1, Ok(1292)),
-    Step::Retire(27, None),
+    Step::Retire(27, Ok(0)),
     Step::Sign(9, 1, Ok(1292)),
-    Step::Retire(30, None),
+    Step::Retire(30, Ok(0)),
     Step::Left(&[2]),
 ];
 
@@ -661,12 +656,12 @@ const TEN: [Step; 19] = [
 // they aren't all recorded at last, or a refusal of another memory draws anything.
 fn refused_in_memory_for(alloc: Global) -> Option<(bool, bool)> {
     let store = made_in(alloc, LMS, MemoryStore::with_limit(alloc, 200), false);
-    let (is_name, is_retire, next) = refused_with(alloc, store, &TEN, 19)?;
-    let drawn = if is_name { 61 } else { 60 };
-    if next != drawn {
+    let place = refused_with(alloc, store, &TEN, 19)?;
+    let drawn = if place.is_name_refused { 61 } else { 60 };
+    if place.next != drawn {
         return None;
     }
-    Some((is_name, is_retire))
+    Some((place.is_name_refused, place.is_retire_refused))
 }
 
 #[test]
@@ -712,28 +707,20 @@ fn used_trees_begin_anew_at_last(rt: HostRuntime) {
     assert!(rt; begins_trees(rt.alloc(), THREE, &NEXT_OF_THREE, 101));
 }
 
+const THREE_OF_W1: &str = "hss:H5/W1,H5/W1,H5/W1";
+
 // The 32 lower trees of a key of three levels are used up by a name each, and the name after them begins both anew.
 #[test]
 fn lower_trees_are_used_up_at_last(rt: HostRuntime) {
-    let text = "hss:H5/W1,H5/W1,H5/W1";
-    let len = match of_names(rt.alloc(), 26_168, true, Step::Left(&[30, 31, 31])) {
-        Some(steps) => len_of_new(rt.alloc(), text, steps.as_slice()),
-        None => None,
-    };
-    assert!(rt; len == Some(25_857));
+    assert!(rt; len_of_new(rt.alloc(), THREE_OF_W1, &using_up()) == Some(25_857));
 }
 
 // The same in memory.
 #[test]
 fn lower_trees_are_used_up_in_memory_at_last(rt: HostRuntime) {
-    let text = "hss:H5/W1,H5/W1,H5/W1";
     let empty = MemoryStore::with_limit(rt.alloc(), 200);
-    let store = made_in(rt.alloc(), text, empty, false);
-    let refused = match of_names(rt.alloc(), 26_168, true, Step::Left(&[30, 31, 31])) {
-        Some(steps) => refused_with(rt.alloc(), store, steps.as_slice(), 101),
-        None => None,
-    };
-    assert!(rt; refused.is_some());
+    let store = made_in(rt.alloc(), THREE_OF_W1, empty, false);
+    assert!(rt; refused_with(rt.alloc(), store, &using_up(), 101).is_some());
 }
 
 // The file of a key of two levels whose lower tree is full.
@@ -871,10 +858,10 @@ fn after_a_cut(alloc: Global, cut: Cut, steps: &[Step<'_>]) -> Option<(bool, boo
     let mut out = Vec::new(alloc);
     let mut store = made_in(alloc, LMS, MemoryStore::with_limit(alloc, 200), false)?;
     store.cut_at(1, cut);
-    let (mut store, _) = refused_to(alloc, store, 50, &CUT, &mut out)?;
+    let (mut store, _) = goes_on_in_memory(alloc, store, &CUT, 50, &mut out)?;
     store.reopen();
-    let (_store, (_, _, next)) = refused_to(alloc, store, 70, steps, &mut out)?;
-    Some((next == 70, out.get(..4) == Some([0; 4].as_slice())))
+    let (_store, after) = goes_on_in_memory(alloc, store, steps, 70, &mut out)?;
+    Some((after.next == 70, out.get(..4) == Some([0; 4].as_slice())))
 }
 
 #[test]

@@ -7,6 +7,9 @@ const COUNTS: [usize; 21] = [
     0, 1, 2, 3, 4, 5, 6, 7, 8, 9, 10, 11, 12, 13, 14, 15, 16, 17, 18, 19, 20,
 ];
 
+// After how many bytes a message is interrupted without end.
+const STUCK: [usize; 5] = [0, 1, 20, 16_384, 16_385];
+
 // What is done with new keys.
 const MESSAGES: [Script; 9] = [
     // no failed message binds a name: each draws a C
@@ -47,7 +50,7 @@ const MESSAGES: [Script; 9] = [
             len: 0,
         }],
     },
-    // it uses no XMSS leaf
+    // it uses no XMSS leaf; nor does one that is interrupted without end
     Script {
         text: XMSS,
         tape: COUNTED,
@@ -62,6 +65,7 @@ const MESSAGES: [Script; 9] = [
                     SignFault::MessageRead,
                     &[1024],
                 ),
+                Call::Stick(1, &STUCK, SignFault::MessageRead, &[1024]),
                 Call::Sign(1, 0, None),
             ],
             from: 1,
@@ -81,6 +85,7 @@ const MESSAGES: [Script; 9] = [
                 Call::First(1292, &[0; 4]),
                 Call::Fail(1, &COUNTS, SignFault::MessageRead, &[31]),
                 Call::Fail(1, &[16_384, 16_385, 40_000], SignFault::MessageRead, &[31]),
+                Call::Stick(1, &STUCK, SignFault::MessageRead, &[31]),
                 Call::SignFirst(1, &[0; 3]),
             ],
             from: 1,
@@ -104,6 +109,7 @@ const MESSAGES: [Script; 9] = [
                     SignFault::MessageRead,
                     &[31, 31],
                 ),
+                Call::Stick(1, &STUCK, SignFault::MessageRead, &[31, 31]),
                 Call::SignFirst(1, &[0; 3]),
             ],
             from: 1,
@@ -127,6 +133,7 @@ const MESSAGES: [Script; 9] = [
                     SignFault::MessageRead,
                     &[1023],
                 ),
+                Call::Stick(1, &STUCK, SignFault::MessageRead, &[1023]),
                 Call::SignFirst(1, &[0; 3]),
             ],
             from: 1,
@@ -141,7 +148,7 @@ const MESSAGES: [Script; 9] = [
         room: Some(100),
         lives: &[Life {
             drawn: (0, 80),
-            calls: &[Call::InPieces(1, &[1, 63, 64, 65, 200, 1000])],
+            calls: &[Call::InPieces(1, &[1, 63, 64, 65, 200, 16_384, 16_385])],
             from: 1,
             said: &[Said::Bound(1, 0, Some(48))],
             len: 0,
@@ -153,7 +160,7 @@ const MESSAGES: [Script; 9] = [
         room: Some(100),
         lives: &[Life {
             drawn: (0, 160),
-            calls: &[Call::InPieces(1, &[1, 63, 64, 65, 200, 1000])],
+            calls: &[Call::InPieces(1, &[1, 63, 64, 65, 200, 16_384, 16_385])],
             from: 1,
             said: &[Said::Extend(1, 0, 48), Said::Bound(1, 0, Some(128))],
             len: 0,
@@ -165,7 +172,7 @@ const MESSAGES: [Script; 9] = [
         room: Some(100),
         lives: &[Life {
             drawn: (0, 96),
-            calls: &[Call::InPieces(1, &[1, 63, 64, 65, 200, 1000])],
+            calls: &[Call::InPieces(1, &[1, 63, 64, 65, 200, 16_384, 16_385])],
             from: 1,
             said: &[Said::Bound(1, 0, None)],
             len: 0,

@@ -162,8 +162,8 @@ const REFUSED: [(&str, u32, &[Call<'_>]); 5] = [
 #[test]
 fn an_append_without_memory_binds_nothing(rt: HostRuntime) {
     let tape = tape_of::<512>(0, 16);
-    for (text, appends, calls) in REFUSED {
-        let store = empty_store(rt.alloc(), Some(appends), None);
+    for (text, appends, calls) in &REFUSED {
+        let store = empty_store(rt.alloc(), Some(*appends), None);
         let random = TapeSource::new(&tape);
         assert!(rt; begins_with(rt.alloc(), text, store, random, calls).is_some());
     }
@@ -215,8 +215,8 @@ fn left_after<S: Store + Drop>(alloc: Global, store: Option<S>, tries: &[Try]) -
 
 #[test]
 fn a_create_or_an_opening_without_memory_comes_again(rt: HostRuntime) {
-    for (appends, loads, tries, left) in TRIES {
-        let store = store_of(rt.alloc(), (appends, loads), tries);
-        assert!(rt; left_after(rt.alloc(), store, tries) == Some(left));
+    for (appends, loads, tries, left) in &TRIES {
+        let store = store_of(rt.alloc(), (*appends, *loads), tries);
+        assert!(rt; left_after(rt.alloc(), store, tries) == Some(*left));
     }
 }

@@ -47,8 +47,10 @@ fn refused<R: Source + Drop>(alloc: Global, text: &str, random: R) -> Option<R> 
     }
 }
 
-// Whether a tape that ends short keeps the bytes from this place on.
-fn keeps_rest(alloc: Global, text: &str, tape: &[u8], place: usize) -> Option<bool> {
+// Whether a tape of so many bytes, which ends short, keeps those from this place on.
+fn keeps_rest(alloc: Global, text: &str, (len, place): (usize, usize)) -> Option<bool> {
+    let bytes = tape_of::<96>(0, 1);
+    let tape = bytes.get(..len)?;
     let mut random = refused(alloc, text, TapeSource::new(tape))?;
     let mut rest = [0; 32];
     let part = rest.get_mut(..tape.len().checked_sub(place)?)?;
@@ -57,20 +59,35 @@ fn keeps_rest(alloc: Global, text: &str, tape: &[u8], place: usize) -> Option<bo
 }
 
 // Each draw of a key fails in turn.
+const DRAWS: [(&str, u32); 7] = [
+    (LMS, 0),
+    (LMS, 1),
+    (TWO, 0),
+    (TWO, 1),
+    (XMSS, 0),
+    (XMSS, 1),
+    (XMSS, 2),
+];
+
+// How long a tape is, and from where on it is kept.
+const SHORT: [(&str, usize, usize); 4] = [
+    (LMS, 15, 0),
+    (LMS, 47, 16),
+    (TWO, 47, 16),
+    (XMSS, 95, 64),
+];
+
 #[test]
 fn a_key_takes_all_its_draws(rt: HostRuntime) {
-    for (text, count) in [(LMS, 2), (TWO, 2), (XMSS, 3)] {
-        for draws in 0..count {
-            let random = RngSource::new(Numbers {
-                next: 1,
-                left: draws,
-            });
-            assert!(rt; refused(rt.alloc(), text, random).is_some());
-        }
+    for (text, draws) in &DRAWS {
+        let random = RngSource::new(Numbers {
+            next: 1,
+            left: *draws,
+        });
+        assert!(rt; refused(rt.alloc(), text, random).is_some());
     }
-    let tape = tape_of::<96>(0, 1);
-    for (text, len, place) in [(LMS, 15, 0), (LMS, 47, 16), (TWO, 47, 16), (XMSS, 95, 64)] {
-        assert!(rt; keeps_rest(rt.alloc(), text, &tape[..len], place) == Some(true));
+    for (text, len, place) in &SHORT {
+        assert!(rt; keeps_rest(rt.alloc(), text, (*len, *place)) == Some(true));
     }
 }
 
@@ -136,7 +153,7 @@ const OUTCOMES: [(&str, &[Outcome<'static>]); 2] = [(THREE, &OF_THREE), (LMS, &O
 
 #[test]
 fn a_source_that_fails_leaves_whole_trees(rt: HostRuntime) {
-    for (text, outcomes) in OUTCOMES {
+    for (text, outcomes) in &OUTCOMES {
         let store = MemoryStore::with_limit(rt.alloc(), 100);
         let count = first_other_outcome(rt.alloc(), text, store, outcomes);
         assert!(rt; count == Some(outcomes.len()));
