@@ -1,31 +1,110 @@
-/* Refuses one growth of memory, that of the number in REFUSE: loaded before a program (LD_PRELOAD). The file that
-   REFUSED names is made when it is refused. */
+/* Counts the growths of memory of a program that it is loaded before (LD_PRELOAD), and refuses some.
+
+   With a number in REFUSE it refuses the growth of that number alone, and makes the file that REFUSED names when it
+   does. With `each` in REFUSE it refuses each growth in turn, from the first one on, in a copy of the process that goes
+   on from there: to the process itself none is refused. So no part of a run is repeated that comes before the growth.
+   What the copy of growth N prints comes into the file N of the folder that REFUSED names; as many copies run at once
+   as JOBS says, and the process ends after all of them. Where GROWTHS names a file, the process leaves there how many
+   growths it had. */
 #define _GNU_SOURCE
 #include <dlfcn.h>
 #include <fcntl.h>
+#include <stdio.h>
 #include <stdlib.h>
+#include <string.h>
+#include <sys/wait.h>
 #include <unistd.h>
 
-static void report(void)
+enum { NONE, ONE, EACH, COPY };
+
+static int is_begun = 0;
+static int mode = NONE;
+static long wanted = 0;
+static long count = 0;
+static long jobs = 1;
+static long running = 0;
+
+static void begin(void)
 {
-    const char *path = getenv("REFUSED");
+    const char *word = getenv("REFUSE");
+    const char *most = getenv("JOBS");
+    is_begun = 1;
+    if (word && strcmp(word, "each") == 0) {
+        mode = EACH;
+        jobs = most && atol(most) > 0 ? atol(most) : 1;
+    } else if (word && atol(word) > 0) {
+        mode = ONE;
+        wanted = atol(word);
+    }
+}
+
+static void make_file(const char *path)
+{
     int file = path ? open(path, O_WRONLY | O_CREAT, 0666) : -1;
     if (file >= 0)
         close(file);
 }
 
+/* What this process prints from now on comes into this file. */
+static void print_into(const char *path)
+{
+    int file = open(path, O_WRONLY | O_CREAT | O_TRUNC, 0666);
+    if (file < 0 || dup2(file, 1) < 0 || dup2(file, 2) < 0)
+        _exit(101);
+    close(file);
+}
+
+/* Whether this process is the copy in which the growth is refused. */
+static int is_copy(void)
+{
+    const char *folder = getenv("REFUSED");
+    char path[4096];
+    pid_t copy;
+    if (!folder || snprintf(path, sizeof path, "%s/%ld", folder, count) >= (int)sizeof path)
+        abort();
+    for (; running >= jobs; running--)
+        wait(NULL);
+    copy = fork();
+    if (copy < 0)
+        abort();
+    if (copy > 0) {
+        running++;
+        return 0;
+    }
+    mode = COPY;
+    running = 0;
+    print_into(path);
+    return 1;
+}
+
 static int is_refused(void)
 {
-    static long wanted = -1;
-    static long count = 0;
-    if (wanted < 0) {
-        const char *word = getenv("REFUSE");
-        wanted = word ? atol(word) : 0;
-    }
-    if (wanted == 0 || ++count != wanted)
+    if (!is_begun)
+        begin();
+    count++;
+    if (mode == EACH)
+        return is_copy();
+    if (mode != ONE || count != wanted)
         return 0;
-    report();
+    make_file(getenv("REFUSED"));
     return 1;
+}
+
+/* What the process does at its end. */
+__attribute__((destructor)) static void end(void)
+{
+    const char *path = getenv("GROWTHS");
+    char line[32];
+    int file;
+    for (; running > 0; running--)
+        wait(NULL);
+    if (!path || mode == COPY)
+        return;
+    snprintf(line, sizeof line, "%ld\n", count);
+    file = open(path, O_WRONLY | O_CREAT | O_TRUNC, 0666);
+    if (file < 0 || write(file, line, strlen(line)) < 0)
+        abort();
+    close(file);
 }
 
 void *malloc(size_t size)
