@@ -3,9 +3,9 @@
    With a number in REFUSE it refuses the growth of that number alone, and makes the file that REFUSED names when it
    does. With `each` in REFUSE it refuses each growth in turn, from the first one on, in a copy of the process that goes
    on from there: to the process itself none is refused. So no part of a run is repeated that comes before the growth.
-   What the copy of growth N prints comes into the file N of the folder that REFUSED names; as many copies run at once
-   as JOBS says, and the process ends after all of them. Where GROWTHS names a file, the process leaves there how many
-   growths it had. */
+   What the copy of growth N prints comes into the file N of the folder that REFUSED names, which is there before the
+   copy is; as many copies run at once as JOBS says, and a process that exits does so after all of them. Where GROWTHS
+   names a file, the process leaves there how many growths it had, as it exits. */
 #define _GNU_SOURCE
 #include <dlfcn.h>
 #include <fcntl.h>
@@ -45,35 +45,31 @@ static void make_file(const char *path)
         close(file);
 }
 
-/* What this process prints from now on comes into this file. */
-static void print_into(const char *path)
-{
-    int file = open(path, O_WRONLY | O_CREAT | O_TRUNC, 0666);
-    if (file < 0 || dup2(file, 1) < 0 || dup2(file, 2) < 0)
-        _exit(101);
-    close(file);
-}
-
 /* Whether this process is the copy in which the growth is refused. */
 static int is_copy(void)
 {
     const char *folder = getenv("REFUSED");
     char path[4096];
+    int file;
     pid_t copy;
     if (!folder || snprintf(path, sizeof path, "%s/%ld", folder, count) >= (int)sizeof path)
         abort();
     for (; running >= jobs; running--)
         wait(NULL);
-    copy = fork();
+    file = open(path, O_WRONLY | O_CREAT | O_EXCL, 0666);
+    copy = file < 0 ? -1 : fork();
     if (copy < 0)
         abort();
     if (copy > 0) {
+        close(file);
         running++;
         return 0;
     }
     mode = COPY;
     running = 0;
-    print_into(path);
+    if (dup2(file, 1) < 0 || dup2(file, 2) < 0)
+        abort();
+    close(file);
     return 1;
 }
 

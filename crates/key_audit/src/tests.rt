@@ -9,7 +9,6 @@ use typecodes::{Name, Spec};
 mod audits;
 mod files;
 mod fixed;
-mod frames;
 mod long;
 mod memory;
 mod programs;

@@ -4,8 +4,7 @@
 use super::audits::audited_twice;
 use super::files::anchor_in;
 use super::*;
-use sign_core::SignFault;
-use state_file::{FormatFault, OpenFault, Pick};
+use state_file::{OpenFault, Pick};
 
 // What is done in one life of the disk, after which the signer is closed: the key is made, a letter is signed as its
 // own name, or leaves are retired.
@@ -34,14 +33,14 @@ const PICKS: [Pick; 5] = [
 
 // Why no signer is there: there is no empty file, the file isn't opened, or the signer isn't.
 #[derive(Clone, Copy)]
-pub(super) enum Closed {
-    Format(FormatFault),
+enum Closed {
+    Format,
     File(OpenFault),
-    Signer(SignFault),
+    Signer,
 }
 
 // The signer of a disk that has a key, whose source begins with this number. Else the disk, and why not.
-pub(super) fn open_on<D: Disk + Drop>(
+fn open_on<D: Disk + Drop>(
     alloc: Global,
     disk: D,
     next: u8,
@@ -50,9 +49,8 @@ pub(super) fn open_on<D: Disk + Drop>(
         Ok(store) => match Signer::open(alloc, store, Numbers { next }) {
             Ok(signer) => Ok(signer),
             Err(refused) => {
-                let fault = refused.fault;
                 let (store, _random) = refused.given;
-                Err((store.into_disk(), Closed::Signer(fault)))
+                Err((store.into_disk(), Closed::Signer))
             }
         },
         Err(refused) => Err((refused.given, Closed::File(refused.fault))),
@@ -60,7 +58,7 @@ pub(super) fn open_on<D: Disk + Drop>(
 }
 
 // The disk after a key was made on it. Else the disk, and why there is no key. The source begins with this number.
-pub(super) fn create_on<D: Disk + Drop>(
+fn create_on<D: Disk + Drop>(
     alloc: Global,
     spec: &str,
     disk: D,
@@ -69,14 +67,13 @@ pub(super) fn create_on<D: Disk + Drop>(
     let spec = Spec::parse(spec).ok()?;
     let store = match FileStore::format(disk) {
         Ok(store) => store,
-        Err(refused) => return Some(Err((refused.given, Closed::Format(refused.fault)))),
+        Err(refused) => return Some(Err((refused.given, Closed::Format))),
     };
     match Signer::create(alloc, spec, store, Numbers { next }) {
         Ok(signer) => Some(Ok(signer.into_store().into_disk())),
         Err(refused) => {
-            let fault = refused.fault;
             let (store, _random) = refused.given;
-            Some(Err((store.into_disk(), Closed::Signer(fault))))
+            Some(Err((store.into_disk(), Closed::Signer)))
         }
     }
 }

@@ -3,10 +3,10 @@
 use super::*;
 use crate::key::verify_any;
 use crate::signer::tests::{
-    Call, InFile, Input, LMS, add, begins_with, file_in, input_of, tape_of,
+    Call, Entry, InFile, Input, LMS, begins_with, file_in, input_of, tape_of, with_records,
 };
 use crate::source::TapeSource;
-use state_file::{FileStore, MemoryDisk, MemoryStore, Record};
+use state_file::{FileStore, MemoryDisk};
 use std::io::Read;
 use std::test::*;
 use std::{io, mem};

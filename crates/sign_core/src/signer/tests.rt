@@ -21,7 +21,7 @@ mod turning;
 
 pub(crate) use calls::{Call, Input, answer, begins_with, created, input_of, opened};
 use calls::{first_other_call, goes_on_with, name_of};
-pub(crate) use lists::add;
+pub(crate) use lists::{Entry, with_records};
 use scripts::{
     BLOCKS, COUNTED, Life, Said, Script, Tape, are_said, file_after, first_other_script,
 };

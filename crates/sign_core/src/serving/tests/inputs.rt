@@ -82,14 +82,6 @@ fn frames_are_replied_to_by_their_rules(rt: HostRuntime) {
 // Two requests of one name, with another message each.
 const CHANGED: [u8; 20] = *b"\x04fw-1\0\0\0\x01\x01\x04fw-1\0\0\0\x01\x02";
 
-// Whether an output is this reply with the signature of an LMS key, 21 and the same reply.
-fn is_repeated_in(output: &[u8], reply: &[u8]) -> bool {
-    let (first, rest) = output.split_at(output.len().min(5 + 1292));
-    let (refused, again) = rest.split_at(rest.len().min(5));
-    let is_signed = first.starts_with(b"\0\0\0\x05\x0c") && first == reply;
-    is_signed && refused == b"\x15\0\0\0\0".as_slice() && again == reply
-}
-
 // Whether these requests, and the first one again, are replied to by the signature of the first message, by 21 and by
 // the same signature; and how long the file is then.
 fn is_changed_and_repeated(alloc: Global) -> Option<(bool, usize)> {
@@ -97,10 +89,15 @@ fn is_changed_and_repeated(alloc: Global) -> Option<(bool, usize)> {
     let file = new_file(alloc, LMS, &tape, 0)?;
     let start = (file.as_slice(), tape.as_slice());
     let frames = frames_of(alloc, &[(b"fw-1", 1, 1), (b"fw-1", 1, 2), (b"fw-1", 1, 1)])?;
-    let first = led_to(alloc, start, &CHANGED[..10], false)?;
+    let signed = led_to(alloc, start, &CHANGED[..10], false)?.output;
+    let mut wanted = Vec::new(alloc);
+    for reply in [signed.as_slice(), b"\x15\0\0\0\0", &signed] {
+        wanted.extend_from_slice(reply).ok()?;
+    }
+    let is_signed = signed.len() == 5 + 1292 && signed.starts_with(b"\0\0\0\x05\x0c");
     let mut input = input_of(&frames, false);
     let came = served(alloc, start, &mut input, &mut taking_all(alloc))?;
-    let is_so = frames.starts_with(&CHANGED) && is_repeated_in(&came.output, &first.output);
+    let is_so = is_signed && frames.starts_with(&CHANGED) && came.output == wanted;
     Some((is_so && came.end == Ok(3), came.file.len()))
 }
 
@@ -213,18 +210,17 @@ const BEGINNINGS: [Way; 5] = [
     },
 ];
 
-// How many beginnings end so; and with 27 where reads fail after them.
+// How many beginnings end so in each of the ways; and with 27 where reads fail after them.
 fn right_beginnings(alloc: Global, start: Start<'_>) -> usize {
-    for (len, end) in ENDS.iter().enumerate() {
-        let bytes = CHANGED.get(..len).unwrap_or_default();
-        for way in &BEGINNINGS {
-            let wanted = if way.fails { UNREAD } else { *end };
-            if !ends_with(alloc, start, (bytes, way), wanted) {
-                return len;
-            }
+    for turn in 0..ENDS.len() * BEGINNINGS.len() {
+        let len = turn % ENDS.len();
+        let way = &BEGINNINGS[turn / ENDS.len()];
+        let wanted = if way.fails { UNREAD } else { ENDS[len] };
+        if !ends_with(alloc, start, (&CHANGED[..len], way), wanted) {
+            return turn;
         }
     }
-    ENDS.len()
+    ENDS.len() * BEGINNINGS.len()
 }
 
 // How many beginnings of the two requests, after which reads say that they gave the rest and write none of it, come to
@@ -324,57 +320,45 @@ fn right_inputs(alloc: Global) -> Option<[usize; 4]> {
 
 #[test]
 fn inputs_lead_to_what_their_frames_lead_to(rt: HostRuntime) {
-    assert!(rt; right_inputs(rt.alloc()) == Some([21, 21, 320, 12]));
+    assert!(rt; right_inputs(rt.alloc()) == Some([105, 21, 320, 12]));
 }
 
-// Copies the records of a store to an empty one. That of this slot gets another root, though its tag will be right.
-fn copy_changed<S: Store, T: Store>(old: &mut S, new: &mut T, slot: u32) -> Option<()> {
-    for place in 0..u32::MAX {
-        let Some(mut entry) = old.load(place).ok()? else {
-            return Some(());
-        };
-        match &mut entry {
-            Record::Key(key) if place == slot => key.root = [0; 32],
-            Record::Extend(extend) if place == slot => extend.root = [0; 32],
-            _ => {}
-        }
-        add(new, &entry)?;
-    }
-    None
-}
-
-// A store with the records of a new key of this spec after a first name, of which such a root is another.
-fn with_other_root<S: Store + Drop, T: Store + Drop>(
-    alloc: Global,
-    text: &str,
-    slot: u32,
-    (old, new): (S, T),
-) -> Option<T> {
-    let tape = tape_of::<240>(0, 1);
-    let first = [Call::Sign(1, 1, None)];
-    let mut old = begins_with(alloc, text, old, TapeSource::new(&tape), &first)?;
-    let mut new = new;
-    copy_changed(&mut old, &mut new, slot)?;
-    Some(new)
+// The file of a key of this spec whose first record, or the one after it, is this one.
+fn with_record(alloc: Global, text: &str, slot: u32, entry: Entry<'_>) -> Option<Vec<u8>> {
+    let tape = tape_of::<48>(0, 1);
+    let store = empty_file(alloc)?;
+    let store = match slot {
+        0 => store,
+        _ => begins_with(alloc, text, store, TapeSource::new(&tape), &[])?,
+    };
+    file_in(with_records(store, &[entry])?)
 }
 
 // What requests of new names come to under such a key; and whether the file stays.
-fn of_other_root(alloc: Global, text: &str, slot: u32) -> Option<(Vec<u8>, bool)> {
-    let stores = (MemoryStore::with_limit(alloc, 100), empty_file(alloc)?);
-    let changed = file_in(with_other_root(alloc, text, slot, stores)?)?;
-    let start = (changed.as_slice(), b"".as_slice());
+fn of_other_root(alloc: Global, file: Option<Vec<u8>>) -> Option<(Vec<u8>, bool)> {
+    let file = file?;
+    let start = (file.as_slice(), b"".as_slice());
     let frames = frames_of(alloc, &[(b"fw-2", 70, 1), (b"fw-3", 0, 1)])?;
     let mut input = input_of(&frames, false);
     let came = served(alloc, start, &mut input, &mut taking_all(alloc))?;
-    Some((came.output, came.end == Ok(2) && came.file == changed))
+    Some((came.output, came.end == Ok(2) && came.file == file))
 }
+
+// A key whose root isn't that of its leaves, and a tree below one whose root and digest aren't.
+const OTHER_ROOTS: [(&str, u8, Entry<'static>); 2] = [
+    (CHEAP, 0, Entry::Key(CHEAP)),
+    ("hss:H5/W2,H5/W2", 1, Entry::Extend(1, 0, [6; 16])),
+];
 
 // The slot of the record is replied in four bytes.
 #[test]
 fn a_changed_root_is_reported_with_its_slot(rt: HostRuntime) {
-    for (text, slot, last) in [(CHEAP, 0, 0), ("hss:H5/W2,H5/W2", 1, 1)] {
-        let wanted = [28, 0, 0, 0, 4, 0, 0, 0, last, 28, 0, 0, 0, 4, 0, 0, 0, last];
-        let came = of_other_root(rt.alloc(), text, slot);
+    for (text, slot, entry) in &OTHER_ROOTS {
+        let wanted = [
+            28, 0, 0, 0, 4, 0, 0, 0, *slot, 28, 0, 0, 0, 4, 0, 0, 0, *slot,
+        ];
+        let file = with_record(rt.alloc(), text, u32::from(*slot), *entry);
+        let came = of_other_root(rt.alloc(), file);
         let is_reported =
             matches!(&came, Some((output, true)) if output.as_slice() == wanted.as_slice());
         assert!(rt; is_reported);

@@ -8,7 +8,7 @@ use lmots::LmOts;
 // this I; a leaf with the name of a number, and the same with the digest of the byte 1 under the I that has this number
 // in each byte; leaves that are retired, and a Moved.
 #[derive(Clone, Copy)]
-pub(super) enum Entry<'a> {
+pub(crate) enum Entry<'a> {
     Key(&'a str),
     Extend(u8, u32, [u8; 16]),
     Bound(u32, u32),
@@ -72,7 +72,7 @@ pub(super) fn record_of(entry: &Entry<'_>) -> Option<Record> {
 }
 
 // Adds a record to a store, where it is a Key or one comes before it.
-pub(crate) fn add<S: Store>(store: &mut S, entry: &Record) -> Option<()> {
+pub(super) fn add<S: Store>(store: &mut S, entry: &Record) -> Option<()> {
     match (entry, store.load(0)) {
         (Record::Key(_), Ok(None)) | (_, Ok(Some(_))) => store.append(entry).ok(),
         _ => None,
@@ -80,7 +80,7 @@ pub(crate) fn add<S: Store>(store: &mut S, entry: &Record) -> Option<()> {
 }
 
 // A store with these records after those that it has.
-pub(super) fn with_records<S: Store + Drop>(store: S, entries: &[Entry<'_>]) -> Option<S> {
+pub(crate) fn with_records<S: Store + Drop>(store: S, entries: &[Entry<'_>]) -> Option<S> {
     let mut store = store;
     for entry in entries {
         add(&mut store, &record_of(entry)?)?;

@@ -5,6 +5,7 @@ use super::lists::{Entry, listed, records_of, with_records};
 use super::sources::has_records;
 use super::*;
 use crate::ledger::LedgerFault;
+use crate::{ServeFault, serve};
 use state_file::{FormatFault, OpenFault};
 use std::cell::Cell;
 
@@ -29,16 +30,30 @@ impl Source for Numbers<'_> {
     }
 }
 
+// A frame that is served by itself: its bytes, and the number of its name where it has one; the number of its reply,
+// with a body that is so long and a valid signature of the frame's last byte, or empty; whether that is the reply to
+// the last frame before it that was signed; how serving it ends.
+#[derive(Clone, Copy)]
+struct Frame<'a> {
+    name: u32,
+    bytes: &'a [u8],
+    number: u8,
+    len: usize,
+    is_again: bool,
+    end: Result<u64, ServeFault>,
+}
+
 // What is done with a key: its file, which is so long, is closed, and opened again with a source that begins with this
 // number, or with the first byte of the I of a key of more levels; a request of the name of a number with a message of
-// one byte, whose signature is so long, or its fault; one that is answered by the signature of the one before it;
-// leaves that are retired, with Ok(0), or the fault; how many leaves are left.
+// one byte, whose signature is so long, or its fault; one that is answered by the signature of the one before it; a
+// frame; leaves that are retired, with Ok(0), or the fault; how many leaves are left.
 #[derive(Clone, Copy)]
 enum Step<'a> {
     Reopen(u64, u8),
     ReopenByKey(u64),
     Sign(u32, u8, Result<usize, SignFault>),
     Repeat(u32, u8, Result<usize, SignFault>),
+    Serve(Frame<'a>),
     Retire(u32, Result<usize, SignFault>),
     Left(&'a [u32]),
 }
@@ -46,8 +61,8 @@ enum Step<'a> {
 // Where the steps of a key stand: the next one, and the number that its source gives next; whether the key is in a
 // file, which is closed where memory was refused or the store failed; whether it's closed now and opened again for that
 // step, how long it is to be then, and whether memory was refused to that opening. Where that step comes again after a
-// refusal of memory, whether the store failed then, and whether its name was bound before it. Whether memory was
-// refused for a name after something was drawn for it, and whether for leaves.
+// refusal of memory, whether the store failed then, and whether its name was bound before it. Whether memory was refused
+// at all, which comes once; whether for a name after something was drawn for it, and whether for leaves.
 #[derive(Clone, Copy)]
 struct Place {
     step: usize,
@@ -59,6 +74,7 @@ struct Place {
     is_again: bool,
     is_failed: bool,
     was_bound: Option<bool>,
+    was_refused: bool,
     is_name_refused: bool,
     is_retire_refused: bool,
 }
@@ -74,6 +90,7 @@ const IN_FILE: Place = Place {
     is_again: false,
     is_failed: false,
     was_bound: None,
+    was_refused: false,
     is_name_refused: false,
     is_retire_refused: false,
 };
@@ -98,9 +115,9 @@ fn after_step(place: Place, len: Option<u64>) -> Option<Place> {
 }
 
 // The place of a step that comes again with what the source gives next, after memory was refused or the store failed;
-// with whether its name was bound before. None where it comes again already.
+// with whether its name was bound before. None where that comes a second time.
 fn refused_at(place: Place, is_failed: bool, was_bound: Option<bool>) -> Option<Place> {
-    if place.is_again {
+    if place.was_refused {
         return None;
     }
     Some(Place {
@@ -109,6 +126,7 @@ fn refused_at(place: Place, is_failed: bool, was_bound: Option<bool>) -> Option<
         is_again: true,
         is_failed,
         was_bound,
+        was_refused: true,
         ..place
     })
 }
@@ -227,6 +245,49 @@ fn request<S: Store, R: Source>(
     }
 }
 
+// What a frame is answered: the length of its reply's body, or the fault where memory or the store was refused to it,
+// or the signer was closed. A reply that has a signature is kept. None where the reply is another one.
+fn replied<S: Store, R: Source>(
+    alloc: Global,
+    signer: &mut Signer<S, R>,
+    frame: &Frame<'_>,
+    kept: &mut Vec<u8>,
+) -> Option<Result<usize, SignFault>> {
+    let mut reply = match Vec::with_capacity(alloc, 3000) {
+        Ok(reply) => reply,
+        Err(_) => Vec::with_capacity(alloc, 3000).ok()?,
+    };
+    let mut input = frame.bytes;
+    if serve(alloc, signer, &mut input, &mut reply) != frame.end {
+        return None;
+    }
+    let (number, rest) = reply.split_first()?;
+    let (size, body) = rest.split_first_chunk::<4>()?;
+    let number = *number;
+    let len = body.len();
+    let is_right = if number == 0 {
+        let message = frame.bytes.last_chunk::<1>()?;
+        verify_any(&signer.public_key(), &mut message.as_slice(), body).is_ok()
+    } else {
+        len == 0
+    };
+    if !is_right || u32::from_be_bytes(*size) as usize != len {
+        return None;
+    }
+    match number {
+        0 if frame.is_again && reply != *kept => None,
+        0 => {
+            *kept = reply;
+            Some(Ok(len))
+        }
+        25 => Some(Err(SignFault::StoreFailed)),
+        26 => Some(Err(SignFault::Stopped)),
+        29 => Some(Err(SignFault::OutOfMemory)),
+        _ if number == frame.number => Some(Ok(0)),
+        _ => None,
+    }
+}
+
 // What a step answers, whose signature is the one before it where it repeats that.
 fn called<S: Store, R: Source>(
     alloc: Global,
@@ -245,6 +306,7 @@ fn called<S: Store, R: Source>(
                 None
             }
         }
+        Step::Serve(frame) => replied(alloc, signer, frame, out),
         Step::Retire(upto, _) => match signer.retire(*upto) {
             Ok(()) => Some(Ok(0)),
             Err(fault) => Some(Err(fault)),
@@ -260,6 +322,7 @@ fn wanted_of(step: &Step<'_>) -> (Result<usize, SignFault>, Option<u64>) {
         Step::Sign(_, _, wanted) | Step::Repeat(_, _, wanted) | Step::Retire(_, wanted) => {
             (*wanted, None)
         }
+        Step::Serve(frame) => (Ok(frame.len), None),
         Step::Left(_) => (Ok(0), None),
         Step::Reopen(len, _) | Step::ReopenByKey(len) => (Ok(0), Some(*len)),
     }
@@ -267,14 +330,14 @@ fn wanted_of(step: &Step<'_>) -> (Result<usize, SignFault>, Option<u64>) {
 
 // Whether the name of a request is bound.
 fn is_bound<S: Store, R: Source>(signer: &Signer<S, R>, step: &Step<'_>) -> bool {
-    match step {
-        Step::Sign(number, _, _) | Step::Repeat(number, _, _) => {
-            match Name::new(&name_of(*number)) {
-                Ok(name) => signer.ledger.find(&name).is_some(),
-                Err(_) => false,
-            }
-        }
-        _ => false,
+    let number = match step {
+        Step::Sign(number, _, _) | Step::Repeat(number, _, _) => *number,
+        Step::Serve(frame) => frame.name,
+        _ => return false,
+    };
+    match Name::new(&name_of(number)) {
+        Ok(name) => signer.ledger.find(&name).is_some(),
+        Err(_) => false,
     }
 }
 
@@ -383,20 +446,17 @@ fn goes_on<S: Store + Drop>(
             Some((signer.into_store(), after?))
         }
         Err(refused) => {
-            if refused.fault != SignFault::NoMemoryToOpen || place.was_closed {
+            if refused.fault != SignFault::NoMemoryToOpen || place.was_refused {
                 return None;
             }
             let (store, _random) = refused.given;
-            let next = next.get();
-            let was_closed = true;
-            Some((
-                store,
-                Place {
-                    next,
-                    was_closed,
-                    ..place
-                },
-            ))
+            let after = Place {
+                next: next.get(),
+                was_closed: true,
+                was_refused: true,
+                ..place
+            };
+            Some((store, after))
         }
     }
 }
@@ -576,6 +636,70 @@ const AGAIN: [Step; 2] = [
 #[test]
 fn a_repeated_draw_is_found_at_last(rt: HostRuntime) {
     assert!(rt; len_of_new(rt.alloc(), TWO, &AGAIN) == Some(257));
+}
+
+// A frame of a name with one byte, which is signed, or again; and one that is answered so, with no body.
+const fn signed_frame(name: u32, bytes: &[u8], len: usize, is_again: bool) -> Step<'_> {
+    Step::Serve(Frame {
+        name,
+        bytes,
+        number: 0,
+        len,
+        is_again,
+        end: Ok(1),
+    })
+}
+
+const fn refused_frame(
+    name: u32,
+    bytes: &[u8],
+    number: u8,
+    end: Result<u64, ServeFault>,
+) -> Step<'_> {
+    Step::Serve(Frame {
+        name,
+        bytes,
+        number,
+        len: 0,
+        is_again: false,
+        end,
+    })
+}
+
+const FIRST: &[u8] = b"\x07n000001\0\0\0\x01\x01";
+
+// Frames of a key whose signatures are so long, each of which is served by itself: a first name; one with one byte of
+// two that are announced, and with both; another name with the byte 1, the same again, and with another byte; a name
+// that is none, and one that isn't there to its end. Then the file, which is so long, is opened again, and that other
+// name comes again.
+fn frames_of(len: usize, file: u64) -> [Step<'static>; 10] {
+    [
+        signed_frame(3, b"\x07n000003\0\0\0\x01\x03", len, false),
+        refused_frame(
+            2,
+            b"\x07n000002\0\0\0\x02\x01",
+            27,
+            Err(ServeFault::MessageRead),
+        ),
+        signed_frame(2, b"\x07n000002\0\0\0\x01\x02", len, false),
+        signed_frame(1, FIRST, len, false),
+        signed_frame(1, FIRST, len, true),
+        refused_frame(1, b"\x07n000001\0\0\0\x01\x02", 21, Ok(1)),
+        refused_frame(0, b"\0\0\0\0\0", 34, Ok(1)),
+        refused_frame(0, b"\x07n00", 35, Err(ServeFault::FrameCut)),
+        Step::Reopen(file, 150),
+        signed_frame(1, FIRST, len, true),
+    ]
+}
+
+#[test]
+fn one_tree_serves_at_last(rt: HostRuntime) {
+    assert!(rt; len_of_new(rt.alloc(), LMS, &frames_of(1292, 1025)) == Some(1025));
+}
+
+#[test]
+fn two_levels_serve_at_last(rt: HostRuntime) {
+    assert!(rt; len_of_new(rt.alloc(), TWO, &frames_of(2644, 1281)) == Some(1281));
 }
 
 // Adds a lower tree to the store of a new key of two levels, and a name for each of the tree's leaves. To that of a key
