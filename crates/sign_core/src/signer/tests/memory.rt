@@ -61,8 +61,8 @@ enum Step<'a> {
 // Where the steps of a key stand: the next one, and the number that its source gives next; whether the key is in a
 // file, which is closed where memory was refused or the store failed; whether it's closed now and opened again for that
 // step, how long it is to be then, and whether memory was refused to that opening. Where that step comes again after a
-// refusal of memory, whether the store failed then, and whether its name was bound before it. Whether memory was refused
-// at all, which comes once; whether for a name after something was drawn for it, and whether for leaves.
+// refusal of memory, whether the store failed then, and whether its name was bound before it. Whether memory was
+// refused at all, which comes once; whether for a name after something was drawn for it, and whether for leaves.
 #[derive(Clone, Copy)]
 struct Place {
     step: usize,
