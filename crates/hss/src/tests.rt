@@ -243,7 +243,7 @@ fn each_beginning_is_cut_in_a_field(rt: HostRuntime) {
     }
 }
 
-// Gives its bytes in pieces of this size. Every other read is interrupted.
+// Gives its bytes in pieces of this size. Its first read may be interrupted, after which it goes on.
 #[derive(Drop)]
 struct Pieces<'a> {
     left: &'a [u8],
@@ -253,8 +253,8 @@ struct Pieces<'a> {
 
 impl Read for Pieces<'_> {
     fn read(&mut self, buffer: &mut [u8]) -> io::Result<usize> {
-        self.is_interrupted = !self.is_interrupted;
         if self.is_interrupted {
+            self.is_interrupted = false;
             return Err(io::Error::from(io::ErrorKind::Interrupted));
         }
         let n = self.size.min(buffer.len()).min(self.left.len());
@@ -290,11 +290,16 @@ fn pieces_lead_to_the_verdict_on_the_whole(rt: HostRuntime) {
         );
         assert!(rt; message.left.is_empty());
     }
-    // one that gives nothing for ever is empty
+    // one that gives nothing for ever is empty, and one that is interrupted can't be read
     let mut empty = in_pieces(&text, 0);
+    let mut interrupted = in_pieces(&text, 63);
+    interrupted.is_interrupted = true;
     assert_eq!(rt;
-        verify(&public, &mut empty, &signature),
-        Err(Refusal::RootMismatch(1))
+        (
+            verify(&public, &mut empty, &signature),
+            verify(&public, &mut interrupted, &signature)
+        ),
+        (Err(Refusal::RootMismatch(1)), Err(Refusal::MessageRead))
     );
 }
 

@@ -17,3 +17,5 @@ pub mod Unambiguous
 pub mod WasRead
 pub mod Messages
 pub mod Verdicts
+pub mod Takers
+pub mod Filling

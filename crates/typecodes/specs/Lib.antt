@@ -9,4 +9,6 @@ pub mod Name
 pub mod Levels
 pub mod Spec
 pub mod Message
+pub mod Reading
+pub mod Sink
 pub mod Verdict

@@ -1,11 +1,10 @@
 -- What reads of a message give, one after the other.
-use Rattle.std.specs.Prelude.{◌≡◌, ◌≢◌, ◌⊎◌, ◌≤◌, ◌<◌, ◌+◌, ◌^◌, ℕ, List, [], ◌∷◌, ◌++◌, length, take}
+use Rattle.std.specs.Prelude.{◌≡◌, ◌⊎◌, ◌≤◌, ◌<◌, ◌^◌, ℕ, List, [], ◌∷◌, ◌++◌, length, take}
 use Rattle.std.specs.Prelude.{Option, Some, None, Result, Ok, Err, ⊤}
 use Rattle.std.specs.Io.KnownBytes.{Consumes, IsAtEnd}
 use Rattle.std.specs.IoError.{error_kind}
 use Rattle.std.specs.declared.io.Error.{Error}
 use Rattle.std.specs.declared.io.ErrorKind.{ErrorKind}
-use Rattle.std.specs.declared.io.ErrorKind.TheVariants.{Interrupted}
 
 -- what one read gave: some bytes, none at the end; or an error of this kind
 abbrev pub ReadOutcome : Type 0
@@ -15,6 +14,11 @@ ReadOutcome = Result (List ℕ) ErrorKind
 abbrev pub read_outcome : Result ℕ Error → List ℕ → ReadOutcome
 read_outcome (Ok count) buffer = Ok (take count buffer)
 read_outcome (Err error) buffer = Err (error_kind error)
+
+-- how many bytes a call gave or took
+abbrev pub size_of : ReadOutcome → ℕ
+size_of (Ok bytes) = length bytes
+size_of (Err kind) = 0
 
 -- What a read may do to a message: from this state of it, with this outcome, to that one.
 abbrev pub Transition : Type 0 → Type 1
@@ -26,11 +30,11 @@ Transitions transition [] old new = new ≡ old
 Transitions {M} transition (first ∷ later) old new =
     (next : M) × transition old first next × Transitions transition later next new
 
--- Each of the reads gave a byte at least, or was interrupted, and so is tried again; and together they gave this text.
+-- Each of the reads gave a byte at least, and together they gave this text.
 abbrev pub Gave : List ReadOutcome → List ℕ → Type 0
 Gave [] text = text ≡ []
 Gave (Ok bytes ∷ later) text = (1 ≤ length bytes) × ((rest : List ℕ) × (text ≡ bytes ++ rest) × Gave later rest)
-Gave (Err kind ∷ later) text = (kind ≡ Interrupted) × Gave later text
+Gave (Err kind ∷ later) text = ⊥
 
 -- The message was read, and gave this text.
 abbrev pub GivesText : {M : Type 0} → Transition M → List ℕ → M → M → Type 0
@@ -42,25 +46,20 @@ abbrev pub GivesAll : {M : Type 0} → Transition M → List ℕ → M → M →
 GivesAll transition text old new =
     (outcomes : List ReadOutcome) × Transitions transition (outcomes ++ Ok [] ∷ []) old new × Gave outcomes text
 
--- A read failed.
+-- It gave this text, and then a read failed, by this kind of error.
+abbrev pub FailsBy : {M : Type 0} → Transition M → ErrorKind → List ℕ → M → M → Type 0
+FailsBy transition kind text old new =
+    (outcomes : List ReadOutcome) × Transitions transition (outcomes ++ Err kind ∷ []) old new × Gave outcomes text
+
+-- A read failed, whatever the kind of its error.
 abbrev pub ReadFails : {M : Type 0} → Transition M → M → M → Type 0
-ReadFails transition old new =
-    (outcomes : List ReadOutcome) × (text : List ℕ) × (kind : ErrorKind)
-    × Transitions transition (outcomes ++ Err kind ∷ []) old new × Gave outcomes text × (kind ≢ Interrupted)
+ReadFails transition old new = (kind : ErrorKind) × (text : List ℕ) × FailsBy transition kind text old new
 
--- how many of the reads were interrupted
-abbrev pub interruptions : List ReadOutcome → ℕ
-interruptions [] = 0
-interruptions (Ok bytes ∷ later) = interruptions later
-interruptions (Err kind ∷ later) = 1 + interruptions later
-
--- There was no end of it: it gave 2^60 bytes, or was interrupted 2^19 times.
+-- It gave 2^60 bytes.
 abbrev pub GoesOn : {M : Type 0} → Transition M → M → M → Type 0
-GoesOn transition old new =
-    (outcomes : List ReadOutcome) × (text : List ℕ) × Transitions transition outcomes old new × Gave outcomes text
-    × ((2 ^ 60 ≤ length text) ⊎ (2 ^ 19 ≤ interruptions outcomes))
+GoesOn transition old new = (text : List ℕ) × GivesText transition text old new × (2 ^ 60 ≤ length text)
 
--- The message can't be read: a read failed, or there was no end of it.
+-- The message can't be read: a read failed, or it gave 2^60 bytes.
 abbrev pub CantBeRead : {M : Type 0} → Transition M → M → M → Type 0
 CantBeRead transition old new = ReadFails transition old new ⊎ GoesOn transition old new
 
@@ -77,18 +76,6 @@ pub record ReadWhole {M : Type 0} (transition : Transition M) (remaining : M →
 abbrev pub IsContent : Option (List ℕ) → List ℕ → Type 0
 IsContent None text = ⊤
 IsContent (Some content) text = text ≡ content
-
--- A piece of a message was read: the buffer is full, or the message is at its end and gave so many bytes, fewer than
--- the buffer takes.
-abbrev pub PieceRead : {M : Type 0} → Transition M → (M → Option (List ℕ)) → ℕ → List ℕ → M → M → Type 0
-PieceRead transition remaining count buffer old new =
-    ((count ≡ length buffer) × GivesText transition buffer old new × Consumes (remaining old) (remaining new) buffer)
-    ⊎ ((count < length buffer) × ReadWhole transition remaining (take count buffer) old new)
-
--- A piece of a message was read, or it can't be read.
-abbrev pub ReadsPiece : {M E : Type 0} → Transition M → (M → Option (List ℕ)) → Result ℕ E → List ℕ → M → M → Type 0
-ReadsPiece transition remaining (Ok count) buffer old new = PieceRead transition remaining count buffer old new
-ReadsPiece transition remaining (Err error) buffer old new = CantBeRead transition old new
 
 -- The message was read whole and fed to what takes bytes, as a hasher does: it has the text after what it had before.
 abbrev pub Feeds : {M H : Type 0} → Transition M → (M → Option (List ℕ)) → (H → List ℕ → Type 0) → H → H → M → M

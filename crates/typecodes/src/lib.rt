@@ -6,7 +6,8 @@
 //! What holds of every layout is proved once, on `layout_laws`, `following_laws` and `field_laws`.
 //! Its contract for the crates above: a code names exactly one type, a cursor hands out exactly the
 //! field that the layout names, or its fault, levels are 1 to 8, and a text is that of one spec or of
-//! none. A message is any reader, and is read piece by piece.
+//! none. A message is any reader: there is one loop that reads until a buffer is full, one that reads to the
+//! end, and one that writes all bytes, and in each the first call that fails is the answer.
 //!
 //! ```rust
 //! use typecodes::{Cursor, LmsType};
@@ -28,7 +29,9 @@ mod layout;
 mod levels;
 mod message;
 mod name;
+mod reading;
 mod refusal;
+mod sink;
 mod spec;
 mod types;
 mod writing;
@@ -40,9 +43,11 @@ pub use crate::fault::{Cause, ReadFault};
 pub use crate::fields::field_laws;
 pub use crate::layout::{following_laws, layout_laws};
 pub use crate::levels::{LevelCount, Levels};
-pub use crate::message::{Message, MessageFailed, PIECE, PIECES, read_piece};
+pub use crate::message::{Message, MessageFailed};
 pub use crate::name::{BadName, Name};
+pub use crate::reading::{PIECE, PIECES, PieceTaker, ReadError, read_full, read_to_end};
 pub use crate::refusal::Refusal;
+pub use crate::sink::{Sink, write_all};
 pub use crate::spec::{BadSpec, Spec};
 pub use crate::types::{LmsPair, LmsType, OtsType, WOTS_CHAINS, XmssType};
 pub use crate::writing::put;

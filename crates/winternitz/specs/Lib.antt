@@ -3,3 +3,4 @@ pub mod Digest
 pub mod Groups
 pub mod Lanes
 pub mod Beginning
+pub mod Feeding

@@ -5,20 +5,49 @@ ghost use Rattle.sha2.specs.Hashers.{Holds256};
 ghost use Rattle.typecodes.specs.Message.{CantBeRead, Feeds};
 
 use sha2::{Digest, Sha256};
-use typecodes::{Message, MessageFailed, PIECE, PIECES, read_piece};
+use std::convert::Infallible;
+use typecodes::{Message, MessageFailed, PieceTaker, read_to_end};
+
+// A hasher that takes the pieces of a message.
+#[derive(Drop)]
+struct Hashing<'a> {
+    hasher: &'a mut Sha256,
+}
+
+impl PieceTaker for Hashing<'_> {
+    ghost use Rattle.std.specs.Prelude.{◌≡◌};
+    ghost use Rattle.std.proofs.Common.{refl, ◌∙◌};
+    ghost use Rattle.winternitz.specs.Feeding.{HasherTakes, takes_more_bytes, takes_no_bytes};
+
+    type Error = Infallible;
+
+    ghost takes = { λ old bytes new. (new.hasher.ghost_name ≡ old.hasher.ghost_name)
+        × HasherTakes old.hasher.now bytes new.hasher.now };
+
+    ghost refuses = { λ _ _ _ _. ⊥ };
+
+    fn take_piece(&mut self, piece: &[u8]) -> Result<(), Infallible> {
+        self.hasher.update(piece);
+        Ok(())
+    }
+
+    ghost takes_nothing = { λ state. (refl, takes_no_bytes state.hasher.now) };
+
+    ghost takes_more = { λ old middle new first later one more. (
+      more.0 ∙ one.0,
+      takes_more_bytes old.hasher.now middle.hasher.now new.hasher.now first later one.1 more.1,
+    ) };
+}
 
 /// Reads a message to its end and updates the hasher with each piece. Refused where the message can't be read.
 pub fn feed<M: Message>(hasher: &mut Sha256, message: &mut M) -> Result<(), MessageFailed>
     ensures ok { OnOk result (Feeds M.transition M.remaining Holds256 hasher.old hasher.new message.old message.new) }
     ensures err { OnErr result (CantBeRead M.transition message.old message.new) }
 {
-    let mut piece = [0; PIECE];
-    for turn in 0..PIECES {
-        let n = read_piece(message, &mut piece)?;
-        hasher.update(&piece[..n]);
-        if n < PIECE {
-            return Ok(());
-        }
-    }
-    Err(MessageFailed)
+    let mut hashing = Hashing { hasher };
+    let answer = read_to_end(message, &mut hashing);
+    let Hashing { hasher } = hashing;
+    // Only the proof needs this use: it tells what was hashed.
+    let _ = &*hasher;
+    answer.map_err(|_| MessageFailed)
 }

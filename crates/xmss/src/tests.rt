@@ -254,7 +254,7 @@ fn other_keys_refuse(rt: HostRuntime) -> Result<(), Fail> {
     Ok(())
 }
 
-// Gives its bytes in pieces of this size. Every other read is interrupted.
+// Gives its bytes in pieces of this size. Its first read may be interrupted, after which it goes on.
 #[derive(Drop)]
 struct Pieces<'a> {
     left: &'a [u8],
@@ -264,8 +264,8 @@ struct Pieces<'a> {
 
 impl Read for Pieces<'_> {
     fn read(&mut self, buffer: &mut [u8]) -> io::Result<usize> {
-        self.is_interrupted = !self.is_interrupted;
         if self.is_interrupted {
+            self.is_interrupted = false;
             return Err(io::Error::from(io::ErrorKind::Interrupted));
         }
         let n = self.size.min(buffer.len()).min(self.left.len());
@@ -321,17 +321,7 @@ fn pieces_have_the_digest_of_the_whole(rt: HostRuntime) {
     }
 }
 
-// A reader that is interrupted for ever.
-#[derive(Drop)]
-struct Interrupted {}
-
-impl Read for Interrupted {
-    fn read(&mut self, _buffer: &mut [u8]) -> io::Result<usize> {
-        Err(io::Error::from(io::ErrorKind::Interrupted))
-    }
-}
-
-// A message that gives nothing for ever is empty, or can't be read.
+// A message that gives nothing for ever is empty, and one that is interrupted can't be read.
 #[test]
 fn messages_without_bytes(rt: HostRuntime) -> Result<(), Fail> {
     let key = XmssPublic::read(&CASTLE_PUBLIC)?;
@@ -339,8 +329,10 @@ fn messages_without_bytes(rt: HostRuntime) -> Result<(), Fail> {
         verify(&key, &mut in_pieces(&[7], 0), &CASTLE_SIGNATURE),
         Err(Refusal::RootMismatch(0))
     );
+    let mut interrupted = in_pieces(&CASTLE_MESSAGE, 63);
+    interrupted.is_interrupted = true;
     assert_eq!(rt;
-        verify(&key, &mut Interrupted {}, &CASTLE_SIGNATURE),
+        verify(&key, &mut interrupted, &CASTLE_SIGNATURE),
         Err(Refusal::MessageRead)
     );
     Ok(())

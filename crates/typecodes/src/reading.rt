@@ -1,0 +1,95 @@
+//! Reading until a buffer is full, and reading to the end.
+
+ghost use Rattle.std.specs.Prelude.{◌≤◌, ◌++◌, [], List, ℕ, length, IfOk};
+ghost use Rattle.typecodes.specs.Reading.{ReadsFull, ReadsToEnd, RequestsFull, TakesPiece};
+
+use crate::message::Message;
+use std::io;
+use thiserror::Error;
+
+/// How many bytes of a message are read at a time.
+pub const PIECE: usize = 1 << 14;
+
+/// How many pieces a message has at most: with so many full ones it has 2^60 bytes, and counts as failed.
+pub const PIECES: u64 = 1 << 46;
+
+/// Reads until the buffer is full or the message ends, and gives how many bytes that were. The first read that fails is
+/// the answer, whatever its kind: one that was interrupted, too.
+pub fn read_full<M: Message>(message: &mut M, buffer: &mut [u8]) -> io::Result<usize>
+    ensures within { IfOk result (λ n. n ≤ length buffer.new) }
+    ensures reads { ReadsFull M.transition M.remaining result buffer.new message.old message.new }
+    ensures requests { RequestsFull M.request result buffer.new message.old message.new }
+{
+    let mut at = 0;
+    while at < buffer.len() {
+        let n = message.read_into(&mut buffer[at..])?;
+        if n == 0 {
+            return Ok(at);
+        }
+        at += n;
+    }
+    Ok(at)
+}
+
+/// What takes the bytes of a message, piece by piece.
+pub trait PieceTaker {
+    /// Why it refuses a piece.
+    type Error;
+
+    // Taking these bytes leads from this state to that one.
+    ghost takes: { Self → List ℕ → Self → Type 0 };
+
+    // Refusing this piece with this error leads from this state to that one.
+    ghost refuses: { Self → List ℕ → Self.Error → Self → Type 0 };
+
+    /// Takes the next bytes.
+    fn take_piece(&mut self, piece: &[u8]) -> Result<(), Self::Error>
+        ensures { TakesPiece takes refuses result piece.now self.old self.new };
+
+    // before the first piece nothing was taken
+    ghost takes_nothing: { (state : Self) → takes state [] state };
+
+    // bytes, and then others, are all of these bytes
+    ghost takes_more: { (old middle new : Self) (first later : List ℕ) → takes old first middle
+        → takes middle later new → takes old (first ++ later) new };
+}
+
+/// Why a message wasn't read to its end.
+#[derive(Debug, Drop, Error)]
+pub enum ReadError<E> {
+    /// A read failed.
+    #[error("a read failed")]
+    Failed(io::Error),
+    /// It gave 2^60 bytes.
+    #[error("the message is too long")]
+    TooLong,
+    /// What takes its bytes refused a piece.
+    #[error("a piece was refused")]
+    Refused(E),
+}
+
+/// Reads a message to its end, and hands on each piece. The first read that fails is the answer, whatever its kind.
+pub fn read_to_end<M: Message, T: PieceTaker>(
+    message: &mut M,
+    taker: &mut T,
+) -> Result<(), ReadError<T::Error>>
+    ensures { ReadsToEnd M.transition M.remaining T.takes T.refuses result message.old message.new taker.old taker.new }
+{
+    let mut piece = [0; PIECE];
+    for turn in 0..PIECES {
+        let n = match read_full(message, &mut piece) {
+            Ok(n) => n,
+            Err(error) => return Err(ReadError::Failed(error)),
+        };
+        if let Err(error) = taker.take_piece(&piece[..n]) {
+            return Err(ReadError::Refused(error));
+        }
+        if n < PIECE {
+            return Ok(());
+        }
+    }
+    Err(ReadError::TooLong)
+}
+
+#[cfg(test)]
+mod tests;

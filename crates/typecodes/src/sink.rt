@@ -1,0 +1,54 @@
+//! What takes bytes, a part of them at a time.
+
+ghost use Rattle.std.specs.Prelude.{List, ℕ, ⊤};
+ghost use Rattle.std.specs.Io.{WritesAtMost};
+ghost use Rattle.std.specs.Io.KnownBytes.{WriteAppends};
+ghost use Rattle.std.specs.declared.option.Option.{Option};
+ghost use Rattle.typecodes.specs.Message.{ReadOutcome, read_outcome};
+ghost use Rattle.typecodes.specs.Sink.{WritesAll};
+
+use std::io;
+use std::io::{ErrorKind, Write};
+
+/// What takes bytes: any writer.
+pub trait Sink {
+    // the bytes that it holds, where they are known
+    ghost contents: { Self → Option (List ℕ) };
+
+    // what a write that is offered these bytes does, where that is known: from this state, with this outcome, to that
+    // one
+    ghost transition: { Self → List ℕ → ReadOutcome → Self → Type 0 } = { λ _ _ _ _. ⊤ };
+
+    /// Writes some of the first of these bytes, as `Write::write` does.
+    fn write_from(&mut self, bytes: &[u8]) -> io::Result<usize>
+        ensures bound { WritesAtMost result bytes.now }
+        ensures bytes { WriteAppends (contents self.old) (contents self.new) result bytes.now }
+        ensures transition { transition self.old bytes.now (read_outcome result bytes.now) self.new };
+}
+
+impl<W: Write> Sink for W {
+    ghost contents = { W.contents };
+
+    fn write_from(&mut self, bytes: &[u8]) -> io::Result<usize> {
+        self.write(bytes)
+    }
+}
+
+/// Writes all of the bytes. The first write that fails is the answer, whatever its kind: one that was interrupted, too.
+/// One that takes nothing is `WriteZero`.
+pub fn write_all<S: Sink>(sink: &mut S, bytes: &[u8]) -> io::Result<()>
+    ensures { WritesAll S.transition S.contents result bytes.now sink.old sink.new }
+{
+    let mut done = 0;
+    while done < bytes.len() {
+        let n = sink.write_from(&bytes[done..])?;
+        if n == 0 {
+            return Err(io::Error::from(ErrorKind::WriteZero));
+        }
+        done += n;
+    }
+    Ok(())
+}
+
+#[cfg(test)]
+mod tests;
