@@ -4,7 +4,7 @@ use Rattle.std.specs.Prelude.{◌≢◌}
 use Rattle.std.specs.declared.io.ErrorKind.{ErrorKind}
 use Rattle.typecodes.specs.declared.refusal.Refusal.{Refusal}
 use Rattle.typecodes.specs.declared.refusal.Refusal.TheVariants.{MessageRead}
-use Rattle.typecodes.specs.Message.{CantBeRead, Gave, ReadOutcome, Transitions, interruptions}
+use Rattle.typecodes.specs.Message.{CantBeRead, Gave, ReadOutcome, Transitions}
 use Rattle.lms.proofs.Verdicts.{accepted as lms_accepted}
 use Rattle.hss.proofs.Verdicts.{accepted as hss_accepted}
 use Rattle.xmss.proofs.Verdicts.{accepted as xmss_accepted}
@@ -30,27 +30,22 @@ never-fails : (outcomes : List ReadOutcome) (kind : ErrorKind) (old new : InMemo
 never-fails [] kind old new (next, (bytes, is, split), end) = err-never kind bytes is
 never-fails (first ∷ later) kind old new (next, step, rest) = never-fails later kind next new rest
 
--- they give no more than there is, and none is interrupted
+-- they give no more than there is
 gives : (outcomes : List ReadOutcome) (text : List ℕ) (old new : InMemory) → Transitions GivesNext outcomes old new → Gave outcomes text
-    → (length text ≤ length old.rest.now) × (interruptions outcomes ≡ 0)
-gives [] text old new end gave = (omega (arith, ap length gave), refl)
+    → length text ≤ length old.rest.now
+gives [] text old new end gave = omega (arith, ap length gave)
 gives (Ok read ∷ later) text old new (next, (bytes, is, split), rest) (some, (others, sum_of, gave)) =
-    let (fewer, none) = gives later others next new rest gave in
+    let fewer = gives later others next new rest gave in
     let same : read ≡ bytes = cc in
     let sum : length text ≡ length read + length others = ap length sum_of ∙ length-append read others in
     let all : length old.rest.now ≡ length bytes + length next.rest.now = ap length split ∙ length-append bytes next.rest.now in
-    (omega (arith, sum, all, fewer, ap length same), none)
-gives (Err kind ∷ later) text old new (next, (bytes, is, split), rest) gave = absurd (err-never kind bytes is)
+    omega (arith, sum, all, fewer, ap length same)
+gives (Err kind ∷ later) text old new steps never = absurd never
 
--- it can't be read only where it is as long as none is
-long : (most tries : ℕ) (outcomes : List ReadOutcome) (text : List ℕ) (old new : InMemory) → 0 < tries → Transitions GivesNext outcomes old new
-    → Gave outcomes text → (most ≤ length text) ⊎ (tries ≤ interruptions outcomes) → most ≤ length old.rest.now
-long most tries outcomes text old new some steps gave (inl much) = let (fewer, none) = gives outcomes text old new steps gave in omega (arith, much, fewer)
-long most tries outcomes text old new some steps gave (inr often) = let (fewer, none) = gives outcomes text old new steps gave in absurd (omega (arith, some, often, none))
-
+-- it can't be read only where it is as long
 cant : (old new : InMemory) → CantBeRead GivesNext old new → 2 ^ 60 ≤ length old.rest.now
-cant old new (inl (outcomes, text, kind, steps, gave, other)) = absurd (never-fails outcomes kind old new steps)
-cant old new (inr (outcomes, text, steps, gave, ends)) = long (2 ^ 60) (2 ^ 19) outcomes text old new (omega arith) steps gave ends
+cant old new (inl (kind, text, (outcomes, steps, gave))) = absurd (never-fails outcomes kind old new steps)
+cant old new (inr (text, (outcomes, steps, gave), much)) = let fewer = gives outcomes text old new steps gave in omega (arith, much, fewer)
 
 -- ---- what it was answered
 

@@ -3,14 +3,14 @@ use Rattle.std.specs.Prelude.{◌≡◌, ℕ, zero, suc, ◌<◌, List, ◌++◌
 use Rattle.typecodes.specs.Layout.{AreBytes, Spells}
 use Rattle.state_file.specs.declared.record.Record.{Record}
 use Rattle.state_file.specs.File.{SpellsRecords, tag_at, tag_of}
-use Rattle.state_file.specs.Slot.{slot_record}
+use Rattle.state_file.specs.Slot.{slot_record, version_in}
 
 -- The tag before the slot of record k: 32 zeros before the first. Each other is the hash of the tag before it and of
--- the bytes that spell the record, of which there is one list.
+-- the bytes that spell the record in the version of the list, of which there is one list.
 abbrev pub IsTagBefore : List Record → ℕ → List ℕ → Type 0
 IsTagBefore records zero tag = tag ≡ replicate 32 0
 IsTagBefore records (suc k) tag = (entry : Record) × (fields previous : List ℕ)
-    × (slice_get records k ≡ Some entry) × AreBytes fields × Spells slot_record entry fields
+    × (slice_get records k ≡ Some entry) × AreBytes fields × Spells (slot_record (version_in records)) entry fields
     × IsTagBefore records k previous × (tag ≡ tag_of previous fields)
 
 -- the tag of record k

@@ -4,9 +4,11 @@ use Rattle.std.specs.Prelude.{◌==◌, slice_get}
 use Rattle.std.specs.Cmp.Lexicographic.{bytes_decides, pointwise}
 use Rattle.std.proofs.lemmas.Bool.{cases_Bool, cases_eq, cases_lt, cases_order}
 use Rattle.std.proofs.lemmas.List.{same_lists}
-use Rattle.std.proofs.lemmas.Option.{slice_get_cases, slice_get_within, slice_get-get_or, get_or_from_slice_get}
+use Rattle.std.proofs.lemmas.Option.{same_Some, slice_get_cases, slice_get_within, slice_get-get_or, get_or_from_slice_get}
 use Rattle.typecodes.proofs.Readers.{either}
 use Rattle.typecodes.proofs.Spelling.{no_value, one_value}
+use Rattle.typecodes.specs.Layout.{Spells}
+use Rattle.state_file.specs.declared.record.Key.{Key}
 use Rattle.state_file.specs.declared.record.Record.{Record}
 use Rattle.state_file.specs.declared.record.Record.TheVariants.{Key as KeyRecord}
 use Rattle.state_file.specs.declared.record.Version.{Version}
@@ -14,8 +16,8 @@ use Rattle.state_file.specs.File.{Begins, HasNoKey, Holds, IsClosed, IsDamagedAt
 use Rattle.state_file.specs.Opening.{ContentKind, OpensAs, damaged, no_key, no_key_file, spelled, unknown_version}
 use Rattle.state_file.specs.FileStore.{not_both}
 use Rattle.state_file.specs.Laws.{CanSign}
-use Rattle.state_file.specs.Slot.{slot_record}
-use Rattle.state_file.proofs.Shown.{key-begins, key-first}
+use Rattle.state_file.specs.Slot.{slot_record, version_in}
+use Rattle.state_file.specs.Shown.{key-begins, key-first, version_first}
 
 -- ---- slots
 
@@ -37,28 +39,28 @@ pub closed-reaches : (content : List ℕ) (k : ℕ) → IsClosed content k → 2
 closed-reaches content k shut = shut.0
 
 -- a slot holds one record
-one_record_at : (content : List ℕ) (k : ℕ) (entry other : Record) → Holds content k entry → Holds content k other → entry ≡ other
-one_record_at content k entry other first second = one_value slot_record entry other (fields_at content k) first.spelled second.spelled
+one_record_at : (version : Version) (content : List ℕ) (k : ℕ) (entry other : Record) → Holds version content k entry → Holds version content k other → entry ≡ other
+one_record_at version content k entry other first second = one_value (slot_record version) entry other (fields_at content k) first.spelled second.spelled
 
 -- a slot holds a record or none
-holds_or_not : (content : List ℕ) (k : ℕ) → ((entry : Record) × Holds content k entry) ⊎ ((entry : Record) → Holds content k entry → ⊥)
-holds_or_not content k =
+holds_or_not : (version : Version) (content : List ℕ) (k : ℕ) → ((entry : Record) × Holds version content k entry) ⊎ ((entry : Record) → Holds version content k entry → ⊥)
+holds_or_not version content k =
     let fields = fields_at content k in
     let tag = tag_of (previous_tag content k) fields in
-    elim (either slot_record fields) [
+    elim (either (slot_record version) fields) [
       | inl (entry, is) ↦ elim (cases_Bool (pointwise (λ a b. a == b) (tag_at content k) tag)) [
         | inl same ↦ inl (entry, record { spelled = is; tagged = (bytes_decides (tag_at content k) tag).0 same })
         | inr other ↦ inr (λ _ holds. true≢false (sym ((bytes_decides (tag_at content k) tag).1 holds.tagged) ∙ other))
       ]
-      | inr (fault, faulty) ↦ inr (λ entry holds. no_value slot_record entry fields 0 fault holds.spelled faulty)
+      | inr (fault, faulty) ↦ inr (λ entry holds. no_value (slot_record version) entry fields 0 fault holds.spelled faulty)
     ]
 
 -- an open slot is whole or not
-pub whole_or_not : (content : List ℕ) (k : ℕ) → IsOpen content k → IsWhole content k ⊎ (IsWhole content k → ⊥)
-whole_or_not content k opened =
+pub whole_or_not : (version : Version) (content : List ℕ) (k : ℕ) → IsOpen content k → IsWhole version content k ⊎ (IsWhole version content k → ⊥)
+whole_or_not version content k opened =
     elim (cases_lt k most_records) [
       | inl few ↦ elim (cases_lt (256 * (k + 1)) (length content)) [
-        | inl ends ↦ elim (holds_or_not content k) [
+        | inl ends ↦ elim (holds_or_not version content k) [
           | inl (entry, holds) ↦ inl (record { opened = opened; few = few; ends = ends; entry = entry; holds = holds })
           | inr none ↦ inr (λ whole. none whole.entry whole.holds)
         ]
@@ -70,8 +72,8 @@ whole_or_not content k opened =
 -- ---- beginnings
 
 -- no slot yet
-pub begins-none : (content : List ℕ) → MayHaveKey content → Begins content []
-begins-none content may = record {
+pub begins-none : (version : Version) (content : List ℕ) → MayHaveKey content → Begins version content []
+begins-none version content may = record {
   few = omega arith;
   ends = omega (arith, may.long);
   opened = λ k below. absurd (omega (arith, below));
@@ -86,8 +88,8 @@ snoc_get (first ∷ xs) x zero y is = inl is
 snoc_get (first ∷ xs) x (suc k) y is = elim (snoc_get xs x k y is) [ inl there ↦ inl there | inr last ↦ inr (ap suc last.0, last.1) ]
 
 -- one slot more, if it is whole
-pub begins-more : (content : List ℕ) (records : List Record) → Begins content records → (whole : IsWhole content (length records)) → Begins content (records ++ whole.entry ∷ [])
-begins-more content records begins whole =
+pub begins-more : (version : Version) (content : List ℕ) (records : List Record) → Begins version content records → (whole : IsWhole version content (length records)) → Begins version content (records ++ whole.entry ∷ [])
+begins-more version content records begins whole =
     let count : length (records ++ whole.entry ∷ []) ≡ length records + 1 = length-append records (whole.entry ∷ []) in record {
       few = omega (arith, count, whole.few);
       ends = omega (arith, count, whole.ends);
@@ -97,13 +99,13 @@ begins-more content records begins whole =
       ];
       holds = λ k entry is. elim (snoc_get records whole.entry k entry is) [
         | inl there ↦ begins.holds k entry there
-        | inr last ↦ subst (λ (p : ℕ × Record). Holds content p.0 p.1) (λ i. (sym last.0 i, last.1 i)) whole.holds
+        | inr last ↦ subst (λ (p : ℕ × Record). Holds version content p.0 p.1) (λ i. (sym last.0 i, last.1 i)) whole.holds
       ];
     }
 
 -- its slots are whole
-pub begins-whole : (content : List ℕ) (records : List Record) (k : ℕ) → Begins content records → k < length records → IsWhole content k
-begins-whole content records k begins below =
+pub begins-whole : (version : Version) (content : List ℕ) (records : List Record) (k : ℕ) → Begins version content records → k < length records → IsWhole version content k
+begins-whole version content records k begins below =
     elim (slice_get_cases records k).1 [
       | inl (entry, _, is, _) ↦ record {
         opened = begins.opened k below;
@@ -115,24 +117,39 @@ begins-whole content records k begins below =
       | inr (past, _) ↦ absurd (omega (arith, past, below))
     ]
 
+-- where the first slot is a Key's, its version is that of the records
+begins-version : (version : Version) (content : List ℕ) (records : List Record) (entry : Record) → Begins version content records → begins_key (fields_at content 0) ≡ true → slice_get records 0 ≡ Some entry
+    → (key : Key) × (slice_get records 0 ≡ Some (KeyRecord key)) × (version ≡ version_in records)
+begins-version version content records entry begins key is =
+    let spelled = (begins.holds 0 entry is).spelled in
+    let (first, same) = key-first version entry (fields_at content 0) spelled key in
+    let there : slice_get records 0 ≡ Some (KeyRecord first) = is ∙ ap Some same in
+    let own = (key-begins version first (fields_at content 0) (subst (λ e. Spells (slot_record version) e (fields_at content 0)) same spelled)).2 in
+    (first, there, sym own ∙ sym (version_first records first there))
+
 -- and where the next gate is closed it is all
-pub begins-all : (content : List ℕ) (records : List Record) → Begins content records → MayHaveKey content → begins_key (fields_at content 0) ≡ true → IsClosed content (length records) → SpellsRecords content records
-begins-all content records begins may key closed =
+pub begins-all : (version : Version) (content : List ℕ) (records : List Record) → Begins version content records → MayHaveKey content → begins_key (fields_at content 0) ≡ true → IsClosed content (length records)
+    → SpellsRecords content records × (version ≡ version_in records)
+begins-all version content records begins may key closed =
     elim (slice_get_cases records 0).1 [
-      | inl (entry, _, is, _) ↦ let (first, same) = key-first entry (fields_at content 0) (begins.holds 0 entry is).spelled key in record {
-        few = begins.few;
-        opened = begins.opened;
-        closed = closed;
-        first = (first, is ∙ ap Some same);
-        holds = begins.holds;
-      }
+      | inl (entry, _, is, _) ↦
+          let (first, there, same) = begins-version version content records entry begins key is in (
+            record {
+              few = begins.few;
+              opened = begins.opened;
+              closed = closed;
+              first = (first, there);
+              holds = λ k one at. subst (λ v. Holds v content k one) same (begins.holds k one at);
+            },
+            same,
+          )
       | inr (past, _) ↦
           let none : length records ≡ 0 = omega (arith, past) in
           absurd (not_both content 0 may.opened (subst (IsClosed content) none closed))
     ]
 
 -- records that are spelled begin the content
-pub spelled-begins : (content : List ℕ) (records : List Record) → SpellsRecords content records → Begins content records
+pub spelled-begins : (content : List ℕ) (records : List Record) → SpellsRecords content records → Begins (version_in records) content records
 spelled-begins content records is = record {
   few = is.few;
   ends = closed-reaches content (length records) is.closed;
@@ -143,19 +160,20 @@ spelled-begins content records is = record {
 -- ---- something is reported
 
 -- what the next gate says, where a whole slot leads on
-judged : (content : List ℕ) (records : List Record) → Begins content records → MayHaveKey content → begins_key (fields_at content 0) ≡ true
-    → ((version : Version) × (version_of (fields_at content 0) ≡ Some version)) → (IsWhole content (length records) → (opening : ContentKind) × OpensAs content opening) → (opening : ContentKind) × OpensAs content opening
-judged content records begins may key version more =
+judged : (version : Version) (content : List ℕ) (records : List Record) → Begins version content records → MayHaveKey content → begins_key (fields_at content 0) ≡ true
+    → version_of (fields_at content 0) ≡ Some version → (IsWhole version content (length records) → (opening : ContentKind) × OpensAs content opening) → (opening : ContentKind) × OpensAs content opening
+judged version content records begins may key known more =
     elim (open_or_closed content (length records) begins.ends) [
-      | inr closed ↦ (spelled records, begins-all content records begins may key closed)
-      | inl opened ↦ elim (whole_or_not content (length records) opened) [
+      | inr closed ↦ (spelled records, (begins-all version content records begins may key closed).0)
+      | inl opened ↦ elim (whole_or_not version content (length records) opened) [
         | inr other ↦ (
           damaged (length records),
           record {
             may = may;
             key = key;
             version = version;
-            before = λ j below. begins-whole content records j begins below;
+            known = known;
+            before = λ j below. begins-whole version content records j begins below;
             opened = opened;
             damaged = other;
           },
@@ -165,16 +183,16 @@ judged content records begins may key version more =
     ]
 
 -- so from whole slot to whole slot, up to the most
-opening_from : (content : List ℕ) (left : ℕ) (records : List Record) → left + length records ≡ most_records → Begins content records → MayHaveKey content → begins_key (fields_at content 0) ≡ true
-    → ((version : Version) × (version_of (fields_at content 0) ≡ Some version)) → (opening : ContentKind) × OpensAs content opening
-opening_from content zero records count begins may key version = judged content records begins may key version (λ whole. absurd (omega (arith, count, whole.few)))
-opening_from content (suc left) records count begins may key version =
-    judged content records begins may key version (λ whole.
-    opening_from content left (records ++ whole.entry ∷ []) (omega (arith, count, length-append records (whole.entry ∷ []))) (begins-more content records begins whole) may key version)
+opening_from : (version : Version) (content : List ℕ) (left : ℕ) (records : List Record) → left + length records ≡ most_records → Begins version content records → MayHaveKey content → begins_key (fields_at content 0) ≡ true
+    → version_of (fields_at content 0) ≡ Some version → (opening : ContentKind) × OpensAs content opening
+opening_from version content zero records count begins may key known = judged version content records begins may key known (λ whole. absurd (omega (arith, count, whole.few)))
+opening_from version content (suc left) records count begins may key known =
+    judged version content records begins may key known (λ whole.
+    opening_from version content left (records ++ whole.entry ∷ []) (omega (arith, count, length-append records (whole.entry ∷ []))) (begins-more version content records begins whole) may key known)
 
 opening_by_version : (content : List ℕ) → MayHaveKey content → begins_key (fields_at content 0) ≡ true → (found : Option Version) → version_of (fields_at content 0) ≡ found → (opening : ContentKind) × OpensAs content opening
 opening_by_version content may key None is = (unknown_version, record { may = may; key = key; other = is })
-opening_by_version content may key (Some version) is = opening_from content most_records [] (omega arith) (begins-none content may) may key (version, is)
+opening_by_version content may key (Some version) is = opening_from version content most_records [] (omega arith) (begins-none version content may) may key is
 
 opening_with_key : (content : List ℕ) → MayHaveKey content → (opening : ContentKind) × OpensAs content opening
 opening_with_key content may =
@@ -207,9 +225,14 @@ spelled-may content records is =
     let some = slice_get_within records 0 (KeyRecord is.first.0) is.first.1 in
     record { long = omega (arith, some, closed-reaches content (length records) is.closed); opened = is.opened 0 some }
 
--- its first slot is a Key's, of a known version
-spelled-key : (content : List ℕ) (records : List Record) → SpellsRecords content records → (begins_key (fields_at content 0) ≡ true) × ((version : Version) × (version_of (fields_at content 0) ≡ Some version))
-spelled-key content records is = key-begins is.first.0 (fields_at content 0) (is.holds 0 (KeyRecord is.first.0) is.first.1).spelled
+-- its first slot is a Key's, of the version of the records
+spelled-key : (content : List ℕ) (records : List Record) → SpellsRecords content records → (begins_key (fields_at content 0) ≡ true) × (version_of (fields_at content 0) ≡ Some (version_in records))
+spelled-key content records is =
+    let (begins, known, _) = key-begins (version_in records) is.first.0 (fields_at content 0) (is.holds 0 (KeyRecord is.first.0) is.first.1).spelled in (begins, known)
+
+-- a version that is known is one
+same_version : (content : List ℕ) (a b : Version) → version_of (fields_at content 0) ≡ Some a → version_of (fields_at content 0) ≡ Some b → a ≡ b
+same_version content a b first second = same_Some a b (sym first ∙ second)
 
 -- lists of records that are spelled have one length
 not_shorter : (content : List ℕ) (xs ys : List Record) → SpellsRecords content xs → SpellsRecords content ys → length xs < length ys → ⊥
@@ -227,27 +250,30 @@ one_length content xs ys first second =
 pub one_list : (content : List ℕ) (xs ys : List Record) → SpellsRecords content xs → SpellsRecords content ys → xs ≡ ys
 one_list content xs ys first second =
     let count = one_length content xs ys first second in
+    let version = same_version content (version_in xs) (version_in ys) (spelled-key content xs first).1 (spelled-key content ys second).1 in
     same_lists xs ys count (λ k d below.
-    one_record_at content k (get_or xs k d) (get_or ys k d)
-    (first.holds k (get_or xs k d) (slice_get-get_or xs k d below))
+    one_record_at (version_in ys) content k (get_or xs k d) (get_or ys k d)
+    (subst (λ v. Holds v content k (get_or xs k d)) version (first.holds k (get_or xs k d) (slice_get-get_or xs k d below)))
     (second.holds k (get_or ys k d) (slice_get-get_or ys k d (omega (arith, below, count)))))
 
 -- where records are spelled, no slot is damaged
 spelled-whole : (content : List ℕ) (records : List Record) (k : ℕ) → SpellsRecords content records → IsDamagedAt content k → ⊥
 spelled-whole content records k is is_damaged =
+    let version = same_version content (version_in records) is_damaged.version (spelled-key content records is).1 is_damaged.known in
     elim (cases_order k (length records)) [
       | inl same ↦ not_both content k is_damaged.opened (subst (IsClosed content) (sym same) is.closed)
-      | inr (inl below) ↦ is_damaged.damaged (begins-whole content records k (spelled-begins content records is) below)
+      | inr (inl below) ↦ is_damaged.damaged (subst (λ v. IsWhole v content k) version (begins-whole (version_in records) content records k (spelled-begins content records is) below))
       | inr (inr above) ↦ not_both content (length records) (is_damaged.before (length records) above).opened is.closed
     ]
 
 -- one slot is the first damaged one
 one_damaged : (content : List ℕ) (j k : ℕ) → IsDamagedAt content j → IsDamagedAt content k → j ≡ k
 one_damaged content j k first second =
+    let version = same_version content first.version second.version first.known second.known in
     elim (cases_order j k) [
       | inl same ↦ same
-      | inr (inl below) ↦ absurd (first.damaged (second.before j below))
-      | inr (inr above) ↦ absurd (second.damaged (first.before k above))
+      | inr (inl below) ↦ absurd (first.damaged (subst (λ v. IsWhole v content j) (sym version) (second.before j below)))
+      | inr (inr above) ↦ absurd (second.damaged (subst (λ v. IsWhole v content k) version (first.before k above)))
     ]
 
 -- a version is known or not
@@ -258,7 +284,7 @@ pub one_opening : (content : List ℕ) (opening other : ContentKind) → OpensAs
 one_opening content (spelled xs) (spelled ys) a b = ap spelled (one_list content xs ys a b)
 one_opening content (spelled xs) no_key a b = absurd (no_key_may content b (spelled-may content xs a))
 one_opening content (spelled xs) no_key_file a b = absurd (true≢false (sym (spelled-key content xs a).0 ∙ b.other))
-one_opening content (spelled xs) unknown_version a b = let (version, known) = (spelled-key content xs a).1 in absurd (known_or_not _ version known b.other)
+one_opening content (spelled xs) unknown_version a b = absurd (known_or_not _ (version_in xs) (spelled-key content xs a).1 b.other)
 one_opening content (spelled xs) (damaged k) a b = absurd (spelled-whole content xs k a b)
 one_opening content no_key (spelled ys) a b = absurd (no_key_may content a (spelled-may content ys b))
 one_opening content no_key no_key a b = refl
@@ -270,15 +296,15 @@ one_opening content no_key_file no_key a b = absurd (no_key_may content b a.may)
 one_opening content no_key_file no_key_file a b = refl
 one_opening content no_key_file unknown_version a b = absurd (true≢false (sym b.key ∙ a.other))
 one_opening content no_key_file (damaged k) a b = absurd (true≢false (sym b.key ∙ a.other))
-one_opening content unknown_version (spelled ys) a b = let (version, known) = (spelled-key content ys b).1 in absurd (known_or_not _ version known a.other)
+one_opening content unknown_version (spelled ys) a b = absurd (known_or_not _ (version_in ys) (spelled-key content ys b).1 a.other)
 one_opening content unknown_version no_key a b = absurd (no_key_may content b a.may)
 one_opening content unknown_version no_key_file a b = absurd (true≢false (sym a.key ∙ b.other))
 one_opening content unknown_version unknown_version a b = refl
-one_opening content unknown_version (damaged k) a b = absurd (known_or_not _ b.version.0 b.version.1 a.other)
+one_opening content unknown_version (damaged k) a b = absurd (known_or_not _ b.version b.known a.other)
 one_opening content (damaged j) (spelled ys) a b = absurd (spelled-whole content ys j b a)
 one_opening content (damaged j) no_key a b = absurd (no_key_may content b a.may)
 one_opening content (damaged j) no_key_file a b = absurd (true≢false (sym a.key ∙ b.other))
-one_opening content (damaged j) unknown_version a b = absurd (known_or_not _ a.version.0 a.version.1 b.other)
+one_opening content (damaged j) unknown_version a b = absurd (known_or_not _ a.version a.known b.other)
 one_opening content (damaged j) (damaged k) a b = ap damaged (one_damaged content j k a b)
 
 -- a content that stands for a list spells it, or has no key

@@ -8,7 +8,8 @@ use Rattle.state_file.specs.Disk.{DiskState, MayLeave, settled, Elapses, LeavesO
 use Rattle.state_file.specs.FileStore.{closed_gate, fields_length, open_by_byte}
 use Rattle.state_file.specs.DiskCalls.{OnlyReads}
 use Rattle.state_file.specs.Opening.{HasEntry, HasSlot, IsFound, StartsWithKey, ReportsContent, ReportsSlot}
-use Rattle.state_file.specs.Slot.{slot_record}
+use Rattle.state_file.specs.Slot.{slot_record, version_in}
+use Rattle.state_file.specs.declared.record.Version.{Version}
 use Rattle.state_file.specs.Store.{begins_with_key}
 use Rattle.state_file.specs.declared.file.opening.OpenFault.{OpenFault}
 use Rattle.state_file.specs.declared.file.opening.OpenFault.TheVariants.{NoKey, NotKeyFile, Version as VersionFault, Damaged, DeviceFailed}
@@ -65,80 +66,84 @@ gate_closed content k within other = closed_gate content k within (λ is_open. t
 -- ---- slots
 
 -- a slot that is read is whole
-pub has_whole : (content : List ℕ) (k : ℕ) (entry : Record) (tag : List ℕ) → IsOpen content k → HasSlot content k entry tag → IsWhole content k
-has_whole content k entry tag opened slot = record { opened = opened; few = slot.few; ends = slot.ends; entry = entry; holds = slot.holds }
+pub has_whole : (version : Version) (content : List ℕ) (k : ℕ) (entry : Record) (tag : List ℕ) → IsOpen content k → HasSlot version content k entry tag → IsWhole version content k
+has_whole version content k entry tag opened slot = record { opened = opened; few = slot.few; ends = slot.ends; entry = entry; holds = slot.holds }
 
 -- one whose bytes spell a record
-pub slot_found : (content previous fields tag : List ℕ) (k : ℕ) (entry : Record) → k < most_records → 256 * (k + 1) < length content → previous ≡ previous_tag content k → fields ≡ fields_at content k → tag ≡ tag_at content k
-    → Spells slot_record entry fields → tag ≡ tag_of previous fields → HasSlot content k entry tag
-slot_found content previous fields tag k entry few ends before fields_are tag_is spelled tagged = record {
+pub slot_found : (version : Version) (content previous fields tag : List ℕ) (k : ℕ) (entry : Record) → k < most_records → 256 * (k + 1) < length content → previous ≡ previous_tag content k → fields ≡ fields_at content k → tag ≡ tag_at content k
+    → Spells (slot_record version) entry fields → tag ≡ tag_of previous fields → HasSlot version content k entry tag
+slot_found version content previous fields tag k entry few ends before fields_are tag_is spelled tagged = record {
   few = few;
   ends = ends;
   holds = record {
-    spelled = subst (Spells slot_record entry) fields_are spelled;
+    spelled = subst (Spells (slot_record version) entry) fields_are spelled;
     tagged = sym tag_is ∙ tagged ∙ ap (λ (l : List ℕ). tag_of l fields) before ∙ ap (λ (l : List ℕ). tag_of (previous_tag content k) l) fields_are;
   };
   tagged = tag_is;
 }
 
 -- what the record that was read is
-pub holds_entry : (content : List ℕ) (k : ℕ) (found : Option Record) (entry : Record) → HasEntry content k found → found ≡ Some entry → Holds content k entry
-holds_entry content k found entry has is = subst (HasEntry content k) is has
+pub holds_entry : (version : Version) (content : List ℕ) (k : ℕ) (found : Option Record) (entry : Record) → HasEntry version content k found → found ≡ Some entry → Holds version content k entry
+holds_entry version content k found entry has is = subst (HasEntry version content k) is has
 
-pub holds_none : (content : List ℕ) (k : ℕ) (found : Option Record) → HasEntry content k found → found ≡ None → (entry : Record) → Holds content k entry → ⊥
-holds_none content k found has is = subst (HasEntry content k) is has
+pub holds_none : (version : Version) (content : List ℕ) (k : ℕ) (found : Option Record) → HasEntry version content k found → found ≡ None → (entry : Record) → Holds version content k entry → ⊥
+holds_none version content k found has is = subst (HasEntry version content k) is has
 
 -- one whose bytes spell none isn't whole
-pub slot_damaged : (content previous fields tag : List ℕ) (k : ℕ) → previous ≡ previous_tag content k → fields ≡ fields_at content k → tag ≡ tag_at content k
-    → ((entry : Record) → Spells slot_record entry fields → tag ≡ tag_of previous fields → ⊥) → IsWhole content k → ⊥
-slot_damaged content previous fields tag k before fields_are tag_is none whole =
-    none whole.entry (subst (Spells slot_record whole.entry) (sym fields_are) whole.holds.spelled)
+pub slot_damaged : (version : Version) (content previous fields tag : List ℕ) (k : ℕ) → previous ≡ previous_tag content k → fields ≡ fields_at content k → tag ≡ tag_at content k
+    → ((entry : Record) → Spells (slot_record version) entry fields → tag ≡ tag_of previous fields → ⊥) → IsWhole version content k → ⊥
+slot_damaged version content previous fields tag k before fields_are tag_is none whole =
+    none whole.entry (subst (Spells (slot_record version) whole.entry) (sym fields_are) whole.holds.spelled)
     (tag_is ∙ whole.holds.tagged ∙ sym (ap (λ (l : List ℕ). tag_of l fields) before ∙ ap (λ (l : List ℕ). tag_of (previous_tag content k) l) fields_are))
 
 -- ---- from slot to slot
 
--- The content begins with these records, and this is the last one's tag.
-pub record BeginsFound (content : List ℕ) (count : ℕ) (records : List Record) (tag : List ℕ) : Type 0 where
-  pub begins : Begins content records
+-- The content begins with these records of this version, and this is the last one's tag.
+pub record BeginsFound (version : Version) (content : List ℕ) (count : ℕ) (records : List Record) (tag : List ℕ) : Type 0 where
+  pub begins : Begins version content records
   pub last : tag ≡ previous_tag content count
 
-pub found_none : (content : List ℕ) (count : ℕ) (records : List Record) (tag : List ℕ) → count ≡ 0 → records ≡ [] → tag ≡ first_tag → StartsWithKey content → BeginsFound content count records tag
-found_none content count records tag none_yet none zeros key = record {
-  begins = subst (Begins content) (sym none) (begins-none content key.may);
+pub found_none : (version : Version) (content : List ℕ) (count : ℕ) (records : List Record) (tag : List ℕ) → count ≡ 0 → records ≡ [] → tag ≡ first_tag → StartsWithKey version content → BeginsFound version content count records tag
+found_none version content count records tag none_yet none zeros key = record {
+  begins = subst (Begins version content) (sym none) (begins-none version content key.may);
   last = zeros ∙ sym (ap (λ n. previous_tag content n) none_yet);
 }
 
-pub found_more : (content : List ℕ) (count more : ℕ) (records after : List Record) (tag next last : List ℕ) (entry : Record) → BeginsFound content count records tag → count ≡ length records → more ≡ count + 1
-    → after ≡ records ++ entry ∷ [] → next ≡ last → IsOpen content count → HasSlot content count entry last → BeginsFound content more after next
+pub found_more : (version : Version) (content : List ℕ) (count more : ℕ) (records after : List Record) (tag next last : List ℕ) (entry : Record) → BeginsFound version content count records tag → count ≡ length records → more ≡ count + 1
+    → after ≡ records ++ entry ∷ [] → next ≡ last → IsOpen content count → HasSlot version content count entry last → BeginsFound version content more after next
 unfolding has_whole
-found_more content count more records after tag next last entry found counted one_more grown same opened slot = record {
-  begins = subst (Begins content) (sym grown) (begins-more content records found.begins
-      (let at = subst (λ n. IsOpen content n × HasSlot content n entry last) counted (opened, slot) in has_whole content (length records) entry last at.0 at.1));
+found_more version content count more records after tag next last entry found counted one_more grown same opened slot = record {
+  begins = subst (Begins version content) (sym grown) (begins-more version content records found.begins
+      (let at = subst (λ n. IsOpen content n × HasSlot version content n entry last) counted (opened, slot) in has_whole version content (length records) entry last at.0 at.1));
   last = same ∙ slot.tagged ∙ sym (ap (λ n. previous_tag content n) (one_more ∙ add-one count));
 }
 
 -- where the next gate is closed, these are all
-pub found_all : (content : List ℕ) (count : ℕ) (records : List Record) (tag : List ℕ) → BeginsFound content count records tag → count ≡ length records → StartsWithKey content → IsClosed content count → IsFound content records tag
-found_all content count records tag found counted key closed = record {
-  spelled = begins-all content records found.begins key.may key.key (subst (IsClosed content) counted closed);
-  last = found.last ∙ ap (λ n. previous_tag content n) counted;
-}
+pub found_all : (version own : Version) (content : List ℕ) (count : ℕ) (records : List Record) (tag : List ℕ) → own ≡ version → BeginsFound version content count records tag → count ≡ length records → StartsWithKey version content → IsClosed content count
+    → IsFound own content records tag
+found_all version own content count records tag same found counted key closed =
+    let (spelled, of_version) = begins-all version content records found.begins key.may key.key (subst (IsClosed content) counted closed) in record {
+      of_version = same ∙ of_version;
+      spelled = spelled;
+      last = found.last ∙ ap (λ n. previous_tag content n) counted;
+    }
 
 -- where the next slot is open and isn't whole, it is damaged
-pub found_damaged : (content : List ℕ) (count : ℕ) (records : List Record) (tag : List ℕ) (fault : OpenFault) → BeginsFound content count records tag → count ≡ length records → StartsWithKey content → IsOpen content count → ReportsSlot content count fault
-    → ReportsContent content fault
-found_damaged content count records tag NoKey found counted key opened reported = absurd reported
-found_damaged content count records tag NotKeyFile found counted key opened reported = absurd reported
-found_damaged content count records tag VersionFault found counted key opened reported = absurd reported
-found_damaged content count records tag (Damaged k) found counted key opened reported = subst (λ n. IsDamagedAt content n) (sym reported.0) (record {
+pub found_damaged : (version : Version) (content : List ℕ) (count : ℕ) (records : List Record) (tag : List ℕ) (fault : OpenFault) → BeginsFound version content count records tag → count ≡ length records → StartsWithKey version content → IsOpen content count
+    → ReportsSlot version content count fault → ReportsContent content fault
+found_damaged version content count records tag NoKey found counted key opened reported = absurd reported
+found_damaged version content count records tag NotKeyFile found counted key opened reported = absurd reported
+found_damaged version content count records tag VersionFault found counted key opened reported = absurd reported
+found_damaged version content count records tag (Damaged k) found counted key opened reported = subst (λ n. IsDamagedAt content n) (sym reported.0) (record {
   may = key.may;
   key = key.key;
-  version = key.version;
-  before = λ j below. begins-whole content records j found.begins (omega (arith, below, counted));
+  version = version;
+  known = key.known;
+  before = λ j below. begins-whole version content records j found.begins (omega (arith, below, counted));
   opened = opened;
   damaged = reported.1;
 })
-found_damaged content count records tag DeviceFailed found counted key opened reported = tt
+found_damaged version content count records tag DeviceFailed found counted key opened reported = tt
 
 -- ---- the store
 
@@ -157,7 +162,7 @@ spelled_file records content is =
       closed = is.closed;
       spelled = λ k entry there.
           let below : k < length records = slice_get_within records k entry there in
-          read_record entry (fields_at content k) (fields_length content k (omega (arith, within, below))) (is.holds k entry there).spelled;
+          read_record (version_in records) entry (fields_at content k) (fields_length content k (omega (arith, within, below))) (is.holds k entry there).spelled;
       tagged = λ k below. elim (slice_get records k) as (λ (found : Option Record). slice_get records k ≡ found → tag_at content k ≡ tag_of (previous_tag content k) (fields_at content k)) [
         | Some entry ↦ λ there. (is.holds k entry there).tagged
         | None ↦ λ past. absurd (missing records k below past)
@@ -169,8 +174,8 @@ spelled_file records content is =
     missing (entry ∷ rest) k below past = let clash = sym (slice_get-get_or (entry ∷ rest) k entry below) ∙ past in cc
 
 -- what is found is kept
-pub found_kept : (records : List Record) (tag content : List ℕ) (after : DiskState) → after ≡ settled content → IsFound content records tag → IsSyncedFile records tag after
-found_kept records tag content after same found = subst (IsSyncedFile records tag) (sym same) (record {
+pub found_kept : (version : Version) (records : List Record) (tag content : List ℕ) (after : DiskState) → after ≡ settled content → IsFound version content records tag → IsSyncedFile records tag after
+found_kept version records tag content after same found = subst (IsSyncedFile records tag) (sym same) (record {
   synced = refl;
   file = spelled_file records content found.spelled;
   last = found.last;
@@ -182,8 +187,8 @@ pub fault_reported : {A : Type 0} (P : OpenFault → Type 0) (result : Result A 
 fault_reported P result fault is reported = subst (λ (r : Result _ OpenFault). IfErr r P) (sym is) reported
 
 -- the next gate lies in the content
-pub gate_within : (first now : DiskState) (count : ℕ) (records : List Record) (tag : List ℕ) → now ≡ first → count ≡ length records → BeginsFound first.content count records tag → 256 * count < length now.content
-gate_within first now count records tag same counted found = subst (λ (s : DiskState). 256 * count < length s.content) (sym same) (omega (arith, found.begins.ends, counted))
+pub gate_within : (version : Version) (first now : DiskState) (count : ℕ) (records : List Record) (tag : List ℕ) → now ≡ first → count ≡ length records → BeginsFound version first.content count records tag → 256 * count < length now.content
+gate_within version first now count records tag same counted found = subst (λ (s : DiskState). 256 * count < length s.content) (sym same) (omega (arith, found.begins.ends, counted))
 
 pub found_open : (first now : DiskState) (k : ℕ) (opened : Bool) → now ≡ first → 256 * k < length now.content → opened ≡ (slice_index now.content (256 * k) == open_value) → opened ≡ true → IsOpen first.content k
 found_open first now k opened same within gate is = subst (λ (s : DiskState). IsOpen s.content k) same (gate_open now.content k within (sym gate ∙ is))

@@ -12,7 +12,7 @@ pub mod OneWay
 pub mod Pairs
 pub mod PastEnd
 pub mod Ranges
-pub mod Shown
 pub mod SlotWrites
+pub mod Versions
 pub mod Visible
 pub mod Written

@@ -3,7 +3,7 @@ use Rattle.std.proofs.Common.{◌≡◌, ℕ, zero, suc, ◌-◌, ◌*◌, Bool,
 use Rattle.std.specs.Prelude.{◌==◌, ◌&&◌}
 use Rattle.std.specs.List.{list_all}
 use Rattle.std.proofs.lemmas.Bool.{and_parts}
-use Rattle.byteorder.specs.Endian.{big_number}
+use Rattle.byteorder.specs.Endian.{big_bytes}
 use Rattle.typecodes.specs.declared.fault.Cause.TheVariants.{UnknownType}
 use Rattle.typecodes.specs.declared.types.LmsPair.{LmsPair}
 use Rattle.typecodes.specs.declared.types.LmsType.TheVariants.{H5}
@@ -12,8 +12,7 @@ use Rattle.typecodes.specs.declared.types.XmssType.{XmssType}
 use Rattle.typecodes.specs.declared.types.XmssType.TheVariants.{H10 as X10}
 use Rattle.typecodes.specs.Layout.{Layout, done, ◌>>=◌, Spells, OneSpelling, Shows}
 use Rattle.typecodes.specs.Fields.{block, lms_type, number, ots_type, xmss_type}
-use Rattle.typecodes.proofs.Codes.{named-has}
-use Rattle.typecodes.proofs.OneWay.{one_way-bind, one_way-block, one_way-done, one_way-lms_type, one_way-number, one_way-ots_type, one_way-refuse, one_way-xmss_type, same_number, shows-bind, shows-done}
+use Rattle.typecodes.proofs.OneWay.{one_way-bind, one_way-block, one_way-done, one_way-lms_type, one_way-number, one_way-ots_type, one_way-refuse, one_way-xmss_type, shows-bind, shows-done}
 use Rattle.typecodes.proofs.Spelling.{in_turn}
 use Rattle.typecodes.proofs.Ways.{Way, one_way-if, way-bind, way-done}
 use Rattle.state_file.specs.declared.record.Record.{Record}
@@ -21,9 +20,8 @@ use Rattle.state_file.specs.declared.record.Record.TheVariants.{Key as KeyRecord
 use Rattle.state_file.specs.declared.record.Secret.{Secret}
 use Rattle.state_file.specs.declared.record.Secret.TheVariants.{Lms, Hss, Xmss}
 use Rattle.state_file.specs.declared.record.Version.{Version}
-use Rattle.state_file.specs.declared.record.Version.TheVariants.{One}
-use Rattle.state_file.specs.Slot.{after_parent_leaf, are_visible, bound_fields, byte, byte_within, exactly, extend_fields, fields_of, hss_fields, key_fields, levels_field, lms_fields, magic, moved_fields, name_field, no_record, only_if, pair_field, pairs, retire_fields, secret_fields, slot_record, version_code, version_field, versions, xmss_fields, zeros, kind_of, scheme_of}
-use Rattle.state_file.proofs.Shown.{byte-is, exactly-is, fields-show, only_if-is, schemes-show, version-is}
+use Rattle.state_file.specs.Slot.{after_parent_leaf, are_visible, bound_fields, byte, byte_within, exactly, extend_fields, fields_of, hss_fields, key_fields, levels_field, lms_fields, magic, moved_fields, name_field, name_most, no_record, only_if, pair_field, pairs, retire_fields, secret_fields, slot_record, version_code, version_field, xmss_fields, zeros, kind_of, scheme_of}
+use Rattle.state_file.specs.Shown.{byte-is, exactly-is, fields-show, only_if-is, schemes-show}
 
 -- ---- fields
 
@@ -63,13 +61,9 @@ one_way-zeros n u a b _ _ (front, rest, a_is, len, first) (front', rest', b_is, 
     let (all', nothing') = only_if-is (list_all (λ x. x == 0) front') n tt u rest' second in
     a_is ∙ ap₂ (λ x y. x ++ y) (same_zeros front front' (len ∙ sym len') all all') (nothing ∙ sym nothing') ∙ sym b_is
 
-one_way-version : OneSpelling version_field
-one_way-version version a b a_bytes b_bytes first second =
-    let (len, found) = version-is version a first in
-    let (len', found') = version-is version b second in
-    let code = named-has version_code versions (big_number 2 a) version found in
-    let code' = named-has version_code versions (big_number 2 b) version found' in
-    same_number 2 a b len len' a_bytes b_bytes (sym code ∙ code')
+one_way-version : (version : Version) → OneSpelling (version_field version)
+unfolding version_field
+one_way-version version = one_way-exactly 2 (big_bytes 2 (version_code version))
 
 -- ---- pairs
 
@@ -124,44 +118,44 @@ one_way-levels =
 
 -- ---- names
 
-after_visible : ℕ → List ℕ → Layout (List ℕ)
-after_visible count name = zeros (64 - count) >>= λ rest. done name
+after_visible : (most count : ℕ) → List ℕ → Layout (List ℕ)
+after_visible most count name = zeros (most - count) >>= λ rest. done name
 
-after_name : ℕ → List ℕ → Layout (List ℕ)
-after_name count bytes = only_if (are_visible bytes) count bytes >>= after_visible count
+after_name : (most count : ℕ) → List ℕ → Layout (List ℕ)
+after_name most count bytes = only_if (are_visible bytes) count bytes >>= after_visible most count
 
-after_length : ℕ → Layout (List ℕ)
-after_length count = block count >>= after_name count
+after_length : (most count : ℕ) → Layout (List ℕ)
+after_length most count = block count >>= after_name most count
 
-shows-visible : (count : ℕ) (name : List ℕ) → Shows (after_visible count name) (λ v. v) name
+shows-visible : (most count : ℕ) (name : List ℕ) → Shows (after_visible most count name) (λ v. v) name
 unfolding after_visible
-shows-visible count name = shows-bind (zeros (64 - count)) (λ rest. done name) (λ v. v) name (λ rest. shows-done name (λ v. v))
+shows-visible most count name = shows-bind (zeros (most - count)) (λ rest. done name) (λ v. v) name (λ rest. shows-done name (λ v. v))
 
-shows-name : (count : ℕ) (bytes : List ℕ) → Shows (after_name count bytes) (λ v. v) bytes
+shows-name : (most count : ℕ) (bytes : List ℕ) → Shows (after_name most count bytes) (λ v. v) bytes
 unfolding after_name
-shows-name count bytes v all spelled =
-    let (name, a, b, _, first, after) = in_turn (only_if (are_visible bytes) count bytes) (after_visible count) v all spelled in
-    shows-visible count name v b after ∙ shows-only_if (are_visible bytes) count bytes (λ w. w) name a first
+shows-name most count bytes v all spelled =
+    let (name, a, b, _, first, after) = in_turn (only_if (are_visible bytes) count bytes) (after_visible most count) v all spelled in
+    shows-visible most count name v b after ∙ shows-only_if (are_visible bytes) count bytes (λ w. w) name a first
 
-one_way-visible : (count : ℕ) (name : List ℕ) → OneSpelling (after_visible count name)
+one_way-visible : (most count : ℕ) (name : List ℕ) → OneSpelling (after_visible most count name)
 unfolding after_visible
-one_way-visible count name =
-    one_way-bind (zeros (64 - count)) (λ rest. done name) (λ _. tt) (one_way-zeros (64 - count)) (λ rest. one_way-done name) (λ rest. shows-done name (λ _. tt))
+one_way-visible most count name =
+    one_way-bind (zeros (most - count)) (λ rest. done name) (λ _. tt) (one_way-zeros (most - count)) (λ rest. one_way-done name) (λ rest. shows-done name (λ _. tt))
 
-one_way-named : (count : ℕ) (bytes : List ℕ) → OneSpelling (after_name count bytes)
+one_way-named : (most count : ℕ) (bytes : List ℕ) → OneSpelling (after_name most count bytes)
 unfolding after_name
-one_way-named count bytes =
-    one_way-bind (only_if (are_visible bytes) count bytes) (after_visible count) (λ v. v) (one_way-only_if (are_visible bytes) count bytes)
-    (one_way-visible count) (shows-visible count)
+one_way-named most count bytes =
+    one_way-bind (only_if (are_visible bytes) count bytes) (after_visible most count) (λ v. v) (one_way-only_if (are_visible bytes) count bytes)
+    (one_way-visible most count) (shows-visible most count)
 
-one_way-name : OneSpelling name_field
+one_way-name : (most : ℕ) → OneSpelling (name_field most)
 unfolding name_field after_length after_name after_visible
-one_way-name =
-    one_way-bind (byte_within 1 64) after_length length (one_way-byte_within 1 64)
-    (λ count. one_way-bind (block count) (after_name count) (λ v. v) (one_way-block count) (one_way-named count) (shows-name count))
+one_way-name most =
+    one_way-bind (byte_within 1 most) (after_length most) length (one_way-byte_within 1 most)
+    (λ count. one_way-bind (block count) (after_name most count) (λ v. v) (one_way-block count) (one_way-named most count) (shows-name most count))
     (λ count name bytes spelled.
-    let (all, a, b, _, (front, _, _, len, (same, _)), after) = in_turn (block count) (after_name count) name bytes spelled in
-    ap length (shows-name count all name b after ∙ sym same) ∙ len)
+    let (all, a, b, _, (front, _, _, len, (same, _)), after) = in_turn (block count) (after_name most count) name bytes spelled in
+    ap length (shows-name most count all name b after ∙ sym same) ∙ len)
 
 -- ---- secrets
 
@@ -243,13 +237,6 @@ one_way-secret scheme =
 no_secret : Secret
 no_secret = Lms a_pair [] []
 
-version_in : Record → Version
-version_in (KeyRecord key) = key.version
-version_in (ExtendRecord extend) = One
-version_in (BoundRecord bound) = One
-version_in (Retire upto) = One
-version_in Moved = One
-
 secret_in : Record → Secret
 secret_in (KeyRecord key) = key.secret
 secret_in (ExtendRecord extend) = no_secret
@@ -327,37 +314,35 @@ after_scheme version scheme = secret_fields scheme >>= after_secret version
 after_version : Version → Layout Record
 after_version version = byte >>= after_scheme version
 
-abbrev IsOf : Version → Secret → Record → Type 0
-IsOf version secret entry = (secret_in entry ≡ secret) × (version_in entry ≡ version)
-
-way-secret : (version : Version) (secret : Secret) → Way (after_secret version secret) (IsOf version secret)
-unfolding after_secret secret_in version_in root_in
+way-secret : (version : Version) (secret : Secret) → Way (after_secret version secret) (λ entry. secret_in entry ≡ secret)
+unfolding after_secret secret_in root_in
 way-secret version secret =
     way-bind (block 32) _ root_in _ (one_way-block 32) (λ root.
     way-bind (zeros 2) _ (λ _. tt) _ (one_way-zeros 2) (λ rest.
-    way-done _ _ (refl, (refl, (refl, refl)))))
+    way-done _ _ (refl, (refl, refl))))
 
 -- a Key's secret is of its scheme
-way-scheme : (version : Version) (scheme : ℕ) → Way (after_scheme version scheme) (λ entry. (scheme_of (secret_in entry) ≡ scheme) × (version_in entry ≡ version))
+way-scheme : (version : Version) (scheme : ℕ) → Way (after_scheme version scheme) (λ entry. scheme_of (secret_in entry) ≡ scheme)
 unfolding after_scheme
 way-scheme version scheme = record {
   one = one_way-bind (secret_fields scheme) (after_secret version) secret_in (one_way-secret scheme) (λ secret. (way-secret version secret).one)
-      (λ secret entry bytes spelled. ((way-secret version secret).has entry bytes spelled).0);
+      (λ secret entry bytes spelled. (way-secret version secret).has entry bytes spelled);
   has = λ entry bytes spelled.
       let (secret, a, b, _, of_scheme, after) = in_turn (secret_fields scheme) (after_secret version) entry bytes spelled in
-      let (same, of_version) = (way-secret version secret).has entry b after in
-      (ap scheme_of same ∙ schemes-show scheme secret a of_scheme, of_version);
+      ap scheme_of ((way-secret version secret).has entry b after) ∙ schemes-show scheme secret a of_scheme;
 }
 
-one_way-key : OneSpelling key_fields
+one_way-key : (version : Version) → OneSpelling (key_fields version)
 unfolding key_fields after_version after_scheme after_secret
-one_way-key =
-    let way : Way key_fields (λ _. Unit {0}) =
-    way-bind (exactly 8 magic) (λ _. version_field >>= after_version) (λ _. tt) _ (one_way-exactly 8 magic) (λ begins.
-    way-bind version_field after_version version_in (λ entry. (tt ≡ begins) × Unit {0}) one_way-version (λ version.
-    let inner : Way (after_version version) (λ entry. version_in entry ≡ version) =
-    way-bind byte (after_scheme version) (λ entry. scheme_of (secret_in entry)) _ one_way-byte (λ scheme. way-scheme version scheme) in
-    record { one = inner.one; has = λ entry bytes spelled. (inner.has entry bytes spelled, (refl, tt)) })) in
+one_way-key version =
+    let way : Way (key_fields version) (λ _. Unit {0}) =
+    way-bind (exactly 8 magic) (λ _. version_field version >>= λ _. after_version version) (λ _. tt) _ (one_way-exactly 8 magic) (λ begins.
+    way-bind (version_field version) (λ _. after_version version) (λ _. tt) (λ entry. (tt ≡ begins) × Unit {0}) (one_way-version version) (λ code.
+    let inner : Way (after_version version) (λ _. Unit {0}) =
+    way-bind byte (after_scheme version) (λ entry. scheme_of (secret_in entry)) _ one_way-byte (λ scheme.
+    let of_scheme = way-scheme version scheme in
+    record { one = of_scheme.one; has = λ entry bytes spelled. (of_scheme.has entry bytes spelled, tt) }) in
+    record { one = inner.one; has = λ entry bytes spelled. (refl, (refl, tt)) })) in
     way.one
 
 one_way-extend : OneSpelling extend_fields
@@ -375,22 +360,22 @@ one_way-extend =
     way-done _ _ (refl, (refl, (refl, (refl, (refl, (refl, (refl, (refl, tt)))))))))))))))) in
     way.one
 
-after_leaf : List ℕ → ℕ → Layout Record
-after_leaf name leaf = do
+after_leaf : Version → List ℕ → ℕ → Layout Record
+after_leaf version name leaf = do
   randomizer ← block 32
   digest ← block 32
-  rest ← zeros 89
+  rest ← zeros (153 - name_most version)
   done (BoundRecord (record { name = name; leaf = leaf; randomizer = randomizer; digest = digest }))
 
-one_way-bound : OneSpelling bound_fields
+one_way-bound : (version : Version) → OneSpelling (bound_fields version)
 unfolding bound_fields after_leaf name_in leaf_in randomizer_in digest_in
-one_way-bound =
-    let way : Way bound_fields (λ _. Unit {0}) =
-    way-bind name_field _ name_in _ one_way-name (λ name.
-    way-bind number (after_leaf name) leaf_in _ one_way-number (λ leaf.
+one_way-bound version =
+    let way : Way (bound_fields version) (λ _. Unit {0}) =
+    way-bind (name_field (name_most version)) _ name_in _ (one_way-name (name_most version)) (λ name.
+    way-bind number (after_leaf version name) leaf_in _ one_way-number (λ leaf.
     way-bind (block 32) _ randomizer_in _ (one_way-block 32) (λ randomizer.
     way-bind (block 32) _ digest_in _ (one_way-block 32) (λ digest.
-    way-bind (zeros 89) _ (λ _. tt) _ (one_way-zeros 89) (λ rest.
+    way-bind (zeros (153 - name_most version)) _ (λ _. tt) _ (one_way-zeros (153 - name_most version)) (λ rest.
     way-done _ _ (refl, (refl, (refl, (refl, (refl, tt)))))))))) in
     way.one
 
@@ -412,11 +397,11 @@ one_way-moved =
     way-done _ _ (refl, (refl, tt)))) in
     way.one
 
-one_way-fields : (kind : ℕ) → OneSpelling (fields_of kind)
-one_way-fields kind =
-    one_way-if (kind == 1) _ _ one_way-key (one_way-if (kind == 2) _ _ one_way-extend (one_way-if (kind == 3) _ _ one_way-bound
+one_way-fields : (version : Version) (kind : ℕ) → OneSpelling (fields_of version kind)
+one_way-fields version kind =
+    one_way-if (kind == 1) _ _ (one_way-key version) (one_way-if (kind == 2) _ _ one_way-extend (one_way-if (kind == 3) _ _ (one_way-bound version)
     (one_way-if (kind == 4) _ _ one_way-retire (one_way-if (kind == 5) _ _ one_way-moved (one_way-refuse 1 UnknownType)))))
 
-pub one_way-slot_record : OneSpelling slot_record
+pub one_way-slot_record : (version : Version) → OneSpelling (slot_record version)
 unfolding slot_record
-one_way-slot_record = one_way-bind byte fields_of kind_of one_way-byte one_way-fields fields-show
+one_way-slot_record version = one_way-bind byte (fields_of version) kind_of one_way-byte (one_way-fields version) (fields-show version)

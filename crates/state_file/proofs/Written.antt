@@ -14,7 +14,6 @@ use Rattle.typecodes.specs.declared.types.XmssType.{XmssType}
 use Rattle.typecodes.specs.declared.types.XmssType.TheVariants.{H10 as X10, H16 as X16, H20 as X20}
 use Rattle.typecodes.specs.Types.{xmss_code, xmss_of_code, xmss_types, lms_code, lms_of_code, lms_types, named, ots_code, ots_of_code, ots_types}
 use Rattle.state_file.specs.declared.record.Version.{Version}
-use Rattle.state_file.specs.declared.record.Version.TheVariants.{One}
 use Rattle.typecodes.specs.declared.types.LmsPair.{LmsPair}
 use Rattle.typecodes.specs.Layout.{Layout, done, ◌>>=◌, Spells}
 use Rattle.typecodes.specs.Fields.{block, known, lms_type, number, ots_type, typed, xmss_type}
@@ -97,13 +96,11 @@ writes-byte_within least most n old new low high written =
     (writes-only_if (nat_le least n && nat_le n most) 1 n new (and_from _ _ (le-leb _ _ low) (le-leb _ _ high)))
 
 -- a version
-pub writes-version : (version : Version) (old new : List ℕ) → new ≡ old ++ big_bytes 2 (version_code version) → AppendsSpelling version_field version old new
+pub writes-version : (version : Version) (old new : List ℕ) → new ≡ old ++ big_bytes 2 (version_code version) → AppendsSpelling (version_field version) tt old new
 unfolding version_field
-writes-version One old new is = record {
-  part = 0 ∷ 1 ∷ [];
-  after = is;
-  spelled = (0 ∷ 1 ∷ [], [], refl, refl, (refl, refl));
-}
+writes-version version old new is =
+    let len : length (big_bytes 2 (version_code version)) ≡ 2 = refl in
+    subst (λ n. AppendsSpelling (exactly n (big_bytes 2 (version_code version))) tt old new) len (writes-exactly (big_bytes 2 (version_code version)) old new is)
 
 -- the types of the tables
 pub writes-lms_type : (t : LmsType) (old new : List ℕ) → AppendsSpelling number (lms_code t) old new → AppendsSpelling lms_type t old new
@@ -159,11 +156,11 @@ unfolding pairs
 writes-none at = writes-done [] at
 
 -- a name
-pub writes-name : (name : List ℕ) (old a b c : List ℕ) → IsName name → AppendsSpelling (byte_within 1 64) (length name) old a → b ≡ a ++ name → AppendsSpelling (zeros (64 - length name)) tt b c → AppendsSpelling name_field name old c
+pub writes-name : (most : ℕ) (name : List ℕ) (old a b c : List ℕ) → IsName name → AppendsSpelling (byte_within 1 most) (length name) old a → b ≡ a ++ name → AppendsSpelling (zeros (most - length name)) tt b c → AppendsSpelling (name_field most) name old c
 unfolding name_field
-writes-name name old a b c is count bytes rest =
-    writes-bind (byte_within 1 64) _ (length name) name old a c count
+writes-name most name old a b c is count bytes rest =
+    writes-bind (byte_within 1 most) _ (length name) name old a c count
     (writes-bind (block (length name)) _ name name a b c (record { part = name; after = bytes; spelled = (name, [], sym (append-nil name), refl, (refl, refl)) })
     (writes-bind (only_if (are_visible name) (length name) name) _ name name b b c (writes-only_if (are_visible name) (length name) name b (visible-name name is))
-    (writes-bind (zeros (64 - length name)) _ tt name b c c rest
+    (writes-bind (zeros (most - length name)) _ tt name b c c rest
     (writes-done name c))))

@@ -12,7 +12,7 @@ use Rattle.state_file.specs.declared.record.Key.{Key}
 use Rattle.state_file.specs.declared.record.Record.{Record}
 use Rattle.state_file.specs.declared.record.Record.TheVariants.{Key as KeyRecord}
 use Rattle.state_file.specs.declared.record.Version.{Version}
-use Rattle.state_file.specs.Slot.{magic, slot_record, version_code, versions}
+use Rattle.state_file.specs.Slot.{magic, slot_record, version_code, version_in, versions}
 use Rattle.std.proofs.Props.{props}
 use Rattle.typecodes.specs.Cursor.{read}
 use Rattle.state_file.specs.Disk.{DiskState, IsSynced}
@@ -60,9 +60,9 @@ previous_tag content (suc k) = tag_at content k
 abbrev pub tag_of : List ℕ → List ℕ → List ℕ
 tag_of previous fields = sha256 (previous ++ fields)
 
--- the slot holds the record
-pub record Holds (content : List ℕ) (k : ℕ) (entry : Record) : Type 0 where
-  pub spelled : Spells slot_record entry (fields_at content k)
+-- the slot of a file of this version holds the record
+pub record Holds (version : Version) (content : List ℕ) (k : ℕ) (entry : Record) : Type 0 where
+  pub spelled : Spells (slot_record version) entry (fields_at content k)
   pub tagged : tag_at content k ≡ tag_of (previous_tag content k) (fields_at content k)
 
 -- ---- contents with a key
@@ -71,14 +71,15 @@ pub record Holds (content : List ℕ) (k : ℕ) (entry : Record) : Type 0 where
 abbrev pub most_records : ℕ
 most_records = 2 ^ 31
 
--- The content spells these records: its first slots are open and hold them, and the next gate lies in it
--- and is closed. Whatever follows says nothing.
+-- The content spells these records, in the version of their Key: its first slots are open and hold them, and the next
+-- gate lies in it and is closed. Whatever follows says nothing.
 pub record SpellsRecords (content : List ℕ) (records : List Record) : Type 0 where
   pub few : length records ≤ most_records
   pub opened : (k : ℕ) → k < length records → IsOpen content k
   pub closed : IsClosed content (length records)
   pub first : (key : Key) × (slice_get records 0 ≡ Some (KeyRecord key))
-  pub holds : (k : ℕ) (entry : Record) → slice_get records k ≡ Some entry → Holds content k entry
+  pub holds : (k : ℕ) (entry : Record) → slice_get records k ≡ Some entry
+      → Holds (version_in records) content k entry
 
 -- ---- contents without one
 
@@ -110,30 +111,31 @@ pub record HasUnknownVersion (content : List ℕ) : Type 0 where
   pub key : begins_key (fields_at content 0) ≡ true
   pub other : version_of (fields_at content 0) ≡ None
 
--- A slot is whole: it is open, it is one of those that a file may have, it holds a record, and the next gate
--- lies in the content.
-pub record IsWhole (content : List ℕ) (k : ℕ) : Type 0 where
+-- A slot is whole: it is open, it is one of those that a file may have, it holds a record of this version, and the next
+-- gate lies in the content.
+pub record IsWhole (version : Version) (content : List ℕ) (k : ℕ) : Type 0 where
   pub opened : IsOpen content k
   pub few : k < most_records
   pub ends : 256 * (k + 1) < length content
   pub entry : Record
-  pub holds : Holds content k entry
+  pub holds : Holds version content k entry
 
--- The content begins with slots that hold these records, and the next gate lies in it.
-pub record Begins (content : List ℕ) (records : List Record) : Type 0 where
+-- The content begins with slots that hold these records of this version, and the next gate lies in it.
+pub record Begins (version : Version) (content : List ℕ) (records : List Record) : Type 0 where
   pub few : length records ≤ most_records
   pub ends : 256 * length records < length content
   pub opened : (k : ℕ) → k < length records → IsOpen content k
-  pub holds : (k : ℕ) (entry : Record) → slice_get records k ≡ Some entry → Holds content k entry
+  pub holds : (k : ℕ) (entry : Record) → slice_get records k ≡ Some entry → Holds version content k entry
 
 -- Slot k is the first that is open and isn't whole, after whole ones.
 pub record IsDamagedAt (content : List ℕ) (k : ℕ) : Type 0 where
   pub may : MayHaveKey content
   pub key : begins_key (fields_at content 0) ≡ true
-  pub version : (version : Version) × (version_of (fields_at content 0) ≡ Some version)
-  pub before : (j : ℕ) → j < k → IsWhole content j
+  pub version : Version
+  pub known : version_of (fields_at content 0) ≡ Some version
+  pub before : (j : ℕ) → j < k → IsWhole version content j
   pub opened : IsOpen content k
-  pub damaged : IsWhole content k → ⊥
+  pub damaged : IsWhole version content k → ⊥
 
 -- ---- the records that a content stands for
 
@@ -150,7 +152,7 @@ pub record IsFileOf (records : List Record) (content : List ℕ) : Type 0 where
   pub opened : (k : ℕ) → k < length records → IsOpen content k
   pub closed : IsClosed content (length records)
   pub spelled : (k : ℕ) (entry : Record) → slice_get records k ≡ Some entry
-      → read slot_record (fields_at content k) 0 ≡ Ok (entry, 223)
+      → read (slot_record (version_in records)) (fields_at content k) 0 ≡ Ok (entry, 223)
   pub tagged : (k : ℕ) → k < length records → tag_at content k ≡ tag_of (previous_tag content k) (fields_at content k)
 
 -- The lists that contents left since a moment stand for. A content that stands for none counts as every list.

@@ -8,7 +8,7 @@ use Rattle.state_file.specs.declared.refused.Refused.{Refused}
 use Rattle.std.proofs.Common.{inl, inr, ⊎_elim, refl, sym, ◌∙◌, ap, subst, arith, get_or, length-take-le, length-drop}
 use Rattle.std.proofs.lemmas.Bool.{cases_order}
 use Rattle.std.proofs.lemmas.List.{same_lists, get_or_default}
-use Rattle.std.proofs.lemmas.Option.{slice_get-get_or, slice_get_within, get_or_from_slice_get}
+use Rattle.std.proofs.lemmas.Option.{slice_get-get_or, slice_get_within, get_or_from_slice_get, same_Some}
 use Rattle.typecodes.proofs.Spelling.{one_value}
 use Rattle.typecodes.proofs.Steps.{ends-spelled}
 use Rattle.state_file.specs.File.{HasNoKey, IsClosed, IsOpen, SpellsRecords, fields_at, open_value, StandsFor, IsFileOf}
@@ -17,8 +17,10 @@ use Rattle.state_file.specs.Disk.{DiskState, LeavesOnly, MayLeave, settled}
 use Rattle.state_file.specs.DiskCalls.{CountsFailures}
 use Rattle.state_file.specs.Format.{Formats, LeftByFormat, is_failed_format}
 use Rattle.state_file.specs.Opening.{ReportsContent, Settles, is_failed_opening}
-use Rattle.state_file.specs.Slot.{slot_record}
+use Rattle.state_file.specs.Slot.{slot_record, version_in}
 use Rattle.state_file.specs.Store.{WhileRunning, is_key}
+use Rattle.state_file.specs.Shown.{spelled_version}
+use Rattle.typecodes.specs.Layout.{Spells}
 use Rattle.state_file.specs.declared.file.format.FormatFault.{FormatFault}
 use Rattle.state_file.specs.declared.file.opening.OpenFault.{OpenFault}
 use Rattle.state_file.specs.declared.record.Key.{Key}
@@ -130,8 +132,8 @@ file_stands (entry ∷ entries) content file = record {
       let below : k < length (entry ∷ entries) = slice_get_within (entry ∷ entries) k one is in
       record {
         spelled =
-            ends-spelled slot_record (fields_at content k) one 223 (file.spelled k one is)
-            (fields_length content k (omega (arith, file.closed.0)));
+            ends-spelled (slot_record (version_in (entry ∷ entries))) (fields_at content k) one 223
+            (file.spelled k one is) (fields_length content k (omega (arith, file.closed.0)));
         tagged = file.tagged k below;
       };
 }
@@ -144,8 +146,15 @@ kept_stands records tag state kept = file_stands records state.content kept.file
 pub not_both : (content : List ℕ) (k : ℕ) → IsOpen content k → IsClosed content k → ⊥
 not_both content k is_open shut = shut.1 (open_byte content k is_open)
 
+-- a content's version is that of its first slot
+spells_version : (a b : List Record) (content : List ℕ) → SpellsRecords content a → SpellsRecords content b
+    → version_in a ≡ version_in b
+spells_version a b content first second =
+    same_Some (version_in a) (version_in b) (sym (spelled_version a content first) ∙ spelled_version b content second)
+
 spells_one : (a b : List Record) (content : List ℕ) → SpellsRecords content a → SpellsRecords content b → a ≡ b
 spells_one a b content first second =
+    let version : version_in a ≡ version_in b = spells_version a b content first second in
     let len : length a ≡ length b = elim (cases_order (length a) (length b)) [
       | inl same ↦ same
       | inr (inl below) ↦ absurd (not_both content (length a) (second.opened (length a) below) first.closed)
@@ -154,7 +163,8 @@ spells_one a b content first second =
     same_lists a b len (λ k d below.
     let in_a = first.holds k (get_or a k d) (slice_get-get_or a k d below) in
     let in_b = second.holds k (get_or b k d) (slice_get-get_or b k d (omega arith)) in
-    one_value slot_record (get_or a k d) (get_or b k d) (fields_at content k) in_a.spelled in_b.spelled)
+    one_value (slot_record (version_in b)) (get_or a k d) (get_or b k d) (fields_at content k)
+    (subst (λ v. Spells (slot_record v) (get_or a k d) (fields_at content k)) version in_a.spelled) in_b.spelled)
 
 no_key_spells : (content : List ℕ) (entry : Record) (entries : List Record) → HasNoKey content
     → SpellsRecords content (entry ∷ entries) → ⊥

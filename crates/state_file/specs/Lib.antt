@@ -10,5 +10,6 @@ pub mod Log
 pub mod MemoryDisk
 pub mod MemoryStore
 pub mod Opening
+pub mod Shown
 pub mod Slot
 pub mod Store

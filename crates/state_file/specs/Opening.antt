@@ -5,6 +5,7 @@ use Rattle.state_file.specs.File.{Holds, IsWhole, MayHaveKey, SpellsRecords, beg
 use Rattle.state_file.specs.File.{previous_tag, tag_at, version_of, HasNoKey, HasUnknownVersion, IsDamagedAt}
 use Rattle.state_file.specs.File.{IsNoKeyFile}
 use Rattle.state_file.specs.Disk.{DiskState, settled}
+use Rattle.state_file.specs.Slot.{version_in}
 use Rattle.state_file.specs.declared.disk.Disk as disk
 use Rattle.state_file.specs.declared.file.opening.OpenFault.{OpenFault}
 use Rattle.state_file.specs.declared.file.opening.OpenFault.TheVariants.{NoKey, NotKeyFile, Version as VersionFault}
@@ -73,33 +74,34 @@ is_failed_opening VersionFault = false
 is_failed_opening (Damaged k) = false
 is_failed_opening DeviceFailed = true
 
--- The first slot is that of a Key of a known version.
-pub record StartsWithKey (content : List ℕ) : Type 0 where
+-- The first slot is that of a Key of this version.
+pub record StartsWithKey (version : Version) (content : List ℕ) : Type 0 where
   pub may : MayHaveKey content
   pub key : begins_key (fields_at content 0) ≡ true
-  pub version : (version : Version) × (version_of (fields_at content 0) ≡ Some version)
+  pub known : version_of (fields_at content 0) ≡ Some version
 
--- The slot holds the record, has the tag, and the next gate lies in the content.
-pub record HasSlot (content : List ℕ) (k : ℕ) (entry : Record) (tag : List ℕ) : Type 0 where
+-- The slot holds the record of this version, has the tag, and the next gate lies in the content.
+pub record HasSlot (version : Version) (content : List ℕ) (k : ℕ) (entry : Record) (tag : List ℕ) : Type 0 where
   pub few : k < most_records
   pub ends : 256 * (k + 1) < length content
-  pub holds : Holds content k entry
+  pub holds : Holds version content k entry
   pub tagged : tag ≡ tag_at content k
 
--- the record that the slot holds, if it holds one
-abbrev pub HasEntry : List ℕ → ℕ → Option Record → Type 0
-HasEntry content k None = (entry : Record) → Holds content k entry → ⊥
-HasEntry content k (Some entry) = Holds content k entry
+-- the record of this version that the slot holds, if it holds one
+abbrev pub HasEntry : Version → List ℕ → ℕ → Option Record → Type 0
+HasEntry version content k None = (entry : Record) → Holds version content k entry → ⊥
+HasEntry version content k (Some entry) = Holds version content k entry
 
 -- what each refusal of a slot reports of it
-abbrev pub ReportsSlot : List ℕ → ℕ → OpenFault → Type 0
-ReportsSlot content slot NoKey = ⊥
-ReportsSlot content slot NotKeyFile = ⊥
-ReportsSlot content slot VersionFault = ⊥
-ReportsSlot content slot (Damaged k) = (k ≡ slot) × (IsWhole content slot → ⊥)
-ReportsSlot content slot DeviceFailed = Unit {0}
+abbrev pub ReportsSlot : Version → List ℕ → ℕ → OpenFault → Type 0
+ReportsSlot version content slot NoKey = ⊥
+ReportsSlot version content slot NotKeyFile = ⊥
+ReportsSlot version content slot VersionFault = ⊥
+ReportsSlot version content slot (Damaged k) = (k ≡ slot) × (IsWhole version content slot → ⊥)
+ReportsSlot version content slot DeviceFailed = Unit {0}
 
--- what the records that were found are, and the last tag
-pub record IsFound (content : List ℕ) (records : List Record) (tag : List ℕ) : Type 0 where
+-- what the records that were found are, their version, and the last tag
+pub record IsFound (version : Version) (content : List ℕ) (records : List Record) (tag : List ℕ) : Type 0 where
+  pub of_version : version ≡ version_in records
   pub spelled : SpellsRecords content records
   pub last : tag ≡ previous_tag content (length records)

@@ -1,14 +1,13 @@
 -- Slots: how one spells its record, in its bytes 1 to 223 a kind and the fields of that kind.
-use Rattle.std.specs.Prelude.{ℕ, zero, suc, ◌-◌, ◌*◌, Bool, ◌==◌, ◌&&◌, List, [], ◌∷◌, Option, Some, None, nat_le}
+use Rattle.std.specs.Prelude.{◌≡◌, ℕ, zero, suc, ◌-◌, ◌*◌, ◌≤◌, Bool, ◌==◌, ◌&&◌, List, [], ◌∷◌, length, nat_le}
 use Rattle.std.specs.Prelude.{if◌then◌else◌}
 use Rattle.std.specs.List.{list_all}
 use Rattle.std.specs.Cmp.Lexicographic.{pointwise}
-use Rattle.byteorder.specs.Endian.{big_number}
+use Rattle.byteorder.specs.Endian.{big_bytes, big_number}
 use Rattle.typecodes.specs.declared.fault.Cause.TheVariants.{UnknownType}
 use Rattle.typecodes.specs.declared.types.LmsPair.{LmsPair}
 use Rattle.typecodes.specs.Layout.{Layout, done, refuse, field, ◌>>=◌}
 use Rattle.typecodes.specs.Fields.{number, block, lms_type, ots_type, xmss_type}
-use Rattle.typecodes.specs.Types.{named}
 use Rattle.state_file.specs.declared.record.Record.{Record}
 use Rattle.state_file.specs.declared.record.Record.TheVariants.{Key as KeyRecord, Extend as ExtendRecord}
 use Rattle.state_file.specs.declared.record.Record.TheVariants.{Bound as BoundRecord, Retire, Moved}
@@ -56,13 +55,9 @@ version_code One = 1
 abbrev pub versions : List Version
 versions = One ∷ []
 
--- a version that is known, by its code in 2 bytes
-abbrev pub known_version : Option Version → Layout Version
-known_version (Some version) = done version
-known_version None = no_record 2
-
-unfoldable pub version_field : Layout Version
-version_field = block 2 >>= λ bytes. known_version (named version_code versions (big_number 2 bytes))
+-- a version, by its code in 2 bytes
+unfoldable pub version_field : Version → Layout (Unit {0})
+version_field version = exactly 2 (big_bytes 2 (version_code version))
 
 -- a pair, by its codes
 unfoldable pub pair_field : Layout LmsPair
@@ -128,11 +123,11 @@ secret_fields scheme =
     else (if scheme == 3 then xmss_fields
     else no_record 1))
 
--- the magic, the version, the scheme, what stands by the scheme, and the root
-unfoldable pub key_fields : Layout Record
-key_fields = do
+-- the magic, the file's version, the scheme, what stands by the scheme, and the root
+unfoldable pub key_fields : Version → Layout Record
+key_fields version = do
   begins ← exactly 8 magic
-  version ← version_field
+  code ← version_field version
   scheme ← byte
   secret ← secret_fields scheme
   root ← block 32
@@ -171,23 +166,27 @@ extend_fields = do
 abbrev pub are_visible : List ℕ → Bool
 are_visible bytes = list_all (λ b. nat_le 0x21 b && nat_le b 0x7e) bytes
 
--- a name of 1 to 64 visible characters: its length, and its bytes with zeros up to the 64th
-unfoldable pub name_field : Layout (List ℕ)
-name_field = do
-  count ← byte_within 1 64
+-- how many bytes a name has at most in a file of a version
+abbrev pub name_most : Version → ℕ
+name_most One = 64
+
+-- a name of visible characters, 1 to the most: its length, and its bytes with zeros up to the last
+unfoldable pub name_field : ℕ → Layout (List ℕ)
+name_field most = do
+  count ← byte_within 1 most
   bytes ← block count
   name ← only_if (are_visible bytes) count bytes
-  rest ← zeros (64 - count)
+  rest ← zeros (most - count)
   done name
 
 -- the name, the leaf, C and Q
-unfoldable pub bound_fields : Layout Record
-bound_fields = do
-  name ← name_field
+unfoldable pub bound_fields : Version → Layout Record
+bound_fields version = do
+  name ← name_field (name_most version)
   leaf ← number
   randomizer ← block 32
   digest ← block 32
-  rest ← zeros 89
+  rest ← zeros (153 - name_most version)
   done (BoundRecord (record { name = name; leaf = leaf; randomizer = randomizer; digest = digest }))
 
 -- the number below which leaves are retired
@@ -207,18 +206,18 @@ moved_fields = do
 -- ---- all kinds
 
 -- by the kind: 1 Key, 2 Extend, 3 Bound, 4 Retire, 5 Moved
-abbrev pub fields_of : ℕ → Layout Record
-fields_of kind =
-    if kind == 1 then key_fields
+abbrev pub fields_of : Version → ℕ → Layout Record
+fields_of version kind =
+    if kind == 1 then key_fields version
     else (if kind == 2 then extend_fields
-    else (if kind == 3 then bound_fields
+    else (if kind == 3 then bound_fields version
     else (if kind == 4 then retire_fields
     else (if kind == 5 then moved_fields
     else no_record 1))))
 
--- the bytes 1 to 223 of a slot
-unfoldable pub slot_record : Layout Record
-slot_record = byte >>= fields_of
+-- the bytes 1 to 223 of a slot, in a file of a version
+unfoldable pub slot_record : Version → Layout Record
+slot_record version = byte >>= fields_of version
 
 -- the number of a secret's scheme
 abbrev pub scheme_of : Secret → ℕ
@@ -233,3 +232,26 @@ kind_of (ExtendRecord extend) = 2
 kind_of (BoundRecord bound) = 3
 kind_of (Retire upto) = 4
 kind_of Moved = 5
+
+-- ---- the version of a file
+
+-- the version of the file that a record begins; where it is no Key, this is version 1
+abbrev pub version_begun : Record → Version
+version_begun (KeyRecord key) = key.version
+version_begun (ExtendRecord extend) = One
+version_begun (BoundRecord bound) = One
+version_begun (Retire upto) = One
+version_begun Moved = One
+
+-- The version of a file of these records: its Key's, which stands at the head. Where there is none, it is version 1.
+abbrev pub version_in : List Record → Version
+version_in [] = One
+version_in (entry ∷ rest) = version_begun entry
+
+-- A file of this version can hold the record: a Key has the file's version, and a name has room.
+abbrev pub FitsVersion : Version → Record → Type 0
+FitsVersion version (KeyRecord key) = key.version ≡ version
+FitsVersion version (ExtendRecord extend) = Unit {0}
+FitsVersion version (BoundRecord bound) = length bound.name ≤ name_most version
+FitsVersion version (Retire upto) = Unit {0}
+FitsVersion version Moved = Unit {0}

@@ -10,13 +10,14 @@ ghost use Rattle.state_file.specs.Laws.{CanSign, IsCurrent, IsLegal};
 ghost use Rattle.state_file.specs.Disk.{ChangesOnly, range_of};
 ghost use Rattle.state_file.specs.File.{StandsFor};
 ghost use Rattle.state_file.specs.Slot.{slot_record};
+ghost use Rattle.state_file.specs.declared.record.Version.{Version};
 
-/// What holds of the bytes 1 to 223 of slots: they spell at most one record, and a record is spelled by one
-/// list of bytes.
+/// What holds of the bytes 1 to 223 of slots in a file of any version: they spell at most one record, and a record is
+/// spelled by one list of bytes.
 pub fn slot_laws()
-    ensures once { OneSpelling slot_record }
-    ensures one_record { (entry other : Record) (fields : List ℕ) → Spells slot_record entry fields →
-        Spells slot_record other fields → entry ≡ other }
+    ensures once { (version : Version) → OneSpelling (slot_record version) }
+    ensures one_record { (version : Version) (entry other : Record) (fields : List ℕ) →
+        Spells (slot_record version) entry fields → Spells (slot_record version) other fields → entry ≡ other }
 {}
 
 /// What holds of the contents of a disk: each spells the records of a key, or has a reason why there are none, and

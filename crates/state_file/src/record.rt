@@ -2,7 +2,7 @@
 
 ghost use Rattle.std.specs.Prelude.{◌≡◌, ◌<◌, ◌≤◌, ◌^◌};
 ghost use Rattle.typecodes.specs.Types.{named};
-ghost use Rattle.state_file.specs.Slot.{version_code, versions};
+ghost use Rattle.state_file.specs.Slot.{FitsVersion, name_most, version_code, versions};
 ghost use Rattle.state_file.specs.declared.record.Version.{Version as V};
 
 mod list;
@@ -38,6 +38,21 @@ impl Record {
             Record::Moved => Record::Moved,
         }
     }
+
+    // The version in which a file of that one goes on with the record: its own, if it can hold the record.
+    pub(crate) fn version_after(&self, file: Version) -> Version
+        ensures fits { FitsVersion result self.now }
+        ensures same { FitsVersion file self.now → result ≡ file }
+    {
+        match self {
+            Record::Key(key) => key.version,
+            Record::Bound(bound) => {
+                prove!(bound.name.as_bytes().len() <= usize::from(file.name_most()));
+                file
+            }
+            Record::Extend(_) | Record::Retire { .. } | Record::Moved => file,
+        }
+    }
 }
 
 /// A version of the state file.
@@ -65,6 +80,17 @@ impl Version {
     {
         match self {
             Version::One => 1,
+        }
+    }
+
+    /// How many bytes a name has at most in a file of the version.
+    pub fn name_most(self) -> u8
+        ensures value { result ≡ name_most self }
+        ensures least { 64 ≤ result }
+        ensures few { result ≤ 64 }
+    {
+        match self {
+            Version::One => 64,
         }
     }
 }

@@ -12,6 +12,6 @@ mod tag;
 mod tests;
 
 pub(crate) use gate::{CLOSED, OPEN, is_open};
-pub(crate) use key::{begins_key, version};
+pub(crate) use key::{begins_key, version_of};
 pub(crate) use record::{read_record, record_bytes};
 pub(crate) use tag::{FIRST_TAG, tag};

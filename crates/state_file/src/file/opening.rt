@@ -14,8 +14,8 @@ ghost use Rattle.state_file.specs.Opening.{KeepsContent, StartsWithKey, ReportsD
 
 use crate::disk::{Disk, DiskFault};
 use crate::file::gates::{SLOT, read_within, settle};
-use crate::record::{Record, RecordList};
-use crate::slot::{FIRST_TAG, begins_key, is_open, read_record, tag, version};
+use crate::record::{Record, RecordList, Version};
+use crate::slot::{FIRST_TAG, begins_key, is_open, read_record, tag, version_of};
 use thiserror::Error;
 
 /// How many records a file has at most.
@@ -52,9 +52,10 @@ impl From<DiskFault> for OpenFault {
     }
 }
 
-/// The records that stand in a file, and the tag of the last.
+/// The version of a file, the records that stand in it, and the tag of the last.
 #[derive(Drop)]
 pub(crate) struct Found {
+    pub(crate) version: Version,
     pub(crate) count: u32,
     pub(crate) tag: [u8; 32],
     pub(crate) records: RecordList,
@@ -134,21 +135,26 @@ fn read_previous_tag<D: Disk>(disk: &mut D, k: u32) -> Result<[u8; 32], DiskFaul
     }
 }
 
-/// The record of slot k, if it spells one and its tag is right.
-pub(crate) fn read_entry<D: Disk>(disk: &mut D, k: u32) -> Result<Option<Record>, DiskFault>
+/// The record of slot k in a file of this version, if it spells one and its tag is right.
+pub(crate) fn read_entry<D: Disk>(
+    disk: &mut D,
+    version: Version,
+    k: u32,
+) -> Result<Option<Record>, DiskFault>
     requires { HasBytes D.Disk disk.old (256 * k + 256) }
-    ensures entry { IsTrue (D.honest disk.old) → IfOk result (HasEntry (D.state disk.old).content k) }
+    ensures entry { IsTrue (D.honest disk.old) → IfOk result (HasEntry version (D.state disk.old).content k) }
     ensures reads { ReadsDisk D.Disk is_failure disk.old disk.new result }
 {
     let previous = read_previous_tag(disk, k)?;
     let body = read_body(disk, k)?;
-    Ok(entry_of(&previous, &body))
+    Ok(entry_of(version, &previous, &body))
 }
 
-// The record and the tag of slot k after one of that tag, if the slot is whole.
+// The record and the tag of slot k after one of that tag, in a file of this version, if the slot is whole.
 fn read_slot<D: Disk>(
     disk: &mut D,
     len: u64,
+    version: Version,
     k: u32,
     previous: &[u8; 32],
 ) -> Result<Slot, OpenFault>
@@ -156,15 +162,15 @@ fn read_slot<D: Disk>(
     requires previous { IsTrue (D.honest disk.old) → previous.now ≡ previous_tag (D.state disk.old).content k }
     ensures few { OnOk result (k < most_records) }
     ensures slot { IsTrue (D.honest disk.old) →
-        IfOk result (λ slot. HasSlot (D.state disk.old).content k slot.entry slot.tag) }
-    ensures fault { IsTrue (D.honest disk.old) → IfErr result (ReportsSlot (D.state disk.old).content k) }
+        IfOk result (λ slot. HasSlot version (D.state disk.old).content k slot.entry slot.tag) }
+    ensures fault { IsTrue (D.honest disk.old) → IfErr result (ReportsSlot version (D.state disk.old).content k) }
     ensures reads { ReadsDisk D.Disk is_failed_opening disk.old disk.new result }
 {
     if k >= MOST || SLOT * (u64::from(k) + 1) >= len {
         return Err(OpenFault::Damaged(k));
     }
     let body = read_body(disk, k)?;
-    match entry_of(previous, &body) {
+    match entry_of(version, previous, &body) {
         Some(entry) => Ok(Slot {
             entry,
             tag: body.tag,
@@ -173,15 +179,16 @@ fn read_slot<D: Disk>(
     }
 }
 
-// The record of a slot after one of that tag, if it spells one and its tag is that of it.
-fn entry_of(previous: &[u8; 32], body: &Body) -> Option<Record>
+// The record of a slot after one of that tag, if it spells one of this version and its tag is that of it.
+fn entry_of(version: Version, previous: &[u8; 32], body: &Body) -> Option<Record>
     ensures { MatchOption result
-        ((entry : Entry) → Spells slot_record entry body.now.fields →
+        ((entry : Entry) → Spells (slot_record version) entry body.now.fields →
         body.now.tag ≡ tag_of previous.now body.now.fields → ⊥)
-        (λ entry. Spells slot_record entry body.now.fields × (body.now.tag ≡ tag_of previous.now body.now.fields)) }
+        (λ entry. Spells (slot_record version) entry body.now.fields ×
+        (body.now.tag ≡ tag_of previous.now body.now.fields)) }
 {
     if body.tag == tag(previous, &body.fields) {
-        read_record(&body.fields)
+        read_record(version, &body.fields)
     } else {
         None
     }
@@ -205,29 +212,29 @@ fn read_first_fields<D: Disk>(disk: &mut D, len: u64) -> Result<[u8; 223], OpenF
     Ok(read_fields(disk, 0)?)
 }
 
-// Whether the first slot is that of a Key of a known version.
-fn check_key<D: Disk>(disk: &mut D, len: u64) -> Result<(), OpenFault>
+// The version of the Key in the first slot, if it is that of a Key of a known one.
+fn check_key<D: Disk>(disk: &mut D, len: u64) -> Result<Version, OpenFault>
     requires len { IsLengthOf D.Disk disk.old len }
-    ensures key { IsTrue (D.honest disk.old) → OnOk result (StartsWithKey (D.state disk.old).content) }
+    ensures key { IsTrue (D.honest disk.old) →
+        IfOk result (λ version. StartsWithKey version (D.state disk.old).content) }
     ensures fault { ReportsDisk D.Disk disk.old result }
     ensures reads { ReadsDisk D.Disk is_failed_opening disk.old disk.new result }
 {
     let fields = read_first_fields(disk, len)?;
     if !begins_key(&fields) {
-        Err(OpenFault::NotKeyFile)
-    } else if version(&fields).is_none() {
-        Err(OpenFault::Version)
-    } else {
-        Ok(())
+        return Err(OpenFault::NotKeyFile);
     }
+    version_of(&fields).ok_or(OpenFault::Version)
 }
 
 impl Found {
     // No record yet.
-    fn none() -> Self
-        ensures { (result.count ≡ 0) × (result.tag ≡ first_tag) × (result.records ≡ []) }
+    fn none(version: Version) -> Self
+        ensures none { (result.count ≡ 0) × (result.tag ≡ first_tag) × (result.records ≡ []) }
+        ensures version { result.version ≡ version }
     {
         Found {
+            version,
             count: 0,
             tag: FIRST_TAG,
             records: RecordList::new(),
@@ -240,6 +247,7 @@ impl Found {
         ensures count { self.new.count ≡ self.old.count + 1 }
         ensures tag { self.new.tag ≡ slot.now.tag }
         ensures records { self.new.records ≡ self.old.records ++ slot.now.entry ∷ [] }
+        ensures version { self.new.version ≡ self.old.version }
     {
         self.count += 1;
         self.tag = slot.tag;
@@ -247,20 +255,20 @@ impl Found {
     }
 }
 
-// The records up to the first closed gate, of a file that starts with a Key.
-fn read_slots<D: Disk>(disk: &mut D, len: u64) -> Result<Found, OpenFault>
+// The records up to the first closed gate, of a file that starts with a Key of this version.
+fn read_slots<D: Disk>(disk: &mut D, len: u64, version: Version) -> Result<Found, OpenFault>
     requires len { IsLengthOf D.Disk disk.old len }
-    requires key { IsTrue (D.honest disk.old) → StartsWithKey (D.state disk.old).content }
+    requires key { IsTrue (D.honest disk.old) → StartsWithKey version (D.state disk.old).content }
     ensures counted { IfOk result (λ found. found.count ≡ length found.records) }
     ensures few { IfOk result (λ found. found.count ≤ most_records) }
     ensures found { IsTrue (D.honest disk.old) →
-        IfOk result (λ found. IsFound (D.state disk.old).content found.records found.tag) }
+        IfOk result (λ found. IsFound found.version (D.state disk.old).content found.records found.tag) }
     ensures fault { ReportsDisk D.Disk disk.old result }
     ensures reads { ReadsDisk D.Disk is_failed_opening disk.old disk.new result }
 {
-    let mut found = Found::none();
+    let mut found = Found::none(version);
     while read_gate(disk, found.count)? {
-        let slot = read_slot(disk, len, found.count, &found.tag)?;
+        let slot = read_slot(disk, len, version, found.count, &found.tag)?;
         found.push(&slot);
     }
     Ok(found)
@@ -272,7 +280,7 @@ pub(crate) fn find_records<D: Disk>(disk: &mut D) -> Result<Found, OpenFault>
     ensures counted { IfOk result (λ found. found.count ≡ length found.records) }
     ensures few { IfOk result (λ found. found.count ≤ most_records) }
     ensures found { IsTrue (D.honest disk.old) →
-        IfOk result (λ found. IsFound (D.state disk.old).content found.records found.tag) }
+        IfOk result (λ found. IsFound found.version (D.state disk.old).content found.records found.tag) }
     ensures fault { ReportsDisk D.Disk disk.old result }
     ensures synced { IsTrue (D.honest disk.old) → OnOk result (D.state disk.new ≡ settled (D.state disk.old).content) }
     ensures kept { IsTrue (D.honest disk.old) →
@@ -282,6 +290,6 @@ pub(crate) fn find_records<D: Disk>(disk: &mut D) -> Result<Found, OpenFault>
     ensures counts { CountsFailures D.Disk is_failed_opening disk.old disk.new result }
 {
     let len = settle(disk)?;
-    check_key(disk, len)?;
-    read_slots(disk, len)
+    let version = check_key(disk, len)?;
+    read_slots(disk, len, version)
 }

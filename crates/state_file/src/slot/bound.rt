@@ -4,9 +4,9 @@ ghost use Rattle.std.specs.Prelude.{◌≡◌, ◌<◌, ◌≤◌, ◌+◌, ◌^
 ghost use Rattle.arrayvec.specs.ArrayVec.{array_vec_len};
 ghost use Rattle.typecodes.specs.Cursor.{read, Gives};
 ghost use Rattle.state_file.specs.Fields.{Advances, Puts};
-ghost use Rattle.state_file.specs.Slot.{are_visible, bound_fields, name_field};
+ghost use Rattle.state_file.specs.Slot.{are_visible, bound_fields, name_field, name_most};
 
-use crate::record::{Bound, Record};
+use crate::record::{Bound, Record, Version};
 use crate::slot::fields::{
     Fields, no_record, put, put_array, put_byte_within, put_number, put_zeros, read_byte_within,
     read_zeros,
@@ -23,57 +23,62 @@ fn visible_name(bytes: &[u8]) -> Option<Name>
     Name::new(bytes).ok()
 }
 
-// The name of a Bound, 65 bytes.
+// The name of a Bound: its length, and so many bytes as a name has at most.
 #[tactic(auto, using(typecodes::proofs::Steps::reading), unfolding(crate::specs::Slot::name_field))]
-fn read_name(cursor: &mut Cursor<'_>) -> Result<Name, ReadFault>
-    requires { cursor.old.place + 65 < 2 ^ 32 }
+fn read_name(cursor: &mut Cursor<'_>, most: u8) -> Result<Name, ReadFault>
+    requires few { most ≤ 64 }
+    requires room { cursor.old.place + most + 1 < 2 ^ 32 }
     ensures read { Gives (λ name. (name, cursor.new.place)) result
-        (read name_field cursor.old.bytes.now cursor.old.place) }
-    ensures passes { Advances 65 result cursor.old cursor.new }
+        (read (name_field most) cursor.old.bytes.now cursor.old.place) }
+    ensures passes { Advances (most + 1) result cursor.old cursor.new }
 {
-    let count = u32::from(read_byte_within(cursor, 1, 64)?);
+    let count = u32::from(read_byte_within(cursor, 1, most)?);
     let place = cursor.place;
     let bytes = cursor.block(count)?;
     let name = visible_name(bytes).ok_or(no_record(place))?;
-    read_zeros(cursor, 64 - count)?;
+    read_zeros(cursor, u32::from(most) - count)?;
     Ok(name)
 }
 
-fn put_name(out: &mut Fields, name: &Name)
-    requires { array_vec_len out.old + 65 ≤ 223 }
-    ensures { Puts 65 name_field name.now out.old out.new }
+fn put_name(out: &mut Fields, name: &Name, most: u8)
+    requires few { length name.now ≤ most }
+    requires room { array_vec_len out.old + most + 1 ≤ 223 }
+    ensures { Puts (most + 1) (name_field most) name.now out.old out.new }
 {
     let bytes = name.as_bytes();
-    put_byte_within(out, bytes.len() as u8, 1, 64);
+    put_byte_within(out, bytes.len() as u8, 1, most);
     put(out, bytes);
-    put_zeros(out, 64 - bytes.len());
+    put_zeros(out, usize::from(most) - bytes.len());
 }
 
-/// The fields of a Bound, 222 bytes.
+/// The fields of a Bound in a file of this version, 222 bytes.
 #[tactic(auto, using(typecodes::proofs::Steps::reading), unfolding(crate::specs::Slot::bound_fields))]
-pub(crate) fn read_bound(cursor: &mut Cursor<'_>) -> Result<Record, ReadFault>
+pub(crate) fn read_bound(cursor: &mut Cursor<'_>, version: Version) -> Result<Record, ReadFault>
     requires { cursor.old.place + 222 < 2 ^ 32 }
     ensures read { Gives (λ entry. (entry, cursor.new.place)) result
-        (read bound_fields cursor.old.bytes.now cursor.old.place) }
+        (read (bound_fields version) cursor.old.bytes.now cursor.old.place) }
     ensures passes { Advances 222 result cursor.old cursor.new }
 {
+    let most = version.name_most();
     let bound = Bound {
-        name: read_name(cursor)?,
+        name: read_name(cursor, most)?,
         leaf: cursor.number()?,
         randomizer: *cursor.array()?,
         digest: *cursor.array()?,
     };
-    read_zeros(cursor, 89)?;
+    read_zeros(cursor, 153 - u32::from(most))?;
     Ok(Record::Bound(bound))
 }
 
-pub(crate) fn put_bound(out: &mut Fields, bound: &Bound)
-    requires { array_vec_len out.old + 222 ≤ 223 }
-    ensures { Puts 222 bound_fields (Record.Bound bound.now) out.old out.new }
+pub(crate) fn put_bound(out: &mut Fields, bound: &Bound, version: Version)
+    requires few { length bound.now.name ≤ name_most version }
+    requires room { array_vec_len out.old + 222 ≤ 223 }
+    ensures { Puts 222 (bound_fields version) (Record.Bound bound.now) out.old out.new }
 {
-    put_name(out, &bound.name);
+    let most = version.name_most();
+    put_name(out, &bound.name, most);
     put_number(out, bound.leaf);
     put_array(out, &bound.randomizer);
     put_array(out, &bound.digest);
-    put_zeros(out, 89);
+    put_zeros(out, 153 - usize::from(most));
 }

@@ -9,8 +9,7 @@ ghost use Rattle.state_file.specs.Slot.{key_fields, version_field};
 
 use crate::record::{Key, Record, Version};
 use crate::slot::fields::{
-    Fields, no_record, put, put_array, put_byte, put_exactly, put_zeros, read_byte, read_exactly,
-    read_zeros,
+    Fields, put, put_array, put_byte, put_exactly, put_zeros, read_byte, read_exactly, read_zeros,
 };
 use crate::slot::secret::{put_secret, read_secret, scheme};
 use byteorder::{BigEndian, ByteOrder};
@@ -28,44 +27,42 @@ pub(crate) fn begins_key(fields: &[u8]) -> bool
 }
 
 /// The version in the fields of a Key, if it is known.
-pub(crate) fn version(fields: &[u8]) -> Option<Version>
+pub(crate) fn version_of(fields: &[u8]) -> Option<Version>
     requires { length fields.now ≡ 223 }
     ensures { result ≡ version_of fields.now }
 {
     Version::from_code(BigEndian::read_u16(&fields[9..]))
 }
 
-// A version that is known.
+// The code of this version.
 #[tactic(auto, using(typecodes::proofs::Steps::reading), unfolding(crate::specs::Slot::version_field))]
-fn read_version(cursor: &mut Cursor<'_>) -> Result<Version, ReadFault>
+fn read_version(cursor: &mut Cursor<'_>, version: Version) -> Result<(), ReadFault>
     requires { cursor.old.place + 2 < 2 ^ 32 }
-    ensures read { Gives (λ version. (version, cursor.new.place)) result
-        (read version_field cursor.old.bytes.now cursor.old.place) }
+    ensures read { Gives (λ u. (u, cursor.new.place)) result
+        (read (version_field version) cursor.old.bytes.now cursor.old.place) }
     ensures passes { Advances 2 result cursor.old cursor.new }
 {
-    let place = cursor.place;
-    let code = BigEndian::read_u16(cursor.block(2)?);
-    Version::from_code(code).ok_or(no_record(place))
+    read_exactly(cursor, &version.code().to_be_bytes())
 }
 
 // Appends a version's code.
 fn put_version(out: &mut Fields, version: Version)
     requires { array_vec_len out.old + 2 ≤ 223 }
-    ensures { Puts 2 version_field version out.old out.new }
+    ensures { Puts 2 (version_field version) tt out.old out.new }
 {
     put(out, &version.code().to_be_bytes());
 }
 
-/// The fields of a Key, 222 bytes.
+/// The fields of a Key in a file of this version, 222 bytes.
 #[tactic(auto, using(typecodes::proofs::Steps::reading), unfolding(crate::specs::Slot::key_fields))]
-pub(crate) fn read_key(cursor: &mut Cursor<'_>) -> Result<Record, ReadFault>
+pub(crate) fn read_key(cursor: &mut Cursor<'_>, version: Version) -> Result<Record, ReadFault>
     requires { cursor.old.place + 222 < 2 ^ 32 }
     ensures read { Gives (λ entry. (entry, cursor.new.place)) result
-        (read key_fields cursor.old.bytes.now cursor.old.place) }
+        (read (key_fields version) cursor.old.bytes.now cursor.old.place) }
     ensures passes { Advances 222 result cursor.old cursor.new }
 {
     read_exactly(cursor, MAGIC)?;
-    let version = read_version(cursor)?;
+    read_version(cursor, version)?;
     let scheme = read_byte(cursor)?;
     let secret = read_secret(cursor, scheme)?;
     let root = *cursor.array()?;
@@ -79,7 +76,7 @@ pub(crate) fn read_key(cursor: &mut Cursor<'_>) -> Result<Record, ReadFault>
 
 pub(crate) fn put_key(out: &mut Fields, key: &Key)
     requires { array_vec_len out.old + 222 ≤ 223 }
-    ensures { Puts 222 key_fields (Record.Key key.now) out.old out.new }
+    ensures { Puts 222 (key_fields key.now.version) (Record.Key key.now) out.old out.new }
 {
     put_exactly(out, MAGIC);
     put_version(out, key.version);

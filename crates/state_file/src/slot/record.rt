@@ -6,9 +6,9 @@ ghost use Rattle.typecodes.specs.Layout.{Spells};
 ghost use Rattle.typecodes.specs.Cursor.{read, Gives, Reads};
 ghost use Rattle.state_file.specs.declared.record.Record.{Record as Entry};
 ghost use Rattle.state_file.specs.Fields.{Advances, Puts};
-ghost use Rattle.state_file.specs.Slot.{fields_of, kind_of, moved_fields, retire_fields, slot_record};
+ghost use Rattle.state_file.specs.Slot.{FitsVersion, fields_of, kind_of, moved_fields, retire_fields, slot_record};
 
-use crate::record::Record;
+use crate::record::{Record, Version};
 use crate::slot::bound::{put_bound, read_bound};
 use crate::slot::extend::{put_extend, read_extend};
 use crate::slot::fields::{
@@ -74,18 +74,18 @@ fn kind(entry: &Record) -> u8
     }
 }
 
-// The fields of a record, by its kind, whose byte stands before the cursor.
-fn read_fields(cursor: &mut Cursor<'_>, kind: u8) -> Result<Record, ReadFault>
+// The fields of a record in a file of this version, by its kind, whose byte stands before the cursor.
+fn read_fields(cursor: &mut Cursor<'_>, version: Version, kind: u8) -> Result<Record, ReadFault>
     requires some { 1 ≤ cursor.old.place }
     requires room { cursor.old.place + 222 < 2 ^ 32 }
     ensures read { Gives (λ entry. (entry, cursor.new.place)) result
-        (read (fields_of kind) cursor.old.bytes.now cursor.old.place) }
+        (read (fields_of version kind) cursor.old.bytes.now cursor.old.place) }
     ensures passes { Advances 222 result cursor.old cursor.new }
 {
     match kind {
-        1 => read_key(cursor),
+        1 => read_key(cursor, version),
         2 => read_extend(cursor),
-        3 => read_bound(cursor),
+        3 => read_bound(cursor, version),
         4 => read_retire(cursor),
         5 => read_moved(cursor),
         _ => Err(no_record(cursor.place - 1)),
@@ -93,14 +93,15 @@ fn read_fields(cursor: &mut Cursor<'_>, kind: u8) -> Result<Record, ReadFault>
 }
 
 // Appends the fields of a record, by its kind.
-fn put_fields(out: &mut Fields, entry: &Record)
-    requires { array_vec_len out.old + 222 ≤ 223 }
-    ensures { Puts 222 (fields_of (kind_of entry.now)) entry.now out.old out.new }
+fn put_fields(out: &mut Fields, version: Version, entry: &Record)
+    requires fits { FitsVersion version entry.now }
+    requires room { array_vec_len out.old + 222 ≤ 223 }
+    ensures { Puts 222 (fields_of version (kind_of entry.now)) entry.now out.old out.new }
 {
     match entry {
         Record::Key(key) => put_key(out, key),
         Record::Extend(extend) => put_extend(out, extend),
-        Record::Bound(bound) => put_bound(out, bound),
+        Record::Bound(bound) => put_bound(out, bound, version),
         Record::Retire { upto } => put_retire(out, *upto),
         Record::Moved => put_moved(out),
     }
@@ -108,31 +109,32 @@ fn put_fields(out: &mut Fields, entry: &Record)
 
 // The record that the bytes spell, or their first fault.
 #[tactic(auto, using(crate::proofs::Blocks::whole), unfolding(crate::specs::Slot::slot_record))]
-fn read_all(bytes: &[u8]) -> Result<Record, ReadFault>
-    ensures { Reads slot_record (λ entry. entry) bytes.now result }
+fn read_all(version: Version, bytes: &[u8]) -> Result<Record, ReadFault>
+    ensures { Reads (slot_record version) (λ entry. entry) bytes.now result }
 {
     let mut cursor = Cursor::new(bytes);
     let kind = read_byte(&mut cursor)?;
-    let entry = read_fields(&mut cursor, kind)?;
+    let entry = read_fields(&mut cursor, version, kind)?;
     cursor.end()?;
     Ok(entry)
 }
 
-/// The record that the bytes 1 to 223 of a slot spell, if they spell one.
-pub(crate) fn read_record(bytes: &[u8]) -> Option<Record>
-    ensures { MatchOption result ((entry : Entry) → Spells slot_record entry bytes.now →
-        ⊥) (λ entry. Spells slot_record entry bytes.now) }
+/// The record that the bytes 1 to 223 of a slot spell in a file of this version, if they spell one.
+pub(crate) fn read_record(version: Version, bytes: &[u8]) -> Option<Record>
+    ensures { MatchOption result ((entry : Entry) → Spells (slot_record version) entry bytes.now →
+        ⊥) (λ entry. Spells (slot_record version) entry bytes.now) }
 {
-    read_all(bytes).ok()
+    read_all(version, bytes).ok()
 }
 
-/// The bytes 1 to 223 of a slot that spell the record.
-pub(crate) fn record_bytes(entry: &Record) -> [u8; 223]
-    ensures { Spells slot_record entry.now result }
+/// The bytes 1 to 223 of a slot that spell the record in a file of this version.
+pub(crate) fn record_bytes(version: Version, entry: &Record) -> [u8; 223]
+    requires { FitsVersion version entry.now }
+    ensures { Spells (slot_record version) entry.now result }
 {
     let mut out = ArrayVec::new();
     put_byte(&mut out, kind(entry));
-    put_fields(&mut out, entry);
+    put_fields(&mut out, version, entry);
     match out.into_inner() {
         Ok(bytes) => bytes,
         Err(_) => unreachable!(),

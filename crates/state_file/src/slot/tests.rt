@@ -4,11 +4,16 @@ mod drawn;
 
 use crate::record::{Bound, Extend, Key, Record, Secret, Version};
 use crate::slot::gate::{CLOSED, OPEN, is_open};
-use crate::slot::key::{begins_key, version};
+use crate::slot::key::{begins_key, version_of};
 use crate::slot::record::{read_record, record_bytes};
 use crate::slot::tag::tag;
 use std::test::Fail;
 use typecodes::{Levels, LmsPair, LmsType, Name, OtsType, XmssType};
+
+// The fields of a record in a file of version 1; of a Key, in one of its own version.
+fn fields_of(entry: &Record) -> [u8; 223] {
+    record_bytes(entry.version_after(Version::One), entry)
+}
 
 // The bytes from one on, each one more.
 fn rising<const N: usize>(from: u8) -> [u8; N] {
@@ -115,12 +120,13 @@ fn record(k: u32) -> Option<Record> {
 // which they are still read as the record, or have its tag.
 fn is_drawn(k: u32, drawn: &[u8; 223]) -> Option<(bool, Option<usize>)> {
     let entry = record(k)?;
-    let same = record_bytes(&entry) == *drawn && read_record(drawn) == Some(entry.copied());
+    let same = fields_of(&entry) == *drawn
+        && read_record(Version::One, drawn) == Some(entry.copied());
     for offset in 0..223 {
         let mut other = *drawn;
         other[offset] ^= 0x5a;
         let same_tag = tag(&[0; 32], &other) == tag(&[0; 32], drawn);
-        if same_tag || read_record(&other) == Some(entry.copied()) {
+        if same_tag || read_record(Version::One, &other) == Some(entry.copied()) {
             return Some((same, Some(offset)));
         }
     }
@@ -149,7 +155,7 @@ fn first_offset(drawn: &[u8; 223], changes: &[(usize, u8)], spelled: bool) -> Op
         if let Some(at) = other.get_mut(offset.wrapping_sub(1)) {
             *at = *byte;
         }
-        if read_record(&other).is_some() == spelled {
+        if read_record(Version::One, &other).is_some() == spelled {
             return Some(*offset);
         }
     }
@@ -278,9 +284,9 @@ fn names_of_each_length(rt: HostRuntime) -> Result<(), Fail> {
             randomizer: [0; 32],
             digest: [0; 32],
         });
-        let bytes = record_bytes(&entry);
+        let bytes = fields_of(&entry);
         assert_eq!(rt; usize::from(bytes[1]), count);
-        assert!(rt; read_record(&bytes) == Some(entry));
+        assert!(rt; read_record(Version::One, &bytes) == Some(entry));
     }
     Ok(())
 }
@@ -302,7 +308,7 @@ fn levels_of_each_count(rt: HostRuntime) -> Result<(), Fail> {
             },
             root: [3; 32],
         });
-        assert!(rt; read_record(&record_bytes(&entry)) == Some(entry));
+        assert!(rt; read_record(Version::One, &fields_of(&entry)) == Some(entry));
     }
     Ok(())
 }
@@ -320,7 +326,7 @@ fn known_with(fields: &[u8; 223], offset: usize, change: u8) -> (bool, Option<Ve
     if let Some(byte) = other.get_mut(offset) {
         *byte ^= change;
     }
-    (begins_key(&other), version(&other))
+    (begins_key(&other), version_of(&other))
 }
 
 #[test]

@@ -8,6 +8,7 @@ ghost use Rattle.state_file.specs.File.{IsSyncedFile, IsSyncedFile-prop, LeftLis
 ghost use Rattle.state_file.specs.Gates.{AddsSlot, slot_and_gate};
 ghost use Rattle.std.proofs.Common.{inl};
 ghost use Rattle.state_file.specs.Store.{Appends, CanFollow, Collects, Loads, ReadsTag, WhileRunning};
+ghost use Rattle.state_file.specs.Slot.{version_code, version_in};
 ghost use Rattle.state_file.specs.Store.{is_device_failed, is_out_of_memory, unreadable_slot};
 
 #[cfg(test)]
@@ -17,7 +18,7 @@ use crate::disk::Disk;
 use crate::file::{
     FormatFault, MOST, OpenFault, add_slot, find_records, format, read_entry, read_tag,
 };
-use crate::record::{Record, RecordList};
+use crate::record::{Record, RecordList, Version};
 use crate::refused::Refused;
 use crate::slot::{FIRST_TAG, record_bytes, tag};
 use crate::store::{SlotList, Store, StoreFault};
@@ -26,6 +27,8 @@ use crate::store::{SlotList, Store, StoreFault};
 #[derive(Drop)]
 pub struct FileStore<D: Disk> {
     disk: D,
+    // the version of the file
+    version: Version,
     count: u32,
     // the tag of the last slot
     tag: [u8; 32],
@@ -35,6 +38,8 @@ pub struct FileStore<D: Disk> {
     unreadable: SlotList,
     ghost counted: { count ≡ length records },
     ghost few: { length records ≤ most_records },
+    ghost of_version: { WhileRunning (D.honest disk) stopped
+        (version_code version ≡ version_code (version_in records)) },
     ghost kept: { WhileRunning (D.honest disk) stopped
         (IsSyncedFile records tag (D.state disk)) } by { Prim.hlevel IsSyncedFile-prop },
 }
@@ -66,6 +71,7 @@ impl<D: Disk + Drop> FileStore<D> {
         match format(&mut disk) {
             Ok(()) => Ok(FileStore {
                 disk,
+                version: Version::One,
                 count: 0,
                 tag: FIRST_TAG,
                 stopped: false,
@@ -88,6 +94,7 @@ impl<D: Disk + Drop> FileStore<D> {
                 let tag = found.tag;
                 Ok(FileStore {
                     disk,
+                    version: found.version,
                     count: found.count,
                     tag,
                     stopped: false,
@@ -191,7 +198,7 @@ impl<D: Disk + Drop> Store for FileStore<D> {
         if k >= self.count {
             return Ok(None);
         }
-        match read_entry(&mut self.disk, k) {
+        match read_entry(&mut self.disk, self.version, k) {
             Ok(found) => match found {
                 Some(record) => Ok(Some(record)),
                 None => {
@@ -242,11 +249,13 @@ impl<D: Disk + Drop> Store for FileStore<D> {
         if self.count >= MOST {
             return Err(StoreFault::Full);
         }
-        let fields = record_bytes(new);
+        let version = new.version_after(self.version);
+        let fields = record_bytes(version, new);
         let next_tag = tag(&self.tag, &fields);
         match add_slot(&mut self.disk, self.count, &fields, &next_tag) {
             Ok(()) => {
                 self.count += 1;
+                self.version = version;
                 self.tag = next_tag;
                 self.records.push(new);
                 Ok(())

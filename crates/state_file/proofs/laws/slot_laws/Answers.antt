@@ -4,4 +4,4 @@ use Rattle.state_file.proofs.OneWay.{one_way-slot_record}
 use Rattle.state_file.proofs.laws.slot_laws.Goals as goal
 
 pub returns : goal.returns
-returns c = record { once = one_way-slot_record; one_record = one_value slot_record }
+returns c = record { once = one_way-slot_record; one_record = λ version. one_value (slot_record version) }

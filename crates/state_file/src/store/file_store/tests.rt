@@ -311,7 +311,8 @@ fn each_byte_of_a_file_changed(rt: HostRuntime) {
 // What a file of one slot opens with, which has the fields of the record of this number and their tag, with another
 // value in byte 10 of the fields, which is the version's second.
 fn opened_with_record(alloc: Global, k: u32, value: u8) -> Option<Result<u32, OpenFault>> {
-    let mut fields = record_bytes(&record(k)?);
+    let entry = record(k)?;
+    let mut fields = record_bytes(entry.version_after(Version::One), &entry);
     fields[10] = value;
     let mut content = Vec::new(alloc);
     content.push(0xA5).ok()?;

@@ -13,10 +13,10 @@ returns-in_err-slot-clause-fault g c honest =
     let was = before.honest ∙ honest in
     let same = (before.reads honest).stays in
     let still = (c.read_gate.ensures.reads.only was).stays ∙ same in
-    let opened = found_open first (g.D.Disk.state c.loop-disk.disk) found.count c.in_ok-read_gate.field-0 same (gate_within first (g.D.Disk.state c.loop-disk.disk) found.count found.records found.tag same before.counted (before.found honest)) (c.in_ok-read_gate.ensures.gate was) c.if-branch.true in
-    let reported : ReportsSlot first.content found.count fault = subst (λ (s : DiskState). ReportsSlot s.content found.count fault) still (c.in_err-slot.ensures.fault (c.read_gate.ensures.reads.counts.honest ∙ was)) in
+    let opened = found_open first (g.D.Disk.state c.loop-disk.disk) found.count c.in_ok-read_gate.field-0 same (gate_within c.args.version first (g.D.Disk.state c.loop-disk.disk) found.count found.records found.tag same before.counted (before.found honest)) (c.in_ok-read_gate.ensures.gate was) c.if-branch.true in
+    let reported : ReportsSlot c.args.version first.content found.count fault = subst (λ (s : DiskState). ReportsSlot c.args.version s.content found.count fault) still (c.in_err-slot.ensures.fault (c.read_gate.ensures.reads.counts.honest ∙ was)) in
     fault_reported (ReportsContent first.content) c.from_residual-in_err-slot.result fault (search rules)
-    (found_damaged first.content found.count found.records found.tag fault (before.found honest) before.counted (c.requires.key honest) opened reported)
+    (found_damaged c.args.version first.content found.count found.records found.tag fault (before.found honest) before.counted (c.requires.key honest) opened reported)
 
 pub loop-disk-preserved : goal.loop-disk-preserved
 loop-disk-preserved g c =
@@ -26,6 +26,7 @@ loop-disk-preserved g c =
     let slot = c.in_ok-slot.slot in record {
       counted = omega (arith, c.push.ensures.count, before.counted, ap length c.push.ensures.records, length-append found.records (slot.entry ∷ []));
       few = omega (arith, c.push.ensures.count, c.in_ok-slot.ensures.few);
+      version = c.push.ensures.version ∙ before.version;
       honest = c.read_slot.ensures.reads.counts.honest ∙ c.read_gate.ensures.reads.counts.honest ∙ before.honest;
       failures = c.in_ok-slot.ensures.reads.counts.failures ∙ c.in_ok-read_gate.ensures.reads.counts.failures ∙ before.failures;
       past_ends = λ honest.
@@ -39,9 +40,9 @@ loop-disk-preserved g c =
           let was = before.honest ∙ honest in
           let same = (before.reads honest).stays in
           let still = (c.read_gate.ensures.reads.only was).stays ∙ same in
-          let opened = found_open first (g.D.Disk.state c.loop-disk.disk) found.count c.in_ok-read_gate.field-0 same (gate_within first (g.D.Disk.state c.loop-disk.disk) found.count found.records found.tag same before.counted (before.found honest)) (c.in_ok-read_gate.ensures.gate was) c.if-branch.true in
-          let has : HasSlot first.content found.count slot.entry slot.tag = subst (λ (s : DiskState). HasSlot s.content found.count slot.entry slot.tag) still (c.in_ok-slot.ensures.slot (c.read_gate.ensures.reads.counts.honest ∙ was)) in
-          found_more first.content found.count c.push.new.self.count found.records c.push.new.self.records found.tag c.push.new.self.tag slot.tag slot.entry (before.found honest) before.counted c.push.ensures.count
+          let opened = found_open first (g.D.Disk.state c.loop-disk.disk) found.count c.in_ok-read_gate.field-0 same (gate_within c.args.version first (g.D.Disk.state c.loop-disk.disk) found.count found.records found.tag same before.counted (before.found honest)) (c.in_ok-read_gate.ensures.gate was) c.if-branch.true in
+          let has : HasSlot c.args.version first.content found.count slot.entry slot.tag = subst (λ (s : DiskState). HasSlot c.args.version s.content found.count slot.entry slot.tag) still (c.in_ok-slot.ensures.slot (c.read_gate.ensures.reads.counts.honest ∙ was)) in
+          found_more c.args.version first.content found.count c.push.new.self.count found.records c.push.new.self.records found.tag c.push.new.self.tag slot.tag slot.entry (before.found honest) before.counted c.push.ensures.count
           c.push.ensures.records c.push.ensures.tag opened has;
     }
 
@@ -52,5 +53,5 @@ returns-clause-found g c honest =
     let found = c.loop-disk.found in
     let was = before.honest ∙ honest in
     let same = (before.reads honest).stays in
-    let shut = found_closed first (g.D.Disk.state c.loop-disk.disk) found.count c.in_ok-read_gate.field-0 same (gate_within first (g.D.Disk.state c.loop-disk.disk) found.count found.records found.tag same before.counted (before.found honest)) (c.in_ok-read_gate.ensures.gate was) c.if-branch.false in
-    found_all first.content found.count found.records found.tag (before.found honest) before.counted (c.requires.key honest) shut
+    let shut = found_closed first (g.D.Disk.state c.loop-disk.disk) found.count c.in_ok-read_gate.field-0 same (gate_within c.args.version first (g.D.Disk.state c.loop-disk.disk) found.count found.records found.tag same before.counted (before.found honest)) (c.in_ok-read_gate.ensures.gate was) c.if-branch.false in
+    found_all c.args.version found.version first.content found.count found.records found.tag before.version (before.found honest) before.counted (c.requires.key honest) shut

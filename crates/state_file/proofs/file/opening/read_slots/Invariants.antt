@@ -10,11 +10,12 @@ abbrev pub invariant-loop-disk : goal.invariant-loop-disk
 invariant-loop-disk g l = record {
   counted : l.found.count ≡ length l.found.records;
   few : l.found.count ≤ most_records;
+  version : l.found.version ≡ l.version;
   honest : g.D.Disk.honest l.disk ≡ g.D.Disk.honest l.initial.disk;
   failures : g.D.Disk.failures l.disk ≡ g.D.Disk.failures l.initial.disk;
   past_ends : IsTrue (g.D.Disk.honest l.initial.disk) → g.D.Disk.past_ends l.disk ≡ g.D.Disk.past_ends l.initial.disk;
   reads : IsTrue (g.D.Disk.honest l.initial.disk) → OnlyReads g.D.Disk.state g.D.Disk.moment g.D.Disk.left_since l.initial.disk l.disk;
-  found : IsTrue (g.D.Disk.honest l.initial.disk) → BeginsFound (g.D.Disk.state l.initial.disk).content l.found.count l.found.records l.found.tag;
+  found : IsTrue (g.D.Disk.honest l.initial.disk) → BeginsFound l.version (g.D.Disk.state l.initial.disk).content l.found.count l.found.records l.found.tag;
 }
 
 abbrev pub decreases-loop-disk : goal.decreases-loop-disk

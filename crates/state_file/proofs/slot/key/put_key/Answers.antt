@@ -15,7 +15,7 @@ returns c =
     let scheme = subst Coded c.scheme.ensures c.put_byte.ensures.writes in record {
       writes =
           writes-bind (exactly 8 magic) _ tt entry _ _ _ c.put_exactly.ensures.writes
-          (writes-bind version_field _ c.args.key.now.version entry _ _ _ c.put_version.ensures.writes
+          (writes-bind (version_field c.args.key.now.version) _ tt entry _ _ _ c.put_version.ensures.writes
           (writes-bind byte _ (scheme_of c.args.key.now.secret) entry _ _ _ scheme
           (writes-bind (secret_fields (scheme_of c.args.key.now.secret)) _ c.args.key.now.secret entry _ _ _ c.put_secret.ensures.writes
           (writes-bind (block 32) _ c.args.key.now.root entry _ _ _ c.put_array.ensures.writes

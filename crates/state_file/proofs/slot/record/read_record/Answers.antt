@@ -9,5 +9,6 @@ use Rattle.state_file.proofs.slot.record.read_record.Goals as goal
 pub returns : goal.returns
 returns c =
     let bytes = c.args.bytes.now in
-    let Reports : Option Record → Type 0 = λ found. MatchOption found ((entry : Record) → Spells slot_record entry bytes → ⊥) (λ entry. Spells slot_record entry bytes) in
-    subst Reports (sym c.ok.ensures.value) (spelled_or_not slot_record bytes c.read_all.result c.read_all.ensures)
+    let layout = slot_record c.args.version in
+    let Reports : Option Record → Type 0 = λ found. MatchOption found ((entry : Record) → Spells layout entry bytes → ⊥) (λ entry. Spells layout entry bytes) in
+    subst Reports (sym c.ok.ensures.value) (spelled_or_not layout bytes c.read_all.result c.read_all.ensures)

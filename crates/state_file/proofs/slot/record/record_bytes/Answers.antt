@@ -11,6 +11,6 @@ returns c =
     let entry = c.args.entry.now in
     let Coded : ℕ → Type 0 = λ n. AppendsSpelling byte n c.new-out.result.items c.put_byte.new.out.items in
     let kind = subst Coded c.kind.ensures c.put_byte.ensures.writes in
-    let written = writes-bind byte fields_of (kind_of entry) entry _ _ _ kind c.put_fields.ensures.writes in
+    let written = writes-bind byte (fields_of c.args.version) (kind_of entry) entry _ _ _ kind c.put_fields.ensures.writes in
     let bytes : c.in-Ok.bytes ≡ written.part = c.in-Ok.ensures.ok ∙ written.after ∙ ap (λ l. l ++ written.part) c.new-out.ensures in
-    subst (Spells slot_record entry) (sym bytes) written.spelled
+    subst (Spells (slot_record c.args.version) entry) (sym bytes) written.spelled

@@ -1,4 +1,5 @@
-use Rattle.std.proofs.Common.{sym, ◌∙◌, arith}
+use Rattle.std.proofs.Common.{sym, ap, ◌∙◌, arith}
+use Rattle.state_file.specs.Slot.{version_code}
 use Rattle.state_file.proofs.Finding.{found_kept}
 use Rattle.state_file.proofs.store.file_store.FileStore.open.Goals as goal
 
@@ -6,7 +7,10 @@ pub invariant_of-result : goal.invariant_of-result
 invariant_of-result g c = record {
   counted = c.in-Ok.ensures.counted;
   few = omega (arith, c.in-Ok.ensures.counted, c.in-Ok.ensures.few);
+  of_version = λ honest running.
+      let before = sym c.in-Ok.ensures.counts.honest ∙ honest in
+      ap version_code (c.in-Ok.ensures.found before).of_version;
   kept = λ honest running.
       let before = sym c.in-Ok.ensures.counts.honest ∙ honest in
-      found_kept c.in-Ok.found.records c.in-Ok.found.tag (g.D.Disk.state c.args.disk).content (g.D.Disk.state c.find_records.new.disk) (c.in-Ok.ensures.synced before) (c.in-Ok.ensures.found before);
+      found_kept c.in-Ok.found.version c.in-Ok.found.records c.in-Ok.found.tag (g.D.Disk.state c.args.disk).content (g.D.Disk.state c.find_records.new.disk) (c.in-Ok.ensures.synced before) (c.in-Ok.ensures.found before);
 }

@@ -1,0 +1,231 @@
+-- What the bytes of a slot show of the record that they spell: its kind, what a Key begins with, and the version.
+use Rattle.std.proofs.Common.{◌≡◌, ℕ, Bool, true, false, cond, List, [], ◌∷◌, ◌++◌, length, take, Option, Some, None}
+use Rattle.std.proofs.Common.{refl, sym, ap, ◌∙◌, subst, arith, eqb-true, append-nil}
+use Rattle.std.specs.Prelude.{◌-◌, ◌==◌, ◌&&◌, if◌then◌else◌, slice_get}
+use Rattle.std.specs.Cmp.Lexicographic.{bytes_decides, pointwise}
+use Rattle.std.proofs.lemmas.Bool.{and_parts}
+use Rattle.std.proofs.lemmas.Option.{same_Some}
+use Rattle.byteorder.specs.Endian.{big_bytes, big_number}
+use Rattle.typecodes.specs.Layout.{Layout, done, field, ◌>>=◌, Spells, Shows}
+use Rattle.typecodes.specs.Fields.{xmss_type, block}
+use Rattle.typecodes.specs.Types.{named}
+use Rattle.typecodes.proofs.OneWay.{shows-bind}
+use Rattle.typecodes.proofs.Spelling.{in_turn}
+use Rattle.state_file.specs.declared.record.Key.{Key}
+use Rattle.state_file.specs.declared.record.Record.{Record}
+use Rattle.state_file.specs.declared.record.Record.TheVariants.{Key as KeyRecord, Extend as ExtendRecord}
+use Rattle.state_file.specs.declared.record.Record.TheVariants.{Bound as BoundRecord, Retire, Moved}
+use Rattle.state_file.specs.declared.record.Version.{Version}
+use Rattle.state_file.specs.File.{SpellsRecords, begins_key, fields_at, version_of}
+use Rattle.state_file.specs.declared.record.Version.TheVariants.{One}
+use Rattle.state_file.specs.Slot.{hss_fields, levels_field, lms_fields, pair_field, xmss_fields, bound_fields, byte}
+use Rattle.state_file.specs.Slot.{exactly, extend_fields, fields_of, key_fields, magic, moved_fields, name_field}
+use Rattle.state_file.specs.Slot.{name_most, only_if, retire_fields, secret_fields, slot_record, version_begun}
+use Rattle.state_file.specs.Slot.{version_code, version_field, version_in, versions, zeros, kind_of, scheme_of}
+
+-- ---- kinds
+
+-- every value that the layout spells is of this kind
+pub record OfKind {V X : Type 0} (of : V → X) (layout : Layout V) (kind : X) : Type 0 where
+  pub shows : Shows layout of kind
+
+kind-field : {V X : Type 0} {of : V → X} (n : ℕ) (kind : X) (next : List ℕ → Layout V)
+    → ((bytes : List ℕ) → OfKind of (next bytes) kind) → OfKind of (field n next) kind
+kind-field n kind next all = record { shows = λ v bytes (front, rest, _, _, spelled). (all front).shows v rest spelled }
+
+kind-bind : {V W X : Type 0} {of : W → X} (first : Layout V) (kind : X) (next : V → Layout W)
+    → ((v : V) → OfKind of (next v) kind) → OfKind of (first >>= next) kind
+kind-bind {of = of} first kind next all = record { shows = shows-bind first next of kind (λ v. (all v).shows) }
+
+kind-done : {V X : Type 0} {of : V → X} (kind : X) (v : V) → of v ≡ kind → OfKind of (done v) kind
+kind-done {of = of} kind v is = record { shows = λ w bytes spelled. ap of (sym spelled.0) ∙ is }
+
+kind-key : (version : Version) → OfKind kind_of (key_fields version) 1
+unfolding key_fields
+kind-key version =
+    kind-bind (exactly 8 magic) 1 _ (λ begins. kind-bind (version_field version) 1 _
+    (λ code. kind-bind byte 1 _ (λ scheme.
+    kind-bind (secret_fields scheme) 1 _ (λ secret. kind-field 32 1 _
+    (λ root. kind-bind (zeros 2) 1 _ (λ rest. kind-done 1 _ refl))))))
+
+-- a Key has its file's version
+version-key : (version : Version) → OfKind version_begun (key_fields version) version
+unfolding key_fields
+version-key version =
+    kind-bind (exactly 8 magic) version _ (λ begins. kind-bind (version_field version) version _
+    (λ code. kind-bind byte version _ (λ scheme.
+    kind-bind (secret_fields scheme) version _
+    (λ secret. kind-field 32 version _ (λ root. kind-bind (zeros 2) version _ (λ rest. kind-done version _ refl))))))
+
+kind-extend : OfKind kind_of extend_fields 2
+unfolding extend_fields
+kind-extend =
+    kind-bind byte 2 _ (λ level. kind-field 4 2 _ (λ parent_leaf. kind-field 16 2 _ (λ identifier.
+    kind-field 32 2 _ (λ seed. kind-field 32 2 _ (λ randomizer. kind-field 32 2 _ (λ digest. kind-field 32 2 _ (λ root.
+    kind-bind (zeros 73) 2 _ (λ rest. kind-done 2 _ refl))))))))
+
+kind-bound : (version : Version) → OfKind kind_of (bound_fields version) 3
+unfolding bound_fields
+kind-bound version =
+    kind-bind (name_field (name_most version)) 3 _ (λ name. kind-field 4 3 _ (λ leaf. kind-field 32 3 _ (λ randomizer.
+    kind-field 32 3 _ (λ digest. kind-bind (zeros (153 - name_most version)) 3 _ (λ rest. kind-done 3 _ refl)))))
+
+kind-retire : OfKind kind_of retire_fields 4
+unfolding retire_fields
+kind-retire = kind-field 4 4 _ (λ upto. kind-bind (zeros 218) 4 _ (λ rest. kind-done 4 _ refl))
+
+kind-moved : OfKind kind_of moved_fields 5
+unfolding moved_fields
+kind-moved = kind-bind (exactly 2 (0 ∷ 2 ∷ [])) 5 _ (λ version. kind-bind (zeros 220) 5 _ (λ rest. kind-done 5 _ refl))
+
+-- one of two layouts, by a number
+shows-if : {V : Type 0} (of : V → ℕ) (kind n : ℕ) (chosen other : Layout V) → Shows chosen of n → Shows other of kind
+    → Shows (if kind == n then chosen else other) of kind
+shows-if of kind n chosen other chosen_shows other_shows =
+    elim (kind == n) as (λ test. kind == n ≡ test → Shows (cond test chosen other) of kind) [
+      | true ↦ λ same. subst (Shows chosen of) (sym (eqb-true kind n same)) chosen_shows
+      | false ↦ λ _. other_shows
+    ] refl
+
+-- the fields of a kind spell records of this kind
+pub fields-show : (version : Version) (kind : ℕ) → Shows (fields_of version kind) kind_of kind
+fields-show version kind =
+    shows-if kind_of kind 1 _ _ (kind-key version).shows
+    (shows-if kind_of kind 2 _ _ kind-extend.shows
+    (shows-if kind_of kind 3 _ _ (kind-bound version).shows
+    (shows-if kind_of kind 4 _ _ kind-retire.shows (shows-if kind_of kind 5 _ _ kind-moved.shows
+    (λ v bytes spelled. absurd spelled)))))
+
+-- so do those of a scheme spell secrets of this scheme
+scheme-lms : OfKind scheme_of lms_fields 1
+unfolding lms_fields
+scheme-lms =
+    kind-bind (exactly 1 (1 ∷ [])) 1 _ (λ level. kind-bind pair_field 1 _ (λ pair. kind-bind (zeros 56) 1 _ (λ others.
+    kind-field 16 1 _ (λ identifier. kind-field 32 1 _
+    (λ seed. kind-bind (zeros 64) 1 _ (λ seeds. kind-done 1 _ refl))))))
+
+scheme-hss : OfKind scheme_of hss_fields 2
+unfolding hss_fields
+scheme-hss =
+    kind-bind levels_field 2 _ (λ levels. kind-field 16 2 _
+    (λ identifier. kind-field 32 2 _ (λ seed. kind-bind (zeros 64) 2 _ (λ seeds. kind-done 2 _ refl))))
+
+scheme-xmss : OfKind scheme_of xmss_fields 3
+unfolding xmss_fields
+scheme-xmss =
+    kind-bind (exactly 1 (1 ∷ [])) 3 _ (λ level. kind-bind xmss_type 3 _
+    (λ tree. kind-bind (zeros 60) 3 _ (λ others. kind-bind (zeros 16) 3 _ (λ identifier.
+    kind-field 32 3 _ (λ secret_seed. kind-field 32 3 _
+    (λ prf_key. kind-field 32 3 _ (λ public_seed. kind-done 3 _ refl)))))))
+
+pub schemes-show : (scheme : ℕ) → Shows (secret_fields scheme) scheme_of scheme
+schemes-show scheme =
+    shows-if scheme_of scheme 1 _ _ scheme-lms.shows
+    (shows-if scheme_of scheme 2 _ _ scheme-hss.shows
+    (shows-if scheme_of scheme 3 _ _ scheme-xmss.shows (λ v bytes spelled. absurd spelled)))
+
+-- ---- single fields
+
+-- a byte is its number
+pub byte-is : (n : ℕ) (bytes : List ℕ) → Spells byte n bytes → bytes ≡ n ∷ []
+unfolding byte
+byte-is n bytes ([], rest, is, len, spelled) = absurd (omega (arith, len))
+byte-is n bytes (x ∷ [], rest, is, len, spelled) =
+    let same : x ≡ n = omega (arith, spelled.0) in
+    is ∙ ap (λ l. x ∷ l) spelled.1 ∙ ap (λ m. m ∷ []) same
+byte-is n bytes (x ∷ y ∷ more, rest, is, len, spelled) = absurd (omega (arith, len))
+
+-- a field that meets its condition
+pub only_if-is : {V : Type 0} (test : Bool) (n : ℕ) (v w : V) (bytes : List ℕ) → Spells (only_if test n v) w bytes
+    → (test ≡ true) × (bytes ≡ [])
+only_if-is true n v w bytes spelled = (refl, spelled.1)
+only_if-is false n v w bytes spelled = absurd spelled
+
+-- bytes that are known
+pub exactly-is : (n : ℕ) (expected bytes : List ℕ) (u : Unit {0}) → Spells (exactly n expected) u bytes
+    → bytes ≡ expected
+unfolding exactly
+exactly-is n expected bytes u (front, rest, is, len, spelled) =
+    let (same, nothing) = only_if-is (pointwise (λ a b. a == b) front expected) n tt u rest spelled in
+    is ∙ ap (λ l. front ++ l) nothing ∙ append-nil front ∙ (bytes_decides front expected).0 same
+
+-- a version
+pub version-is : (version : Version) (bytes : List ℕ) (u : Unit {0}) → Spells (version_field version) u bytes
+    → bytes ≡ big_bytes 2 (version_code version)
+unfolding version_field
+version-is version bytes u spelled = exactly-is 2 (big_bytes 2 (version_code version)) bytes u spelled
+
+version_known : (version : Version) (rest : List ℕ)
+    → named version_code versions (big_number 2 (big_bytes 2 (version_code version) ++ rest)) ≡ Some version
+version_known One rest = refl
+
+-- ---- Keys
+
+-- what follows the magic and the version
+abbrev after_version : Version → Unit {0} → Layout Record
+after_version version _ = do
+  scheme ← byte
+  secret ← secret_fields scheme
+  root ← block 32
+  rest ← zeros 2
+  done (KeyRecord (record { version = version; secret = secret; root = root }))
+
+abbrev after_magic : Version → Unit {0} → Layout Record
+after_magic version _ = version_field version >>= after_version version
+
+-- a record's kind, and what stands after it
+pub record-parts : (version : Version) (entry : Record) (fields : List ℕ) → Spells (slot_record version) entry fields
+    → (rest : List ℕ) × (fields ≡ kind_of entry ∷ rest) × Spells (fields_of version (kind_of entry)) entry rest
+unfolding slot_record
+record-parts version entry fields spelled =
+    let (kind, a, b, is, kind_spelled, after) = in_turn byte (fields_of version) entry fields spelled in
+    let same : kind_of entry ≡ kind = fields-show version kind entry b after in
+    let bytes : fields ≡ kind_of entry ∷ b =
+    is ∙ ap (λ l. l ++ b) (byte-is kind a kind_spelled) ∙ ap (λ n. n ∷ b) (sym same) in
+    (b, bytes, subst (λ n. Spells (fields_of version n) entry b) (sym same) after)
+
+-- the fields of a Key begin with its kind, the magic and the file's version, which is its own
+pub key-begins : (version : Version) (key : Key) (fields : List ℕ) → Spells (slot_record version) (KeyRecord key) fields
+    → (begins_key fields ≡ true) × (version_of fields ≡ Some version) × (key.version ≡ version)
+unfolding key_fields
+key-begins version key fields spelled =
+    let (rest, is, after) = record-parts version (KeyRecord key) fields spelled in
+    let (u, a, b, rest_is, magic_spelled, from_version) = in_turn (exactly 8 magic) (after_magic version)
+    (KeyRecord key) rest after in
+    let (code, w, others, b_is, code_spelled, _) = in_turn (version_field version) (after_version version)
+    (KeyRecord key) b from_version in
+    let coded : b ≡ big_bytes 2 (version_code version) ++ others = b_is ∙ ap (λ l. l ++ others)
+    (version-is version w code code_spelled) in
+    let bytes : fields ≡ 1 ∷ (magic ++ (big_bytes 2 (version_code version) ++ others)) = is ∙ ap (λ l. 1 ∷ l)
+    (rest_is ∙ ap (λ l. l ++ b) (exactly-is 8 magic a u magic_spelled) ∙ ap (λ l. magic ++ l) coded) in
+    let own = (version-key version).shows (KeyRecord key) rest after in
+    (ap begins_key bytes, ap version_of bytes ∙ version_known version others, own)
+
+-- and a record whose fields begin so is a Key
+pub key-first : (version : Version) (entry : Record) (fields : List ℕ) → Spells (slot_record version) entry fields
+    → begins_key fields ≡ true → (key : Key) × (entry ≡ KeyRecord key)
+key-first version entry fields spelled begins =
+    let (rest, is, _) = record-parts version entry fields spelled in
+    let test : (kind_of entry == 1) && pointwise (λ a b. a == b) (take 8 rest) magic ≡ true = ap begins_key (sym is)
+    ∙ begins in
+    of_kind entry (eqb-true (kind_of entry) 1 (and_parts _ _ test).0)
+  where
+    of_kind : (entry : Record) → kind_of entry ≡ 1 → (key : Key) × (entry ≡ KeyRecord key)
+    of_kind (KeyRecord key) same = (key, refl)
+    of_kind (ExtendRecord extend) same = absurd (omega (arith, same))
+    of_kind (BoundRecord bound) same = absurd (omega (arith, same))
+    of_kind (Retire upto) same = absurd (omega (arith, same))
+    of_kind Moved same = absurd (omega (arith, same))
+
+-- a list's version is that of the Key at its head
+pub version_first : (records : List Record) (key : Key) → slice_get records 0 ≡ Some (KeyRecord key)
+    → version_in records ≡ key.version
+version_first [] key is = absurd cc
+version_first (entry ∷ rest) key is = ap version_begun (same_Some entry (KeyRecord key) is)
+
+-- and that which its first slot shows
+pub spelled_version : (records : List Record) (content : List ℕ) → SpellsRecords content records
+    → version_of (fields_at content 0) ≡ Some (version_in records)
+spelled_version records content is =
+    let first = is.holds 0 (KeyRecord is.first.0) is.first.1 in
+    (key-begins (version_in records) is.first.0 (fields_at content 0) first.spelled).1
