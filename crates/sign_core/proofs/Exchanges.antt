@@ -1,5 +1,5 @@
 -- What serving requests comes to: heads that are read, requests that are answered, turns, and a whole exchange.
-use Rattle.std.proofs.Common.{◌≡◌, ◌∙◌, inl, inr, refl, sym, ap, ap₂, subst, arith, ℕ, ◌+◌, ◌<◌, ◌≤◌, ◌^◌, Bool, true, false, true≢false}
+use Rattle.std.proofs.Common.{◌≡◌, ◌∙◌, inl, inr, refl, sym, ap, ap₂, subst, arith, ℕ, ◌+◌, ◌<◌, ◌^◌, Bool, true, false, true≢false}
 use Rattle.std.proofs.Common.{List, [], ◌∷◌, ◌++◌, length, append_assoc, append-nil, length-append, map, slice_index, Option, Some, None, Result, Ok, Err, IsSome}
 use Rattle.std.specs.List.{concat}
 use Rattle.std.specs.Io.KnownBytes.{Appends}
@@ -27,6 +27,7 @@ use Rattle.sign_core.specs.Records.{binding_in}
 use Rattle.sign_core.specs.Serving.{AnswersFrame, AnswersInTurn, AreFrames, Asks, Closes, ComesTo, Exchange, Finishes, Serves, SignsGiven, Turn}
 use Rattle.sign_core.specs.Serving.{Turns, WritesReply, is_unread, reply_bytes, reply_frame, reply_of}
 use Rattle.sign_core.specs.Signer.{IsRead, KeepsForRepeat, Signs, View, is_before_repeat, is_fault, state_of}
+use Rattle.sign_core.specs.Signing.{KeepsCapacity}
 use Rattle.sign_core.specs.World.{Outcome}
 use Rattle.sign_core.proofs.InputReading.{IsPart, part_cut, part_done, reads_close, reads_none, reads_then}
 use Rattle.sign_core.proofs.Reported.{IsReported, is_reported}
@@ -234,8 +235,8 @@ module _ {P X : Type 0} (p : message.Ghosts P) (part : P → X)
   stays (outcome ∷ later) old new (next, first, reads) = stays later next new reads ∙ kept old outcome next first
 
   cant_stays : (old new : P) → CantBeRead p.transition old new → part new ≡ part old
-  cant_stays old new (inl (outcomes, text, kind, reads, gave, other)) = stays (outcomes ++ Err kind ∷ []) old new reads
-  cant_stays old new (inr (outcomes, text, reads, gave, endless)) = stays outcomes old new reads
+  cant_stays old new (inl (kind, text, (outcomes, reads, gave))) = stays (outcomes ++ Err kind ∷ []) old new reads
+  cant_stays old new (inr (text, (outcomes, reads, gave), endless)) = stays outcomes old new reads
 
   whole_stays : (text : List ℕ) (old new : P) → ReadWhole p.transition p.remaining text old new → part new ≡ part old
   whole_stays text old new whole = let (outcomes, reads, gave) = whole.gave in stays (outcomes ++ Ok [] ∷ []) old new reads
@@ -292,7 +293,7 @@ module _ {S R P M : Type 0} (g : store.Ghosts S) (r : source.Ghosts R) (p : mess
       answer unread whole bound signs.message
       (λ is. reported.unread (answered ∙ is)) (λ known none. sym answered ∙ reported.reported known none) says said finishes
 
-  pub answered_frame : (reply : Reply) (whole : Bool) (room : ℕ) → left_of before < 2 ^ 32 → capacity ≤ room
+  pub answered_frame : (reply : Reply) (whole : Bool) (room : ℕ) → left_of before < 2 ^ 32 → KeepsCapacity old.records capacity room
       → Asks g r p name old new before middle capacity signature reply → Finishes p (is_unread reply) middle after whole
       → AnswersFrame g r m (name, left_of before) old new (input_of before) (input_of after) capacity room signature (reply, whole)
   answered_frame Signed whole room bound kept (is_name, signs, repeat) finishes =

@@ -70,3 +70,4 @@ pub mod Exchanges
 pub mod Replying
 pub mod RefusedDraws
 pub mod AfterRefusal
+pub mod Capacities

@@ -7,31 +7,11 @@ use Rattle.sign_core.specs.declared.fault.ServeFault.{ServeFault}
 use Rattle.sign_core.specs.declared.fault.ServeFault.TheVariants.{FrameCut, MessageRead, WriteFailed}
 use Rattle.sign_core.specs.Serving.{WritesReply}
 
--- All bytes but the rest were written.
-abbrev pub HasWritten : (bytes rest : List ℕ) → (old new : Option (List ℕ)) → Type 0
-HasWritten bytes rest old new = (part : List ℕ) × (lost : List ℕ) × (bytes ≡ part ++ lost) × Appends old new part × (lost ≡ rest)
+-- ---- one part
 
-pub none_written : (bytes : List ℕ) (old : Option (List ℕ)) → HasWritten bytes bytes old old
-none_written bytes old = ([], bytes, refl, Appends-nil old, refl)
-
-pub more_written : (bytes rest after : List ℕ) (n : ℕ) (old middle new : Option (List ℕ)) → HasWritten bytes rest old middle
-    → Appends middle new (take n rest) → after ≡ drop n rest → HasWritten bytes after old new
-more_written bytes rest after n old middle new (part, lost, whole, written, is) more same =
-    let split : part ++ rest ≡ (part ++ take n rest) ++ drop n rest =
-    ap (λ l. part ++ l) (sym (take-append-drop n rest)) ∙ sym (append_assoc part (take n rest) (drop n rest)) in
-    (part ++ take n rest, drop n rest, whole ∙ ap (λ l. part ++ l) is ∙ split, Appends-trans old middle new part (take n rest) written more, sym same)
-
-pub kept_written : (bytes rest : List ℕ) (old middle new : Option (List ℕ)) → HasWritten bytes rest old middle → Keeps middle new
-    → HasWritten bytes rest old new
-kept_written bytes rest old middle new (part, lost, whole, written, is) kept = (part, lost, whole, Appends-kept old middle new part written kept, is)
-
-pub all_written : (bytes rest : List ℕ) (old new : Option (List ℕ)) → HasWritten bytes rest old new → rest ≡ [] → Appends old new bytes
-all_written bytes rest old new (part, lost, whole, written, is) none =
-    let all : part ≡ bytes = sym (append-nil part) ∙ ap (λ l. part ++ l) (sym none ∙ sym is) ∙ sym whole in
-    subst (Appends old new) all written
-
-pub part_written : (bytes rest : List ℕ) (old new : Option (List ℕ)) → HasWritten bytes rest old new → WritesReply bytes old new (Err WriteFailed)
-part_written bytes rest old new (part, lost, whole, written, is) = (part, lost, whole, written)
+-- it was written up to some of its bytes
+pub part_written : (done : ℕ) (bytes : List ℕ) (old new : Option (List ℕ)) → Appends old new (take done bytes) → WritesReply bytes old new (Err WriteFailed)
+part_written done bytes old new written = (take done bytes, drop done bytes, sym (take-append-drop done bytes), written)
 
 -- ---- one part after the other
 

@@ -1,16 +1,15 @@
 -- The frames of requests in an input, and what reads of an input give.
-use Rattle.std.specs.Prelude.{◌≡◌, ◌≢◌, ◌⊎◌, ℕ, ◌+◌, ◌<◌, ◌≤◌, ◌^◌, Bool, true, false, List, [], ◌∷◌, ◌++◌, length}
+use Rattle.std.specs.Prelude.{◌≡◌, ◌⊎◌, ℕ, ◌+◌, ◌<◌, ◌≤◌, Bool, true, false, List, [], ◌∷◌, ◌++◌, length}
 use Rattle.std.specs.Prelude.{Option, Some, None, Result, Ok, Err, slice_index, if◌then◌else◌}
 use Rattle.std.specs.Io.KnownBytes.{Consumes, IsAtEnd, Keeps}
 use Rattle.arrayvec.specs.declared.array_vec.ArrayVec.{ArrayVec}
 use Rattle.std.specs.declared.io.ErrorKind.{ErrorKind}
-use Rattle.std.specs.declared.io.ErrorKind.TheVariants.{Interrupted}
 use Rattle.typecodes.specs.declared.fault.Cause.TheVariants.{Truncated}
 use Rattle.typecodes.specs.declared.message.Message as message
 use Rattle.typecodes.specs.Fault.{fault_at}
 use Rattle.typecodes.specs.Fields.{block, number}
 use Rattle.typecodes.specs.Layout.{HasFault, Layout, Spells, done, field, ◌>>=◌}
-use Rattle.typecodes.specs.Message.{CantBeRead, Gave, ReadOutcome, ReadWhole, Transitions, interruptions}
+use Rattle.typecodes.specs.Message.{CantBeRead, Gave, ReadOutcome, ReadWhole, Transitions}
 use Rattle.sign_core.specs.declared.fault.ServeFault.{ServeFault}
 use Rattle.sign_core.specs.declared.fault.ServeFault.TheVariants.{FrameCut, MessageRead, WriteFailed}
 use Rattle.sign_core.specs.declared.frames.Head.{Head}
@@ -23,13 +22,11 @@ pub data Ending : Type 0 where
   ended : Ending
   broken : Ending
 
--- The read that says so: none; one that gave nothing; one that failed, unless too many were interrupted.
-abbrev pub LastRead : Ending → (earlier last : List ReadOutcome) → Type 0
-LastRead going earlier last = last ≡ []
-LastRead ended earlier last = last ≡ Ok [] ∷ []
-LastRead broken earlier last =
-    ((kind : ErrorKind) × (last ≡ Err kind ∷ []) × (kind ≢ Interrupted))
-    ⊎ ((last ≡ []) × (2 ^ 19 ≤ interruptions earlier))
+-- The read that says so: none; one that gave nothing; one that failed, whatever the kind of its error.
+abbrev pub LastRead : Ending → (last : List ReadOutcome) → Type 0
+LastRead going last = last ≡ []
+LastRead ended last = last ≡ Ok [] ∷ []
+LastRead broken last = (kind : ErrorKind) × (last ≡ Err kind ∷ [])
 
 -- At the end of an input no bytes are left, where that is known.
 abbrev pub LeavesNone : Ending → (left : Option (List ℕ)) → Type 0
@@ -44,7 +41,7 @@ pub record ReadsInput {M : Type 0} (m : message.Ghosts M) (given : List ℕ) (en
   pub last : List ReadOutcome
   pub reads : Transitions m.transition (earlier ++ last) old new
   pub gave : Gave earlier given
-  pub ends : LastRead ending earlier last
+  pub ends : LastRead ending last
   pub bytes : Consumes (m.remaining old) (m.remaining new) given
   pub none : LeavesNone ending (m.remaining new)
 
@@ -152,8 +149,7 @@ ReadsPart m left old (Ok bytes) after new = (after + length bytes ≡ left)
     ⊎ ((1 ≤ length bytes) × m.transition old (Ok bytes) new × Consumes (m.remaining old) (m.remaining new) bytes))
 ReadsPart m left old (Err kind) after new = (after ≡ left) × (1 ≤ left)
     × ((m.transition old (Err kind) new × Keeps (m.remaining old) (m.remaining new))
-    ⊎ ((kind ≢ Interrupted) × m.transition old (Ok []) new × Consumes (m.remaining old) (m.remaining new) []
-    × IsAtEnd (m.remaining new)))
+    ⊎ (m.transition old (Ok []) new × Consumes (m.remaining old) (m.remaining new) [] × IsAtEnd (m.remaining new)))
 
 -- What is left of a message was read; or it can't be.
 abbrev pub Skips : {M A E : Type 0} → message.Ghosts M → (old new : M) → Result A E → Type 0

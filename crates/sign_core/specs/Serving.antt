@@ -21,6 +21,7 @@ use Rattle.sign_core.specs.Frames.{CutsField, Ending, IsCut, IsFrame, IsWholeMes
 use Rattle.sign_core.specs.Frames.{ended, given_by, going, head}
 use Rattle.sign_core.specs.Records.{binding_in}
 use Rattle.sign_core.specs.Signer.{AnswersRequest, KeepsForRepeat, Signs, View, is_before_repeat, is_fault}
+use Rattle.sign_core.specs.Signing.{KeepsCapacity}
 
 -- ---- replies
 
@@ -68,11 +69,12 @@ AnswersBy g r (Refused fault) signature request old new capacity =
     IsName request.name × SignsGiven g r old new request.name (given_by request) capacity (Err fault)
 AnswersBy g r BadName signature request old new capacity = (IsName request.name → ⊥) × (new ≡ old)
 
--- The output keeps its capacity.
+-- The output's capacity isn't given away, and grows no further than the signature takes.
 abbrev pub AnswersExchange : {S R : Type 0} → store.Ghosts S → source.Ghosts R → Exchange → (old new : View S R)
     → (capacity after : ℕ) → Type 0
 AnswersExchange g r exchange old new capacity after =
-    (capacity ≤ after) × AnswersBy g r exchange.reply exchange.signature exchange.request old new capacity
+    KeepsCapacity old.records capacity after
+    × AnswersBy g r exchange.reply exchange.signature exchange.request old new capacity
 
 -- Requests are answered one after the other.
 abbrev pub AnswersInTurn : {S R : Type 0} → store.Ghosts S → source.Ghosts R → List Exchange → (old new : View S R)
@@ -189,7 +191,7 @@ pub record AnswersFrame {S R I : Type 0} (g : store.Ghosts S) (r : source.Ghosts
   pub ending : Ending
   pub comes : ComesTo ending request result.1
   pub reads : ReadsInput m request.message ending before after
-  pub room_kept : capacity ≤ room
+  pub room_kept : KeepsCapacity old.records capacity room
   pub answers : AnswersBy g r result.0 signature request old new capacity
 
 -- a refusal that says so

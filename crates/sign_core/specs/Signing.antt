@@ -2,7 +2,7 @@
 -- there.
 use Rattle.std.specs.Prelude.{◌≡◌, ◌⊎◌, ℕ, ◌+◌, ◌-◌, ◌<◌, Bool, true, false, List, [], ◌∷◌, ◌++◌, length, Option}
 use Rattle.std.specs.Prelude.{None, Some}
-use Rattle.std.specs.Prelude.{Result, Ok, Err, Vec, map, take, vec_capacity, ◌≤◌, ◌^◌}
+use Rattle.std.specs.Prelude.{Result, Ok, Err, Vec, map, max, take, vec_capacity, ◌≤◌, ◌^◌}
 use Rattle.std.specs.List.{AllByRecursion, concat}
 use Rattle.typecodes.specs.declared.message.Message as message
 use Rattle.state_file.specs.declared.record.Bound.{Bound}
@@ -42,13 +42,13 @@ abbrev pub answered_with : {A B : Type 0} → Result A SignFault → B → Resul
 answered_with (Ok _) value = Ok value
 answered_with (Err fault) value = Err fault
 
--- An output's memory isn't given away.
-abbrev pub KeepsCapacity : {X Z : Type 0} → (old new : Vec X Z) → Type 0
-KeepsCapacity old new = vec_capacity old ≤ vec_capacity new
-
 -- of the key of records
 abbrev pub UnderKey : List Record → (Key → Type 0) → Type 0
 UnderKey records P = (key : Key) → key_in records ≡ Some key → P key
+
+-- An output's memory isn't given away, and it grows no further than a signature of the records' key takes.
+abbrev pub KeepsCapacity : List Record → (old new : ℕ) → Type 0
+KeepsCapacity records old new = (old ≤ new) × UnderKey records (λ key. new ≤ max old (signature_size key.secret))
 
 -- ---- a chain that stands
 
@@ -217,12 +217,12 @@ RepeatsBinding m state cached binding before after capacity answer = UnderKey st
     → IsBindingOf state.records binding key name → Repeats m state cached before after capacity answer key name)
 
 -- So it is by caches that were taken out, which an answer that comes before they are needed leaves as they were. The
--- output's memory isn't given away.
+-- output keeps its memory.
 pub record RepeatsBy {M Z A : Type 0} (m : message.Ghosts M) (state : State) (binding : Binding)
     (old_caches new_caches : Cached) (before after : M) (old new : Vec ℕ Z) (result : Result A SignFault)
     : Type 0 where
   pub step : RepeatsBinding m state old_caches binding before after (vec_capacity old) (answered_with result new.items)
-  pub capacity : KeepsCapacity old new
+  pub capacity : KeepsCapacity state.records (vec_capacity old) (vec_capacity new)
   pub early : is_fault is_before_repeat result ≡ true → new_caches ≡ old_caches
 
 -- ---- an XMSS key

@@ -1,17 +1,15 @@
 //! Frames of requests, as reads of an input give them: what stands before a message, and the message.
 
-ghost use Rattle.std.specs.Prelude.{◌≡◌, ◌≤◌, ◌<◌, length, OnErr, OnOk};
+ghost use Rattle.std.specs.Prelude.{◌≡◌, ◌<◌, length, OnErr, OnOk};
 ghost use Rattle.sign_core.specs.Frames.{FillsBuffer, ReadsField, ReadsHead, Skips, after_size, bytes_of, said_by};
 ghost use Rattle.typecodes.specs.Fields.{block};
 
 use crate::fault::ServeFault;
 use arrayvec::ArrayVec;
+use std::convert::Infallible;
 use std::io;
 use std::io::ErrorKind;
-use typecodes::{Message, MessageFailed, PIECE, PIECES, read_piece};
-
-// How many reads are tried for one field: each gives a byte at least or is interrupted.
-const TRIES: u32 = 1 << 20;
+use typecodes::{Message, MessageFailed, PieceTaker, read_full, read_to_end};
 
 /// What stands before a message: the bytes of the name, and how many bytes the message is to have.
 #[derive(Drop)]
@@ -20,31 +18,15 @@ pub(crate) struct Head {
     pub(crate) announced: u32,
 }
 
-// Fills a buffer with the next bytes of an input. An interrupted read is tried again, at least 2^19 times before the
-// input counts as failed.
+// Fills a buffer with the next bytes of an input.
 fn fill<I: Message>(input: &mut I, buffer: &mut [u8]) -> Result<(), ServeFault>
-    requires { length buffer.old ≤ 255 }
     ensures { FillsBuffer I.Message buffer.new input.old input.new result }
 {
-    let mut at = 0;
-    for turn in 0..TRIES {
-        if at >= buffer.len() {
-            return Ok(());
-        }
-        match input.read_into(&mut buffer[at..]) {
-            Ok(0) => return Err(ServeFault::FrameCut),
-            Ok(n) => at += n,
-            Err(error) => {
-                if error.kind() != ErrorKind::Interrupted {
-                    return Err(ServeFault::MessageRead);
-                }
-            }
-        }
+    match read_full(input, buffer) {
+        Ok(n) if n < buffer.len() => Err(ServeFault::FrameCut),
+        Ok(_) => Ok(()),
+        Err(_) => Err(ServeFault::MessageRead),
     }
-    if at >= buffer.len() {
-        return Ok(());
-    }
-    Err(ServeFault::MessageRead)
 }
 
 // Reads a name of so many bytes, of which nothing else is known.
@@ -120,16 +102,31 @@ impl<I: Message> Message for FrameMessage<'_, I> {
     }
 }
 
+// What takes the pieces of a message, and keeps nothing of them.
+#[derive(Drop)]
+struct Discard {}
+
+impl PieceTaker for Discard {
+    ghost use Rattle.std.specs.Prelude.{⊤};
+
+    type Error = Infallible;
+
+    ghost takes = { λ _ _ _. ⊤ };
+
+    ghost refuses = { λ _ _ _ _. ⊥ };
+
+    fn take_piece(&mut self, piece: &[u8]) -> Result<(), Infallible> {
+        Ok(())
+    }
+
+    ghost takes_nothing = { λ _. tt };
+
+    ghost takes_more = { λ _ _ _ _ _ _ _. tt };
+}
+
 /// Reads what is left of a message, and keeps nothing of it.
 pub(crate) fn skip<M: Message>(message: &mut M) -> Result<(), MessageFailed>
     ensures { Skips M.Message message.old message.new result }
 {
-    let mut piece = [0; PIECE];
-    for turn in 0..PIECES {
-        let n = read_piece(message, &mut piece)?;
-        if n < PIECE {
-            return Ok(());
-        }
-    }
-    Err(MessageFailed)
+    read_to_end(message, &mut Discard {}).map_err(|_| MessageFailed)
 }

@@ -12,8 +12,8 @@ use crate::signer::Signer;
 use crate::source::Source;
 use state_file::Store;
 use std::alloc::Global;
-use std::io::{ErrorKind, Write};
-use typecodes::{Message, Name};
+use std::io::Write;
+use typecodes::{Message, Name, write_all};
 
 // How many replies are written at most.
 const REPLIES: u64 = 1 << 32;
@@ -153,7 +153,7 @@ fn ask<S: Store, R: Source, M: Message>(
 ) -> Reply
     ensures asks { Asks S.Store R.Source M.Message name.now signer.old signer.new message.old message.new
         (vec_capacity signature.old) signature.new.items result }
-    ensures capacity { KeepsCapacity signature.old signature.new }
+    ensures capacity { KeepsCapacity signer.old.records (vec_capacity signature.old) (vec_capacity signature.new) }
 {
     let Ok(name) = Name::new(name) else {
         return Reply::BadName;
@@ -193,35 +193,23 @@ fn write_reply<W: Write>(writer: &mut W, number: u8, body: &[u8]) -> Result<(), 
         Ok(size) => size,
         Err(_) => return Err(ServeFault::WriteFailed),
     };
-    write_all(writer, &[number])?;
-    write_all(writer, &size.to_be_bytes())?;
-    write_all(writer, body)?;
+    write_part(writer, &[number])?;
+    write_part(writer, &size.to_be_bytes())?;
+    write_part(writer, body)?;
     match writer.flush() {
         Ok(()) => Ok(()),
         Err(_) => Err(ServeFault::WriteFailed),
     }
 }
 
-// Writes bytes, all of them or those before a write that fails. An interrupted write is tried again.
-fn write_all<W: Write>(writer: &mut W, bytes: &[u8]) -> Result<(), ServeFault>
+// Writes a part of a reply: all of its bytes, or those before a write that fails.
+fn write_part<W: Write>(writer: &mut W, bytes: &[u8]) -> Result<(), ServeFault>
     ensures { WritesReply bytes.now (W.contents writer.old) (W.contents writer.new) result }
 {
-    let mut rest = bytes;
-    for turn in 0..u64::MAX {
-        if rest.is_empty() {
-            return Ok(());
-        }
-        match writer.write(rest) {
-            Ok(0) => return Err(ServeFault::WriteFailed),
-            Ok(n) => rest = &rest[n..],
-            Err(error) => {
-                if error.kind() != ErrorKind::Interrupted {
-                    return Err(ServeFault::WriteFailed);
-                }
-            }
-        }
+    match write_all(writer, bytes) {
+        Ok(()) => Ok(()),
+        Err(_) => Err(ServeFault::WriteFailed),
     }
-    Err(ServeFault::WriteFailed)
 }
 
 #[cfg(test)]

@@ -7,7 +7,7 @@ use crate::signer::tests::{
 };
 use crate::source::TapeSource;
 use state_file::{FileStore, MemoryDisk};
-use std::io::Read;
+use std::io::{ErrorKind, Read};
 use std::test::*;
 use std::{io, mem};
 
@@ -113,13 +113,17 @@ impl Write for Output {
         Ok(n)
     }
 
-    // Only a failure is odd here.
+    // It takes nothing in any case.
     fn flush(&mut self) -> io::Result<()> {
         self.flushes = self.flushes.wrapping_add(1);
-        if self.is_odd() && self.odd == Odd::Fails {
-            return Err(io::Error::from(ErrorKind::StorageFull));
+        if !self.is_odd() {
+            return Ok(());
         }
-        Ok(())
+        match self.odd {
+            Odd::Fails => Err(io::Error::from(ErrorKind::StorageFull)),
+            Odd::TakesNothing => Ok(()),
+            Odd::IsInterrupted => Err(io::Error::from(ErrorKind::Interrupted)),
+        }
     }
 }
 

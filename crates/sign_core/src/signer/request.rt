@@ -111,7 +111,7 @@ impl<S: Store, R: Source> Signer<S, R> {
         ensures step { Signs S.Store R.Source M.Message self.old self.new name.now message.old message.new
             (vec_capacity out.old) (answered_with result out.new.items) }
         ensures empty { OnErr result (out.new.items ≡ []) }
-        ensures capacity { KeepsCapacity out.old out.new }
+        ensures capacity { KeepsCapacity self.old.records (vec_capacity out.old) (vec_capacity out.new) }
         // A request of a name that is bound changes nothing but caches, and with 21 and 27 not even these.
         ensures repeat { IsSome (binding_in self.old.records name.now) →
             KeepsForRepeat self.old self.new (is_fault is_before_repeat result) }
@@ -132,7 +132,7 @@ impl<S: Store, R: Source> Signer<S, R> {
     ) -> Result<(), SignFault>
         ensures step { Signs S.Store R.Source M.Message self.old self.new name.now message.old message.new
             (vec_capacity out.old) (answered_with result out.new.items) }
-        ensures capacity { KeepsCapacity out.old out.new }
+        ensures capacity { KeepsCapacity self.old.records (vec_capacity out.old) (vec_capacity out.new) }
         ensures repeat { IsSome (binding_in self.old.records name.now) →
             KeepsForRepeat self.old self.new (is_fault is_before_repeat result) }
     {
@@ -153,7 +153,7 @@ impl<S: Store, R: Source> Signer<S, R> {
         requires kept { IsSomeBinding self.old.records binding.now }
         ensures step { RepeatsBinding M.Message (state_of self.old) self.old.cached binding.now message.old message.new
             (vec_capacity out.old) (answered_with result out.new.items) }
-        ensures capacity { KeepsCapacity out.old out.new }
+        ensures capacity { KeepsCapacity self.old.records (vec_capacity out.old) (vec_capacity out.new) }
         ensures keeps { KeepsForRepeat self.old self.new (is_fault is_before_repeat result) }
     {
         let mut caches = self.caches.take();
@@ -192,7 +192,7 @@ impl<S: Store, R: Source> Signer<S, R> {
         requires unbound { binding_in self.old.records name.now ≡ None }
         ensures step { Signs S.Store R.Source M.Message self.old self.new name.now message.old message.new
             (vec_capacity out.old) (answered_with result out.new.items) }
-        ensures capacity { KeepsCapacity out.old out.new }
+        ensures capacity { KeepsCapacity self.old.records (vec_capacity out.old) (vec_capacity out.new) }
     {
         let level = self.ledger.deepest().ok_or(SignFault::Exhausted)?;
         self.prepare(level, out)?;
@@ -211,7 +211,7 @@ impl<S: Store, R: Source> Signer<S, R> {
         requires level { UnderKey self.old.records (λ key. level < levels_of key.secret) }
         ensures room { UnderKey self.old.records (Prepares (S.most self.old.store) level self.old self.new
             (vec_capacity out.old) (length out.new.items) result) }
-        ensures capacity { KeepsCapacity out.old out.new }
+        ensures capacity { KeepsCapacity self.old.records (vec_capacity out.old) (vec_capacity out.new) }
     {
         let wanted = self.ledger.key().secret.levels() - level;
         if u64::from(self.ledger.len()) + u64::from(wanted) > u64::from(self.store.limit()) {

@@ -1,6 +1,6 @@
 //! Signing over a store: a name that is bound has its signature again, and a new one has the wanted records made.
 
-ghost use Rattle.std.specs.Prelude.{◌≡◌, ◌≢◌, ◌<◌, ◌+◌, ◌-◌, [], Some, true, length, vec_capacity};
+ghost use Rattle.std.specs.Prelude.{◌≡◌, ◌≢◌, ◌<◌, ◌≤◌, ◌+◌, ◌-◌, [], Some, true, length, max, vec_capacity};
 ghost use Rattle.std.specs.Prelude.{IfErr, IfOk, OnErr, OnOk};
 ghost use Rattle.typecodes.specs.Message.{Digests};
 ghost use Rattle.lmots.specs.Key.{message_digest_of};
@@ -10,7 +10,7 @@ ghost use Rattle.sign_core.specs.Caches.{LacksCache};
 ghost use Rattle.sign_core.specs.Records.{free_at};
 ghost use Rattle.sign_core.specs.Links.{AreTreesOf, trees_in};
 ghost use Rattle.sign_core.specs.Signing.{Binds, CanBind, ChainStands, DrawsTree, Extends, Fulfils, IsReady};
-ghost use Rattle.sign_core.specs.Signing.{IsSomeBinding, IsXmssKey, KeepsCapacity, RepeatsBy, UnderKey};
+ghost use Rattle.sign_core.specs.Signing.{IsSomeBinding, IsXmssKey, RepeatsBy, UnderKey};
 ghost use Rattle.sign_core.specs.Signing.{answered_with};
 ghost use Rattle.sign_core.specs.Signer.{signature_size, state_of};
 
@@ -89,10 +89,26 @@ pub(super) fn make_room(secret: &Secret, out: &mut Vec<u8>) -> Result<(), SignFa
     ensures refused { IfErr result (λ fault. fault ≡ SignFault.OutOfMemory) }
     // Memory is requested only where there is no room for it yet.
     ensures full { OnErr result (vec_capacity out.old < signature_size secret.now) }
-    ensures capacity { KeepsCapacity out.old out.new }
+    ensures capacity { vec_capacity out.old ≤ vec_capacity out.new }
+    ensures most { vec_capacity out.new ≤ max (vec_capacity out.old) (signature_size secret.now) }
 {
-    out.resize(signature_len(secret) as usize, 0)
-        .map_err(|_| SignFault::OutOfMemory)
+    let size = signature_len(secret) as usize;
+    out.clear();
+    out.reserve_exact(size).map_err(|_| SignFault::OutOfMemory)?;
+    fill(out, size);
+    Ok(())
+}
+
+// Fills an empty output, which has room for so many bytes. No contract says that `resize` takes no memory then.
+fn fill(out: &mut Vec<u8>, size: usize)
+    requires empty { length out.old.items ≡ 0 }
+    requires room { size ≤ vec_capacity out.old }
+    ensures size { length out.new.items ≡ size }
+    ensures capacity { vec_capacity out.new ≡ vec_capacity out.old }
+{
+    for _ in 0..size {
+        out.push_reserved(0);
+    }
 }
 
 // Makes the cache of an XMSS key's tree, which is to sign by this leaf, unless it is there.

@@ -106,21 +106,19 @@ fn a_changed_message_is_refused_and_the_first_repeated(rt: HostRuntime) {
     assert!(rt; is_changed_and_repeated(rt.alloc()) == Some((true, 513)));
 }
 
-// How an input is given: at most so many bytes at a time, with a failure at its end, and with interruptions.
+// How an input is given: at most so many bytes at a time, and with a failure at its end, which may be an interruption.
 #[derive(Clone, Copy)]
 struct Way {
     most: usize,
     fails: bool,
-    interrupts: bool,
-    is_stuck: bool,
+    is_interrupted: bool,
 }
 
 // An input of these bytes that is given so.
 fn given_by<'a>(bytes: &'a [u8], way: &Way) -> Input<'a> {
     let mut input = input_of(bytes, way.fails);
     input.most = way.most;
-    input.interrupts = way.interrupts;
-    input.is_stuck = way.is_stuck;
+    input.is_interrupted = way.is_interrupted;
     input
 }
 
@@ -175,38 +173,33 @@ const ENDS: [Result<u64, ServeFault>; 21] = [
     Ok(2),
 ];
 
-// Each beginning is given whole and by single bytes, and again where reads fail after it, or are interrupted without
-// end. These count as a failure, in each field of a frame and in a message.
+// Each beginning is given whole and by single bytes, and again where reads fail after it. One that is interrupted is a
+// failure, in each field of a frame and in a message.
 const BEGINNINGS: [Way; 5] = [
     Way {
         most: usize::MAX,
         fails: false,
-        interrupts: false,
-        is_stuck: false,
+        is_interrupted: false,
     },
     Way {
         most: 1,
         fails: false,
-        interrupts: true,
-        is_stuck: false,
+        is_interrupted: false,
     },
     Way {
         most: usize::MAX,
         fails: true,
-        interrupts: false,
-        is_stuck: false,
+        is_interrupted: false,
     },
     Way {
         most: 1,
         fails: true,
-        interrupts: true,
-        is_stuck: false,
+        is_interrupted: false,
     },
     Way {
         most: usize::MAX,
         fails: true,
-        interrupts: false,
-        is_stuck: true,
+        is_interrupted: true,
     },
 ];
 
@@ -268,31 +261,29 @@ const REQUESTS: [Request; 6] = [
     (b"fw-1", 200, 1),
 ];
 
-// Ways of giving them: how many bytes at a time, with a failure at the end or without, and with interruptions or
-// without.
-const WAYS: [(usize, bool, bool); 12] = [
+// Ways of giving them: how many bytes at a time, with a failure at the end or without, and whether that is an
+// interruption.
+const WAYS: [(usize, bool, bool); 11] = [
     (1, false, false),
     (63, false, false),
     (64, false, false),
     (65, false, false),
     (usize::MAX, false, false),
-    (1, false, true),
-    (64, false, true),
-    (usize::MAX, false, true),
     (1, true, false),
-    (63, true, true),
     (65, true, false),
+    (usize::MAX, true, false),
+    (1, true, true),
+    (63, true, true),
     (usize::MAX, true, true),
 ];
 
 // How many of these ways lead to what the frames lead to, six replies.
 fn right_ways(alloc: Global, start: Start<'_>, frames: &[u8]) -> usize {
-    for (i, (most, fails, interrupts)) in WAYS.iter().enumerate() {
+    for (i, (most, fails, is_interrupted)) in WAYS.iter().enumerate() {
         let way = Way {
             most: *most,
             fails: *fails,
-            interrupts: *interrupts,
-            is_stuck: false,
+            is_interrupted: *is_interrupted,
         };
         let wanted = if *fails { UNREAD } else { Ok(6) };
         if !ends_with(alloc, start, (frames, &way), wanted) {
@@ -320,7 +311,7 @@ fn right_inputs(alloc: Global) -> Option<[usize; 4]> {
 
 #[test]
 fn inputs_lead_to_what_their_frames_lead_to(rt: HostRuntime) {
-    assert!(rt; right_inputs(rt.alloc()) == Some([105, 21, 320, 12]));
+    assert!(rt; right_inputs(rt.alloc()) == Some([105, 21, 320, 11]));
 }
 
 // The file of a key of this spec whose first record, or the one after it, is this one.

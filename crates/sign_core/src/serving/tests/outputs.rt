@@ -83,8 +83,8 @@ const REPLIED: &[u8] = b"\x04fw-1\0\0\0\x01\x01\x04fw-1\0\0\0\x01\x02\0\0\0\0\x0
 // A new name whose message is cut, after a request that is refused.
 const REFUSED: &[u8] = b"\x01 \0\0\0\x01\x01\x04fw-1\0\0\0\x02\x01";
 
-// Whether each odd call of the output of an exchange cuts it where it should: each that fails, each write that takes
-// nothing, and none that is interrupted.
+// Whether each odd call of the output of an exchange cuts it where it should: each that fails or is interrupted, and
+// each write that takes nothing.
 fn cuts_as_it_should(alloc: Global, bytes: &[u8], most: usize, replies: u32) -> Option<bool> {
     let tape = tape_of::<112>(0, 1);
     let file = new_file(alloc, CHEAP, &tape, 0)?;
@@ -95,7 +95,7 @@ fn cuts_as_it_should(alloc: Global, bytes: &[u8], most: usize, replies: u32) -> 
     let failed = cut_by(alloc, start, bytes, (most, Odd::Fails, all), &whole)?;
     let without = cut_by(alloc, start, bytes, (most, Odd::TakesNothing, all), &whole)?;
     let interrupted = cut_by(alloc, start, bytes, (most, Odd::IsInterrupted, all), &whole)?;
-    Some(failed == all && without == writes && interrupted == 0 && flushes == replies)
+    Some(failed == all && without == writes && interrupted == all && flushes == replies)
 }
 
 // An input, how many bytes its output takes at a time, and how many replies it has.

@@ -59,11 +59,11 @@ pub(crate) enum Call<'a> {
     // requests with messages of zeros that fail after so many bytes: each has this fault and leaves no byte, and after
     // each so many leaves are left
     Fail(u32, &'a [usize], SignFault, &'a [u32]),
-    // the same of messages that are interrupted without end after so many bytes
-    Stick(u32, &'a [usize], SignFault, &'a [u32]),
+    // the same of messages that are interrupted after so many bytes
+    Interrupt(u32, &'a [usize], SignFault, &'a [u32]),
     // requests with one message of 32,684 bytes in pieces of these sizes, which have one signature; also where reads
     // say that they gave the last 5,000 bytes, and write none; that signature isn't valid for a message that is
-    // interrupted without end
+    // interrupted
     InPieces(u32, &'a [usize]),
     // leaves are retired
     Retire(u32, Option<SignFault>),
@@ -94,33 +94,28 @@ fn signs_all<S: Store, R: Source>(
     Some(true)
 }
 
-// An input, of which a read gives at most so many bytes. It ends after them or fails there. Where it interrupts, it
-// does so once before each read; where it is stuck, without end after its bytes. It may claim so many bytes more, which
-// its reads say that they gave, and write none of.
+// An input, of which a read gives at most so many bytes. It ends after them or fails there. It may claim so many bytes
+// more, which its reads say that they gave, and write none of. Where its failure is an interruption, it goes on after
+// it with bytes that it claims.
 #[derive(Drop)]
 pub(crate) struct Input<'a> {
     pub(crate) rest: &'a [u8],
     pub(crate) most: usize,
     pub(crate) fails: bool,
-    pub(crate) interrupts: bool,
-    pub(crate) is_stuck: bool,
+    pub(crate) is_interrupted: bool,
     pub(crate) claims: usize,
-    is_interrupted: bool,
 }
 
 impl Read for Input<'_> {
     fn read(&mut self, buffer: &mut [u8]) -> io::Result<usize> {
-        self.is_interrupted = self.interrupts && !self.is_interrupted;
-        if self.is_interrupted {
-            return Err(io::Error::from(ErrorKind::Interrupted));
-        }
         let n = self.most.min(buffer.len()).min(self.rest.len());
         if n == 0 && self.claims > 0 {
             let claimed = self.claims.min(buffer.len());
             self.claims -= claimed;
             return Ok(claimed);
         }
-        if n == 0 && self.is_stuck {
+        if n == 0 && self.fails && self.is_interrupted {
+            self.claims = usize::MAX;
             return Err(io::Error::from(ErrorKind::Interrupted));
         }
         if n == 0 && self.fails {
@@ -139,20 +134,18 @@ pub(crate) fn input_of(bytes: &[u8], fails: bool) -> Input<'_> {
         rest: bytes,
         most: usize::MAX,
         fails,
-        interrupts: false,
-        is_stuck: false,
-        claims: 0,
         is_interrupted: false,
+        claims: 0,
     }
 }
 
-// Whether each request of a name has this fault and leaves no byte, whose message fails, or is stuck, after one of
-// these counts of bytes, and so many leaves are left after it.
+// Whether each request of a name has this fault and leaves no byte, whose message fails, or is interrupted, after one
+// of these counts of bytes, and so many leaves are left after it.
 fn all_fail<S: Store, R: Source>(
     alloc: Global,
     signer: &mut Signer<S, R>,
     name: &[u8],
-    (counts, is_stuck): (&[usize], bool),
+    (counts, is_interrupted): (&[usize], bool),
     (fault, left): (SignFault, &[u32]),
 ) -> Option<bool> {
     let name = Name::new(name).ok()?;
@@ -160,7 +153,7 @@ fn all_fail<S: Store, R: Source>(
         let zeros = vec![in alloc; 0u8; *count].ok()?;
         let mut out = Vec::new(alloc);
         let mut message = input_of(&zeros, true);
-        message.is_stuck = is_stuck;
+        message.is_interrupted = is_interrupted;
         let answer = signer.sign(&name, &mut message, &mut out);
         if answer != Err(fault) || !out.is_empty() || signer.left().as_slice() != left {
             return Some(false);
@@ -169,12 +162,11 @@ fn all_fail<S: Store, R: Source>(
     Some(true)
 }
 
-// A text in pieces of this size, interrupted before each. Of so many of its last bytes the reads say that they gave
+// A text in pieces of this size. Of so many of its last bytes the reads say that they gave
 // them, and write none.
 fn in_pieces<'a>(text: &'a [u8], (size, claims): (usize, usize)) -> Option<Input<'a>> {
     let mut message = input_of(text.get(..text.len().checked_sub(claims)?)?, false);
     message.most = size;
-    message.interrupts = true;
     message.claims = claims;
     Some(message)
 }
@@ -212,8 +204,7 @@ fn long_text(alloc: Global) -> Option<Vec<u8>> {
     Some(text)
 }
 
-// Whether a message has one signature in pieces of each of these sizes, which isn't valid for one that is interrupted
-// without end.
+// Whether a message has one signature in pieces of each of these sizes, which isn't valid for one that is interrupted.
 fn is_one_in_pieces<S: Store, R: Source>(
     alloc: Global,
     signer: &mut Signer<S, R>,
@@ -229,9 +220,9 @@ fn is_one_in_pieces<S: Store, R: Source>(
             return Some(false);
         }
     }
-    let mut stuck = input_of(&text, true);
-    stuck.is_stuck = true;
-    let verdict = verify_any(&signer.public_key(), &mut stuck, &first);
+    let mut interrupted = input_of(&text, true);
+    interrupted.is_interrupted = true;
+    let verdict = verify_any(&signer.public_key(), &mut interrupted, &first);
     Some(verdict == Err(Refusal::MessageRead))
 }
 
@@ -279,7 +270,7 @@ fn is_answered<S: Store, R: Source>(
             let counts = (*counts, false);
             all_fail(alloc, signer, &name_of(*number), counts, (*fault, *left))
         }
-        Call::Stick(number, counts, fault, left) => {
+        Call::Interrupt(number, counts, fault, left) => {
             let counts = (*counts, true);
             all_fail(alloc, signer, &name_of(*number), counts, (*fault, *left))
         }

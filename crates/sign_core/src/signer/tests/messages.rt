@@ -7,8 +7,8 @@ const COUNTS: [usize; 21] = [
     0, 1, 2, 3, 4, 5, 6, 7, 8, 9, 10, 11, 12, 13, 14, 15, 16, 17, 18, 19, 20,
 ];
 
-// After how many bytes a message is interrupted without end.
-const STUCK: [usize; 5] = [0, 1, 20, 16_384, 16_385];
+// After how many bytes a message is interrupted.
+const INTERRUPTED: [usize; 5] = [0, 1, 20, 16_384, 16_385];
 
 // What is done with new keys.
 const MESSAGES: [Script; 9] = [
@@ -50,7 +50,7 @@ const MESSAGES: [Script; 9] = [
             len: 0,
         }],
     },
-    // it uses no XMSS leaf; nor does one that is interrupted without end
+    // it uses no XMSS leaf; nor does one that is interrupted
     Script {
         text: XMSS,
         tape: COUNTED,
@@ -65,7 +65,7 @@ const MESSAGES: [Script; 9] = [
                     SignFault::MessageRead,
                     &[1024],
                 ),
-                Call::Stick(1, &STUCK, SignFault::MessageRead, &[1024]),
+                Call::Interrupt(1, &INTERRUPTED, SignFault::MessageRead, &[1024]),
                 Call::Sign(1, 0, None),
             ],
             from: 1,
@@ -85,7 +85,7 @@ const MESSAGES: [Script; 9] = [
                 Call::First(1292, &[0; 4]),
                 Call::Fail(1, &COUNTS, SignFault::MessageRead, &[31]),
                 Call::Fail(1, &[16_384, 16_385, 40_000], SignFault::MessageRead, &[31]),
-                Call::Stick(1, &STUCK, SignFault::MessageRead, &[31]),
+                Call::Interrupt(1, &INTERRUPTED, SignFault::MessageRead, &[31]),
                 Call::SignFirst(1, &[0; 3]),
             ],
             from: 1,
@@ -109,7 +109,7 @@ const MESSAGES: [Script; 9] = [
                     SignFault::MessageRead,
                     &[31, 31],
                 ),
-                Call::Stick(1, &STUCK, SignFault::MessageRead, &[31, 31]),
+                Call::Interrupt(1, &INTERRUPTED, SignFault::MessageRead, &[31, 31]),
                 Call::SignFirst(1, &[0; 3]),
             ],
             from: 1,
@@ -133,7 +133,7 @@ const MESSAGES: [Script; 9] = [
                     SignFault::MessageRead,
                     &[1023],
                 ),
-                Call::Stick(1, &STUCK, SignFault::MessageRead, &[1023]),
+                Call::Interrupt(1, &INTERRUPTED, SignFault::MessageRead, &[1023]),
                 Call::SignFirst(1, &[0; 3]),
             ],
             from: 1,

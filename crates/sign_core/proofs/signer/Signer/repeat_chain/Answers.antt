@@ -9,6 +9,7 @@ use Rattle.sign_core.specs.Links.{AreMade, IsTreeAt, trees_in}
 use Rattle.sign_core.specs.Signing.{IsBindingOf, Repeats, UnderKey, WritesChain}
 use Rattle.sign_core.specs.Signing.{answered_with}
 use Rattle.sign_core.specs.Textbook.{trees_of}
+use Rattle.sign_core.proofs.Capacities.{capacity_grows, capacity_stays}
 use Rattle.sign_core.proofs.ChainParts.{links_pairs, same_key}
 use Rattle.sign_core.proofs.Repeats.{bound_chain, chain_read, changed, damaged_chain, is_found, lacks_cache, lacks_room, linked_ok, links_signs, none_made, damaged_after_caches, same_size, signed_chain}
 use Rattle.sign_core.proofs.LedgerReading.{key_levels}
@@ -27,7 +28,7 @@ returns-then-ne g c = record {
       (c.requires.trees key keyed) (ap (λ w. w.records) c.self.view_is)
       (is ∙ ap (λ s. message_digest_of s.identifier c.args.binding.now.leaf c.args.binding.now.randomizer text) c.secret_at.ensures))
       (sym c.ne.ensures ∙ c.if-ne.true);
-  capacity = search rules;
+  capacity = capacity_stays _ _;
   early = search rules;
 }
 
@@ -48,7 +49,9 @@ returns-in_err-make_room g c = record {
       (is ∙ ap (λ s. message_digest_of s.identifier c.args.binding.now.leaf c.args.binding.now.randomizer text) c.secret_at.ensures))
       (sym c.ne.ensures ∙ c.if-ne.false)
       (same_size c.key.result.now key _ own c.in_err-make_room.ensures.full));
-  capacity = search rules;
+  capacity =
+      capacity_grows _ c.key.result.now _ _ (ap (λ w. key_in w.records) (sym c.self.view_is) ∙ c.key.ensures.first)
+      c.make_room.ensures.capacity c.make_room.ensures.most;
   early = λ early.
       let answer : c.from_residual-in_err-make_room.result ≡ Err c.in_err-make_room.field-0.0 = search rules in
       never_such is_before_repeat _ _ (answer ∙ ap Err c.in_err-make_room.ensures.refused) refl early;
@@ -71,7 +74,9 @@ returns-in_err-cache_bound g c = record {
       (is ∙ ap (λ s. message_digest_of s.identifier c.args.binding.now.leaf c.args.binding.now.randomizer text) c.secret_at.ensures))
       (sym c.ne.ensures ∙ c.if-ne.false)
       (c.in_err-cache_bound.ensures.lacking key keyed));
-  capacity = search rules;
+  capacity =
+      capacity_grows _ c.key.result.now _ _ (ap (λ w. key_in w.records) (sym c.self.view_is) ∙ c.key.ensures.first)
+      c.make_room.ensures.capacity c.make_room.ensures.most;
   early = λ early.
       let answer : c.from_residual-in_err-cache_bound.result ≡ Err c.in_err-cache_bound.field-0.0 = search rules in
       never_such is_before_repeat _ _ (answer ∙ ap Err c.in_err-cache_bound.ensures.fault) refl early;
@@ -124,7 +129,9 @@ returns-in_err-map_err g c = record {
       (c.requires.trees key keyed) (ap (λ w. w.records) c.self.view_is)
       (is ∙ ap (λ s. message_digest_of s.identifier c.args.binding.now.leaf c.args.binding.now.randomizer text) c.secret_at.ensures))
       (sym c.ne.ensures ∙ c.if-ne.false) c.map_err.ensures.cases c.in_err-map_err.was c.push_chain.ensures.damaged);
-  capacity = search rules;
+  capacity =
+      capacity_grows _ c.key.result.now _ _ (ap (λ w. key_in w.records) (sym c.self.view_is) ∙ c.key.ensures.first)
+      c.make_room.ensures.capacity c.make_room.ensures.most;
   early = λ early.
       let answer : c.from_residual-in_err-map_err.result ≡ Err c.in_err-map_err.field-0.0 = search rules in
       damaged_after_caches c.push_chain.result c.map_err.result c.in_err-map_err.field-0.0 _ c.map_err.ensures.cases c.in_err-map_err.was answer early;
@@ -179,6 +186,8 @@ returns g c = record {
       (ap (λ k. trees_of k.secret) (sym c.key.ensures.key ∙ own) ∙ c.requires.trees key keyed) signs
       (subst (λ k. WritesChain k.secret c.deref.result.now c.write_chain.new.into) c.key.ensures.key c.write_chain.ensures)
       (take_at c.write_chain.new.into _ c.make_room.new.out.len fits) (key, keyed);
-  capacity = search rules;
+  capacity =
+      capacity_grows _ c.key.result.now _ _ (ap (λ w. key_in w.records) (sym c.self.view_is) ∙ c.key.ensures.first)
+      c.make_room.ensures.capacity c.make_room.ensures.most;
   early = search rules;
 }

@@ -6,6 +6,7 @@ use Rattle.sign_core.specs.Records.{key_in}
 use Rattle.sign_core.specs.Signer.{IsSigner, is_before_repeat, state_of}
 use Rattle.sign_core.specs.Signing.{Repeats}
 use Rattle.sign_core.specs.Signing.{answered_with}
+use Rattle.sign_core.proofs.Capacities.{capacity_grows, capacity_stays}
 use Rattle.sign_core.proofs.ChainParts.{same_key}
 use Rattle.sign_core.proofs.Refusals.{never_such}
 use Rattle.sign_core.proofs.Repeats.{bound_xmss_leaf, changed, damaged_xmss, is_found, lacks_cache, lacks_room, damaged_after_caches, same_size, signed_xmss, xmss_read}
@@ -22,7 +23,7 @@ returns-then-ne g c = record {
       changed g.M.Message v c.args.message.now c.read_xmss_digest.new.message _ key name c.args.binding.now found text c.in_ok-digest.digest whole
       (xmss_read key c.key.result.now v.records name c.args.binding.now found c.args.secret.now text c.in_ok-digest.digest (c.requires.key key keyed) own is)
       (sym c.ne.ensures ∙ c.if-ne.true);
-  capacity = search rules;
+  capacity = capacity_stays _ _;
   early = search rules;
 }
 
@@ -43,7 +44,9 @@ returns-in_err-make_room g c = record {
       (xmss_read key c.key.result.now v.records name c.args.binding.now found c.args.secret.now text c.in_ok-digest.digest (c.requires.key key keyed) own is)
       (sym c.ne.ensures ∙ c.if-ne.false)
       (same_size c.key-2.result.now key _ other c.in_err-make_room.ensures.full));
-  capacity = search rules;
+  capacity =
+      capacity_grows _ c.key-2.result.now _ _ (ap (λ w. key_in w.records) (sym c.self.view_is) ∙ c.key-2.ensures.first)
+      c.make_room.ensures.capacity c.make_room.ensures.most;
   early = λ early.
       let answer : c.from_residual-in_err-make_room.result ≡ Err c.in_err-make_room.field-0.0 = search rules in
       never_such is_before_repeat _ _ (answer ∙ ap Err c.in_err-make_room.ensures.refused) refl early;
@@ -66,7 +69,9 @@ returns-in_err-cache_xmss g c = record {
       (xmss_read key c.key.result.now v.records name c.args.binding.now found c.args.secret.now text c.in_ok-digest.digest (c.requires.key key keyed) own is)
       (sym c.ne.ensures ∙ c.if-ne.false)
       (inr (record { secret = c.args.secret.now; of_key = c.requires.key key keyed; lacks = c.in_err-cache_xmss.ensures.lacking })));
-  capacity = search rules;
+  capacity =
+      capacity_grows _ c.key-2.result.now _ _ (ap (λ w. key_in w.records) (sym c.self.view_is) ∙ c.key-2.ensures.first)
+      c.make_room.ensures.capacity c.make_room.ensures.most;
   early = λ early.
       let answer : c.from_residual-in_err-cache_xmss.result ≡ Err c.in_err-cache_xmss.field-0.0 = search rules in
       never_such is_before_repeat _ _ (answer ∙ ap Err c.in_err-cache_xmss.ensures.fault) refl early;
@@ -102,7 +107,9 @@ returns-in_err-map_err g c = record {
       (xmss_read key c.key.result.now v.records name c.args.binding.now found c.args.secret.now text c.in_ok-digest.digest (c.requires.key key keyed) own is)
       (sym c.ne.ensures ∙ c.if-ne.false) c.map_err.ensures.cases c.in_err-map_err.was
       (λ rest. c.xmss_link.ensures.damaged key rest (c.requires.key key keyed) (ap (λ k. k.root) (sym own))));
-  capacity = search rules;
+  capacity =
+      capacity_grows _ c.key-2.result.now _ _ (ap (λ w. key_in w.records) (sym c.self.view_is) ∙ c.key-2.ensures.first)
+      c.make_room.ensures.capacity c.make_room.ensures.most;
   early = λ early.
       let answer : c.from_residual-in_err-map_err.result ≡ Err c.in_err-map_err.field-0.0 = search rules in
       damaged_after_caches c.xmss_link.result c.map_err.result c.in_err-map_err.field-0.0 _ c.map_err.ensures.cases c.in_err-map_err.was answer early;
@@ -124,6 +131,8 @@ returns g c = record {
       (sym c.ne.ensures ∙ c.if-ne.false) c.map_err.ensures.cases c.in_ok-map_err.was
       (λ rest. c.xmss_link.ensures.sound key rest (c.requires.key key keyed) (ap (λ k. k.root) (sym own)))
       c.write_xmss.ensures (take_at c.write_xmss.new.into _ c.make_room.new.out.len fits);
-  capacity = search rules;
+  capacity =
+      capacity_grows _ c.key-2.result.now _ _ (ap (λ w. key_in w.records) (sym c.self.view_is) ∙ c.key-2.ensures.first)
+      c.make_room.ensures.capacity c.make_room.ensures.most;
   early = search rules;
 }
