@@ -1,13 +1,15 @@
 //! A key of two levels whose disk fails, or stops, at each of its calls in turn. What that leaves is audited, and the
-//! script is run again with the same names and messages: no leaf signs twice, and no name has two signatures.
+//! script is run again with the same names and messages: no leaf signs twice, and no name has two signatures. The
+//! script is run in two forms: with a signer that is opened for each step, and with one that stays open until a step
+//! doesn't come to its end.
 
 use super::audits::audited_twice;
 use super::files::anchor_in;
 use super::*;
 use state_file::{OpenFault, Pick};
+use std::slice;
 
-// What is done in one life of the disk, after which the signer is closed: the key is made, a letter is signed as its
-// own name, or leaves are retired.
+// What is done: the key is made, a letter is signed as its own name, or leaves are retired.
 enum Step {
     Create,
     Sign(u8),
@@ -57,20 +59,21 @@ fn open_on<D: Disk + Drop>(
     }
 }
 
-// The disk after a key was made on it. Else the disk, and why there is no key. The source begins with this number.
+// The signer of a key that is made on a disk, whose source begins with this number. Else the disk, and why there is no
+// key.
 fn create_on<D: Disk + Drop>(
     alloc: Global,
     spec: &str,
     disk: D,
     next: u8,
-) -> Option<Result<D, (D, Closed)>> {
+) -> Option<Result<Signer<FileStore<D>, Numbers>, (D, Closed)>> {
     let spec = Spec::parse(spec).ok()?;
     let store = match FileStore::format(disk) {
         Ok(store) => store,
         Err(refused) => return Some(Err((refused.given, Closed::Format))),
     };
     match Signer::create(alloc, spec, store, Numbers { next }) {
-        Ok(signer) => Some(Ok(signer.into_store().into_disk())),
+        Ok(signer) => Some(Ok(signer)),
         Err(refused) => {
             let (store, _random) = refused.given;
             Some(Err((store.into_disk(), Closed::Signer)))
@@ -92,33 +95,64 @@ fn do_step<S: Store, R: Source>(
     }
 }
 
-// One life of a disk: the disk afterwards, and whether its step came to its end. The signature that it gave is added.
-// A key is made where none is.
-fn live<D: Disk + Drop>(
+// The signer of a disk, whose source begins with this number; where no key is, of one that is made if this is the first
+// step. Else the disk.
+fn begin_on<D: Disk + Drop>(
     alloc: Global,
     disk: D,
-    doing: &Step,
+    first: &Step,
     next: u8,
-    given: &mut Vec<Given>,
-) -> Option<(D, bool)> {
+) -> Option<Result<Signer<FileStore<D>, Numbers>, D>> {
     match open_on(alloc, disk, next) {
-        Ok(mut signer) => {
-            let done = do_step(alloc, &mut signer, doing, given);
-            Some((signer.into_store().into_disk(), done.is_some()))
-        }
+        Ok(signer) => Some(Ok(signer)),
         Err(refused) => {
             let (disk, closed) = refused;
             match closed {
-                Closed::File(OpenFault::NoKey) => match doing {
+                Closed::File(OpenFault::NoKey) => match first {
                     Step::Create => match create_on(alloc, TWO_LEVELS, disk, next)? {
-                        Ok(disk) => Some((disk, true)),
-                        Err((disk, _)) => Some((disk, false)),
+                        Ok(signer) => Some(Ok(signer)),
+                        Err((disk, _)) => Some(Err(disk)),
                     },
-                    _ => Some((disk, false)),
+                    _ => Some(Err(disk)),
                 },
-                _ => Some((disk, false)),
+                _ => Some(Err(disk)),
             }
         }
+    }
+}
+
+// Takes steps by one signer, up to the first that doesn't come to its end, and adds the signatures that they give. The
+// store afterwards, and how many steps came to their end.
+fn do_steps<S: Store + Drop, R: Source + Drop>(
+    alloc: Global,
+    signer: Signer<S, R>,
+    steps: &[Step],
+    given: &mut Vec<Given>,
+) -> (S, usize) {
+    let mut signer = signer;
+    for (done, doing) in steps.iter().enumerate() {
+        if do_step(alloc, &mut signer, doing, given).is_none() {
+            return (signer.into_store(), done);
+        }
+    }
+    (signer.into_store(), steps.len())
+}
+
+// One life of a disk, in which these steps are taken: the disk afterwards, and how many of them came to their end. The
+// signatures that they gave are added. A key is made where none is and the first step makes one.
+fn live<D: Disk + Drop>(
+    alloc: Global,
+    disk: D,
+    steps: &[Step],
+    next: u8,
+    given: &mut Vec<Given>,
+) -> Option<(D, usize)> {
+    match begin_on(alloc, disk, steps.first()?, next)? {
+        Ok(signer) => {
+            let (store, done) = do_steps(alloc, signer, steps, given);
+            Some((store.into_disk(), done))
+        }
+        Err(disk) => Some((disk, 0)),
     }
 }
 
@@ -129,8 +163,19 @@ struct Run {
     given: Vec<Given>,
 }
 
-// The steps of the script, each of which comes to its end, after some signatures that were given before. Their sources
-// begin with this number, and with one more by 8 for each.
+// Copies of signatures.
+fn copies_of(alloc: Global, before: &[Given]) -> Option<Vec<Given>> {
+    let mut given = Vec::new(alloc);
+    for earlier in before {
+        let message = earlier.message.clone().ok()?;
+        let signature = earlier.signature.clone().ok()?;
+        given.push(Given { message, signature }).ok()?;
+    }
+    Some(given)
+}
+
+// The steps of the script, each of which comes to its end in a life of its own, after some signatures that were given
+// before. Their sources begin with this number, and with one more by 8 for each.
 fn run_script(
     alloc: Global,
     disk: MemoryDisk,
@@ -138,18 +183,13 @@ fn run_script(
     before: &[Given],
 ) -> Option<(MemoryDisk, Run)> {
     let mut files = Vec::new(alloc);
-    let mut given = Vec::new(alloc);
-    for earlier in before {
-        let message = earlier.message.clone().ok()?;
-        let signature = earlier.signature.clone().ok()?;
-        given.push(Given { message, signature }).ok()?;
-    }
+    let mut given = copies_of(alloc, before)?;
     let mut disk = disk;
     for (i, doing) in SCRIPT.iter().enumerate() {
         files.push((disk.stop(Pick::New).ok()?, given.len())).ok()?;
         let next = next.wrapping_add(8 * i as u8);
-        let (after, is_done) = live(alloc, disk, doing, next, &mut given)?;
-        if !is_done {
+        let (after, done) = live(alloc, disk, slice::from_ref(doing), next, &mut given)?;
+        if done == 0 {
             return None;
         }
         disk = after;
@@ -199,12 +239,34 @@ fn lasts(alloc: Global, file: &Vec<u8>, stops: bool) -> Option<bool> {
     None
 }
 
+// The whole script on a file, after some signatures that were given before, in one life or in one for each step: the
+// disk afterwards, and all signatures.
+fn run_again(
+    alloc: Global,
+    file: &[u8],
+    before: &[Given],
+    in_one_life: bool,
+) -> Option<(MemoryDisk, Vec<Given>)> {
+    let disk = MemoryDisk::of(alloc, file).ok()?;
+    if !in_one_life {
+        let (disk, well) = run_script(alloc, disk, 128, before)?;
+        return Some((disk, well.given));
+    }
+    let mut given = copies_of(alloc, before)?;
+    let (disk, done) = live(alloc, disk, SCRIPT, 128, &mut given)?;
+    if done == SCRIPT.len() {
+        Some((disk, given))
+    } else {
+        None
+    }
+}
+
 // Whether the whole script comes to its end on a file, with the report that is wanted then, and all signatures, those
 // of before, too, are those of a key whose leaves sign once, and signatures of one message are one.
-fn ends_well(alloc: Global, file: &[u8], before: &[Given]) -> Option<bool> {
-    let (disk, well) = run_script(alloc, MemoryDisk::of(alloc, file).ok()?, 128, before)?;
-    for a in &well.given {
-        for b in &well.given {
+fn ends_well(alloc: Global, file: &[u8], before: &[Given], in_one_life: bool) -> Option<bool> {
+    let (disk, given) = run_again(alloc, file, before, in_one_life)?;
+    for a in &given {
+        for b in &given {
             if a.message == b.message && a.signature != b.signature {
                 return Some(false);
             }
@@ -212,7 +274,7 @@ fn ends_well(alloc: Global, file: &[u8], before: &[Given]) -> Option<bool> {
     }
     let report = audit(alloc, &mut FileStore::open(disk).ok()?, None).ok()?;
     let is_reported = report.records == 7 && report.left.as_slice() == [31, 21].as_slice();
-    Some(is_reported && check_given(alloc, &report.public, &well.given).is_ok())
+    Some(is_reported && check_given(alloc, &report.public, &given).is_ok())
 }
 
 // Whether a content that a mishap in a step left goes on well. An audit accepts it, or finds no key where none was
@@ -222,6 +284,7 @@ fn goes_on_well(
     content: &Vec<u8>,
     anchor: Option<Anchor>,
     before: &[Given],
+    in_one_life: bool,
 ) -> Option<bool> {
     let disk = MemoryDisk::of(alloc, content).ok()?;
     let is_new = anchor.is_none();
@@ -230,7 +293,7 @@ fn goes_on_well(
         Err(fault) => is_new && fault == OpenFault::NoKey,
     };
     let is_kept = lasts(alloc, content, false)? && lasts(alloc, content, true)?;
-    Some(is_audited && is_kept && ends_well(alloc, content, before)?)
+    Some(is_audited && is_kept && ends_well(alloc, content, before, in_one_life)?)
 }
 
 // The contents that a mishap at each call of a step may leave, each of them once, and how many calls the step makes.
@@ -241,8 +304,9 @@ fn left_in(alloc: Global, file: &[u8], place: usize) -> Option<(Vec<Vec<u8>>, u3
     for call in 1..100u32 {
         for stops in [false, true] {
             let disk = disk_with_mishap(alloc, file, call, stops)?;
-            let (disk, is_done) = live(alloc, disk, doing, 8 * place as u8, &mut given)?;
-            if is_done {
+            let doing = slice::from_ref(doing);
+            let (disk, done) = live(alloc, disk, doing, 8 * place as u8, &mut given)?;
+            if done == 1 {
                 return Some((seen, call - 1));
             }
             for pick in PICKS {
@@ -265,11 +329,65 @@ fn survives(alloc: Global, place: usize) -> Option<u32> {
     let before = well.given.get(..*count)?;
     let (contents, calls) = left_in(alloc, file, place)?;
     for content in &contents {
-        if !goes_on_well(alloc, content, anchor, before)? {
+        if !goes_on_well(alloc, content, anchor, before, false)? {
             return None;
         }
     }
     Some(calls)
+}
+
+// The anchor of the records that stand after so many steps of one life; none before the first.
+fn anchor_after(alloc: Global, done: usize) -> Option<Option<Anchor>> {
+    if done == 0 {
+        return Some(None);
+    }
+    let mut given = Vec::new(alloc);
+    let disk = MemoryDisk::of(alloc, &[]).ok()?;
+    let (disk, _) = live(alloc, disk, SCRIPT.get(..done)?, 0, &mut given)?;
+    let file = disk.stop(Pick::New).ok()?;
+    Some(anchor_in(&file, file.len() / 256))
+}
+
+// Whether each content that a disk may leave, after so many steps came to their end, goes on well. Those that were seen
+// before aren't tried again.
+fn each_goes_on_well(
+    alloc: Global,
+    disk: &MemoryDisk,
+    done: usize,
+    given: &[Given],
+    seen: &mut Vec<(usize, Vec<u8>)>,
+) -> Option<bool> {
+    let anchor = anchor_after(alloc, done)?;
+    for pick in PICKS {
+        let left = (done, disk.stop(pick).ok()?);
+        if !seen.contains(&left) {
+            if !goes_on_well(alloc, &left.1, anchor, given, true)? {
+                return Some(false);
+            }
+            seen.push(left).ok()?;
+        }
+    }
+    Some(true)
+}
+
+// How many calls of the disk the script makes by one signer, which stays open until a mishap, where each mishap at any
+// of them is survived: it is opened again on what that may leave, and runs the script to its end.
+fn survives_in_one_life(alloc: Global) -> Option<u32> {
+    let mut seen = Vec::new(alloc);
+    for call in 1..100u32 {
+        for stops in [false, true] {
+            let mut given = Vec::new(alloc);
+            let disk = disk_with_mishap(alloc, &[], call, stops)?;
+            let (disk, done) = live(alloc, disk, SCRIPT, 0, &mut given)?;
+            if done == SCRIPT.len() {
+                return Some(call - 1);
+            }
+            if !each_goes_on_well(alloc, &disk, done, &given, &mut seen)? {
+                return None;
+            }
+        }
+    }
+    None
 }
 
 // An opening of n records makes 5 + 3 * n calls, a signer's 3 * n - 1 more, and each append 4. The first life looks for
@@ -302,4 +420,10 @@ fn retired_leaves_survive(rt: HostRuntime) {
 #[test]
 fn a_name_after_retired_leaves_survives(rt: HostRuntime) {
     assert!(rt; survives(rt.alloc(), 5) == Some(44));
+}
+
+// The first life looks for a key by 2 calls, prepares the place by 4, and makes 4 for each of the 7 records.
+#[test]
+fn the_script_survives_in_one_life(rt: HostRuntime) {
+    assert!(rt; survives_in_one_life(rt.alloc()) == Some(34));
 }
