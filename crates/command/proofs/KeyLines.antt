@@ -12,11 +12,21 @@ use Rattle.command.specs.declared.answer.Done.{Done}
 use Rattle.command.specs.declared.refusal.Refusal.{Refusal}
 use Rattle.command.specs.declared.trace.Role.TheVariants as role
 use Rattle.command.specs.Files.{FilesSeen, KeepsContents, KeepsOtherContents, ShowsContent}
-use Rattle.command.specs.Make.{MakesIn, MakesOpened, make_answer}
+use Rattle.command.specs.Make.{MakesAndPublishes, MakesIn, MakesOpened, make_answer}
 use Rattle.command.specs.Serve.{ServesIn, ServesOpened}
 use Rattle.command.specs.Sign.{DeliversSigned, SignsAndDelivers, SignsFile, SignsIn, SignsOpened, ready_to_sign, sign_answer}
 use Rattle.command.specs.Signing.{Delivers, PublicBytes}
 use Rattle.command.specs.Trace.{Happening, made, opened}
+
+-- the file of random bytes was opened before
+pub makes_opened : {K R : Type 0} {bound : _} (d : disk.Ghosts K) (g : store.Ghosts (FileStore K bound)) (r : source.Ghosts R)
+    (content : List ℕ → Option (List ℕ)) (before after : K) (spec : Spec) (public random : List ℕ) (source : R)
+    (answer : Result PublicBytes Refusal) (old ready new : List Happening) → ShowsContent (content random) (r.upcoming source)
+    → ready ≡ old ++ opened role.Random random ∷ []
+    → MakesAndPublishes {bound = bound} d g r before after spec source public answer ready new
+    → MakesOpened {bound = bound} d g r content before after spec public random answer old new
+makes_opened {bound = bound} d g r content before after spec public random source answer old ready new drawn begins makes =
+    inr (source, drawn, subst (λ t. MakesAndPublishes {bound = bound} d g r before after spec source public answer t new) begins makes)
 
 -- a key was made on the disk of a state file that was opened and closed
 pub makes_in : {K R : Type 0} {bound : _} (d : disk.Ghosts K) (g : store.Ghosts (FileStore K bound)) (r : source.Ghosts R) (files : FilesSeen K)
@@ -56,7 +66,7 @@ signs_and_delivers {bound = bound} d g r before after random name left out answe
 pub signs_opened : {K R : Type 0} {bound : _} (d : disk.Ghosts K) (g : store.Ghosts (FileStore K bound)) (r : source.Ghosts R)
     (content : List ℕ → Option (List ℕ)) (before after : K) (name message out random : List ℕ) (source : R) (left : Option (List ℕ))
     (answer : Result ℕ Refusal) (old ready new : List Happening) → ShowsContent (content random) (r.upcoming source) → ShowsContent (content message) left
-    → ready ≡ old ++ ready_to_sign message out random
+    → ready ≡ old ++ ready_to_sign message random
     → SignsAndDelivers {bound = bound} d g r before after source name left out answer ready new
     → SignsOpened {bound = bound} d g r content before after name message out random answer old new
 signs_opened {bound = bound} d g r content before after name message out random source left answer old ready new drawn shown begins signs =

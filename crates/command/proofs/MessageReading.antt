@@ -9,6 +9,7 @@ use Rattle.sign_core.specs.declared.key.AnyPublic.TheVariants.{Lms, Hss, Xmss}
 use Rattle.sign_core.specs.declared.key.KeyFault.{KeyFault}
 use Rattle.sign_core.specs.Key.{KeyLeavesMessage}
 use Rattle.command.specs.Trace.{Happening, ReadsOnce, nothing_known}
+use Rattle.command.proofs.Reading.{Notes, noted, stays}
 use Rattle.command.specs.Verify.{AnswerLeaves}
 use Rattle.command.specs.declared.refusal.Refusal.{Refusal}
 use Rattle.command.specs.declared.refusal.Refusal.TheVariants.{Key, Signature, OutOfMemory, FileFailed}
@@ -83,21 +84,6 @@ answer-carried step remaining other left public text old new before after (Err B
 
 -- ---- from the message to its file
 
--- A message's reads are those of a file, which are noted.
-pub record Notes {M : Type 0} (step : Transition M) (role_of : M → Role) (trace_of : M → List Happening) : Type 0 where
-  pub role : (old : M) (outcome : ReadOutcome) (new : M) → step old outcome new → role_of new ≡ role_of old
-  pub trace : (old : M) (outcome : ReadOutcome) (new : M) → step old outcome new → ReadsOnce (role_of old) (trace_of old) outcome (trace_of new)
-
-noted : {M : Type 0} (step : Transition M) (role_of : M → Role) (trace_of : M → List Happening) (role : Role) → Notes step role_of trace_of
-    → (outcomes : List ReadOutcome) (old new : M) → role_of old ≡ role → Transitions step outcomes old new
-    → Transitions (ReadsOnce role) outcomes (trace_of old) (trace_of new)
-noted step role_of trace_of role notes [] old new is same = ap trace_of same
-noted step role_of trace_of role notes (outcome ∷ later) old new is (next, first, reads) = (
-  trace_of next,
-  subst (λ r. ReadsOnce r (trace_of old) outcome (trace_of next)) is (notes.trace old outcome next first),
-  noted step role_of trace_of role notes later next new (notes.role old outcome next first ∙ is) reads,
-)
-
 noted-whole : {M : Type 0} (step : Transition M) (remaining : M → Option (List ℕ)) (role_of : M → Role) (trace_of : M → List Happening) → Notes step role_of trace_of
     → (text : List ℕ) (old new : M) → ReadWhole step remaining text old new
     → ReadWhole (ReadsOnce (role_of old)) nothing_known text (trace_of old) (trace_of new)
@@ -112,10 +98,10 @@ noted-whole step remaining role_of trace_of notes text old new whole =
 
 noted-failure : {M : Type 0} (step : Transition M) (role_of : M → Role) (trace_of : M → List Happening) → Notes step role_of trace_of
     → (old new : M) → CantBeRead step old new → CantBeRead (ReadsOnce (role_of old)) (trace_of old) (trace_of new)
-noted-failure step role_of trace_of notes old new (inl (outcomes, text, kind, reads, gave, other)) =
-    inl (outcomes, text, kind, noted step role_of trace_of (role_of old) notes (outcomes ++ Err kind ∷ []) old new refl reads, gave, other)
-noted-failure step role_of trace_of notes old new (inr (outcomes, text, reads, gave, endless)) =
-    inr (outcomes, text, noted step role_of trace_of (role_of old) notes outcomes old new refl reads, gave, endless)
+noted-failure step role_of trace_of notes old new (inl (kind, text, (outcomes, reads, gave))) =
+    inl (kind, text, (outcomes, noted step role_of trace_of (role_of old) notes (outcomes ++ Err kind ∷ []) old new refl reads, gave))
+noted-failure step role_of trace_of notes old new (inr (text, (outcomes, reads, gave), endless)) =
+    inr (text, (outcomes, noted step role_of trace_of (role_of old) notes outcomes old new refl reads, gave), endless)
 
 -- what an answer leaves of the message is what it does to the file
 pub noted-message : {M A : Type 0} (step : Transition M) (remaining : M → Option (List ℕ)) (role_of : M → Role) (trace_of : M → List Happening)
@@ -130,13 +116,6 @@ noted-message step remaining role_of trace_of notes public text old new answer =
     })
 
 -- ---- what no read changes
-
--- none of them does
-pub stays : {M X : Type 0} (step : Transition M) (part : M → X) → ((old : M) (outcome : ReadOutcome) (new : M) → step old outcome new → part new ≡ part old)
-    → (outcomes : List ReadOutcome) (old new : M) → Transitions step outcomes old new → part new ≡ part old
-stays step part kept [] old new same = ap part same
-stays step part kept (outcome ∷ later) old new (next, first, reads) =
-    stays step part kept later next new reads ∙ kept old outcome next first
 
 key-ends : {M A : Type 0} (step : Transition M) (remaining : M → Option (List ℕ)) (key : AnyPublic) (text : List ℕ) (old new : M) (verdict : Result A SignatureRefusal)
     → KeyLeavesMessage step remaining key text old new verdict → Ends step remaining text old new
@@ -187,9 +166,9 @@ unfolding Ends
 ends-stays step remaining part kept text old new (inl same) = ap part same
 ends-stays step remaining part kept text old new (inr (inl whole)) =
     let (outcomes, reads, gave) = whole.gave in stays step part kept (outcomes ++ Ok [] ∷ []) old new reads
-ends-stays step remaining part kept text old new (inr (inr (inl (outcomes, given, kind, reads, gave, other)))) =
+ends-stays step remaining part kept text old new (inr (inr (inl (kind, given, (outcomes, reads, gave))))) =
     stays step part kept (outcomes ++ Err kind ∷ []) old new reads
-ends-stays step remaining part kept text old new (inr (inr (inr (outcomes, given, reads, gave, long)))) = stays step part kept outcomes old new reads
+ends-stays step remaining part kept text old new (inr (inr (inr (given, (outcomes, reads, gave), long)))) = stays step part kept outcomes old new reads
 
 pub message-stays : {M X A : Type 0} (step : Transition M) (remaining : M → Option (List ℕ)) (part : M → X)
     → ((old : M) (outcome : ReadOutcome) (new : M) → step old outcome new → part new ≡ part old)

@@ -1,134 +1,149 @@
 -- Calls that read and write at offsets, one after the other.
-use Rattle.std.proofs.Common.{◌≡◌, ◌∙◌, ℕ, ◌≤◌, ◌+◌, ◌-◌, ◌^◌, List, [], ◌∷◌, ◌++◌, length, take, drop, Ok, Err, inl, inr, refl, sym, ap, subst, arith, length-take-le, length-drop, take_all}
-use Rattle.std.specs.declared.io.ErrorKind.{ErrorKind}
-use Rattle.std.specs.declared.io.ErrorKind.TheVariants.{Interrupted}
-use Rattle.typecodes.specs.Message.{GivesAll, ReadOutcome, Transition}
-use Rattle.typecodes.proofs.Messages.{Progress, gives-all, interrupted-once, read-more, reads-append}
-use Rattle.command.specs.FileDisk.{Breaks, ReadsRest, WritesRest, size_of}
+use Rattle.std.proofs.Common.{◌≡◌, ◌∙◌, ℕ, ◌≤◌, ◌<◌, ◌+◌, ◌-◌, ◌^◌, List, [], ◌∷◌, ◌++◌, length, take, drop, Result, Ok, Err, None, inl, inr, ap, subst, arith, length-drop}
+use Rattle.std.specs.IoError.{error_kind}
+use Rattle.std.specs.declared.io.Error.{Error}
+use Rattle.state_file.specs.declared.disk.DiskFault.TheVariants as fault
+use Rattle.typecodes.specs.Message.{ReadOutcome, Transitions}
+use Rattle.typecodes.specs.Reading.{AsksForRest, RequestsFull}
+use Rattle.typecodes.specs.Sink.{OffersRest, WritesAll}
+use Rattle.command.specs.FileDisk.{ReadsAt, ReadsNext, ReadsRest, WritesAt, WritesNext, WritesRest}
 use Rattle.command.specs.Trace.{Happening, read_at, written_at}
-
--- a read for the rest is the next of such reads
-pub rest_read : (at room done offset size after : ℕ) (outcome : ReadOutcome) (old new : List Happening) → offset ≡ at + done → size ≡ room - done
-    → after ≡ done + size_of outcome → new ≡ old ++ read_at offset size outcome ∷ [] → ReadsRest at room (done, old) outcome (after, new)
-rest_read at room done offset size after outcome old new is_offset is_size is_after made =
-    (is_after, made ∙ ap (λ p. old ++ read_at p size outcome ∷ []) is_offset ∙ ap (λ s. old ++ read_at (at + done) s outcome ∷ []) is_size)
-
--- a write of the rest is the next of such writes
-pub rest_written : (at : ℕ) (bytes : List ℕ) (done offset : ℕ) (rest : List ℕ) (after : ℕ) (outcome : ReadOutcome) (old new : List Happening)
-    → offset ≡ at + done → rest ≡ drop done bytes → after ≡ done + size_of outcome → new ≡ old ++ written_at offset rest outcome ∷ []
-    → WritesRest at bytes (done, old) outcome (after, new)
-rest_written at bytes done offset rest after outcome old new is_offset is_rest is_after made =
-    (is_after, made ∙ ap (λ p. old ++ written_at p rest outcome ∷ []) is_offset ∙ ap (λ r. old ++ written_at (at + done) r outcome ∷ []) is_rest)
-
--- a call failed
-pub broken : {M : Type 0} (step : Transition M) (turns done : ℕ) (text : List ℕ) (kind : ErrorKind) (old before new : M) → Progress step turns text old before
-    → step before (Err kind) new → (kind ≡ Interrupted → ⊥) → Breaks step old new
-broken step turns done text kind old before new (outcomes, reads, gave, least) last other =
-    inl (outcomes, text, kind, reads-append step outcomes (Err kind ∷ []) old before new reads (new, last, refl), gave, other)
-
--- there were many calls
-pub given_up : {M : Type 0} (step : Transition M) (turns : ℕ) (text : List ℕ) (old new : M) → Progress step turns text old new → 2 ^ 20 ≤ turns
-    → Breaks step old new
-given_up step turns text old new (outcomes, reads, gave, least) many = inr (outcomes, text, reads, gave, omega (arith, least, many))
+use Rattle.command.specs.declared.file_disk.AtOffset.{AtOffset}
 
 -- ---- reads for the rest of some room
 
--- a read gave some bytes
-pub read_on : (at turns done n offset room size : ℕ) (into buffer all : List ℕ) (old before new : List Happening)
-    → Progress (ReadsRest at (length into)) turns (take done into) (0, old) (done, before)
-    → new ≡ before ++ read_at offset room (Ok (take n buffer)) ∷ [] → offset ≡ at + done → room ≡ length into - done
-    → n ≤ length buffer → 1 ≤ n → take done into ++ take n buffer ≡ all → size ≡ length into
-    → Progress (ReadsRest at size) (turns + 1) all (0, old) (done + n, new)
-read_on at turns done n offset room size into buffer all old before new progress made is_offset is_room within some whole same =
-    let long : length (take n buffer) ≡ n = length-take-le n buffer within in
-    let step = rest_read at (length into) done offset room (done + n) (Ok (take n buffer)) before new is_offset is_room (ap (λ m. done + m) (sym long)) made in
-    let more = read-more (ReadsRest at (length into)) turns (take done into) (take n buffer) all (0, old) (done, before) (done + n, new)
-    progress step whole (omega (arith, long, some)) in
-    subst (λ r. Progress (ReadsRest at r) (turns + 1) all (0, old) (done + n, new)) (sym same) more
+module _ {F : Type 0} (trace_of : F → List Happening) (at all : ℕ) (ends : at + all < 2 ^ 64) where
+  asked : (outcomes : List ReadOutcome) (done : ℕ) (old : AtOffset F) (after : ℕ) (new : AtOffset F) → old.at ≡ at + done → done ≤ all
+      → Transitions (AsksForRest (ReadsNext trace_of) all) outcomes (done, old) (after, new)
+      → Transitions (ReadsRest at all) outcomes (done, trace_of old.file.now) (after, trace_of new.file.now)
+      × (new.file.ghost_name ≡ old.file.ghost_name)
+  asked [] done old after new here within same =
+      (ap (λ (s : ℕ × AtOffset F). (s.0, trace_of s.1.file.now)) same, ap (λ (s : ℕ × AtOffset F). s.1.file.ghost_name) same)
+  asked (outcome ∷ later) done old after new here within ((middle, next), (is_middle, fits, one), rest) =
+      let (kept, there, noted) = one (omega (arith, here, within, ends)) in
+      let (goes, stays) = asked later middle next after new (omega (arith, there, here, is_middle)) fits rest in (
+        (
+          (middle, trace_of next.file.now),
+          (is_middle, noted ∙ ap (λ p. trace_of old.file.now ++ read_at p (all - done) outcome ∷ []) here),
+          goes,
+        ),
+        stays ∙ kept,
+      )
 
--- a read was interrupted
-pub read_again : (at turns done offset room size : ℕ) (kind : ErrorKind) (into all : List ℕ) (old before new : List Happening)
-    → Progress (ReadsRest at (length into)) turns (take done into) (0, old) (done, before)
-    → new ≡ before ++ read_at offset room (Err kind) ∷ [] → offset ≡ at + done → room ≡ length into - done
-    → kind ≡ Interrupted → take done into ≡ all → size ≡ length into
-    → Progress (ReadsRest at size) (turns + 1) all (0, old) (done, new)
-read_again at turns done offset room size kind into all old before new progress made is_offset is_room interrupted whole same =
-    let step = rest_read at (length into) done offset room done (Err kind) before new is_offset is_room (omega arith) made in
-    let more = interrupted-once (ReadsRest at (length into)) turns (take done into) all kind (0, old) (done, before) (done, new)
-    progress step interrupted whole in
-    subst (λ r. Progress (ReadsRest at r) (turns + 1) all (0, old) (done, new)) (sym same) more
+-- it stays the same file
+pub same_file_read : {F : Type 0} (trace_of : F → List Happening) (at : ℕ) (result : Result ℕ Error) (buffer : List ℕ) (old new : AtOffset F)
+    → RequestsFull (ReadsNext trace_of) result buffer old new → at + length buffer < 2 ^ 64 → old.at ≡ at + 0
+    → new.file.ghost_name ≡ old.file.ghost_name
+same_file_read trace_of at (Ok n) buffer old new (inl (full, (outcomes, asks, gave))) ends here =
+    (asked trace_of at (length buffer) ends outcomes 0 old n new here (omega arith) asks).1
+same_file_read trace_of at (Ok n) buffer old new (inr (less, (outcomes, asks, gave))) ends here =
+    (asked trace_of at (length buffer) ends (outcomes ++ Ok [] ∷ []) 0 old n new here (omega arith) asks).1
+same_file_read trace_of at (Err error) buffer old new (n, (outcomes, asks, gave)) ends here =
+    (asked trace_of at (length buffer) ends (outcomes ++ Err (error_kind error) ∷ []) 0 old n new here (omega arith) asks).1
 
--- a read gave nothing
-pub read_ended : (at turns done n offset room size : ℕ) (into buffer : List ℕ) (old before new : List Happening)
-    → Progress (ReadsRest at (length into)) turns (take done into) (0, old) (done, before)
-    → new ≡ before ++ read_at offset room (Ok (take n buffer)) ∷ [] → offset ≡ at + done → room ≡ length into - done
-    → n ≡ 0 → size ≡ length into
-    → (after : ℕ) × (first : List ℕ) × GivesAll (ReadsRest at size) first (0, old) (after, new)
-read_ended at turns done n offset room size into buffer old before new progress made is_offset is_room none same =
-    let nothing : take n buffer ≡ [] = ap (λ m. take m buffer) none in
-    let last = made ∙ ap (λ l. before ++ read_at offset room (Ok l) ∷ []) nothing in
-    let step = rest_read at (length into) done offset room done (Ok []) before new is_offset is_room (omega arith) last in (
-      done,
-      take done into,
-      subst (λ r. GivesAll (ReadsRest at r) (take done into) (0, old) (done, new)) (sym same)
-          (gives-all (ReadsRest at (length into)) turns (take done into) (0, old) (done, before) (done, new) progress step),
-    )
+-- the buffer was filled
+filled : {F A : Type 0} (trace_of : F → List Happening) (at n : ℕ) (buffer : List ℕ) (value : A) (old new : AtOffset F)
+    → RequestsFull (ReadsNext trace_of) (Ok n) buffer old new → at + length buffer < 2 ^ 64 → old.at ≡ at + 0 → length buffer ≤ n
+    → ReadsAt at buffer (Ok value) (trace_of old.file.now) (trace_of new.file.now)
+filled trace_of at n buffer value old new (inl (full, (outcomes, asks, gave))) ends here enough =
+    let (goes, stays) = asked trace_of at (length buffer) ends outcomes 0 old n new here (omega arith) asks in
+    (outcomes, subst (λ m. Transitions (ReadsRest at (length buffer)) outcomes (0, trace_of old.file.now) (m, trace_of new.file.now)) full goes, gave)
+filled trace_of at n buffer value old new (inr (less, asks)) ends here enough = absurd (omega (arith, less, enough))
+
+-- the file ended before
+ended : {F : Type 0} (A : Type 0) (trace_of : F → List Happening) (at n : ℕ) (buffer : List ℕ) (old new : AtOffset F)
+    → RequestsFull (ReadsNext trace_of) (Ok n) buffer old new → at + length buffer < 2 ^ 64 → old.at ≡ at + 0 → n < length buffer
+    → ReadsAt {A = A} at buffer (Err fault.PastEnd) (trace_of old.file.now) (trace_of new.file.now)
+ended A trace_of at n buffer old new (inl (full, asks)) ends here fewer = absurd (omega (arith, full, fewer))
+ended A trace_of at n buffer old new (inr (less, (outcomes, asks, gave))) ends here fewer =
+    let (goes, stays) = asked trace_of at (length buffer) ends (outcomes ++ Ok [] ∷ []) 0 old n new here (omega arith) asks in
+    inr (n, take n buffer, (outcomes, goes, gave))
 
 -- a read failed
-pub read_broke : (at turns done offset room size : ℕ) (kind : ErrorKind) (into : List ℕ) (old before new : List Happening)
-    → Progress (ReadsRest at (length into)) turns (take done into) (0, old) (done, before)
-    → new ≡ before ++ read_at offset room (Err kind) ∷ [] → offset ≡ at + done → room ≡ length into - done
-    → (kind ≡ Interrupted → ⊥) → size ≡ length into → (after : ℕ) × Breaks (ReadsRest at size) (0, old) (after, new)
-read_broke at turns done offset room size kind into old before new progress made is_offset is_room other same =
-    let step = rest_read at (length into) done offset room done (Err kind) before new is_offset is_room (omega arith) made in (
-      done,
-      subst (λ r. Breaks (ReadsRest at r) (0, old) (done, new)) (sym same)
-          (broken (ReadsRest at (length into)) turns done (take done into) kind (0, old) (done, before) (done, new) progress step other),
-    )
+broke : {F : Type 0} (A : Type 0) (trace_of : F → List Happening) (at : ℕ) (error : Error) (buffer : List ℕ) (old new : AtOffset F)
+    → RequestsFull (ReadsNext trace_of) (Err error) buffer old new → at + length buffer < 2 ^ 64 → old.at ≡ at + 0
+    → ReadsAt {A = A} at buffer (Err fault.Failed) (trace_of old.file.now) (trace_of new.file.now)
+broke A trace_of at error buffer old new (n, (outcomes, asks, gave)) ends here =
+    let (goes, stays) = asked trace_of at (length buffer) ends (outcomes ++ Err (error_kind error) ∷ []) 0 old n new here (omega arith) asks in
+    (n, (error_kind error, take n buffer, (outcomes, goes, gave)))
+
+-- the same of an answer that is known
+module _ {F : Type 0} (trace_of : F → List Happening) (at : ℕ) (result : Result ℕ Error) (buffer : List ℕ) (old new : AtOffset F)
+    (asks : RequestsFull (ReadsNext trace_of) result buffer old new) (ends : at + length buffer < 2 ^ 64) (here : old.at ≡ at + 0) where
+  pub filled_there : {A : Type 0} (value : A) (n : ℕ) → result ≡ Ok n → length buffer ≤ n
+      → ReadsAt at buffer (Ok value) (trace_of old.file.now) (trace_of new.file.now)
+  filled_there value n is enough =
+      filled trace_of at n buffer value old new (subst (λ r. RequestsFull (ReadsNext trace_of) r buffer old new) is asks) ends here enough
+
+  pub ended_there : (A : Type 0) (n : ℕ) → result ≡ Ok n → n < length buffer
+      → ReadsAt {A = A} at buffer (Err fault.PastEnd) (trace_of old.file.now) (trace_of new.file.now)
+  ended_there A n is fewer =
+      ended A trace_of at n buffer old new (subst (λ r. RequestsFull (ReadsNext trace_of) r buffer old new) is asks) ends here fewer
+
+  pub broke_there : (A : Type 0) (error : Error) → result ≡ Err error
+      → ReadsAt {A = A} at buffer (Err fault.Failed) (trace_of old.file.now) (trace_of new.file.now)
+  broke_there A error is =
+      broke A trace_of at error buffer old new (subst (λ r. RequestsFull (ReadsNext trace_of) r buffer old new) is asks) ends here
 
 -- ---- writes of the rest of some bytes
 
-pub rest_of : (done : ℕ) (bytes : List ℕ) → take (length bytes - done) (drop done bytes) ≡ drop done bytes
-rest_of done bytes = take_all (length bytes - done) (drop done bytes) (omega (arith, length-drop done bytes))
+module _ {F : Type 0} (trace_of : F → List Happening) (at : ℕ) (bytes : List ℕ) (ends : at + length bytes < 2 ^ 64) where
+  offered : (outcomes : List ReadOutcome) (done : ℕ) (old : AtOffset F) (after : ℕ) (new : AtOffset F) → old.at ≡ at + done → done ≤ length bytes
+      → Transitions (OffersRest (WritesNext trace_of) bytes) outcomes (done, old) (after, new)
+      → Transitions (WritesRest at bytes) outcomes (done, trace_of old.file.now) (after, trace_of new.file.now)
+      × (new.file.ghost_name ≡ old.file.ghost_name)
+  offered [] done old after new here within same =
+      (ap (λ (s : ℕ × AtOffset F). (s.0, trace_of s.1.file.now)) same, ap (λ (s : ℕ × AtOffset F). s.1.file.ghost_name) same)
+  offered (outcome ∷ later) done old after new here within ((middle, next), (is_middle, fits, one), rest) =
+      let (kept, there, noted) = one (omega (arith, here, within, ends, length-drop done bytes)) in
+      let (goes, stays) = offered later middle next after new (omega (arith, there, here, is_middle)) fits rest in (
+        (
+          (middle, trace_of next.file.now),
+          (is_middle, noted ∙ ap (λ p. trace_of old.file.now ++ written_at p (drop done bytes) outcome ∷ []) here),
+          goes,
+        ),
+        stays ∙ kept,
+      )
 
--- a write took some bytes
-pub written_on : (at turns done n offset : ℕ) (bytes rest all : List ℕ) (old before new : List Happening)
-    → Progress (WritesRest at bytes) turns (take done bytes) (0, old) (done, before)
-    → new ≡ before ++ written_at offset rest (Ok (take n rest)) ∷ [] → offset ≡ at + done → rest ≡ drop done bytes
-    → n ≤ length rest → 1 ≤ n → take done bytes ++ take n rest ≡ all
-    → Progress (WritesRest at bytes) (turns + 1) all (0, old) (done + n, new)
-written_on at turns done n offset bytes rest all old before new progress made is_offset is_rest within some whole =
-    let long : length (take n rest) ≡ n = length-take-le n rest within in
-    let step = rest_written at bytes done offset rest (done + n) (Ok (take n rest)) before new is_offset is_rest (ap (λ m. done + m) (sym long)) made in
-    read-more (WritesRest at bytes) turns (take done bytes) (take n rest) all (0, old) (done, before) (done + n, new)
-    progress step whole (omega (arith, long, some))
+-- it stays the same file
+pub same_file_written : {F A : Type 0} (trace_of : F → List Happening) (at : ℕ) (result : Result A Error) (bytes : List ℕ)
+    (old new : AtOffset F) → WritesAll (WritesNext trace_of) (λ sink. None) result bytes old new → at + length bytes < 2 ^ 64 → old.at ≡ at + 0
+    → new.file.ghost_name ≡ old.file.ghost_name
+same_file_written trace_of at (Ok a) bytes old new ((outcomes, offers, gave), more) ends here =
+    (offered trace_of at bytes ends outcomes 0 old (length bytes) new here (omega arith) offers).1
+same_file_written trace_of at (Err error) bytes old new (n, less, more, inl (kind, (outcomes, offers, gave))) ends here =
+    (offered trace_of at bytes ends (outcomes ++ Ok [] ∷ []) 0 old n new here (omega arith) offers).1
+same_file_written trace_of at (Err error) bytes old new (n, less, more, inr (outcomes, offers, gave)) ends here =
+    (offered trace_of at bytes ends (outcomes ++ Err (error_kind error) ∷ []) 0 old n new here (omega arith) offers).1
 
--- a write was interrupted
-pub written_again : (at turns done offset : ℕ) (kind : ErrorKind) (bytes rest : List ℕ) (old before new : List Happening)
-    → Progress (WritesRest at bytes) turns (take done bytes) (0, old) (done, before)
-    → new ≡ before ++ written_at offset rest (Err kind) ∷ [] → offset ≡ at + done → rest ≡ drop done bytes → kind ≡ Interrupted
-    → Progress (WritesRest at bytes) (turns + 1) (take done bytes) (0, old) (done, new)
-written_again at turns done offset kind bytes rest old before new progress made is_offset is_rest interrupted =
-    let step = rest_written at bytes done offset rest done (Err kind) before new is_offset is_rest (omega arith) made in
-    interrupted-once (WritesRest at bytes) turns (take done bytes) (take done bytes) kind (0, old) (done, before) (done, new)
-    progress step interrupted refl
+-- all bytes were written
+written : {F A : Type 0} (trace_of : F → List Happening) (at : ℕ) (value : A) (bytes : List ℕ) (old new : AtOffset F)
+    → WritesAll (WritesNext trace_of) (λ sink. None) (Ok value) bytes old new → at + length bytes < 2 ^ 64 → old.at ≡ at + 0
+    → WritesAt at bytes (Ok value) (trace_of old.file.now) (trace_of new.file.now)
+written trace_of at value bytes old new ((outcomes, offers, gave), more) ends here =
+    let (goes, stays) = offered trace_of at bytes ends outcomes 0 old (length bytes) new here (omega arith) offers in
+    (outcomes, goes, gave)
 
--- a write took nothing
-pub written_nothing : (at turns done n offset : ℕ) (bytes rest : List ℕ) (old before new : List Happening)
-    → Progress (WritesRest at bytes) turns (take done bytes) (0, old) (done, before)
-    → new ≡ before ++ written_at offset rest (Ok (take n rest)) ∷ [] → offset ≡ at + done → rest ≡ drop done bytes → n ≡ 0
-    → (after : ℕ) × (first : List ℕ) × GivesAll (WritesRest at bytes) first (0, old) (after, new)
-written_nothing at turns done n offset bytes rest old before new progress made is_offset is_rest none =
-    let nothing : take n rest ≡ [] = ap (λ m. take m rest) none in
-    let last = made ∙ ap (λ l. before ++ written_at offset rest (Ok l) ∷ []) nothing in
-    let step = rest_written at bytes done offset rest done (Ok []) before new is_offset is_rest (omega arith) last in
-    (done, take done bytes, gives-all (WritesRest at bytes) turns (take done bytes) (0, old) (done, before) (done, new) progress step)
+-- a write took nothing, or failed
+not_written : {F : Type 0} (A : Type 0) (trace_of : F → List Happening) (at : ℕ) (error : Error) (bytes : List ℕ)
+    (old new : AtOffset F) → WritesAll {A = A} (WritesNext trace_of) (λ sink. None) (Err error) bytes old new → at + length bytes < 2 ^ 64
+    → old.at ≡ at + 0 → WritesAt {A = A} at bytes (Err fault.Failed) (trace_of old.file.now) (trace_of new.file.now)
+not_written A trace_of at error bytes old new (n, less, more, inl (kind, (outcomes, offers, gave))) ends here =
+    let (goes, stays) = offered trace_of at bytes ends (outcomes ++ Ok [] ∷ []) 0 old n new here (omega arith) offers in
+    inr (inl (n, take n bytes, (outcomes, goes, gave)))
+not_written A trace_of at error bytes old new (n, less, more, inr (outcomes, offers, gave)) ends here =
+    let (goes, stays) = offered trace_of at bytes ends (outcomes ++ Err (error_kind error) ∷ []) 0 old n new here (omega arith) offers in
+    inr (inr (n, (error_kind error, take n bytes, (outcomes, goes, gave))))
 
--- a write failed
-pub write_broke : (at turns done offset : ℕ) (kind : ErrorKind) (bytes rest : List ℕ) (old before new : List Happening)
-    → Progress (WritesRest at bytes) turns (take done bytes) (0, old) (done, before)
-    → new ≡ before ++ written_at offset rest (Err kind) ∷ [] → offset ≡ at + done → rest ≡ drop done bytes → (kind ≡ Interrupted → ⊥)
-    → (after : ℕ) × Breaks (WritesRest at bytes) (0, old) (after, new)
-write_broke at turns done offset kind bytes rest old before new progress made is_offset is_rest other =
-    let step = rest_written at bytes done offset rest done (Err kind) before new is_offset is_rest (omega arith) made in
-    (done, broken (WritesRest at bytes) turns done (take done bytes) kind (0, old) (done, before) (done, new) progress step other)
+-- the same of an answer that is known
+module _ {F V : Type 0} (trace_of : F → List Happening) (at : ℕ) (result : Result V Error) (bytes : List ℕ)
+    (old new : AtOffset F) (offers : WritesAll (WritesNext trace_of) (λ sink. None) result bytes old new) (ends : at + length bytes < 2 ^ 64)
+    (here : old.at ≡ at + 0) where
+  pub written_there : (value : V) → result ≡ Ok value → WritesAt at bytes (Ok value) (trace_of old.file.now) (trace_of new.file.now)
+  written_there value is =
+      written trace_of at value bytes old new (subst (λ r. WritesAll (WritesNext trace_of) (λ sink. None) r bytes old new) is offers) ends here
+
+  pub not_written_there : (error : Error) → result ≡ Err error
+      → WritesAt {A = V} at bytes (Err fault.Failed) (trace_of old.file.now) (trace_of new.file.now)
+  not_written_there error is =
+      not_written V trace_of at error bytes old new (subst (λ r. WritesAll (WritesNext trace_of) (λ sink. None) r bytes old new) is offers) ends here

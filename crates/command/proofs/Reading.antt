@@ -1,44 +1,239 @@
 -- Transitions of a file, one after the other.
-use Rattle.std.proofs.Common.{◌≡◌, ◌∙◌, ◌<◌, ℕ, ◌≤◌, ◌^◌, List, [], ◌∷◌, ◌++◌, length, Result, Ok, Err, IsErrAnd, inl, inr, refl, sym, ap, subst, arith, append_assoc, length-append, Option, Some, None, ◌⊎◌}
+use Rattle.std.proofs.Common.{◌≡◌, ◌∙◌, ◌<◌, ℕ, ◌≤◌, ◌^◌, List, [], ◌∷◌, ◌++◌, length, take, Result, Ok, Err, IfOk, IsErrAnd, inl, inr, refl, sym, ap, subst, arith, append_assoc, length-append, length-take-le, take_all, Option, Some, None, ◌⊎◌}
 use Rattle.std.specs.Prelude.{MatchResult}
 use Rattle.std.specs.declared.io.ErrorKind.{ErrorKind}
-use Rattle.std.specs.Io.KnownBytes.{Consumes}
+use Rattle.std.specs.Io.KnownBytes.{Consumes, IsAtEnd}
 use Rattle.std.specs.IoError.{error_kind}
 use Rattle.std.specs.declared.io.Error.{Error}
-use Rattle.std.specs.declared.io.ErrorKind.TheVariants.{FileTooLarge, Interrupted, OutOfMemory, TimedOut}
-use Rattle.typecodes.specs.Message.{IsContent, ReadOutcome, Transitions, Transition}
-use Rattle.typecodes.proofs.Messages.{Progress, gave-append, interruptions-append, reads-append}
-use Rattle.command.specs.Files.{CantKeep, FailsToRead, FillsRoom, ReadsAllOrFails}
+use Rattle.std.specs.declared.io.ErrorKind.TheVariants.{FileTooLarge, OutOfMemory}
+use Rattle.typecodes.specs.declared.reading.ReadError.{ReadError}
+use Rattle.typecodes.specs.declared.reading.ReadError.TheVariants.{Failed, TooLong, Refused}
+use Rattle.typecodes.specs.Message.{Gave, IsContent, ReadOutcome, Transitions, Transition}
+use Rattle.typecodes.specs.Reading.{FillsOrEnds, ReadsFull, ReadsToEnd as EndsOrFails, Refuses, Takes}
+use Rattle.typecodes.proofs.Messages.{content_at_end, fails-append, gives-all-append, gives-append}
+use Rattle.command.specs.Files.{CantKeep, FailsToRead, FileState, FillsOrFails, FillsRoom, KeepsContents, ReadsAllOrFails, ReadsFileOnce, ReportsMemory, left_of}
 use Rattle.command.specs.Refusal.{refusal_of}
 use Rattle.command.specs.declared.refusal.Refusal.{Refusal}
 use Rattle.command.specs.declared.refusal.Refusal.TheVariants as refused
-use Rattle.command.specs.Trace.{Happening, ReadsOn, ReadsOnce, ReadsToEnd}
+use Rattle.command.specs.Trace.{Happening, ReadsOn, ReadsOnce, ReadsToEnd, ReadsToFailure}
 use Rattle.command.specs.declared.trace.Role.{Role}
 
--- some reads, and one more after them
-reads-then : {M : Type 0} (step : Transition M) (xs ys : List ReadOutcome) (last : ReadOutcome) (old middle new : M) → Transitions step xs old middle
-    → Transitions step (ys ++ last ∷ []) middle new → Transitions step ((xs ++ ys) ++ last ∷ []) old new
-reads-then step xs ys last old middle new reads more =
-    subst (λ l. Transitions step l old new) (sym (append_assoc xs ys (last ∷ []))) (reads-append step xs (ys ++ last ∷ []) old middle new reads more)
+-- ---- from a reader to its file
 
--- ---- what one buffer takes
+-- A reader's reads are those of a file, which are noted.
+pub record Notes {M : Type 0} (step : Transition M) (role_of : M → Role) (trace_of : M → List Happening) : Type 0 where
+  pub role : (old : M) (outcome : ReadOutcome) (new : M) → step old outcome new → role_of new ≡ role_of old
+  pub trace : (old : M) (outcome : ReadOutcome) (new : M) → step old outcome new → ReadsOnce (role_of old) (trace_of old) outcome (trace_of new)
 
--- the last read failed
-pub read_fails : (role : Role) (turns : ℕ) (bytes : List ℕ) (kind : ErrorKind) (old before new : List Happening)
-    → Progress (ReadsOnce role) turns bytes old before → ReadsOnce role before (Err kind) new → (kind ≡ Interrupted → ⊥)
-    → FailsToRead role kind old new
-read_fails role turns bytes kind old before new (outcomes, reads, gave, least) last other =
-    inl (outcomes, bytes, reads-append (ReadsOnce role) outcomes (Err kind ∷ []) old before new reads (new, last, refl), gave, other)
+pub noted : {M : Type 0} (step : Transition M) (role_of : M → Role) (trace_of : M → List Happening) (role : Role) → Notes step role_of trace_of
+    → (outcomes : List ReadOutcome) (old new : M) → role_of old ≡ role → Transitions step outcomes old new
+    → Transitions (ReadsOnce role) outcomes (trace_of old) (trace_of new)
+noted step role_of trace_of role notes [] old new is same = ap trace_of same
+noted step role_of trace_of role notes (outcome ∷ later) old new is (next, first, reads) = (
+  trace_of next,
+  subst (λ r. ReadsOnce r (trace_of old) outcome (trace_of next)) is (notes.trace old outcome next first),
+  noted step role_of trace_of role notes later next new (notes.role old outcome next first ∙ is) reads,
+)
 
--- there was no end of reads
-pub takes_forever : (role : Role) (turns : ℕ) (bytes : List ℕ) (kind : ErrorKind) (old new : List Happening) → Progress (ReadsOnce role) turns bytes old new
-    → 2 ^ 60 ≤ turns → (kind ≡ OutOfMemory → ⊥) → FailsToRead role kind old new
-takes_forever role turns bytes kind old new (outcomes, reads, gave, least) long other =
-    inr (other, (outcomes, bytes, reads, gave, omega (arith, least, long)))
+-- what none of the reads changes stays
+pub stays : {M X : Type 0} (step : Transition M) (part : M → X) → ((old : M) (outcome : ReadOutcome) (new : M) → step old outcome new → part new ≡ part old)
+    → (outcomes : List ReadOutcome) (old new : M) → Transitions step outcomes old new → part new ≡ part old
+stays step part kept [] old new same = ap part same
+stays step part kept (outcome ∷ later) old new (next, first, reads) =
+    stays step part kept later next new reads ∙ kept old outcome next first
 
--- a read of the file by its new role is one by its old
-pub same_role : (of role : Role) (old new : List Happening) (outcome : ReadOutcome) → of ≡ role → ReadsOnce of old outcome new → ReadsOnce role old outcome new
-same_role of role old new outcome same once = subst (λ r. ReadsOnce r old outcome new) same once
+-- .. while a buffer is filled
+pub full_stays : {M X : Type 0} (step : Transition M) (part : M → X) → ((old : M) (outcome : ReadOutcome) (new : M) → step old outcome new → part new ≡ part old)
+    → (remaining : M → Option (List ℕ)) (result : Result ℕ Error) (buffer : List ℕ) (old new : M) → ReadsFull step remaining result buffer old new
+    → part new ≡ part old
+full_stays step part kept remaining (Ok n) buffer old new (inl (full, (outcomes, reads, gave)), bytes, end) = stays step part kept outcomes old new reads
+full_stays step part kept remaining (Ok n) buffer old new (inr (less, (outcomes, reads, gave)), bytes, end) =
+    stays step part kept (outcomes ++ Ok [] ∷ []) old new reads
+full_stays step part kept remaining (Err error) buffer old new (count, less, (outcomes, reads, gave), bytes) =
+    stays step part kept (outcomes ++ Err (error_kind error) ∷ []) old new reads
+
+-- .. or while it is read to its end
+pub end_stays : {M X T A E : Type 0} (step : Transition M) (part : M → X) → ((old : M) (outcome : ReadOutcome) (new : M) → step old outcome new → part new ≡ part old)
+    → (remaining : M → Option (List ℕ)) (takes : Takes T) (refuses : Refuses T E) (result : Result A (ReadError E)) (old new : M) (before after : T)
+    → EndsOrFails step remaining takes refuses result old new before after → part new ≡ part old
+end_stays step part kept remaining takes refuses (Ok a) old new before after (text, whole, taken) =
+    let (outcomes, reads, gave) = whole.gave in stays step part kept (outcomes ++ Ok [] ∷ []) old new reads
+end_stays step part kept remaining takes refuses (Err (Failed error)) old new before after (taken, rest, (outcomes, reads, gave), short, took) =
+    stays step part kept (outcomes ++ Err (error_kind error) ∷ []) old new reads
+end_stays step part kept remaining takes refuses (Err TooLong) old new before after (text, (outcomes, reads, gave), long, took) =
+    stays step part kept outcomes old new reads
+end_stays step part kept remaining takes refuses (Err (Refused fault)) old new before after (taken, piece, middle, took, refuse, inl (outcomes, reads, gave)) =
+    stays step part kept outcomes old new reads
+end_stays step part kept remaining takes refuses (Err (Refused fault)) old new before after (taken, piece, middle, took, refuse, inr (outcomes, reads, gave)) =
+    stays step part kept (outcomes ++ Ok [] ∷ []) old new reads
+
+-- a buffer that a reader filled is one that its file did
+pub full_noted : {M : Type 0} (step : Transition M) (role_of : M → Role) (trace_of : M → List Happening) → Notes step role_of trace_of
+    → (remaining : M → Option (List ℕ)) (result : Result ℕ Error) (buffer : List ℕ) (old new : M) → ReadsFull step remaining result buffer old new
+    → FillsOrFails (role_of old) result buffer (trace_of old) (trace_of new)
+full_noted step role_of trace_of notes remaining (Ok n) buffer old new (inl (full, (outcomes, reads, gave)), bytes, end) =
+    let whole : take n buffer ≡ buffer = take_all n buffer (omega (arith, full)) in
+    inl (ap length whole, (outcomes, noted step role_of trace_of (role_of old) notes outcomes old new refl reads, subst (Gave outcomes) (sym whole) gave))
+full_noted step role_of trace_of notes remaining (Ok n) buffer old new (inr (less, (outcomes, reads, gave)), bytes, end) = inr (
+  omega (arith, less, length-take-le n buffer (omega (arith, less))),
+  (outcomes, noted step role_of trace_of (role_of old) notes (outcomes ++ Ok [] ∷ []) old new refl reads, gave),
+)
+full_noted step role_of trace_of notes remaining (Err error) buffer old new (count, less, (outcomes, reads, gave), bytes) =
+    (take count buffer, (outcomes, noted step role_of trace_of (role_of old) notes (outcomes ++ Err (error_kind error) ∷ []) old new refl reads, gave))
+
+-- a reader as its file
+abbrev pub as_state : {M : Type 0} → (M → Option (List ℕ)) → (M → List Happening) → M → FileState
+as_state remaining trace_of reader = (remaining reader, trace_of reader)
+
+noted_state : {M : Type 0} (step : Transition M) (role_of : M → Role) (trace_of : M → List Happening) (remaining : M → Option (List ℕ)) (role : Role)
+    → Notes step role_of trace_of → (outcomes : List ReadOutcome) (old new : M) → role_of old ≡ role → Transitions step outcomes old new
+    → Transitions (ReadsFileOnce role) outcomes (as_state remaining trace_of old) (as_state remaining trace_of new)
+noted_state step role_of trace_of remaining role notes [] old new is same = ap (as_state remaining trace_of) same
+noted_state step role_of trace_of remaining role notes (outcome ∷ later) old new is (next, first, reads) = (
+  as_state remaining trace_of next,
+  subst (λ r. ReadsOnce r (trace_of old) outcome (trace_of next)) is (notes.trace old outcome next first),
+  noted_state step role_of trace_of remaining role notes later next new (notes.role old outcome next first ∙ is) reads,
+)
+
+-- a reader that was read to its end is a file that was
+pub end_noted : {M T A E : Type 0} (step : Transition M) (role_of : M → Role) (trace_of : M → List Happening) → Notes step role_of trace_of
+    → (remaining : M → Option (List ℕ)) (takes : Takes T) (refuses : Refuses T E) (result : Result A (ReadError E)) (old new : M) (before after : T)
+    → EndsOrFails step remaining takes refuses result old new before after
+    → EndsOrFails (ReadsFileOnce (role_of old)) left_of takes refuses result (as_state remaining trace_of old) (as_state remaining trace_of new) before after
+end_noted step role_of trace_of notes remaining takes refuses (Ok a) old new before after (text, whole, taken) =
+    let (outcomes, reads, gave) = whole.gave in (
+      text,
+      record {
+        gave = (outcomes, noted_state step role_of trace_of remaining (role_of old) notes (outcomes ++ Ok [] ∷ []) old new refl reads, gave);
+        bytes = whole.bytes;
+        end = whole.end;
+        short = whole.short;
+      },
+      taken,
+    )
+end_noted step role_of trace_of notes remaining takes refuses (Err (Failed error)) old new before after (taken, rest, (outcomes, reads, gave), short, took) =
+    (taken, rest, (outcomes, noted_state step role_of trace_of remaining (role_of old) notes (outcomes ++ Err (error_kind error) ∷ []) old new refl reads, gave), short, took)
+end_noted step role_of trace_of notes remaining takes refuses (Err TooLong) old new before after (text, (outcomes, reads, gave), long, took) =
+    (text, (outcomes, noted_state step role_of trace_of remaining (role_of old) notes outcomes old new refl reads, gave), long, took)
+end_noted step role_of trace_of notes remaining takes refuses (Err (Refused fault)) old new before after (taken, piece, middle, took, refuse, inl (outcomes, reads, gave)) =
+    (taken, piece, middle, took, refuse, inl (outcomes, noted_state step role_of trace_of remaining (role_of old) notes outcomes old new refl reads, gave))
+end_noted step role_of trace_of notes remaining takes refuses (Err (Refused fault)) old new before after (taken, piece, middle, took, refuse, inr (outcomes, reads, gave)) =
+    (taken, piece, middle, took, refuse, inr (outcomes, noted_state step role_of trace_of remaining (role_of old) notes (outcomes ++ Ok [] ∷ []) old new refl reads, gave))
+
+-- ---- the same of the last value that is known of a file
+
+-- what is so of a value is so of the same value by another name
+pub via : {A : Type 0} (P : A → Type 0) (x y : A) → P x → x ≡ y → P y
+via P x y holds same = subst P same holds
+
+pub end_moved : {T A E : Type 0} (step : Transition FileState) (takes : Takes T) (refuses : Refuses T E) (result : Result A (ReadError E))
+    (old : FileState) (left other : Option (List ℕ)) (trace new : List Happening) (before after : T)
+    → EndsOrFails step left_of takes refuses result old (left, trace) before after → left ≡ other → trace ≡ new
+    → EndsOrFails step left_of takes refuses result old (other, new) before after
+end_moved step takes refuses result old left other trace new before after ends same_left same_trace =
+    subst (λ t. EndsOrFails step left_of takes refuses result old (other, t) before after) same_trace
+    (subst (λ l. EndsOrFails step left_of takes refuses result old (l, trace) before after) same_left ends)
+
+-- what a filled buffer says of the content
+pub full_bytes : {M : Type 0} (step : Transition M) (remaining : M → Option (List ℕ)) (result : Result ℕ Error) (buffer : List ℕ) (old new : M)
+    → ReadsFull step remaining result buffer old new
+    → IfOk result (λ n. Consumes (remaining old) (remaining new) (take n buffer))
+full_bytes step remaining (Ok n) buffer old new (fills, bytes, end) = bytes
+full_bytes step remaining (Err error) buffer old new fails = tt
+
+pub full_end : {M : Type 0} (step : Transition M) (remaining : M → Option (List ℕ)) (result : Result ℕ Error) (buffer : List ℕ) (old new : M)
+    → ReadsFull step remaining result buffer old new → IfOk result (λ n. n < length buffer → IsAtEnd (remaining new))
+full_end step remaining (Ok n) buffer old new (fills, bytes, end) = end
+full_end step remaining (Err error) buffer old new fails = tt
+
+-- ---- what becomes of a file that is read to its end, by its trace alone
+
+trace_reads : (role : Role) (outcomes : List ReadOutcome) (old new : FileState) → Transitions (ReadsFileOnce role) outcomes old new
+    → Transitions (ReadsOnce role) outcomes old.1 new.1
+trace_reads role [] old new same = ap (λ (file : FileState). file.1) same
+trace_reads role (outcome ∷ later) old new (next, first, reads) = (next.1, first, trace_reads role later next new reads)
+
+-- it was read to its end
+pub ended : {T A E : Type 0} (role : Role) (takes : Takes T) (refuses : Refuses T E) (value : A) (old new : FileState) (before after : T)
+    → EndsOrFails {E = E} (ReadsFileOnce role) left_of takes refuses (Ok value) old new before after
+    → (bytes : List ℕ) × IsContent old.0 bytes × takes before bytes after × (length bytes < 2 ^ 60) × ReadsToEnd role bytes old.1 new.1
+ended role takes refuses value old new before after (text, whole, taken) =
+    let (outcomes, reads, gave) = whole.gave in (
+      text,
+      content_at_end old.0 new.0 text whole.bytes whole.end,
+      taken,
+      whole.short,
+      (outcomes, trace_reads role (outcomes ++ Ok [] ∷ []) old new reads, gave),
+    )
+
+-- a read failed
+pub ended_failed : (A : Type 0) {T E : Type 0} (role : Role) (takes : Takes T) (refuses : Refuses T E) (error : Error) (old new : FileState) (before after : T)
+    → EndsOrFails {A = A} (ReadsFileOnce role) left_of takes refuses (Err (Failed error)) old new before after
+    → FailsToRead role (error_kind error) old.1 new.1
+ended_failed A role takes refuses error old new before after (taken, rest, (outcomes, reads, gave), short, took) =
+    inl (taken ++ rest, (outcomes, trace_reads role (outcomes ++ Err (error_kind error) ∷ []) old new reads, gave))
+
+-- there was no end of bytes
+pub endless : (A : Type 0) {T E : Type 0} (role : Role) (takes : Takes T) (refuses : Refuses T E) (kind : ErrorKind) (old new : FileState) (before after : T)
+    → EndsOrFails {A = A} (ReadsFileOnce role) left_of takes refuses (Err TooLong) old new before after → (kind ≡ OutOfMemory → ⊥)
+    → FailsToRead role kind old.1 new.1
+endless A role takes refuses kind old new before after (text, (outcomes, reads, gave), long, took) other =
+    inr (other, (text, (outcomes, trace_reads role outcomes old new reads, gave), long))
+
+-- a piece was refused, which had a byte at least
+pub ended_refused : (A : Type 0) {T E : Type 0} (role : Role) (takes : Takes T) (refuses : Refuses T E) (fault : E) (old new : FileState) (before after : T)
+    → EndsOrFails {A = A} (ReadsFileOnce role) left_of takes refuses (Err (Refused fault)) old new before after
+    → ((old : T) (piece : List ℕ) (new : T) → refuses old piece fault new → 1 ≤ length piece)
+    → (bytes : List ℕ) × (1 ≤ length bytes) × (ReadsOn role bytes old.1 new.1 ⊎ ReadsToEnd role bytes old.1 new.1)
+ended_refused A role takes refuses fault old new before after (taken, piece, middle, took, refuse, inl (outcomes, reads, gave)) some = (
+  taken ++ piece,
+  omega (arith, length-append taken piece, some middle piece after refuse),
+  inl (outcomes, trace_reads role outcomes old new reads, gave),
+)
+ended_refused A role takes refuses fault old new before after (taken, piece, middle, took, refuse, inr (outcomes, reads, gave)) some = (
+  taken ++ piece,
+  omega (arith, length-append taken piece, some middle piece after refuse),
+  inr (outcomes, trace_reads role (outcomes ++ Ok [] ∷ []) old new reads, gave),
+)
+
+-- the same of an answer that is known
+pub rest_ended : {T A E : Type 0} (role : Role) (takes : Takes T) (refuses : Refuses T E) (result : Result A (ReadError E)) (value : A) (old new : FileState)
+    (before after : T) → result ≡ Ok value → EndsOrFails (ReadsFileOnce role) left_of takes refuses result old new before after
+    → (bytes : List ℕ) × IsContent old.0 bytes × takes before bytes after × (length bytes < 2 ^ 60) × ReadsToEnd role bytes old.1 new.1
+rest_ended role takes refuses result value old new before after is ends =
+    ended role takes refuses value old new before after (subst (λ r. EndsOrFails (ReadsFileOnce role) left_of takes refuses r old new before after) is ends)
+
+-- .. where what takes its bytes keeps them
+pub kept_all : {T A E : Type 0} (role : Role) (takes : Takes T) (refuses : Refuses T E) (items : T → List ℕ) (result : Result A (ReadError E)) (value : A)
+    (old new : FileState) (before after : T) → items before ≡ []
+    → ((old : T) (bytes : List ℕ) (new : T) → takes old bytes new → items new ≡ items old ++ bytes)
+    → result ≡ Ok value → EndsOrFails (ReadsFileOnce role) left_of takes refuses result old new before after
+    → IsContent old.0 (items after) × ReadsToEnd role (items after) old.1 new.1
+kept_all role takes refuses items result value old new before after none keeps is ends =
+    let (bytes, fits, took, short, reads) = rest_ended role takes refuses result value old new before after is ends in
+    let same : bytes ≡ items after = sym (keeps before bytes after took ∙ ap (λ l. l ++ bytes) none) in
+    (subst (IsContent old.0) same fits, subst (λ l. ReadsToEnd role l old.1 new.1) same reads)
+
+pub rest_failed : {T A E : Type 0} (role : Role) (takes : Takes T) (refuses : Refuses T E) (result : Result A (ReadError E)) (error : Error) (old new : FileState)
+    (before after : T) → result ≡ Err (Failed error) → EndsOrFails (ReadsFileOnce role) left_of takes refuses result old new before after
+    → FailsToRead role (error_kind error) old.1 new.1
+rest_failed {A = A} role takes refuses result error old new before after is ends =
+    ended_failed A role takes refuses error old new before after (subst (λ r. EndsOrFails (ReadsFileOnce role) left_of takes refuses r old new before after) is ends)
+
+pub rest_endless : {T A E : Type 0} (role : Role) (takes : Takes T) (refuses : Refuses T E) (result : Result A (ReadError E)) (kind : ErrorKind) (old new : FileState)
+    (before after : T) → result ≡ Err TooLong → EndsOrFails (ReadsFileOnce role) left_of takes refuses result old new before after → (kind ≡ OutOfMemory → ⊥)
+    → FailsToRead role kind old.1 new.1
+rest_endless {A = A} role takes refuses result kind old new before after is ends other =
+    endless A role takes refuses kind old new before after (subst (λ r. EndsOrFails (ReadsFileOnce role) left_of takes refuses r old new before after) is ends) other
+
+pub rest_refused : {T A E : Type 0} (role : Role) (takes : Takes T) (refuses : Refuses T E) (result : Result A (ReadError E)) (fault : E) (old new : FileState)
+    (before after : T) → result ≡ Err (Refused fault) → EndsOrFails (ReadsFileOnce role) left_of takes refuses result old new before after
+    → ((old : T) (piece : List ℕ) (new : T) → refuses old piece fault new → 1 ≤ length piece)
+    → (bytes : List ℕ) × (1 ≤ length bytes) × (ReadsOn role bytes old.1 new.1 ⊎ ReadsToEnd role bytes old.1 new.1)
+rest_refused {A = A} role takes refuses result fault old new before after is ends some =
+    ended_refused A role takes refuses fault old new before after (subst (λ r. EndsOrFails (ReadsFileOnce role) left_of takes refuses r old new before after) is ends) some
+
+-- ---- room for bytes
 
 -- room that has no bytes yet
 pub fills_to_end : (role : Role) (room : ℕ) (bytes : List ℕ) (old new : List Happening) → FillsRoom role room bytes old new → length bytes < room
@@ -56,54 +251,29 @@ fills_whole role room bytes old new (inr (short, reads)) enough = absurd (omega 
 pub fills_same : (role : Role) (n room : ℕ) (bytes : List ℕ) (old new : List Happening) → n ≡ room → FillsRoom role n bytes old new → FillsRoom role room bytes old new
 fills_same role n room bytes old new same fills = subst (λ m. FillsRoom role m bytes old new) same fills
 
--- ---- pieces, one after the other
-
-pub reads_nothing : (role : Role) (old : List Happening) → ReadsOn role [] old old
-reads_nothing role old = ([], refl, refl)
-
-pub reads_more : (role of : Role) (a b : List ℕ) (old before new : List Happening) → ReadsOn role a old before → of ≡ role
-    → ReadsOn of b before new → ReadsOn role (a ++ b) old new
-reads_more role of a b old before new (xs, reads, gave) same more =
-    let (ys, later, gave_more) = subst (λ r. ReadsOn r b before new) same more in
-    (xs ++ ys, reads-append (ReadsOnce role) xs ys old before new reads later, gave-append xs ys a b gave gave_more)
+-- ---- some bytes, and then the rest
 
 pub reads_rest : (role of : Role) (a b : List ℕ) (old before new : List Happening) → ReadsOn role a old before → of ≡ role
     → ReadsToEnd of b before new → ReadsToEnd role (a ++ b) old new
-reads_rest role of a b old before new (xs, reads, gave) same more =
-    let (ys, later, gave_more) = subst (λ r. ReadsToEnd r b before new) same more in
-    (xs ++ ys, reads-then (ReadsOnce role) xs ys (Ok []) old before new reads later, gave-append xs ys a b gave gave_more)
-
--- there was no end of bytes
-pub gives_forever : (role : Role) (bytes : List ℕ) (kind : ErrorKind) (old new : List Happening) → ReadsOn role bytes old new
-    → 2 ^ 60 ≤ length bytes → (kind ≡ OutOfMemory → ⊥) → FailsToRead role kind old new
-gives_forever role bytes kind old new (outcomes, reads, gave) long other =
-    inr (other, (outcomes, bytes, reads, gave, omega (arith, long)))
+reads_rest role of a b old before new reads same more =
+    gives-all-append (ReadsOnce role) a b old before new reads (subst (λ r. ReadsToEnd r b before new) same more)
 
 pub fails_later : (role of : Role) (a : List ℕ) (kind : ErrorKind) (old before new : List Happening) → ReadsOn role a old before → of ≡ role
     → FailsToRead of kind before new → FailsToRead role kind old new
-fails_later role of a kind old before new (xs, reads, gave) same fails =
+fails_later role of a kind old before new reads same fails =
     elim (subst (λ r. FailsToRead r kind before new) same fails) [
-      | inl (ys, b, later, gave_more, other) ↦
-          inl (xs ++ ys, a ++ b, reads-then (ReadsOnce role) xs ys (Err kind) old before new reads later, gave-append xs ys a b gave gave_more, other)
-      | inr (other, (ys, b, later, gave_more, long)) ↦
-          inr (
-            other,
-            (
-              xs ++ ys,
-              a ++ b,
-              reads-append (ReadsOnce role) xs ys old before new reads later,
-              gave-append xs ys a b gave gave_more,
-              omega (arith, long, interruptions-append xs ys, length-append a b),
-            ),
-          )
+      | inl (b, failed) ↦ inl (a ++ b, fails-append (ReadsOnce role) kind a b old before new reads failed)
+      | inr (other, (b, more, long)) ↦
+          inr (other, (a ++ b, gives-append (ReadsOnce role) a b old before new reads more, omega (arith, long, length-append a b)))
     ]
 
--- these kinds name no memory
-pub timed_out : (kind : ErrorKind) → kind ≡ TimedOut → kind ≡ OutOfMemory → ⊥
-timed_out kind is memory = let same : TimedOut ≡ OutOfMemory = sym is ∙ memory in cc
-
+-- this kind names no memory
 pub too_large : (kind : ErrorKind) → kind ≡ FileTooLarge → kind ≡ OutOfMemory → ⊥
 too_large kind is memory = let same : FileTooLarge ≡ OutOfMemory = sym is ∙ memory in cc
+
+-- a failed read is a failure to read
+pub fails_to_read : (role : Role) (kind : ErrorKind) (old new : List Happening) → ReadsToFailure role kind old new → FailsToRead role kind old new
+fails_to_read role kind old new fails = inl fails
 
 -- an error that is passed on
 pub reads_err : {A : Type 0} (role : Role) (left : Option (List ℕ)) (Fits : List ℕ → A → Type 0) (result : Result A Error) (error : Error)
@@ -120,17 +290,7 @@ content_after None new bytes rest read fits = tt
 content_after (Some xs) None bytes rest read fits = absurd read
 content_after (Some xs) (Some ys) bytes rest read fits = sym (read ∙ ap (λ l. bytes ++ l) (sym fits))
 
--- a piece more, which filled its room or ended the file
-pub reads_part : (role of : Role) (room : ℕ) (a b : List ℕ) (old before new : List Happening) → ReadsOn role a old before → of ≡ role
-    → FillsRoom of room b before new → ReadsOn role (a ++ b) old new ⊎ ReadsToEnd role (a ++ b) old new
-reads_part role of room a b old before new first same (inl (full, more)) = inl (reads_more role of a b old before new first same more)
-reads_part role of room a b old before new first same (inr (short, more)) = inr (reads_rest role of a b old before new first same more)
-
--- memory for it was refused
-pub keeps_no_more : (role of : Role) (room : ℕ) (a b : List ℕ) (refusal : Refusal) (old before new : List Happening) → refusal ≡ refused.OutOfMemory
-    → 1 ≤ length b → ReadsOn role a old before → of ≡ role → FillsRoom of room b before new → CantKeep role refusal old new
-keeps_no_more role of room a b refusal old before new memory some first same fills =
-    inr (memory, (a ++ b, omega (arith, length-append a b, some), reads_part role of room a b old before new first same fills))
+-- ---- refusals
 
 -- a failed read, which is reported
 pub cant_read : {A : Type 0} (role : Role) (kind : ErrorKind) (Good : A → Type 0) (result : Result A Refusal) (old new : List Happening)
@@ -139,7 +299,7 @@ pub cant_read : {A : Type 0} (role : Role) (kind : ErrorKind) (Good : A → Type
 cant_read role kind Good (Ok x) old new is fails = absurd is
 cant_read role kind Good (Err refusal) old new is fails = inl (kind, is, fails)
 
--- .. and a first piece
+-- memory for a first piece was refused
 pub keeps_none : (role : Role) (room : ℕ) (b : List ℕ) (refusal : Refusal) (old new : List Happening) → refusal ≡ refused.OutOfMemory
     → 1 ≤ length b → FillsRoom role room b old new → CantKeep role refusal old new
 keeps_none role room b refusal old new memory some (inl (full, reads)) = inr (memory, (b, some, inl reads))

@@ -14,7 +14,7 @@ use Rattle.command.specs.declared.trace.Role.TheVariants as role
 use Rattle.command.specs.KeyFile.{SignsOn}
 use Rattle.command.specs.Sign.{MessageFile, message_file}
 use Rattle.command.specs.Trace.{Happening, ReadsOnce}
-use Rattle.command.proofs.MessageReading.{Notes, stays}
+use Rattle.command.proofs.Reading.{Notes, stays}
 
 -- a message as the file that it is
 abbrev pub as_file : {M : Type 0} → message.Ghosts M → (M → List Happening) → M → MessageFile
@@ -43,10 +43,10 @@ read_followed m role_of trace_of notes true (Some text) old new is whole =
       end = whole.end;
       short = whole.short;
     }
-read_followed m role_of trace_of notes true None old new is (inl (outcomes, text, kind, reads, gave, other)) =
-    inl (outcomes, text, kind, followed m role_of trace_of notes (outcomes ++ Err kind ∷ []) old new is reads, gave, other)
-read_followed m role_of trace_of notes true None old new is (inr (outcomes, text, reads, gave, endless)) =
-    inr (outcomes, text, followed m role_of trace_of notes outcomes old new is reads, gave, endless)
+read_followed m role_of trace_of notes true None old new is (inl (kind, text, (outcomes, reads, gave))) =
+    inl (kind, text, (outcomes, followed m role_of trace_of notes (outcomes ++ Err kind ∷ []) old new is reads, gave))
+read_followed m role_of trace_of notes true None old new is (inr (text, (outcomes, reads, gave), endless)) =
+    inr (text, (outcomes, followed m role_of trace_of notes outcomes old new is reads, gave), endless)
 read_followed m role_of trace_of notes false given old new is same = ap (as_file m trace_of) same
 
 -- and signing the one is signing the other.
@@ -88,9 +88,9 @@ read_stays : {M X : Type 0} (m : message.Ghosts M) (part : M → X)
     → (is_read : Bool) (given : Option (List ℕ)) (old new : M) → IsRead m is_read given old new → part new ≡ part old
 read_stays m part kept true (Some text) old new whole =
     let (outcomes, reads, gave) = whole.gave in stays m.transition part kept (outcomes ++ Ok [] ∷ []) old new reads
-read_stays m part kept true None old new (inl (outcomes, text, kind, reads, gave, other)) =
+read_stays m part kept true None old new (inl (kind, text, (outcomes, reads, gave))) =
     stays m.transition part kept (outcomes ++ Err kind ∷ []) old new reads
-read_stays m part kept true None old new (inr (outcomes, text, reads, gave, endless)) = stays m.transition part kept outcomes old new reads
+read_stays m part kept true None old new (inr (text, (outcomes, reads, gave), endless)) = stays m.transition part kept outcomes old new reads
 read_stays m part kept false given old new same = ap part same
 
 pub signs_on_stays : {K R M X : Type 0} {bound : _} (d : disk.Ghosts K) (g : store.Ghosts (FileStore K bound)) (r : source.Ghosts R)

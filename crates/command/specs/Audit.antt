@@ -13,7 +13,6 @@ use Rattle.command.specs.declared.audit.Audit.{Audit}
 use Rattle.command.specs.declared.line.UsageFault.{UsageFault}
 use Rattle.command.specs.declared.line.UsageFault.TheVariants as usage
 use Rattle.command.specs.declared.refusal.Refusal.{Refusal}
-use Rattle.command.specs.declared.trace.Role.TheVariants as role
 use Rattle.command.specs.Argument.{option_rule, required_rule}
 use Rattle.command.specs.FileDisk.{IsStateRefusal}
 use Rattle.command.specs.Files.{FilesSeen}
@@ -21,7 +20,7 @@ use Rattle.state_file.specs.File.{most_records}
 use Rattle.command.specs.KeyFile.{AuditsOn}
 use Rattle.command.specs.Number.{number_in}
 use Rattle.command.specs.Signing.{PublicBytes}
-use Rattle.command.specs.Trace.{Happening, opened, opening_state}
+use Rattle.command.specs.Trace.{Happening, opened_to_read, opening_state_to_read}
 
 -- the command
 abbrev pub audit_app : App
@@ -66,13 +65,14 @@ IsAudited (Ok report) answer = (bytes : PublicBytes) × SpellsKey report.public 
     × (answer ≡ Ok (Audited bytes report))
 IsAudited (Err refusal) answer = answer ≡ Err refusal
 
--- The state file at this path couldn't be opened, or is locked, which is reported. Or it was opened; the disk that this
--- gave was audited, and it was closed; what came of it is the answer. No other file was opened.
+-- The state file at this path couldn't be opened for reading, or is locked, which is reported. Or it was opened, for
+-- reading alone; the disk that this gave was audited, and it was closed; what came of it is the answer. No other file
+-- was opened.
 abbrev pub AuditsIn : {K : Type 0} → disk.Ghosts K → FilesSeen K → (state : List ℕ) → Option Anchor
     → Result Done Refusal → (old new : List Happening) → Type 0
 AuditsIn {K} d files state anchor answer old new =
     ((refusal : Refusal) × IsStateRefusal refusal × (answer ≡ Err refusal)
-    × (new ≡ old ++ opening_state {A = K} state (Err refusal) ∷ []))
+    × (new ≡ old ++ opening_state_to_read {A = K} state (Err refusal) ∷ []))
     ⊎ ((before after : K) × (audited : Result Report Refusal) × files.IsOpenedDisk before
     × AuditsOn d before after anchor audited × files.IsClosedDisk after × IsAudited audited answer
-    × (new ≡ old ++ opened role.State state ∷ []))
+    × (new ≡ old ++ opened_to_read state ∷ []))

@@ -1,5 +1,5 @@
 -- How a disk reads and writes a file of the machine: by calls, each of which may do a part of what is requested.
-use Rattle.std.specs.Prelude.{ℕ, List, ◌≡◌, ◌+◌, ◌-◌, [], ◌∷◌, ◌++◌, ◌≤◌, ◌^◌, ◌⊎◌, length, drop, Result, Ok, Err}
+use Rattle.std.specs.Prelude.{ℕ, List, ◌≡◌, ◌+◌, ◌-◌, [], ◌∷◌, ◌++◌, ◌≤◌, ◌<◌, ◌^◌, ◌⊎◌, length, drop, Result, Ok, Err}
 use Rattle.std.proofs.Common.{subst}
 use Rattle.std.specs.Prelude.{Bool, true, false, IsTrue}
 use Rattle.std.specs.IoError.{error_kind}
@@ -7,8 +7,10 @@ use Rattle.std.specs.declared.io.Error.{Error}
 use Rattle.std.specs.declared.io.ErrorKind.{ErrorKind}
 use Rattle.state_file.specs.declared.disk.DiskFault.{DiskFault}
 use Rattle.state_file.specs.declared.disk.DiskFault.TheVariants.{Failed, PastEnd, OutOfMemory}
-use Rattle.typecodes.specs.Message.{Gave, GivesAll, GivesText, ReadFails, ReadOutcome, Transition, Transitions}
-use Rattle.typecodes.specs.Message.{interruptions}
+use Rattle.typecodes.specs.Message.{GivesAll, GivesText, ReadFails, Transition, size_of}
+use Rattle.typecodes.specs.Reading.{Request}
+use Rattle.typecodes.specs.Sink.{Write}
+use Rattle.command.specs.declared.file_disk.AtOffset.{AtOffset}
 use Rattle.command.specs.declared.file_disk.FileDisk.{FileDisk}
 use Rattle.command.specs.declared.refusal.Refusal.{Refusal}
 use Rattle.command.specs.declared.refusal.Refusal.TheVariants.{FileFailed, Locked}
@@ -46,11 +48,6 @@ kept (Err error) = Err (error_kind error)
 abbrev pub Stage : Type 0
 Stage = ℕ × List Happening
 
--- how many bytes a call gave or took
-abbrev pub size_of : ReadOutcome → ℕ
-size_of (Ok bytes) = length bytes
-size_of (Err kind) = 0
-
 -- A read at the offset where the rest of the bytes stands requests the rest, and no more.
 abbrev pub ReadsRest : (at room : ℕ) → Transition Stage
 ReadsRest at room (done, old) outcome (after, new) =
@@ -61,15 +58,21 @@ abbrev pub WritesRest : (at : ℕ) (bytes : List ℕ) → Transition Stage
 WritesRest at bytes (done, old) outcome (after, new) =
     (after ≡ done + size_of outcome) × (new ≡ old ++ written_at (at + done) (drop done bytes) outcome ∷ [])
 
--- Calls went on, each of which did a byte at least or was interrupted; of both there were 2^20, and it was given up.
-abbrev pub GivesUp : {M : Type 0} → Transition M → M → M → Type 0
-GivesUp step old new =
-    (outcomes : List ReadOutcome) × (bytes : List ℕ) × Transitions step outcomes old new × Gave outcomes bytes
-    × (2 ^ 20 ≤ interruptions outcomes + length bytes)
+-- A read of a file from an offset on is one of the file's at this offset, and the next one is behind what it gave.
+abbrev pub ReadsNext : {F : Type 0} → (F → List Happening) → Request (AtOffset F)
+ReadsNext trace_of old room outcome new = old.at + room < 2 ^ 64 → (new.file.ghost_name ≡ old.file.ghost_name)
+    × (new.at ≡ old.at + size_of outcome)
+    × (trace_of new.file.now ≡ trace_of old.file.now ++ read_at old.at room outcome ∷ [])
 
--- A call failed and wasn't interrupted, or it was given up.
+-- the same of a write
+abbrev pub WritesNext : {F : Type 0} → (F → List Happening) → Write (AtOffset F)
+WritesNext trace_of old bytes outcome new = old.at + length bytes < 2 ^ 64
+    → (new.file.ghost_name ≡ old.file.ghost_name) × (new.at ≡ old.at + size_of outcome)
+    × (trace_of new.file.now ≡ trace_of old.file.now ++ written_at old.at bytes outcome ∷ [])
+
+-- A call failed.
 abbrev pub Breaks : {M : Type 0} → Transition M → M → M → Type 0
-Breaks step old new = ReadFails step old new ⊎ GivesUp step old new
+Breaks step old new = ReadFails step old new
 
 -- The range has no end: there is no offset of 2^64 or more, and the file was left alone.
 abbrev pub EndsBeyond : (at size : ℕ) (old new : List Happening) → Type 0
@@ -77,7 +80,7 @@ EndsBeyond at size old new = (2 ^ 64 ≤ at + size) × (new ≡ old)
 
 -- ---- the calls of the disk
 
--- These bytes were read at an offset. Or the file ended before them, where a read gave nothing; or reading broke off.
+-- These bytes were read at an offset. Or the file ended before them, where a read gave nothing; or a read failed.
 abbrev pub ReadsAt : {A : Type 0} → (at : ℕ) (bytes : List ℕ) → Result A DiskFault → (old new : List Happening)
     → Type 0
 ReadsAt at bytes (Ok _) old new =
@@ -88,7 +91,7 @@ ReadsAt at bytes (Err Failed) old new =
     (done : ℕ) × Breaks (ReadsRest at (length bytes)) (0, old) (done, new)
 ReadsAt at bytes (Err OutOfMemory) old new = ⊥
 
--- These bytes were written at an offset. Or a write took nothing, or writing broke off.
+-- These bytes were written at an offset. Or a write took nothing, or failed.
 abbrev pub WritesAt : {A : Type 0} → (at : ℕ) (bytes : List ℕ) → Result A DiskFault → (old new : List Happening)
     → Type 0
 WritesAt at bytes (Ok _) old new = GivesText (WritesRest at bytes) bytes (0, old) (length bytes, new)

@@ -1,6 +1,7 @@
 -- What is read of files, and how reading them fails.
 use Rattle.std.specs.Prelude.{length, ℕ, List, [], ◌∷◌, ◌++◌, Result, Ok, Err, ◌≡◌, Option, Some, IfSome, ◌≢◌}
-use Rattle.std.specs.Prelude.{◌⊎◌, ◌<◌, ◌≤◌, take}
+use Rattle.std.specs.Prelude.{◌⊎◌, ◌<◌, ◌≤◌, ◌^◌, take}
+use Rattle.std.proofs.Common.{append_assoc, append-nil, subst, sym}
 use Rattle.sign_core.specs.declared.key.AnyPublic.{AnyPublic}
 use Rattle.sign_core.specs.declared.key.KeyFault.{KeyFault}
 use Rattle.sign_core.specs.Key.{KeyHasFault, SpellsKey}
@@ -9,11 +10,12 @@ use Rattle.std.specs.IoError.{error_kind}
 use Rattle.std.specs.declared.io.Error.{Error}
 use Rattle.std.specs.declared.io.ErrorKind.{ErrorKind}
 use Rattle.std.specs.declared.io.ErrorKind.TheVariants.{OutOfMemory}
-use Rattle.typecodes.specs.Message.{IsContent}
+use Rattle.typecodes.specs.Message.{IsContent, Transition}
 use Rattle.command.specs.declared.refusal.Refusal.{Refusal}
 use Rattle.command.specs.declared.refusal.Refusal.TheVariants as refused
 use Rattle.command.specs.Refusal.{refusal_of}
-use Rattle.command.specs.Trace.{Happening, ReadsOn, ReadsToEnd, ReadsToFailure, ReadsForever, not_opened, opened}
+use Rattle.command.specs.Trace.{Happening, ReadsForever, ReadsOn, ReadsOnce, ReadsToEnd, ReadsToFailure, not_opened}
+use Rattle.command.specs.Trace.{opened}
 
 -- Bytes were read as a public key: they spell this one, or this is wrong with them.
 abbrev pub ReadsKey : List ℕ → Result AnyPublic KeyFault → Type 0
@@ -24,8 +26,7 @@ ReadsKey bytes (Err fault) = KeyHasFault bytes fault
 abbrev pub ShowsContent : Option (List ℕ) → Option (List ℕ) → Type 0
 ShowsContent content left = IfSome content (λ bytes. left ≡ Some bytes)
 
--- Reading failed with this kind of error: a read failed so; or there was no end of bytes and interruptions, and the
--- kind names no memory.
+-- Reading failed with this kind of error: a read failed so; or there was no end of bytes, and the kind names no memory.
 abbrev pub FailsToRead : Role → ErrorKind → List Happening → List Happening → Type 0
 FailsToRead role kind old new = ReadsToFailure role kind old new ⊎ ((kind ≢ OutOfMemory) × ReadsForever role old new)
 
@@ -34,10 +35,22 @@ abbrev pub FillsRoom : Role → ℕ → List ℕ → List Happening → List Hap
 FillsRoom role room bytes old new =
     ((length bytes ≡ room) × ReadsOn role bytes old new) ⊎ ((length bytes < room) × ReadsToEnd role bytes old new)
 
--- A file was read into a buffer, which has so many bytes of it; or reading failed.
+-- A file was read into a buffer, which has so many bytes of it; or a read failed.
 abbrev pub FillsOrFails : Role → Result ℕ Error → List ℕ → List Happening → List Happening → Type 0
 FillsOrFails role (Ok count) buffer old new = FillsRoom role (length buffer) (take count buffer) old new
-FillsOrFails role (Err error) buffer old new = FailsToRead role (error_kind error) old new
+FillsOrFails role (Err error) buffer old new = ReadsToFailure role (error_kind error) old new
+
+-- what is known to be left of a file, and what happened
+abbrev pub FileState : Type 0
+FileState = Option (List ℕ) × List Happening
+
+-- what is known to be left of it
+abbrev pub left_of : FileState → Option (List ℕ)
+left_of file = file.0
+
+-- A read of this file happened, and nothing else.
+abbrev pub ReadsFileOnce : Role → Transition FileState
+ReadsFileOnce role old outcome new = ReadsOnce role old.1 outcome new.1
 
 -- A file was read to its end, and the value fits the bytes that it gave, which are all that was known to be left of it;
 -- or reading failed.
@@ -116,3 +129,21 @@ pub record FilesSeen (K : Type 0) : Type 1 where
 abbrev pub files_seen : {K : Type 0} → (List ℕ → Option (List ℕ)) → (is_opened is_closed : K → Type 0) → FilesSeen K
 files_seen content is_opened is_closed =
     record { content = content; IsOpenedDisk = is_opened; IsClosedDisk = is_closed }
+
+-- ---- bytes that are counted
+
+-- The count is that of these bytes, unless they are 2^64.
+abbrev pub IsCount : List ℕ → ℕ → Type 0
+IsCount bytes count = length bytes < 2 ^ 64 → count ≡ length bytes
+
+-- These bytes are counted after those before them.
+abbrev pub Counts : (before : ℕ) (bytes : List ℕ) (after : ℕ) → Type 0
+Counts before bytes after = (seen : List ℕ) → IsCount seen before → IsCount (seen ++ bytes) after
+
+pub counts_nothing : (count : ℕ) → Counts count [] count
+counts_nothing count seen is = subst (λ l. IsCount l count) (sym (append-nil seen)) is
+
+pub counts_more : (before middle after : ℕ) (first later : List ℕ) → Counts before first middle
+    → Counts middle later after → Counts before (first ++ later) after
+counts_more before middle after first later one more seen is =
+    subst (λ l. IsCount l after) (append_assoc seen first later) (more (seen ++ first) (one seen is))

@@ -19,5 +19,6 @@ pub mod Serve
 pub mod Sign
 pub mod Signing
 pub mod Streams
+pub mod Target
 pub mod Trace
 pub mod Verify

@@ -21,7 +21,7 @@ use Rattle.command.specs.FileDisk.{IsStateRefusal}
 use Rattle.command.specs.Files.{FilesSeen, KeepsOtherContents, ShowsContent}
 use Rattle.command.specs.KeyFile.{MakesOn, refused_with}
 use Rattle.command.specs.Signing.{PublicBytes, Publishes}
-use Rattle.command.specs.Trace.{Happening, made, making, not_opened, not_writable, opened, writable}
+use Rattle.command.specs.Trace.{Happening, made, making, not_opened, opened}
 
 -- the command
 abbrev pub make_app : App
@@ -34,22 +34,9 @@ IsMake state public spec random (Some words) = (state ≡ Some words.state.now) 
     × (spec ≡ Some words.spec.now) × (random ≡ Some words.random.now)
 IsMake state public spec random None = (state ≡ None) ⊎ (public ≡ None) ⊎ (spec ≡ None) ⊎ (random ≡ None)
 
--- Once the state file was opened, the file of random bytes was, and it was checked whether the public key's can be
--- written. The one couldn't be opened, or the other can't be written.
-abbrev pub FailsToMake : (public random : List ℕ) → (old new : List Happening) → Type 0
-FailsToMake public random old new = (new ≡ old ++ not_opened role.Random random ∷ [])
-    ⊎ (new ≡ old ++ opened role.Random random ∷ not_writable role.Public public ∷ [])
-
--- Both are so: this source gives the random bytes; or one isn't.
-abbrev pub ReadiesToMake : {R : Type 0} → (upcoming : R → Option (List ℕ)) → (content : List ℕ → Option (List ℕ))
-    → (public random : List ℕ) → Result R Refusal → (old new : List Happening) → Type 0
-ReadiesToMake upcoming content public random (Ok source) old new = ShowsContent (content random) (upcoming source)
-    × (new ≡ old ++ opened role.Random random ∷ writable role.Public public ∷ [])
-ReadiesToMake upcoming content public random (Err refusal) old new =
-    (refusal ≡ FileFailed) × FailsToMake public random old new
-
--- A key was made on a disk, and its public key written to its file; or one of the two was refused, which is reported.
--- Afterwards the disk is what the signer, or the refusal, has of it.
+-- A key was made on a disk, and only then its public key written to its file; or one of the two was refused, which is
+-- reported. Where no key was made, the public key's file wasn't opened. Afterwards the disk is what the signer, or the
+-- refusal, has of it.
 abbrev pub MakesAndPublishes : {K R : Type 0} {bound : _} → disk.Ghosts K → store.Ghosts (FileStore K bound)
     → source.Ghosts R → (before after : K) → Spec → (random : R) → (public : List ℕ) → Result PublicBytes Refusal
     → (old new : List Happening) → Type 0
@@ -59,15 +46,16 @@ MakesAndPublishes {K} {R} {bound} d g r before after spec random public answer o
     ⊎ ((signer : View (FileStore K bound) R) × MakesOn d g r before spec random (Ok signer)
     × Publishes (key_in signer.records) public old new answer × (after ≡ disk_of signer.store))
 
--- On the disk of a state file that was opened: the other files were, and a key made and published; or one can't be, and
--- the disk is as it was.
+-- On the disk of a state file that was opened: the file of random bytes was, whose bytes this source gives, and a key
+-- made and published; or it can't be opened, and the disk is as it was.
 abbrev pub MakesOpened : {K R : Type 0} {bound : _} → disk.Ghosts K → store.Ghosts (FileStore K bound)
     → source.Ghosts R → (content : List ℕ → Option (List ℕ)) → (before after : K) → Spec → (public random : List ℕ)
     → Result PublicBytes Refusal → (old new : List Happening) → Type 0
 MakesOpened {K} {R} {bound} d g r content before after spec public random answer old new =
-    ((answer ≡ Err FileFailed) × (after ≡ before) × FailsToMake public random old new)
-    ⊎ ((source : R) × (ready : List Happening) × ReadiesToMake r.upcoming content public random (Ok source) old ready
-    × MakesAndPublishes {bound = bound} d g r before after spec source public answer ready new)
+    ((answer ≡ Err FileFailed) × (after ≡ before) × (new ≡ old ++ not_opened role.Random random ∷ []))
+    ⊎ ((source : R) × ShowsContent (content random) (r.upcoming source)
+    × MakesAndPublishes {bound = bound} d g r before after spec source public answer
+    (old ++ opened role.Random random ∷ []) new)
 
 -- the answer, for what came of making a key
 abbrev pub make_answer : Result PublicBytes Refusal → Result Done Refusal

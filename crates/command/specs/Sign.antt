@@ -1,5 +1,5 @@
 -- `sign STATE NAME MESSAGE OUT [--random FILE]`: its words, and what it does.
-use Rattle.std.specs.Prelude.{◌≡◌, ◌⊎◌, ◌++◌, ◌∷◌, [], ℕ, List, codes, Option, Some, None, Result, Ok, Err}
+use Rattle.std.specs.Prelude.{◌≡◌, ◌⊎◌, ◌++◌, ◌∷◌, [], ℕ, List, codes, Option, Some, None, Result, Ok, Err, ⊤}
 use Rattle.clap.specs.Words.{App, Text, new_app, with_rule}
 use Rattle.typecodes.specs.declared.message.Message as message
 use Rattle.typecodes.specs.Name.{IsName}
@@ -19,7 +19,7 @@ use Rattle.command.specs.FileDisk.{IsStateRefusal}
 use Rattle.command.specs.Files.{FilesSeen, KeepsContents, ShowsContent}
 use Rattle.command.specs.KeyFile.{SignsOn}
 use Rattle.command.specs.Signing.{Delivers}
-use Rattle.command.specs.Trace.{Happening, ReadsOnce, not_opened, not_writable, opened, opening_state, writable}
+use Rattle.command.specs.Trace.{Happening, ReadsOnce, not_opened, opened, opening_state}
 
 -- the command
 abbrev pub sign_app : App
@@ -45,31 +45,29 @@ abbrev pub message_file : message.Ghosts MessageFile
 message_file = record {
   remaining = λ file. file.0;
   transition = λ old outcome new. ReadsOnce role.Message old.1 outcome new.1;
+  request = λ _ _ _ _. ⊤;
 }
 
 -- ---- the files
 
--- Once the state file was opened, the message's file was and then that of random bytes, and it was checked whether the
--- signature's can be written. One of the first two couldn't be opened, or the last can't be written.
-abbrev pub FailsToSign : (message out random : List ℕ) → (old new : List Happening) → Type 0
-FailsToSign message out random old new = (new ≡ old ++ not_opened role.Message message ∷ [])
+-- Once the state file was opened, the message's file was and then that of random bytes. One of them couldn't be opened.
+abbrev pub FailsToSign : (message random : List ℕ) → (old new : List Happening) → Type 0
+FailsToSign message random old new = (new ≡ old ++ not_opened role.Message message ∷ [])
     ⊎ (new ≡ old ++ opened role.Message message ∷ not_opened role.Random random ∷ [])
-    ⊎ (new ≡ old ++ opened role.Message message ∷ opened role.Random random ∷ not_writable role.Signature out ∷ [])
 
--- all three are so
-abbrev pub ready_to_sign : (message out random : List ℕ) → List Happening
-ready_to_sign message out random =
-    opened role.Message message ∷ opened role.Random random ∷ writable role.Signature out ∷ []
+-- both are
+abbrev pub ready_to_sign : (message random : List ℕ) → List Happening
+ready_to_sign message random = opened role.Message message ∷ opened role.Random random ∷ []
 
--- They are so: a file of which this role and these bytes are known, and this source; or one isn't.
+-- They are: a file of which this role and these bytes are known, and this source; or one isn't.
 abbrev pub ReadiesToSign : {F R : Type 0} → (role_of : F → Role) → (remaining : F → Option (List ℕ))
-    → (upcoming : R → Option (List ℕ)) → (content : List ℕ → Option (List ℕ)) → (message out random : List ℕ)
+    → (upcoming : R → Option (List ℕ)) → (content : List ℕ → Option (List ℕ)) → (message random : List ℕ)
     → Result (F × R) Refusal → (old new : List Happening) → Type 0
-ReadiesToSign role_of remaining upcoming content message out random (Ok (file, source)) old new =
+ReadiesToSign role_of remaining upcoming content message random (Ok (file, source)) old new =
     (role_of file ≡ role.Message) × ShowsContent (content message) (remaining file)
-    × ShowsContent (content random) (upcoming source) × (new ≡ old ++ ready_to_sign message out random)
-ReadiesToSign role_of remaining upcoming content message out random (Err refusal) old new =
-    (refusal ≡ FileFailed) × FailsToSign message out random old new
+    × ShowsContent (content random) (upcoming source) × (new ≡ old ++ ready_to_sign message random)
+ReadiesToSign role_of remaining upcoming content message random (Err refusal) old new =
+    (refusal ≡ FileFailed) × FailsToSign message random old new
 
 -- ---- the step, and what it comes to
 
@@ -96,17 +94,17 @@ SignsAndDelivers {bound = bound} d g r before after random name left out answer 
     × SignsFile {bound = bound} d g r before after random name left 0 signature signed old read
     × DeliversSigned signed signature out read new answer
 
--- On the disk of a state file that was opened: the other files were, and the message was signed; or one can't be, and
--- the disk is as it was.
+-- On the disk of a state file that was opened: the other files were, the message was signed, and only then the
+-- signature's file opened; or one can't be, and the disk is as it was.
 abbrev pub SignsOpened : {K R : Type 0} {bound : _} → disk.Ghosts K → store.Ghosts (FileStore K bound)
     → source.Ghosts R → (content : List ℕ → Option (List ℕ)) → (before after : K) → (name message out random : List ℕ)
     → Result ℕ Refusal → (old new : List Happening) → Type 0
 SignsOpened {K} {R} {bound} d g r content before after name message out random answer old new =
-    ((answer ≡ Err FileFailed) × (after ≡ before) × FailsToSign message out random old new)
+    ((answer ≡ Err FileFailed) × (after ≡ before) × FailsToSign message random old new)
     ⊎ ((source : R) × (left : Option (List ℕ)) × ShowsContent (content random) (r.upcoming source)
     × ShowsContent (content message) left
     × SignsAndDelivers {bound = bound} d g r before after source name left out answer
-    (old ++ ready_to_sign message out random) new)
+    (old ++ ready_to_sign message random) new)
 
 -- the answer, for what came of signing under a name
 abbrev pub sign_answer : List ℕ → Result ℕ Refusal → Result Done Refusal

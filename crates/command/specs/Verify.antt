@@ -16,6 +16,7 @@ use Rattle.command.specs.Refusal.{refusal_of}
 use Rattle.command.specs.Files.{FailsToRead, FillsRoom, decisive}
 use Rattle.typecodes.specs.Message.{IsContent, Transition}
 use Rattle.command.specs.Trace.{Happening, opened, not_opened, nothing_known, ReadsOnce, ReadsToEnd}
+use Rattle.command.specs.Trace.{ReadsToFailure}
 
 -- `verify PUBLIC MESSAGE SIGNATURE`
 abbrev pub verify_app : App
@@ -128,7 +129,7 @@ abbrev pub ReadsInTurn : {A : Type 0} → Role → Role → Role → Result A Re
 ReadsInTurn public signature message answer old new =
     ((kind : ErrorKind) × IsRefusalOf kind answer × FailsToRead public kind old new)
     ⊎ ((p : List ℕ) × (first : List Happening) × ReadsToEnd public p old first
-    × ((kind : ErrorKind) × IsRefusalOf kind answer × FailsToRead signature kind first new))
+    × ((kind : ErrorKind) × IsRefusalOf kind answer × ReadsToFailure signature kind first new))
     ⊎ ((p : List ℕ) × (s : List ℕ) × (first : List Happening) × (second : List Happening)
     × ReadsToEnd public p old first × FillsRoom signature decisive s first second
     × JudgesReads message p s answer second new)

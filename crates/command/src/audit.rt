@@ -80,12 +80,12 @@ impl<'a> Audit<'a> {
         }
     }
 
-    /// Opens the state file, and audits it.
-    pub fn answer<D: SignerFolder>(&self, alloc: Global, folder: &mut D) -> Answer
+    /// Opens the state file for reading alone, and audits it.
+    pub fn answer<D: SignerFolder<'a>>(&self, alloc: Global, folder: &mut D) -> Answer
         ensures { AuditsIn D.Disk.Disk (files_seen (D.content folder.old) D.is_opened (D.is_closed folder.new))
             self.now.state.now self.now.anchor result (D.trace folder.old) (D.trace folder.new) }
     {
-        let disk = folder.open_state(self.state)?;
+        let disk = folder.open_state_to_read(self.state)?;
         let (disk, audited) = key_file::audit(alloc, disk, self.anchor);
         folder.close_state(disk);
         answer_to(audited)

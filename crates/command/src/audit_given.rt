@@ -12,7 +12,7 @@ ghost use Rattle.command.specs.Files.{KeepsContents};
 use crate::answer::{Answer, Done};
 use crate::argument::{required, several};
 use crate::files;
-use crate::files::Folder;
+use crate::files::LineFiles;
 use crate::line::UsageFault;
 use crate::refusal::Refusal;
 use crate::trace::Role;
@@ -83,7 +83,7 @@ impl<'a> AuditGiven<'a> {
     }
 
     /// Reads the files, and checks the signatures.
-    pub fn answer<D: Folder>(&self, alloc: Global, folder: &mut D) -> Answer
+    pub fn answer<D: LineFiles<'a>>(&self, alloc: Global, folder: &mut D) -> Answer
         ensures { ChecksIn (D.content folder.old) self.now.public.now (pairs_of self.now) result (D.trace folder.old)
             (D.trace folder.new) }
     {
@@ -114,11 +114,11 @@ fn pair_paths<'a>(
 }
 
 // Reads the pairs, and checks them under the key.
-fn judge_pairs<D: Folder>(
+fn judge_pairs<'a, D: LineFiles<'a>>(
     alloc: Global,
     folder: &mut D,
     key: Result<AnyPublic, KeyFault>,
-    files: &[GivenFiles<'_>],
+    files: &[GivenFiles<'a>],
 ) -> Answer
     ensures { JudgesPairs (D.content folder.old) key (map pair_of files.now) result (D.trace folder.old)
         (D.trace folder.new) }
@@ -139,10 +139,10 @@ fn judge_given(alloc: Global, key: Result<AnyPublic, KeyFault>, given: &[Given])
 }
 
 // Reads pairs one after the other.
-fn read_pairs<D: Folder>(
+fn read_pairs<'a, D: LineFiles<'a>>(
     alloc: Global,
     folder: &mut D,
-    files: &[GivenFiles<'_>],
+    files: &[GivenFiles<'a>],
 ) -> Result<Vec<Given>, Refusal>
     ensures { MatchResult result
         (λ given. ReadsPairs (D.content folder.old) (map pair_of files.now) given.items (D.trace folder.old)
@@ -161,10 +161,10 @@ fn read_pairs<D: Folder>(
 }
 
 // Reads a message and its signature.
-fn read_pair<D: Folder>(
+fn read_pair<'a, D: LineFiles<'a>>(
     alloc: Global,
     folder: &mut D,
-    files: &GivenFiles<'_>,
+    files: &GivenFiles<'a>,
 ) -> Result<Given, Refusal>
     ensures content { KeepsContents (D.content folder.old) (D.content folder.new) }
     ensures reads { MatchResult result

@@ -5,19 +5,12 @@ ghost use Rattle.std.specs.Io.{ReadsAtMost, WritesAtMost};
 ghost use Rattle.state_file.specs.Disk.{Counts, is_failure, is_past_end, settled};
 ghost use Rattle.typecodes.specs.Message.{read_outcome};
 ghost use Rattle.command.specs.Trace.{Happening, measured, read_at, synced, written_at};
-ghost use Rattle.command.specs.FileDisk.{Measures, OpensState, ReadsAt, SyncsAll, WritesAt, kept, never};
+ghost use Rattle.command.specs.FileDisk.{Measures, ReadsAt, SyncsAll, WritesAt, kept, never};
 
-use crate::file_id::FileId;
-use crate::refusal::Refusal;
-use crate::trace::{Event, Trace};
 use state_file::{Disk, DiskFault};
-use std::fs::{File, Files, Metadata, OpenOptions, TryLockError};
+use std::io;
 use std::io::ErrorKind;
-use std::marker::Model;
-use std::os::unix::fs::{FileExt, OpenOptionsExt};
-use std::path::Path;
-use std::{fs, io};
-use typecodes::Count;
+use typecodes::{Count, Message, Sink, read_full, write_all};
 
 /// A file that is read and written at offsets. Each method is one call of the system.
 pub trait OffsetFile {
@@ -45,143 +38,8 @@ pub trait OffsetFile {
         ensures { trace self.new ≡ trace self.old ++ synced (kept result) ∷ [] };
 }
 
-/// A state file of the machine, open for reading and writing.
-#[derive(Drop)]
-pub struct StateFile {
-    file: File,
-    id: FileId,
-    trace: Trace,
-}
-
-// Contracts see what happened to it.
-impl Model for StateFile {
-    ghost Value = { List Happening };
-
-    ghost view = { λ file. file.trace.events };
-}
-
-impl StateFile {
-    /// Opens the state file at this path for reading and writing, and locks it without waiting. It has to be a regular
-    /// file, and is never made.
-    pub fn open<R: Files<File = File>>(rt: &R, path: &str) -> Result<Self, Refusal>
-        ensures { OpensState result }
-    {
-        // It is looked at before it is opened, too: opening a device may do something.
-        match fs::metadata(rt, path) {
-            Ok(metadata) if metadata.is_file() => {}
-            _ => return Err(Refusal::FileFailed),
-        }
-        match OpenOptions::new().read(true).write(true).open(rt, path) {
-            Ok(file) => StateFile::lock(file),
-            Err(_) => Err(Refusal::FileFailed),
-        }
-    }
-
-    /// The same, but that a file is made where there is none, which its owner alone may read and write. In both cases
-    /// the folder is synced, so that the file's name stays: it may have been made by a run that was stopped.
-    pub fn open_or_make<R: Files<File = File>>(rt: &R, path: &str) -> Result<Self, Refusal>
-        ensures { OpensState result }
-    {
-        let made = OpenOptions::new()
-            .read(true)
-            .write(true)
-            .create_new(true)
-            .mode(0o600)
-            .open(rt, path);
-        let file = match made {
-            Ok(file) => StateFile::lock(file)?,
-            Err(error) => {
-                if error.kind() != ErrorKind::AlreadyExists {
-                    return Err(Refusal::FileFailed);
-                }
-                StateFile::open(rt, path)?
-            }
-        };
-        match sync_folder(rt, path) {
-            Ok(()) => Ok(file),
-            Err(_) => Err(Refusal::FileFailed),
-        }
-    }
-
-    // The file that was opened, locked for this process alone. Nothing happened to it yet.
-    fn lock(file: File) -> Result<Self, Refusal>
-        ensures { OpensState result }
-    {
-        let id = match file.metadata() {
-            Ok(metadata) if metadata.is_file() => FileId::of(&metadata),
-            _ => return Err(Refusal::FileFailed),
-        };
-        match file.try_lock() {
-            Ok(()) => Ok(StateFile {
-                file,
-                id,
-                trace: Trace::new(),
-            }),
-            Err(TryLockError::WouldBlock) => Err(Refusal::Locked),
-            Err(TryLockError::Error(_)) => Err(Refusal::FileFailed),
-        }
-    }
-
-    /// Which file of the machine it is.
-    pub fn id(&self) -> FileId {
-        self.id
-    }
-}
-
-impl OffsetFile for StateFile {
-    ghost trace = { λ file. file };
-
-    fn len(&mut self) -> io::Result<u64> {
-        let answer = match self.file.metadata() {
-            Ok(metadata) => Ok(metadata.len()),
-            Err(error) => Err(error),
-        };
-        self.trace.note(&Event::Measured(kind_kept(&answer)));
-        answer
-    }
-
-    fn read_at(&mut self, at: u64, into: &mut [u8]) -> io::Result<usize> {
-        let answer = self.file.read_at(into, at);
-        let size = into.len();
-        match &answer {
-            Ok(n) => self.trace.note(&Event::ReadAt(at, size, Ok(&into[..*n]))),
-            Err(error) => self.trace.note(&Event::ReadAt(at, size, Err(error.kind()))),
-        }
-        answer
-    }
-
-    fn write_at(&mut self, at: u64, bytes: &[u8]) -> io::Result<usize> {
-        let answer = self.file.write_at(bytes, at);
-        let taken = match &answer {
-            Ok(n) => Ok(&bytes[..*n]),
-            Err(error) => Err(error.kind()),
-        };
-        self.trace.note(&Event::WrittenAt(at, bytes, taken));
-        answer
-    }
-
-    fn sync(&mut self) -> io::Result<()> {
-        let answer = self.file.sync_data();
-        self.trace.note(&Event::Synced(kind_kept(&answer)));
-        answer
-    }
-}
-
-// Syncs the folder in which the file of this path stands.
-fn sync_folder<R: Files<File = File>>(rt: &R, path: &str) -> io::Result<()> {
-    File::open(rt, folder_of(path))?.sync_all()
-}
-
-/// The folder in which the file of this path stands.
-pub fn folder_of(path: &str) -> &str {
-    match Path::new(path).parent() {
-        Some(folder) if !folder.as_str().is_empty() => folder.as_str(),
-        _ => ".",
-    }
-}
-
-// The answer, of whose error the kind alone is kept.
-fn kind_kept<T: Copy>(answer: &io::Result<T>) -> Result<T, ErrorKind>
+/// The answer, of whose error the kind alone is kept.
+pub fn kind_kept<T: Copy>(answer: &io::Result<T>) -> Result<T, ErrorKind>
     ensures { result ≡ kept answer.now }
 {
     match answer {
@@ -190,8 +48,42 @@ fn kind_kept<T: Copy>(answer: &io::Result<T>) -> Result<T, ErrorKind>
     }
 }
 
-// How many calls are tried for the bytes of one read or one write.
-const TRIES: u32 = 1 << 20;
+// A file from an offset on, where each call goes on at the next offset.
+#[derive(Drop)]
+struct AtOffset<'a, F> {
+    file: &'a mut F,
+    at: u64,
+}
+
+impl<F: OffsetFile> Message for AtOffset<'_, F> {
+    ghost use Rattle.std.specs.Prelude.{None};
+    ghost use Rattle.command.specs.FileDisk.{ReadsNext};
+
+    ghost remaining = { λ _. None };
+
+    ghost request = { ReadsNext F.trace };
+
+    fn read_into(&mut self, buffer: &mut [u8]) -> io::Result<usize> {
+        let n = self.file.read_at(self.at, buffer)?;
+        self.at = self.at.wrapping_add(n as u64);
+        Ok(n)
+    }
+}
+
+impl<F: OffsetFile> Sink for AtOffset<'_, F> {
+    ghost use Rattle.std.specs.Prelude.{None};
+    ghost use Rattle.command.specs.FileDisk.{WritesNext};
+
+    ghost contents = { λ _. None };
+
+    ghost transition = { WritesNext F.trace };
+
+    fn write_from(&mut self, bytes: &[u8]) -> io::Result<usize> {
+        let n = self.file.write_at(self.at, bytes)?;
+        self.at = self.at.wrapping_add(n as u64);
+        Ok(n)
+    }
+}
 
 // Reads at the offset `at` until the buffer is full.
 fn fill_at<F: OffsetFile>(file: &mut F, at: u64, into: &mut [u8]) -> Result<(), DiskFault>
@@ -200,22 +92,14 @@ fn fill_at<F: OffsetFile>(file: &mut F, at: u64, into: &mut [u8]) -> Result<(), 
     if at.checked_add(into.len() as u64).is_none() {
         return Err(DiskFault::PastEnd);
     }
-    let mut done = 0;
-    for turn in 0..TRIES {
-        if done >= into.len() {
-            return Ok(());
-        }
-        match file.read_at(at + done as u64, &mut into[done..]) {
-            Ok(0) => return Err(DiskFault::PastEnd),
-            Ok(n) => done += n,
-            Err(error) => {
-                if error.kind() != ErrorKind::Interrupted {
-                    return Err(DiskFault::Failed);
-                }
-            }
-        }
+    match read_full(&mut AtOffset { file, at }, into) {
+        Ok(n) => if n < into.len() {
+            Err(DiskFault::PastEnd)
+        } else {
+            Ok(())
+        },
+        Err(_) => Err(DiskFault::Failed),
     }
-    Err(DiskFault::Failed)
 }
 
 // Writes the bytes at the offset `at` until all of them are written.
@@ -225,22 +109,10 @@ fn write_all_at<F: OffsetFile>(file: &mut F, at: u64, bytes: &[u8]) -> Result<()
     if at.checked_add(bytes.len() as u64).is_none() {
         return Err(DiskFault::Failed);
     }
-    let mut done = 0;
-    for turn in 0..TRIES {
-        if done >= bytes.len() {
-            return Ok(());
-        }
-        match file.write_at(at + done as u64, &bytes[done..]) {
-            Ok(0) => return Err(DiskFault::Failed),
-            Ok(n) => done += n,
-            Err(error) => {
-                if error.kind() != ErrorKind::Interrupted {
-                    return Err(DiskFault::Failed);
-                }
-            }
-        }
+    match write_all(&mut AtOffset { file, at }, bytes) {
+        Ok(()) => Ok(()),
+        Err(_) => Err(DiskFault::Failed),
     }
-    Err(DiskFault::Failed)
 }
 
 /// A disk over a file of the machine. That what is synced stays, and what else an honest disk promises, can't be known

@@ -1,6 +1,6 @@
 //! Which file of the machine a path leads to.
 
-ghost use Rattle.std.specs.Prelude.{◌≡◌, None, Some, replicate, slice_set};
+ghost use Rattle.std.specs.Prelude.{◌≡◌, ◌++◌, ◌∷◌, [], None, Some, replicate, slice_set};
 ghost use Rattle.std.specs.List.{list_any};
 ghost use Rattle.command.specs.FileId.{index_of};
 
@@ -26,28 +26,31 @@ impl FileId {
     }
 }
 
-/// The files that were opened: the last one in each role.
+/// The files that are never written over: those that were opened, the last one in each role, the standard output and
+/// the standard error.
 #[derive(Drop)]
-pub struct OpenedFiles {
-    ids: [Option<FileId>; 5],
+pub struct KeptFiles {
+    ids: [Option<FileId>; 7],
 }
 
 // Contracts see the list.
-impl Model for OpenedFiles {
+impl Model for KeptFiles {
     ghost use Rattle.std.specs.Prelude.{List, Option};
     ghost use Rattle.command.specs.declared.file_id.FileId.{FileId};
 
     ghost Value = { List (Option FileId) };
 
-    ghost view = { λ opened. opened.ids };
+    ghost view = { λ kept. kept.ids };
 }
 
-impl OpenedFiles {
-    /// No file was opened.
-    pub fn new() -> Self
-        ensures { result ≡ replicate 5 None }
+impl KeptFiles {
+    /// No file was opened, and these are the standard output and the standard error, where that is known.
+    pub fn new(output: Option<FileId>, errors: Option<FileId>) -> Self
+        ensures { result ≡ replicate 5 None ++ output ∷ errors ∷ [] }
     {
-        OpenedFiles { ids: [None; 5] }
+        KeptFiles {
+            ids: [None, None, None, None, None, output, errors],
+        }
     }
 
     /// Notes that this file was opened in this role.
@@ -64,9 +67,9 @@ impl OpenedFiles {
         self.ids[index] = Some(id);
     }
 
-    /// Whether this file was opened.
+    /// Whether this file is one of them.
     pub fn contains(&self, id: FileId) -> bool
-        ensures { result ≡ list_any (λ opened. ⟦<Option<FileId> as PartialEq>⟧.eq opened (Some id)) self.now }
+        ensures { result ≡ list_any (λ kept. ⟦<Option<FileId> as PartialEq>⟧.eq kept (Some id)) self.now }
     {
         self.ids.contains(&Some(id))
     }

@@ -6,11 +6,12 @@ ghost use Rattle.std.specs.Io.{ReadsAtMost};
 ghost use Rattle.std.specs.Io.KnownBytes.{Consumes, IsAtEnd, ReadConsumes};
 ghost use Rattle.std.specs.declared.option.Option.{Option};
 ghost use Rattle.typecodes.specs.Message.{IsContent, read_outcome};
+ghost use Rattle.typecodes.specs.Reading.{ReadsToEnd as EndsOrFails};
 ghost use Rattle.command.specs.Files.{BeginsContent, CantKeep, FailsFile, FailsToReadOrKeep, FillsRoom, FillsOrFails};
 ghost use Rattle.command.specs.Files.{KeepsContents, KeepsOtherContents, ReadsAllOrFails, ReadsFile, ReadsKey};
-ghost use Rattle.command.specs.Files.{ReadsStart, ShowsContent, decisive};
+ghost use Rattle.command.specs.Files.{ReadsFileOnce, ReadsStart, ShowsContent, decisive, left_of};
 ghost use Rattle.command.specs.FileDisk.{IsStateRefusal};
-ghost use Rattle.command.specs.Trace.{ReadsOnce, ReadsToEnd, checking, making, opening, opening_state, writing};
+ghost use Rattle.command.specs.Trace.{ReadsOnce, ReadsToEnd, opening_state_to_read, making, opening, opening_state, writing};
 ghost use Rattle.command.specs.declared.trace.Role.{Role as FileRole};
 
 use crate::refusal::Refusal;
@@ -18,9 +19,10 @@ use crate::trace::{Role, Traced};
 use sign_core::{AnyPublic, KeyFault, Source};
 use state_file::Disk;
 use std::alloc::{AllocError, Global};
+use std::convert::Infallible;
 use std::io;
 use std::io::ErrorKind;
-use typecodes::Message;
+use typecodes::{Message, PieceTaker, ReadError, read_full, read_to_end};
 
 /// A file that was opened.
 pub trait OpenFile {
@@ -31,21 +33,13 @@ pub trait OpenFile {
     ghost remaining: { Self → Option (List ℕ) };
 }
 
-/// Where files are opened and read, and never written.
+/// Where files are read, and never written.
 pub trait Folder: Traced {
     /// A file that was opened.
     type File: OpenFile + Drop;
 
     // the content of the file at a path, where it is known
     ghost content: { Self → List ℕ → Option (List ℕ) };
-
-    /// Opens the file at this very path for reading.
-    fn open(&mut self, role: Role, path: &str) -> Result<Self::File, Refusal>
-        ensures trace { Self.trace self.new ≡ Self.trace self.old ++ opening role path.now result ∷ [] }
-        ensures content { KeepsContents (content self.old) (content self.new) }
-        ensures role { IfOk result (λ file. Self.File.role file ≡ role) }
-        ensures shows { IfOk result (λ file. ShowsContent (content self.old path.now) (Self.File.remaining file)) }
-        ensures err { IfErr result (λ refusal. refusal ≡ Refusal.FileFailed) };
 
     /// Reads into the buffer, as `Read::read` does.
     fn read(&mut self, file: &mut Self::File, buffer: &mut [u8]) -> io::Result<usize>
@@ -58,23 +52,30 @@ pub trait Folder: Traced {
         ensures content { KeepsContents (content self.old) (content self.new) };
 }
 
+/// Where the files that a line names are opened. The line outlives what is opened, which may keep its path.
+pub trait LineFiles<'a>: Folder {
+    /// Opens the file at this very path for reading.
+    fn open(&mut self, role: Role, path: &'a str) -> Result<Self::File, Refusal>
+        ensures trace { Self.trace self.new ≡ Self.trace self.old ++ opening role path.now result ∷ [] }
+        ensures content { KeepsContents (Self.content self.old) (Self.content self.new) }
+        ensures role { IfOk result (λ file. Self.File.role file ≡ role) }
+        ensures shows { IfOk result (λ file.
+            ShowsContent (Self.content self.old path.now) (Self.File.remaining file)) }
+        ensures err { IfErr result (λ refusal. refusal ≡ Refusal.FileFailed) };
+}
+
 /// Where files are written.
 pub trait Outlet: Traced {
-    /// Whether a file may be written at this very path: it leads to none of the files that were opened here, and
-    /// nothing is known by which its file can't be written. Nothing is made, and nothing is changed.
-    fn check_writable(&mut self, role: Role, path: &str) -> Result<(), Refusal>
-        ensures trace { Self.trace self.new ≡ Self.trace self.old ++ checking role path.now result ∷ [] }
-        ensures err { IfErr result (λ refusal. refusal ≡ Refusal.FileFailed) };
-
     /// Writes these bytes to the file at this very path, which is made where there is none, in place of what it has. It
-    /// isn't written where it is one of the files that were opened here.
+    /// isn't written where it is one of the files that were opened here, or has a key. All of this is judged on the
+    /// open file, and only then is it cut.
     fn write(&mut self, role: Role, path: &str, bytes: &[u8]) -> Result<(), Refusal>
         ensures trace { Self.trace self.new ≡ Self.trace self.old ++ writing role path.now bytes.now result ∷ [] }
         ensures err { IfErr result (λ refusal. refusal ≡ Refusal.FileFailed) };
 }
 
 /// Where the commands of a signer have their files.
-pub trait SignerFolder: Folder + Outlet {
+pub trait SignerFolder<'a>: LineFiles<'a> + Outlet {
     /// The disk over a state file.
     type Disk: Disk + Drop;
 
@@ -89,15 +90,23 @@ pub trait SignerFolder: Folder + Outlet {
 
     /// Opens the state file at this very path for reading and writing, and locks it without waiting. It is a regular
     /// file, and is never made.
-    fn open_state(&mut self, path: &str) -> Result<Self::Disk, Refusal>
+    fn open_state(&mut self, path: &'a str) -> Result<Self::Disk, Refusal>
         ensures trace { Self.trace self.new ≡ Self.trace self.old ++ opening_state path.now result ∷ [] }
         ensures content { KeepsContents (Self.content self.old) (Self.content self.new) }
         ensures opened { IfOk result is_opened }
         ensures err { IfErr result IsStateRefusal };
 
-    /// The same, but that a file is made where there is none, which its owner alone may read and write, and whose name
-    /// stays: its folder is synced.
-    fn open_or_make_state(&mut self, path: &str) -> Result<Self::Disk, Refusal>
+    /// The same, but that it is opened for reading alone: its disk refuses each write.
+    fn open_state_to_read(&mut self, path: &'a str) -> Result<Self::Disk, Refusal>
+        ensures trace { Self.trace self.new ≡ Self.trace self.old ++ opening_state_to_read path.now result ∷ [] }
+        ensures content { KeepsContents (Self.content self.old) (Self.content self.new) }
+        ensures opened { IfOk result is_opened }
+        ensures err { IfErr result IsStateRefusal };
+
+    /// Opens the state file for reading and writing as `open_state` does, and makes it where there is none. A file in
+    /// which a key may be made is one that its owner alone may read and write, and its name stays: its folder is
+    /// synced.
+    fn open_or_make_state(&mut self, path: &'a str) -> Result<Self::Disk, Refusal>
         ensures trace { Self.trace self.new ≡ Self.trace self.old ++ making path.now result ∷ [] }
         ensures content { KeepsOtherContents path.now (Self.content self.old) (Self.content self.new) }
         ensures opened { IfOk result is_opened }
@@ -109,7 +118,7 @@ pub trait SignerFolder: Folder + Outlet {
         ensures closed { is_closed self.new disk };
 
     /// Opens the file of random bytes at this very path. The source gives its bytes from the first on.
-    fn open_random(&mut self, path: &str) -> Result<Self::Random, Refusal>
+    fn open_random(&mut self, path: &'a str) -> Result<Self::Random, Refusal>
         ensures trace { Self.trace self.new ≡ Self.trace self.old ++ opening Role.Random path.now result ∷ [] }
         ensures content { KeepsContents (Self.content self.old) (Self.content self.new) }
         ensures shows { IfOk result (λ source.
@@ -127,11 +136,12 @@ pub struct FileReader<'a, D, F> {
 impl<D: Folder> Message for FileReader<'_, D, D::File> {
     ghost remaining = { λ reader. D.File.remaining reader.file.now };
 
-    // A read is the file's, and the folder notes it.
+    // A read is the file's, and the folder notes it and has the contents that it had.
     ghost transition = { λ old outcome new. (new.folder.ghost_name ≡ old.folder.ghost_name)
         × (new.file.ghost_name ≡ old.file.ghost_name)
         × (D.File.role new.file.now ≡ D.File.role old.file.now)
-        × ReadsOnce (D.File.role old.file.now) (D.trace old.folder.now) outcome (D.trace new.folder.now) };
+        × ReadsOnce (D.File.role old.file.now) (D.trace old.folder.now) outcome (D.trace new.folder.now)
+        × KeepsContents (D.content old.folder.now) (D.content new.folder.now) };
 
     fn read_into(&mut self, buffer: &mut [u8]) -> io::Result<usize> {
         self.folder.read(self.file, buffer)
@@ -141,9 +151,6 @@ impl<D: Folder> Message for FileReader<'_, D, D::File> {
 /// As many bytes as decide of a signature: one more than the greatest has, which is of eight levels of
 /// H25/W1.
 pub const DECISIVE: usize = 74_989;
-
-// More bytes than any file has. A file that goes on after them counts as failed.
-const MOST: usize = 1 << 60;
 
 /// Reads a public key's file to its end, and gives the key that its bytes spell, or why they spell none. It keeps
 /// 69 bytes, one more than any key has, and counts the others.
@@ -165,10 +172,10 @@ pub fn read_key<D: Folder>(
 }
 
 /// Opens a public key's file and reads it to its end, as `read_key` does.
-pub fn read_key_file<D: Folder>(
+pub fn read_key_file<'a, D: LineFiles<'a>>(
     folder: &mut D,
     role: Role,
-    path: &str,
+    path: &'a str,
 ) -> Result<Result<AnyPublic, KeyFault>, Refusal>
     ensures reads { MatchResult result
         (λ key. (bytes : List ℕ) × ReadsFile (D.content folder.old) role path.now bytes (D.trace folder.old)
@@ -181,11 +188,11 @@ pub fn read_key_file<D: Folder>(
 }
 
 /// Opens a file and reads it to its end. Its bytes are kept.
-pub fn read_file<D: Folder>(
+pub fn read_file<'a, D: LineFiles<'a>>(
     alloc: Global,
     folder: &mut D,
     role: Role,
-    path: &str,
+    path: &'a str,
 ) -> Result<Vec<u8>, Refusal>
     ensures reads { MatchResult result
         (λ bytes. ReadsFile (D.content folder.old) role path.now bytes.items (D.trace folder.old)
@@ -199,11 +206,11 @@ pub fn read_file<D: Folder>(
 
 /// Opens a signature's file and reads it to its end, or as far as its first bytes decide: see `DECISIVE`. These are
 /// kept.
-pub fn read_signature_file<D: Folder>(
+pub fn read_signature_file<'a, D: LineFiles<'a>>(
     alloc: Global,
     folder: &mut D,
     role: Role,
-    path: &str,
+    path: &'a str,
 ) -> Result<Vec<u8>, Refusal>
     ensures reads { MatchResult result
         (λ first. ReadsStart (D.content folder.old) role path.now first.items (D.trace folder.old)
@@ -227,18 +234,15 @@ fn read_all<D: Folder>(
         (λ refusal. CantKeep (D.File.role file.old) refusal (D.trace folder.old) (D.trace folder.new)) }
     ensures content { KeepsContents (D.content folder.old) (D.content folder.new) }
 {
-    let mut piece = [0; 4096];
-    let mut bytes = Vec::new(alloc);
-    for turn in 0..u64::MAX {
-        let n = fill(folder, file, &mut piece)?;
-        if keep(&mut bytes, &piece[..n]).is_err() {
-            return Err(Refusal::OutOfMemory);
-        }
-        if n < piece.len() {
-            return Ok(bytes);
-        }
+    let mut kept = Kept {
+        bytes: Vec::new(alloc),
+    };
+    match read_rest(folder, file, &mut kept) {
+        Ok(()) => Ok(kept.bytes),
+        Err(ReadError::Failed(error)) => Err(Refusal::from(error)),
+        Err(ReadError::TooLong) => Err(Refusal::FileFailed),
+        Err(ReadError::Refused(_)) => Err(Refusal::OutOfMemory),
     }
-    Err(Refusal::FileFailed)
 }
 
 // Reads the first bytes of a signature's file, as many as decide, and keeps them.
@@ -273,26 +277,85 @@ fn keep(bytes: &mut Vec<u8>, more: &[u8]) -> Result<(), AllocError>
     bytes.extend_from_slice(more)
 }
 
-// Counts the bytes that are left, in pieces that it doesn't keep.
+// What keeps the bytes of a file that is read.
+#[derive(Drop)]
+struct Kept {
+    bytes: Vec<u8>,
+}
+
+impl PieceTaker for Kept {
+    ghost use Rattle.std.proofs.Common.{append-nil, append_assoc, ap, sym, ◌∙◌};
+
+    type Error = AllocError;
+
+    ghost takes = { λ old bytes new. new.bytes.items ≡ old.bytes.items ++ bytes };
+
+    ghost refuses = { λ _ piece _ _. 1 ≤ length piece };
+
+    fn take_piece(&mut self, piece: &[u8]) -> Result<(), AllocError> {
+        keep(&mut self.bytes, piece)
+    }
+
+    ghost takes_nothing = { λ state. sym (append-nil state.bytes.items) };
+
+    ghost takes_more = { λ old middle new first later one more.
+        more ∙ ap (λ l. l ++ later) one ∙ append_assoc old.bytes.items first later };
+}
+
+// What counts the bytes of a file that is read, and keeps none. A count that doesn't fit is never given.
+#[derive(Drop)]
+struct Counted {
+    bytes: usize,
+}
+
+impl PieceTaker for Counted {
+    ghost use Rattle.command.specs.Files.{Counts, counts_more, counts_nothing};
+
+    type Error = Infallible;
+
+    ghost takes = { λ old bytes new. Counts old.bytes bytes new.bytes };
+
+    ghost refuses = { λ _ _ _ _. ⊥ };
+
+    fn take_piece(&mut self, piece: &[u8]) -> Result<(), Infallible> {
+        self.bytes = self.bytes.saturating_add(piece.len());
+        Ok(())
+    }
+
+    ghost takes_nothing = { λ state. counts_nothing state.bytes };
+
+    ghost takes_more = { λ old middle new first later one more.
+        counts_more old.bytes middle.bytes new.bytes first later one more };
+}
+
+// Counts the bytes that are left.
 fn count_rest<D: Folder>(folder: &mut D, file: &mut D::File) -> io::Result<usize>
     ensures counts { ReadsAllOrFails (D.File.role file.old) (D.File.remaining file.old) (λ rest n. n ≡ length rest)
         result (D.trace folder.old) (D.trace folder.new) }
-    ensures bound { IfOk result (λ n. n < 2 ^ 61) }
+    ensures bound { IfOk result (λ n. n < 2 ^ 60) }
     ensures content { KeepsContents (D.content folder.old) (D.content folder.new) }
 {
-    let mut piece = [0; 4096];
-    let mut count = 0;
-    for turn in 0..u64::MAX {
-        let n = fill(folder, file, &mut piece)?;
-        count += n;
-        if n < piece.len() {
-            return Ok(count);
-        }
-        if count >= MOST {
-            break;
-        }
+    let mut counted = Counted { bytes: 0 };
+    match read_rest(folder, file, &mut counted) {
+        Ok(()) => Ok(counted.bytes),
+        Err(ReadError::Failed(error)) => Err(error),
+        Err(ReadError::TooLong) => Err(io::Error::from(ErrorKind::FileTooLarge)),
+        Err(ReadError::Refused(never)) => match never {},
     }
-    Err(io::Error::from(ErrorKind::FileTooLarge))
+}
+
+// Reads what is left of a file, and hands on each piece.
+fn read_rest<D: Folder, T: PieceTaker>(
+    folder: &mut D,
+    file: &mut D::File,
+    taker: &mut T,
+) -> Result<(), ReadError<T::Error>>
+    ensures reads { EndsOrFails (ReadsFileOnce (D.File.role file.old)) left_of T.takes T.refuses result
+        (D.File.remaining file.old, D.trace folder.old) (D.File.remaining file.new, D.trace folder.new)
+        taker.old taker.new }
+    ensures content { KeepsContents (D.content folder.old) (D.content folder.new) }
+{
+    read_to_end(&mut FileReader { folder, file }, taker)
 }
 
 /// Reads until the buffer is full or the file ends, and gives how many bytes that were.
@@ -305,20 +368,5 @@ pub fn fill<D: Folder>(folder: &mut D, file: &mut D::File, buffer: &mut [u8]) ->
     ensures trace { FillsOrFails (D.File.role file.old) result buffer.new (D.trace folder.old) (D.trace folder.new) }
     ensures content { KeepsContents (D.content folder.old) (D.content folder.new) }
 {
-    let mut at = 0;
-    for turn in 0..u64::MAX {
-        if at >= buffer.len() {
-            return Ok(at);
-        }
-        match folder.read(file, &mut buffer[at..]) {
-            Ok(0) => return Ok(at),
-            Ok(n) => at += n,
-            Err(error) => {
-                if error.kind() != ErrorKind::Interrupted {
-                    return Err(error);
-                }
-            }
-        }
-    }
-    Err(io::Error::from(ErrorKind::TimedOut))
+    read_full(&mut FileReader { folder, file }, buffer)
 }

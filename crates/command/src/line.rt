@@ -53,7 +53,7 @@ impl<'a> Request<'a> {
     ghost use Rattle.command.specs.Streams.{output_seen, streams, taken};
 
     /// Does what is requested, reports what came of it, and gives the exit status of the program.
-    pub fn fulfil<D: SignerFolder, I: Message, O: Output, E: Output>(
+    pub fn fulfil<D: SignerFolder<'a>, I: Message, O: Output, E: Output>(
         &self,
         alloc: Global,
         folder: &mut D,

@@ -1,188 +1,347 @@
 //! The files of a machine: how they are opened, read and written.
 
-ghost use Rattle.std.specs.Prelude.{◌≡◌, ◌++◌, ◌∷◌, [], List, None, IfErr, ⊤};
+ghost use Rattle.std.specs.Prelude.{◌≡◌, ◌++◌, ◌∷◌, [], List, None, IfErr, IfOk, ⊤};
+ghost use Rattle.std.specs.Io.{ReadsAtMost};
 ghost use Rattle.command.specs.FileDisk.{file_of};
 ghost use Rattle.command.specs.Trace.{Happening, opening};
 
-use crate::file_disk::{FileDisk, StateFile, folder_of};
-use crate::file_id::{FileId, OpenedFiles};
-use crate::files::{Folder, OpenFile, Outlet, SignerFolder};
+use crate::file_disk::FileDisk;
+use crate::file_id::{FileId, KeptFiles};
+use crate::files::{Folder, LineFiles, OpenFile, Outlet, SignerFolder};
+use crate::key_start::has_key;
 use crate::random_file::RandomFile;
 use crate::refusal::Refusal;
+use crate::standard::Standard;
+use crate::state::{Access, StateFile};
+use crate::target::{NotReplaced, Target, replace};
 use crate::trace::{Event, Role, Trace, Traced};
 use sign_core::RngSource;
-use std::fs::{File, Files, OpenFile as _, OpenOptions};
-use std::io::{ErrorKind, Read, Write};
+use std::fs::{File, Files, OpenOptions, TryLockError};
+use std::io::Read;
 use std::marker::Model;
 use std::{fs, io};
 
 /// The files of a machine. What is in them isn't known.
 #[derive(Drop)]
-pub struct Machine<R> {
+pub struct Machine<'a, R> {
     rt: R,
-    opened: OpenedFiles,
+    standard: &'a Standard,
+    opened: KeptFiles,
     trace: Trace,
 }
 
 // Contracts see what happened to its files.
-impl<R> Model for Machine<R> {
+impl<'a, R> Model for Machine<'a, R> {
     ghost Value = { List Happening };
 
     ghost view = { λ machine. machine.trace.events };
 }
 
-/// A file of a machine.
+/// A file of a machine that is read. What fails of it is told.
 #[derive(Drop)]
-pub struct MachineFile<F> {
+pub struct MachineFile<'a> {
     role: Role,
-    file: F,
+    path: &'a str,
+    file: File,
+    standard: &'a Standard,
 }
 
-impl<F: Read> OpenFile for MachineFile<F> {
+impl OpenFile for MachineFile<'_> {
     ghost role = { λ file. file.role };
 
-    ghost remaining = { λ file. F.remaining file.file };
+    ghost remaining = { λ _. None };
 }
 
-impl<R: Files> Machine<R> {
+impl MachineFile<'_> {
+    // Reads into the buffer, and says what fails.
+    fn read_told(&mut self, buffer: &mut [u8]) -> io::Result<usize>
+        ensures bound { ReadsAtMost result buffer.new }
+        ensures role { self.new.role ≡ self.old.role }
+    {
+        let answer = self.file.read(buffer);
+        match &answer {
+            // Random bytes are never read up to an end that is looked for.
+            Ok(0) if self.role == Role::Random => {
+                let reason = "it ended before the bytes that are wanted";
+                self.standard
+                    .tell_reason(self.path, "can't be read", reason);
+            }
+            Ok(_) => {}
+            Err(error) => self.standard.tell(self.path, "can't be read", error),
+        }
+        answer
+    }
+}
+
+impl Read for MachineFile<'_> {
+    ghost remaining = { λ _. None };
+
+    fn read(&mut self, buffer: &mut [u8]) -> io::Result<usize> {
+        self.read_told(buffer)
+    }
+}
+
+/// A file of a machine that is open to be written. What fails of it is told.
+#[derive(Drop)]
+struct MachineTarget<'a, R> {
+    rt: &'a R,
+    standard: &'a Standard,
+    path: &'a str,
+    file: File,
+    id: FileId,
+    is_regular: bool,
+    trace: Trace,
+}
+
+impl<'a, R: Files<File = File>> MachineTarget<'a, R> {
+    // Opens the file of this path for writing, which is made where there is none. What it has stays.
+    fn open(rt: &'a R, standard: &'a Standard, path: &'a str) -> Result<Self, Refusal>
+        ensures { IfErr result (λ refusal. refusal ≡ Refusal.FileFailed) }
+    {
+        let opened = OpenOptions::new().write(true).create(true).open(rt, path);
+        let file = standard.told(path, "can't be opened", opened)?;
+        let found = standard.told(path, "can't be opened", file.metadata())?;
+        Ok(MachineTarget {
+            rt,
+            standard,
+            path,
+            file,
+            id: FileId::of(&found),
+            is_regular: found.is_file(),
+            trace: Trace::new(),
+        })
+    }
+
+    // Whether it has a key. It is locked first, and stays so until it is closed: no other process makes a key in it
+    // meanwhile. Where that holds the lock already, a key may be on its way. A file system that has no locks has no
+    // state file that could be locked, either.
+    fn holds_key(&self) -> Result<bool, Refusal> {
+        let locked = self.file.try_lock();
+        if self.begins_as_a_state_file()? {
+            return Ok(true);
+        }
+        if let Err(TryLockError::WouldBlock) = locked {
+            self.standard.tell_reason(self.path, "isn't written", "another process has locked it");
+            return Err(Refusal::FileFailed);
+        }
+        Ok(false)
+    }
+
+    // Whether the file, which is opened again to be read, begins as a state file does. One without a byte, as one that
+    // was made just now, isn't opened.
+    fn begins_as_a_state_file(&self) -> Result<bool, Refusal> {
+        let found = self
+            .standard
+            .told(self.path, "can't be opened", self.file.metadata())?;
+        if found.len() == 0 {
+            return Ok(false);
+        }
+        let opened = fs::open(self.rt, self.path);
+        let file = self
+            .standard
+            .told(self.path, "can't be opened to be read", opened)?;
+        let again = self
+            .standard
+            .told(self.path, "can't be opened to be read", file.metadata())?;
+        if FileId::of(&again) != self.id {
+            self.standard.tell_reason(
+                self.path,
+                "isn't written",
+                "another file came to stand there",
+            );
+            return Err(Refusal::FileFailed);
+        }
+        self.standard
+            .told(self.path, "can't be read", has_key(&file))
+    }
+}
+
+impl<R: Files<File = File>> Target for MachineTarget<'_, R> {
+    ghost id = { λ target. target.id };
+
+    ghost is_regular = { λ target. target.is_regular };
+
+    ghost acts = { λ target. target.trace.events };
+
+    fn id(&self) -> FileId {
+        self.id
+    }
+
+    fn is_regular(&self) -> bool {
+        self.is_regular
+    }
+
+    fn has_key(&mut self) -> Result<bool, Refusal> {
+        let answer = self.holds_key();
+        self.trace.note(&match answer {
+            Ok(has_key) => Event::Looked(has_key),
+            Err(_) => Event::NotLooked,
+        });
+        answer
+    }
+
+    fn cut(&mut self) -> Result<(), Refusal> {
+        let answer = self
+            .standard
+            .told(self.path, "can't be cut", self.file.set_len(0));
+        self.trace.note(&match answer {
+            Ok(()) => Event::Cut,
+            Err(_) => Event::NotCut,
+        });
+        answer
+    }
+
+    fn write_all(&mut self, bytes: &[u8]) -> Result<(), Refusal> {
+        let written = typecodes::write_all(&mut self.file, bytes);
+        let answer = self.standard.told(self.path, "can't be written", written);
+        self.trace.note(&match answer {
+            Ok(()) => Event::Wrote(bytes),
+            Err(_) => Event::NotWrote,
+        });
+        answer
+    }
+}
+
+impl<'a, R: Files<File = File>> Machine<'a, R> {
     /// The files of a runtime, to which nothing happened yet.
-    pub fn new(rt: R) -> Self
+    pub fn new(rt: R, standard: &'a Standard) -> Self
         ensures { result ≡ [] }
     {
         Machine {
             rt,
-            opened: OpenedFiles::new(),
+            standard,
+            opened: KeptFiles::new(standard.output.id(), standard.errors.id()),
             trace: Trace::new(),
         }
     }
 
     // Opens a file for reading, and remembers which one it is.
-    fn open_file(&mut self, role: Role, path: &str) -> Result<R::File, Refusal>
+    fn open_file(&mut self, role: Role, path: &'a str) -> Result<MachineFile<'a>, Refusal>
         ensures trace { self.new ≡ self.old ++ opening role path.now result ∷ [] }
+        ensures role { IfOk result (λ file. file.role ≡ role) }
         ensures err { IfErr result (λ refusal. refusal ≡ Refusal.FileFailed) }
     {
-        let opened = self.find_file(role, path);
-        match self.trace.note_opening(role, path, opened) {
-            Ok(file) => Ok(file),
-            Err(_) => Err(Refusal::FileFailed),
+        match self.find_file(role, path) {
+            Ok(file) => {
+                self.trace.note(&Event::Opened(role, path));
+                Ok(file)
+            }
+            Err(refusal) => {
+                self.trace.note(&Event::NotOpened(role, path));
+                Err(refusal)
+            }
         }
     }
 
     // The same, without the note.
-    fn find_file(&mut self, role: Role, path: &str) -> io::Result<R::File>
-        ensures { self.new ≡ self.old }
+    fn find_file(&mut self, role: Role, path: &'a str) -> Result<MachineFile<'a>, Refusal>
+        ensures trace { self.new ≡ self.old }
+        ensures role { IfOk result (λ file. file.role ≡ role) }
+        ensures err { IfErr result (λ refusal. refusal ≡ Refusal.FileFailed) }
     {
-        let file = fs::open(&self.rt, path)?;
-        self.opened.note(role, FileId::of(&file.metadata()?));
-        Ok(file)
-    }
-
-    // Whether the path leads to none of the opened files, and nothing is known by which its file can't be written. A
-    // file that is there is opened for writing, and left as it is; a device or a pipe isn't, since that may do
-    // something. Where there is none, its folder has to be there.
-    fn is_writable(&self, path: &str) -> bool {
-        match fs::metadata(&self.rt, path) {
-            Ok(found) => {
-                !self.opened.contains(FileId::of(&found))
-                    && !found.is_dir()
-                    && (!found.is_file()
-                        || OpenOptions::new().write(true).open(&self.rt, path).is_ok())
+        let standard = self.standard;
+        let file = standard.told(path, "can't be opened", fs::open(&self.rt, path))?;
+        let found = standard.told(path, "can't be opened", file.metadata())?;
+        // Random bytes that are a key's would be handed out with signatures.
+        if role == Role::Random && found.is_file() {
+            if standard.told(path, "can't be read", has_key(&file))? {
+                standard.tell_reason(path, "isn't read as random bytes", "it holds a key");
+                return Err(Refusal::FileFailed);
             }
-            Err(error) => error.kind() == ErrorKind::NotFound && self.has_folder(path),
         }
+        self.opened.note(role, FileId::of(&found));
+        Ok(MachineFile {
+            role,
+            path,
+            file,
+            standard,
+        })
     }
 
-    // Whether the folder of this path is there, and the path can name a file in it.
-    fn has_folder(&self, path: &str) -> bool {
-        if path.is_empty() || path.ends_with('/') {
-            return false;
+    // Writes these bytes to a file, in place of what it has, and says why it wasn't written, if so.
+    fn write_file(&self, path: &str, bytes: &[u8]) -> Result<(), Refusal>
+        ensures { IfErr result (λ refusal. refusal ≡ Refusal.FileFailed) }
+    {
+        let mut target = MachineTarget::open(&self.rt, self.standard, path)?;
+        match replace(&mut target, &self.opened, bytes) {
+            Ok(()) => return Ok(()),
+            Err(NotReplaced::Kept) => {
+                let reason = if self.standard.output.is(target.id) {
+                    "it is the standard output"
+                } else if self.standard.errors.is(target.id) {
+                    "it is the standard error"
+                } else {
+                    "it is a file of this line"
+                };
+                self.standard.tell_reason(path, "isn't written", reason);
+            }
+            Err(NotReplaced::HasKey) => {
+                self.standard
+                    .tell_reason(path, "isn't written", "it holds a key");
+            }
+            // What failed was told.
+            Err(NotReplaced::Failed) => {}
         }
-        match fs::metadata(&self.rt, folder_of(path)) {
-            Ok(found) => found.is_dir(),
-            Err(_) => false,
-        }
+        Err(Refusal::FileFailed)
     }
 
-    // Writes these bytes to a file, in place of what it has, if it is none of those that were opened. It is compared
-    // with them once it is open, and cut only then.
-    fn write_file(&self, path: &str, bytes: &[u8]) -> io::Result<()> {
-        let mut file = OpenOptions::new()
-            .write(true)
-            .create(true)
-            .open(&self.rt, path)?;
-        let found = file.metadata()?;
-        if self.opened.contains(FileId::of(&found)) {
-            return Err(io::Error::from(ErrorKind::ResourceBusy));
-        }
-        if found.is_file() {
-            file.set_len(0)?;
-        }
-        file.write_all(bytes)
+    // Remembers which file a state file is, and gives the disk over it.
+    fn disk_over(&mut self, file: StateFile<'a>) -> FileDisk<StateFile<'a>>
+        ensures trace { self.new ≡ self.old }
+        ensures file { file_of result ≡ file.entry }
+    {
+        self.opened.note(Role::State, file.id());
+        FileDisk::new(file)
     }
 }
 
-impl<R> Traced for Machine<R> {
+impl<R> Traced for Machine<'_, R> {
     ghost trace = { λ machine. machine };
 }
 
-impl<R: Files> Folder for Machine<R> {
-    type File = MachineFile<R::File>;
+impl<'a, R: Files<File = File>> Folder for Machine<'a, R> {
+    type File = MachineFile<'a>;
 
     ghost content = { λ _ _. None };
 
-    fn open(&mut self, role: Role, path: &str) -> Result<MachineFile<R::File>, Refusal> {
-        match self.open_file(role, path) {
-            Ok(file) => Ok(MachineFile { role, file }),
-            Err(refusal) => Err(refusal),
-        }
-    }
-
-    fn read(&mut self, file: &mut MachineFile<R::File>, buffer: &mut [u8]) -> io::Result<usize> {
-        let answer = file.file.read(buffer);
+    fn read(&mut self, file: &mut MachineFile<'a>, buffer: &mut [u8]) -> io::Result<usize> {
+        let answer = file.read_told(buffer);
         self.trace.note_read(file.role, answer, buffer)
     }
 }
 
-impl<R: Files> Outlet for Machine<R> {
-    fn check_writable(&mut self, role: Role, path: &str) -> Result<(), Refusal> {
-        if self.is_writable(path) {
-            self.trace.note(&Event::Writable(role, path));
-            return Ok(());
-        }
-        self.trace.note(&Event::NotWritable(role, path));
-        Err(Refusal::FileFailed)
-    }
-
-    fn write(&mut self, role: Role, path: &str, bytes: &[u8]) -> Result<(), Refusal> {
-        match self.write_file(path, bytes) {
-            Ok(()) => {
-                self.trace.note(&Event::Written(role, path, bytes));
-                Ok(())
-            }
-            Err(_) => {
-                self.trace.note(&Event::NotWritten(role, path));
-                Err(Refusal::FileFailed)
-            }
-        }
+impl<'a, R: Files<File = File>> LineFiles<'a> for Machine<'a, R> {
+    fn open(&mut self, role: Role, path: &'a str) -> Result<MachineFile<'a>, Refusal> {
+        self.open_file(role, path)
     }
 }
 
-impl<R: Files<File = File>> SignerFolder for Machine<R> {
-    type Disk = FileDisk<StateFile>;
+impl<R: Files<File = File>> Outlet for Machine<'_, R> {
+    fn write(&mut self, role: Role, path: &str, bytes: &[u8]) -> Result<(), Refusal> {
+        let answer = self.write_file(path, bytes);
+        self.trace.note(&match answer {
+            Ok(()) => Event::Written(role, path, bytes),
+            Err(_) => Event::NotWritten(role, path),
+        });
+        answer
+    }
+}
 
-    type Random = RngSource<RandomFile<File>>;
+impl<'a, R: Files<File = File>> SignerFolder<'a> for Machine<'a, R> {
+    type Disk = FileDisk<StateFile<'a>>;
+
+    type Random = RngSource<RandomFile<MachineFile<'a>>>;
 
     // nothing happened to it yet; what else holds of a disk over a file of the machine isn't known
     ghost is_opened = { λ disk. file_of disk ≡ [] };
 
     ghost is_closed = { λ _ _. ⊤ };
 
-    fn open_state(&mut self, path: &str) -> Result<FileDisk<StateFile>, Refusal> {
-        match StateFile::open(&self.rt, path) {
+    fn open_state(&mut self, path: &'a str) -> Result<FileDisk<StateFile<'a>>, Refusal> {
+        match StateFile::open(&self.rt, self.standard, path, Access::ReadAndWrite) {
             Ok(file) => {
                 self.trace.note(&Event::Opened(Role::State, path));
-                self.opened.note(Role::State, file.id());
-                Ok(FileDisk::new(file))
+                Ok(self.disk_over(file))
             }
             Err(refusal) => {
                 self.trace.note(&match refusal {
@@ -194,12 +353,27 @@ impl<R: Files<File = File>> SignerFolder for Machine<R> {
         }
     }
 
-    fn open_or_make_state(&mut self, path: &str) -> Result<FileDisk<StateFile>, Refusal> {
-        match StateFile::open_or_make(&self.rt, path) {
+    fn open_state_to_read(&mut self, path: &'a str) -> Result<FileDisk<StateFile<'a>>, Refusal> {
+        match StateFile::open(&self.rt, self.standard, path, Access::Read) {
+            Ok(file) => {
+                self.trace.note(&Event::OpenedToRead(path));
+                Ok(self.disk_over(file))
+            }
+            Err(refusal) => {
+                self.trace.note(&match refusal {
+                    Refusal::Locked => Event::Locked(path),
+                    _ => Event::NotOpened(Role::State, path),
+                });
+                Err(refusal)
+            }
+        }
+    }
+
+    fn open_or_make_state(&mut self, path: &'a str) -> Result<FileDisk<StateFile<'a>>, Refusal> {
+        match StateFile::open_or_make(&self.rt, self.standard, path) {
             Ok(file) => {
                 self.trace.note(&Event::Made(path));
-                self.opened.note(Role::State, file.id());
-                Ok(FileDisk::new(file))
+                Ok(self.disk_over(file))
             }
             Err(refusal) => {
                 self.trace.note(&match refusal {
@@ -211,11 +385,14 @@ impl<R: Files<File = File>> SignerFolder for Machine<R> {
         }
     }
 
-    fn close_state(&mut self, disk: FileDisk<StateFile>) {
+    fn close_state(&mut self, disk: FileDisk<StateFile<'a>>) {
         drop(disk);
     }
 
-    fn open_random(&mut self, path: &str) -> Result<RngSource<RandomFile<File>>, Refusal> {
+    fn open_random(
+        &mut self,
+        path: &'a str,
+    ) -> Result<RngSource<RandomFile<MachineFile<'a>>>, Refusal> {
         match self.open_file(Role::Random, path) {
             Ok(file) => Ok(RngSource::new(RandomFile::new(file))),
             Err(refusal) => Err(refusal),

@@ -13,10 +13,11 @@
 //! the line (`line`; `number` reads its numbers, `line_fault` is why one gives no request, and `texts` makes the text
 //! that says so), does what is requested (a module for each command: `make`, `sign`, `verify`, `retire`, `audit`,
 //! `audit_given` and `serve`, whose arguments `argument` has) and reports what came of it (`answer`, `refusal`).
-//! `files` has the traits by which it meets files, `machine` those of a machine (which they are: `file_id`), `output`
-//! is where it writes, and `trace` is what contracts see of what it does to files. `key_file` is what the commands do
-//! with a signer on the disk of a state file, `signing` what they write once it has answered Ok, `file_disk` the disk
-//! over a file of the machine, and `random_file` random bytes of one. The contract of `run`: which files are opened,
+//! `files` has the traits by which it meets files, `machine` those of a machine (which they are: `file_id`; how one is
+//! written in place of what it has: `target`; how one with a key is known: `key_start`), `standard` its standard streams and what is said there of a call that
+//! failed, `output` is where the program writes, and `trace` is what contracts see of what it does to files. `key_file`
+//! is what the commands do with a signer on the disk of a state file, `signing` what they write once it has answered
+//! Ok, `state` a state file of the machine, `file_disk` the disk over it, and `random_file` random bytes of a file. The contract of `run`: which files are opened,
 //! read and written, in which order, which step a signer makes on the disk of the state file, that the line printed and
 //! the exit status are those of the right answer, and that the output of `serve` has the replies to its input.
 #![tactic(auto)]
@@ -29,6 +30,7 @@ mod file_disk;
 mod file_id;
 mod files;
 mod key_file;
+mod key_start;
 mod line;
 mod line_fault;
 mod machine;
@@ -42,45 +44,79 @@ mod retire;
 mod serve;
 mod sign;
 mod signing;
+mod standard;
+mod state;
+mod target;
 #[cfg(test)]
 mod tests;
 mod texts;
 mod trace;
 mod verify;
 
+use answer::OUTPUT_FAILED;
 use line::ClapReader;
 use machine::Machine;
 use output::{Output, Part, Printer};
 use serve::Serve;
+use standard::{Input, Standard, StreamWriter};
 use std::env::Env;
 use std::io::BufWriter;
 use std::process::ExitCode;
 use std::{env, io};
 
 fn main(rt: HostRuntime) -> ExitCode {
+    ExitCode::from(match Standard::take(&rt) {
+        Ok(standard) => run(&rt, &standard),
+        // A standard stream is closed, and there is no null device for its place.
+        Err(_) => OUTPUT_FAILED,
+    })
+}
+
+// Runs the program over the machine's files and its standard streams.
+fn run(rt: &HostRuntime, standard: &Standard) -> u8 {
     let stderr = rt.stderr();
-    let mut errors = Printer::new(io::writer(&stderr));
+    let mut errors = Printer::new(StreamWriter {
+        stream: &standard.errors,
+        writer: io::writer(&stderr),
+    });
     // A line is written in one piece: what a stop leaves of it is all or nothing.
-    let Ok(writer) = BufWriter::new(rt.alloc(), io::writer(&rt)) else {
-        return ExitCode::from(no_memory(&rt, &mut errors));
+    let Ok(writer) = BufWriter::new(rt.alloc(), io::writer(rt)) else {
+        return no_memory(rt, &mut errors);
     };
-    let mut output = Printer::new(writer);
-    ExitCode::from(match words(&rt) {
-        Ok(words) => program::run(
-            rt.alloc(),
-            &mut ClapReader::new(rt.alloc()),
-            &mut Machine::new(&rt),
-            words.as_slice(),
-            &mut rt.reader(),
-            &mut output,
-            &mut errors,
-        ),
-        Err(error) if error.kind() == io::ErrorKind::OutOfMemory => { no_memory(&rt, &mut errors) }
+    let mut output = Printer::new(StreamWriter {
+        stream: &standard.output,
+        writer,
+    });
+    match words(rt) {
+        Ok(words) => run_line(rt, standard, words.as_slice(), &mut output, &mut errors),
+        Err(error) if error.kind() == io::ErrorKind::OutOfMemory => no_memory(rt, &mut errors),
         Err(_) => {
             let _ = errors.print(&[Part::Text("error: a word of the line isn't UTF-8\n")]);
             program::LINE_REFUSED
         }
-    })
+    }
+}
+
+// Does what the words of a line request.
+fn run_line<'a, O: Output, E: Output>(
+    rt: &HostRuntime,
+    standard: &'a Standard,
+    words: &'a [String],
+    output: &mut O,
+    errors: &mut E,
+) -> u8 {
+    program::run(
+        rt.alloc(),
+        &mut ClapReader::new(rt.alloc()),
+        &mut Machine::new(rt, standard),
+        words,
+        &mut Input {
+            standard,
+            reader: rt.reader(),
+        },
+        output,
+        errors,
+    )
 }
 
 // Reports that there is no memory, without taking any.

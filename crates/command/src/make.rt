@@ -4,7 +4,7 @@ ghost use Rattle.std.specs.Prelude.{◌≡◌, IfOk, codes};
 ghost use Rattle.clap.specs.declared.builder.command.Command.{Command as ClapCommand};
 ghost use Rattle.clap.specs.Words.{AddsSubcommand, app_of, first_value, found_of, with_subcommand};
 ghost use Rattle.command.specs.Files.{files_seen};
-ghost use Rattle.command.specs.Make.{IsMake, MakesAndPublishes, MakesIn, MakesOpened, ReadiesToMake, make_app};
+ghost use Rattle.command.specs.Make.{IsMake, MakesAndPublishes, MakesIn, MakesOpened, make_app};
 
 use crate::answer::{Answer, Done};
 use crate::argument::{random_file, required};
@@ -12,7 +12,6 @@ use crate::files::SignerFolder;
 use crate::key_file;
 use crate::refusal::Refusal;
 use crate::signing::publish;
-use crate::trace::Role;
 use arrayvec::ArrayVec;
 use clap::{ArgMatches, Command};
 use state_file::{Disk, FileStore, Store};
@@ -76,7 +75,7 @@ impl<'a> Make<'a> {
     }
 
     /// Opens the state file, which is made where there is none, makes a key in it, and writes its public key.
-    pub fn answer<D: SignerFolder>(&self, alloc: Global, folder: &mut D) -> Answer
+    pub fn answer<D: SignerFolder<'a>>(&self, alloc: Global, folder: &mut D) -> Answer
         ensures { MakesIn D.Disk.Disk ⟦<FileStore<D::Disk> as Store>⟧ D.Random.Source
             (files_seen (D.content folder.old) D.is_opened (D.is_closed folder.new)) self.now.state.now
             self.now.public.now self.now.spec.now self.now.random.now result (D.trace folder.old) (D.trace folder.new) }
@@ -94,7 +93,7 @@ impl<'a> Make<'a> {
     }
 
     // Makes a key on the disk of the state file, and writes its public key. The disk is given back.
-    fn make_on<D: SignerFolder>(
+    fn make_on<D: SignerFolder<'a>>(
         &self,
         alloc: Global,
         folder: &mut D,
@@ -104,25 +103,15 @@ impl<'a> Make<'a> {
         ensures { MakesOpened D.Disk.Disk ⟦<FileStore<D::Disk> as Store>⟧ D.Random.Source (D.content folder.old) disk
             result.0 spec self.now.public.now self.now.random.now result.1 (D.trace folder.old) (D.trace folder.new) }
     {
-        match self.open_files(folder) {
+        match folder.open_random(self.random) {
             Ok(random) => make_key(alloc, folder, disk, spec, random, self.public),
             Err(refusal) => (disk, Err(refusal)),
         }
     }
-
-    // Opens the file of random bytes, and checks whether that of the public key can be written.
-    fn open_files<D: SignerFolder>(&self, folder: &mut D) -> Result<D::Random, Refusal>
-        ensures { ReadiesToMake D.Random.upcoming (D.content folder.old) self.now.public.now self.now.random.now result
-            (D.trace folder.old) (D.trace folder.new) }
-    {
-        let random = folder.open_random(self.random)?;
-        folder.check_writable(Role::Public, self.public)?;
-        Ok(random)
-    }
 }
 
-// Makes a key on a disk, and writes its public key. The disk is given back.
-fn make_key<D: SignerFolder>(
+// Makes a key on a disk, and then writes its public key. The disk is given back.
+fn make_key<'a, D: SignerFolder<'a>>(
     alloc: Global,
     folder: &mut D,
     disk: D::Disk,

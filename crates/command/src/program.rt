@@ -34,18 +34,18 @@ const VERSION_LINE: &str = "hbsign 0.1.0\n";
 /// A line on the output reports what came of it. Of `serve` the output has replies and nothing else, also where serving
 /// fails: a line on `errors` then says why, or that there was no memory to read the line. A line that is refused is
 /// explained on `errors` alone, and status 2 is that of such a line, or of a name or a spec that is refused.
-pub fn run<L, D, S, I, O, E>(
+pub fn run<'a, L, D, S, I, O, E>(
     alloc: Global,
     lines: &mut L,
     folder: &mut D,
-    words: &[S],
+    words: &'a [S],
     input: &mut I,
     output: &mut O,
     errors: &mut E,
 ) -> u8
 where
     L: LineReader,
-    D: SignerFolder,
+    D: SignerFolder<'a>,
     S: AsStr,
     I: Read,
     O: Output,

@@ -8,8 +8,8 @@ use crate::trace::{Role, Trace};
 use rand_core::TryRng;
 use sign_core::SourceFault;
 use std::io;
-use std::io::{ErrorKind, Read};
-use typecodes::Message;
+use std::io::Read;
+use typecodes::{Message, read_full};
 
 /// The file of random bytes where a line names none: the system's random device.
 pub const DEFAULT_RANDOM: &str = "/dev/urandom";
@@ -74,27 +74,16 @@ impl<F: Read> TryRng for RandomFile<F> {
     }
 }
 
-// How many reads are tried for one draw.
-const TRIES: u32 = 1 << 20;
-
 // Reads until the buffer is full. A file that ends before has no more random bytes.
 fn draw<M: Message>(file: &mut M, into: &mut [u8]) -> Result<(), SourceFault>
     ensures { Draws M.transition into.new result file.old file.new }
 {
-    let mut done = 0;
-    for turn in 0..TRIES {
-        if done >= into.len() {
-            return Ok(());
-        }
-        match file.read_into(&mut into[done..]) {
-            Ok(0) => return Err(SourceFault),
-            Ok(n) => done += n,
-            Err(error) => {
-                if error.kind() != ErrorKind::Interrupted {
-                    return Err(SourceFault);
-                }
-            }
-        }
+    match read_full(file, into) {
+        Ok(n) => if n < into.len() {
+            Err(SourceFault)
+        } else {
+            Ok(())
+        },
+        Err(_) => Err(SourceFault),
     }
-    Err(SourceFault)
 }

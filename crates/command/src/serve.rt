@@ -60,7 +60,7 @@ impl<'a> Serve<'a> {
 
     /// Opens the state file, and answers the requests of an input with its key, each by a reply on the output, up to
     /// the input's end: with how many replies, or why it ended before.
-    pub fn answer<D: SignerFolder, I: Message, W: Write>(
+    pub fn answer<D: SignerFolder<'a>, I: Message, W: Write>(
         &self,
         alloc: Global,
         folder: &mut D,
@@ -80,7 +80,7 @@ impl<'a> Serve<'a> {
 
     // Opens the file of random bytes, and answers the requests with the key on the disk of the state file. The disk is
     // given back.
-    fn serve_on<D: SignerFolder, I: Message, W: Write>(
+    fn serve_on<D: SignerFolder<'a>, I: Message, W: Write>(
         &self,
         alloc: Global,
         folder: &mut D,

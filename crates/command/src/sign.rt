@@ -80,7 +80,7 @@ impl<'a> Sign<'a> {
     }
 
     /// Opens the state file, signs the message with its key, and writes the signature.
-    pub fn answer<D: SignerFolder>(&self, alloc: Global, folder: &mut D) -> Answer
+    pub fn answer<D: SignerFolder<'a>>(&self, alloc: Global, folder: &mut D) -> Answer
         ensures { SignsIn D.Disk.Disk ⟦<FileStore<D::Disk> as Store>⟧ D.Random.Source
             (files_seen (D.content folder.old) D.is_opened (D.is_closed folder.new)) self.now.state.now
             self.now.name.now self.now.message.now self.now.out.now self.now.random.now result (D.trace folder.old)
@@ -99,7 +99,7 @@ impl<'a> Sign<'a> {
     }
 
     // Signs the message on the disk of the state file, and writes the signature. The disk is given back.
-    fn sign_on<D: SignerFolder>(
+    fn sign_on<D: SignerFolder<'a>>(
         &self,
         alloc: Global,
         folder: &mut D,
@@ -119,21 +119,22 @@ impl<'a> Sign<'a> {
         }
     }
 
-    // Opens the files of the message and of random bytes, and checks whether the signature's can be written.
-    fn open_files<D: SignerFolder>(&self, folder: &mut D) -> Result<(D::File, D::Random), Refusal>
+    // Opens the files of the message and of random bytes.
+    fn open_files<D: SignerFolder<'a>>(
+        &self,
+        folder: &mut D,
+    ) -> Result<(D::File, D::Random), Refusal>
         ensures { ReadiesToSign D.File.role D.File.remaining D.Random.upcoming (D.content folder.old)
-            self.now.message.now self.now.out.now self.now.random.now result (D.trace folder.old)
-            (D.trace folder.new) }
+            self.now.message.now self.now.random.now result (D.trace folder.old) (D.trace folder.new) }
     {
         let message = folder.open(Role::Message, self.message)?;
         let random = folder.open_random(self.random)?;
-        folder.check_writable(Role::Signature, self.out)?;
         Ok((message, random))
     }
 }
 
 // Signs the message of a file on a disk, and writes the signature. The disk is given back.
-fn sign_file<D: SignerFolder>(
+fn sign_file<'a, D: SignerFolder<'a>>(
     alloc: Global,
     folder: &mut D,
     disk: D::Disk,
@@ -155,7 +156,7 @@ fn sign_file<D: SignerFolder>(
 }
 
 // Signs the message of a file on a disk. The disk is given back, and on Ok `signature` has the signature.
-fn read_and_sign<D: SignerFolder>(
+fn read_and_sign<'a, D: SignerFolder<'a>>(
     alloc: Global,
     folder: &mut D,
     disk: D::Disk,

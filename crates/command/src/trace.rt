@@ -37,6 +37,8 @@ pub enum Event<'a> {
     Opened(Role, &'a str),
     /// It can't be opened.
     NotOpened(Role, &'a str),
+    /// The state file of this path is opened for reading alone.
+    OpenedToRead(&'a str),
     /// The state file of this path is opened, and was made where there was none.
     Made(&'a str),
     /// It can't be opened or made.
@@ -55,13 +57,21 @@ pub enum Event<'a> {
     WrittenAt(u64, &'a [u8], Result<&'a [u8], ErrorKind>),
     /// What was written is synced.
     Synced(Result<(), ErrorKind>),
-    /// The path leads to none of the files that were opened, and nothing is known by which its file can't be written.
-    Writable(Role, &'a str),
-    /// It leads to one of them, or its file can't be written.
-    NotWritable(Role, &'a str),
+    /// It was looked whether the file that is open to be written has a key.
+    Looked(bool),
+    /// This couldn't be seen.
+    NotLooked,
+    /// It is cut to no bytes.
+    Cut,
+    /// It can't be cut.
+    NotCut,
+    /// These bytes are written to it, from its beginning on.
+    Wrote(&'a [u8]),
+    /// Not all of them are.
+    NotWrote,
     /// The file of this path has these bytes and no others.
     Written(Role, &'a str, &'a [u8]),
-    /// It can't be opened or written. What it has isn't known.
+    /// It isn't written, or a call to open or write it failed. What it has isn't known.
     NotWritten(Role, &'a str),
 }
 

@@ -11,7 +11,7 @@ ghost use Rattle.typecodes.specs.Message.{IsContent};
 use crate::answer::{Answer, Done};
 use crate::argument::required;
 use crate::files;
-use crate::files::{DECISIVE, FileReader, Folder};
+use crate::files::{DECISIVE, FileReader, Folder, LineFiles};
 use crate::refusal::Refusal;
 use crate::trace::Role;
 use clap::{ArgMatches, Command};
@@ -80,7 +80,7 @@ impl<'a> Verify<'a> {
     }
 
     /// Opens the files in the order of the line, up to one that can't be opened.
-    pub fn open<D: Folder>(&self, folder: &mut D) -> Result<Opened<D::File>, Refusal>
+    pub fn open<D: LineFiles<'a>>(&self, folder: &mut D) -> Result<Opened<D::File>, Refusal>
         ensures opens { OpensInTurn self.now.public.now self.now.message.now self.now.signature.now result
             (D.trace folder.old) (D.trace folder.new) }
         ensures public { IfOk result (λ files. (D.File.role files.public ≡ Role.Public)
@@ -99,7 +99,7 @@ impl<'a> Verify<'a> {
     }
 
     /// Opens the files, reads them, and judges what is in them.
-    pub fn answer<D: Folder>(&self, folder: &mut D) -> Answer
+    pub fn answer<D: LineFiles<'a>>(&self, folder: &mut D) -> Answer
         ensures { VerifiesIn (D.content folder.old) self.now.public.now self.now.message.now self.now.signature.now
             result (D.trace folder.old) (D.trace folder.new) }
     {

@@ -1,10 +1,12 @@
-//! Disks over files: calls that do a part, are interrupted or fail.
+//! Disks over files: calls that do a part, or fail, as an interrupted one does.
 
 ghost use Rattle.std.specs.Prelude.{◌≡◌, ◌≤◌, IfOk, length};
 ghost use Rattle.std.specs.Io.{ReadsAtMost};
 
 use super::place::Place;
-use crate::file_disk::{FileDisk, OffsetFile, StateFile};
+use crate::file_disk::{FileDisk, OffsetFile};
+use crate::standard::Standard;
+use crate::state::StateFile;
 use crate::trace::{Event, Trace};
 use state_file::{Disk, DiskFault, MemoryDisk, Pick};
 use std::io::ErrorKind;
@@ -158,21 +160,13 @@ type Case = (
     &'static [u8],
 );
 
-const PARTS: &[Step] = &[
-    Step::Part(3),
-    Step::Interrupted,
-    Step::Part(1),
-    Step::Interrupted,
-];
+const PARTS: &[Step] = &[Step::Part(3), Step::Part(1)];
 
-const OTHER_PARTS: &[Step] = &[
-    Step::Part(1),
-    Step::Interrupted,
-    Step::Part(2),
-    Step::Interrupted,
-];
+const OTHER_PARTS: &[Step] = &[Step::Part(1), Step::Part(2)];
 
-const FAILING: &[Step] = &[Step::Part(3), Step::Interrupted, Step::Fails];
+const FAILING: &[Step] = &[Step::Part(3), Step::Fails];
+
+const INTERRUPTED: &[Step] = &[Step::Part(3), Step::Interrupted];
 
 const NOTHING: &[Step] = &[Step::Part(3), Step::Part(0)];
 
@@ -182,18 +176,20 @@ const BROKEN: (Result<u64, DiskFault>, Result<(), DiskFault>) = (Ok(0), Err(Disk
 
 const PAST_END: (Result<u64, DiskFault>, Result<(), DiskFault>) = (Ok(0), Err(DiskFault::PastEnd));
 
-// A write goes on until all is written, and a read until all is read. A failure is reported.
+// A write goes on until all is written, and a read until all is read. A failure is reported, an interrupted call, too.
 const CASES: &[Case] = &[
     (&[], WHOLE, Call::Write, DONE, b"ab0123456789"),
     (&[], Step::Part(1), Call::Write, DONE, b"ab0123456789"),
     (PARTS, WHOLE, Call::Write, DONE, b"ab0123456789"),
     (FAILING, WHOLE, Call::Write, BROKEN, b"ab012"),
+    (INTERRUPTED, WHOLE, Call::Write, BROKEN, b"ab012"),
     (NOTHING, WHOLE, Call::Write, BROKEN, b"ab012"),
     (&[], Step::Fails, Call::Write, BROKEN, b"abcd"),
     (&[], Step::Interrupted, Call::Write, BROKEN, b"abcd"),
     (&[], WHOLE, Call::Read(1), DONE, b"bcde"),
     (OTHER_PARTS, WHOLE, Call::Read(2), DONE, b"cdef"),
     (FAILING, WHOLE, Call::Read(1), BROKEN, b"bcd-"),
+    (INTERRUPTED, WHOLE, Call::Read(1), BROKEN, b"bcd-"),
     (OTHER_PARTS, WHOLE, Call::Read(3), PAST_END, b"def-"),
     (&[], WHOLE, Call::Read(6), PAST_END, b"----"),
     (&[], WHOLE, Call::Read(u64::MAX), PAST_END, b"----"),
@@ -245,7 +241,8 @@ fn calls_go_on_until_all_is_done(rt: HostRuntime) {
 fn a_file_of_the_machine_is_read_and_written(rt: HostRuntime) -> Result<(), Fail> {
     let folder = Place::new(&rt, "disk").ok_or("no folder")?;
     let path = folder.path.join(rt.alloc(), "state")?;
-    let Ok(file) = StateFile::open_or_make(&rt, path.as_str()) else {
+    let standard = Standard::take(&rt)?;
+    let Ok(file) = StateFile::open_or_make(&rt, &standard, path.as_str()) else {
         return Err(Fail::from("no state file"));
     };
     let mut disk = FileDisk::new(file);

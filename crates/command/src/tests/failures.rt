@@ -1,10 +1,9 @@
 //! Files, readers and outputs that fail.
 
-use super::place::{Room, run_on};
+use super::place::{Room, run_on_machine};
 use super::sample::Sample;
 use super::shelf::{After, Content, verify, verify_on};
 use super::steps::{Step, first_wrong_step};
-use crate::machine::Machine;
 use std::io;
 use std::test::Fail;
 
@@ -135,7 +134,7 @@ fn ends_with_3_where_an_output_fails(rt: HostRuntime) {
         (&["--version"], 3),
         (&["--nonsense"], 2),
     ] {
-        let outcome = run_on(&rt, &mut Machine::new(&rt), words, &[], BOTH_NARROW);
+        let outcome = run_on_machine(&rt, words, &[], BOTH_NARROW);
         assert_eq!(rt; outcome.status, status, "{words:?}");
     }
 }

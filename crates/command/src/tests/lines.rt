@@ -1,10 +1,9 @@
 //! Lines, and what they request.
 
-use super::place::{has, run_in};
+use super::place::{WIDE, has, run_in, run_on_machine};
 use super::sample::Sample;
 use super::shelf::{Content, Shelf};
 use super::steps::{Step, first_wrong_step};
-use crate::machine::Machine;
 use std::test::Fail;
 
 // Two hyphens may come before the files.
@@ -149,7 +148,7 @@ const HELPS: &[(&str, &[u8], &[u8])] = &[
 fn helps(rt: HostRuntime) -> Result<(), Fail> {
     for (line, beginning, example) in HELPS {
         let words: Vec<&str> = line.split_whitespace().collect(rt.alloc())?;
-        let outcome = run_in(&rt, &mut Machine::new(&rt), &words);
+        let outcome = run_on_machine(&rt, &words, &[], WIDE);
         let text = outcome.output.as_slice();
         let is_right = text.starts_with(beginning)
             && has(text, example)

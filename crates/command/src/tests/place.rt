@@ -2,8 +2,10 @@
 
 use crate::files::SignerFolder;
 use crate::line::ClapReader;
+use crate::machine::Machine;
 use crate::output::Printer;
 use crate::program::run;
+use crate::standard::Standard;
 use std::convert::AsStr;
 use std::path::PathBuf;
 use std::{env, fs, io, process};
@@ -114,15 +116,47 @@ pub fn has(text: &[u8], bytes: &[u8]) -> bool {
     !bytes.is_empty() && text.windows(bytes.len()).any(|window| window == bytes)
 }
 
-pub fn run_in<D: SignerFolder>(rt: &HostRuntime, folder: &mut D, words: &[&str]) -> Outcome {
+pub fn run_in<'a, D: SignerFolder<'a>>(
+    rt: &HostRuntime,
+    folder: &mut D,
+    words: &'a [&'a str],
+) -> Outcome {
     run_on(rt, folder, words, &[], WIDE)
 }
 
+// A run on files of the machine.
+pub fn run_on_machine<S: AsStr>(
+    rt: &HostRuntime,
+    words: &[S],
+    bytes: &[u8],
+    room: &Room,
+) -> Outcome {
+    match Standard::take(rt) {
+        Ok(standard) => run_over(rt, &standard, words, bytes, room),
+        Err(_) => Outcome {
+            output: Vec::new(rt.alloc()),
+            errors: Vec::new(rt.alloc()),
+            status: u8::MAX,
+        },
+    }
+}
+
+// The same, over these standard streams.
+fn run_over<'a, S: AsStr>(
+    rt: &HostRuntime,
+    standard: &'a Standard,
+    words: &'a [S],
+    bytes: &[u8],
+    room: &Room,
+) -> Outcome {
+    run_on(rt, &mut Machine::new(rt, standard), words, bytes, room)
+}
+
 // The same, with these bytes on the input, and so much room on the outputs.
-pub fn run_on<D: SignerFolder, S: AsStr>(
+pub fn run_on<'a, D: SignerFolder<'a>, S: AsStr>(
     rt: &HostRuntime,
     folder: &mut D,
-    words: &[S],
+    words: &'a [S],
     bytes: &[u8],
     room: &Room,
 ) -> Outcome {

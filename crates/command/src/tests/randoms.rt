@@ -5,6 +5,7 @@ use super::shelf::{After, Content};
 use crate::files::SignerFolder;
 use crate::machine::Machine;
 use crate::random_file::RandomFile;
+use crate::standard::Standard;
 use rand_core::TryRng;
 use sign_core::{RngSource, Source, SourceFault};
 use std::fs;
@@ -32,17 +33,9 @@ fn draws(after: After, size: usize) -> ([Result<(), SourceFault>; 3], bool) {
 
 #[test]
 fn gives_the_bytes_of_a_file_in_their_order(rt: HostRuntime) {
-    let pieces = After::Pieces {
-        size: 1,
-        step: 1,
-        is_interrupted: false,
-    };
-    let interrupted = After::Pieces {
-        size: 3,
-        step: 0,
-        is_interrupted: true,
-    };
+    let pieces = After::Pieces { size: 1, step: 1 };
     let broken = After::Failure(ErrorKind::Other);
+    let interrupted = After::Failure(ErrorKind::Interrupted);
     let all = [Ok(()), Ok(()), Ok(())];
     let two = [Ok(()), Ok(()), Err(SourceFault)];
     for (after, size, answers) in [
@@ -75,7 +68,13 @@ fn gives_the_bytes_of_a_file_in_their_order(rt: HostRuntime) {
 
 // The first two bytes of a file of random bytes, as a run draws them.
 fn first_two(rt: &HostRuntime, path: &str) -> Option<[u8; 2]> {
-    let mut source = Machine::new(rt).open_random(path).ok()?;
+    let standard = Standard::take(rt).ok()?;
+    first_two_over(rt, &standard, path)
+}
+
+// The same, over these standard streams.
+fn first_two_over<'a>(rt: &HostRuntime, standard: &'a Standard, path: &'a str) -> Option<[u8; 2]> {
+    let mut source = Machine::new(rt, standard).open_random(path).ok()?;
     let mut bytes = [0; 2];
     source.fill(&mut bytes).ok()?;
     Some(bytes)

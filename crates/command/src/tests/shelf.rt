@@ -2,7 +2,7 @@
 ghost use Rattle.std.specs.Prelude.{◌≡◌, None, ⊤};
 
 use super::place::{Outcome, Room, WIDE, run_on};
-use crate::files::{Folder, OpenFile, Outlet, SignerFolder};
+use crate::files::{Folder, LineFiles, OpenFile, Outlet, SignerFolder};
 use crate::random_file::RandomFile;
 use crate::refusal::Refusal;
 use crate::trace::{Event, Role, Trace, Traced};
@@ -21,13 +21,9 @@ pub struct Content<'a> {
 #[derive(Clone, Copy)]
 pub enum After {
     End,
-    // The end, too, but a read gives so many bytes at most, and then one is interrupted. The step leads to the next
-    // size, of 130 in turn: 129 to the same.
-    Pieces {
-        size: usize,
-        step: usize,
-        is_interrupted: bool,
-    },
+    // The end, too, but a read gives so many bytes at most. The step leads to the next size, of 130 in turn: 129 to the
+    // same.
+    Pieces { size: usize, step: usize },
     Zeros,
     Failure(io::ErrorKind),
 }
@@ -44,21 +40,11 @@ impl<'a> Content<'a> {
 impl Read for Content<'_> {
     fn read(&mut self, buffer: &mut [u8]) -> io::Result<usize> {
         let mut most = usize::MAX;
-        if let After::Pieces {
-            size,
-            step,
-            is_interrupted,
-        } = self.after
-        {
-            let next = size.wrapping_add(step) % 130 + 1;
+        if let After::Pieces { size, step } = self.after {
             self.after = After::Pieces {
-                size: if is_interrupted { next } else { size },
+                size: size.wrapping_add(step) % 130 + 1,
                 step,
-                is_interrupted: !is_interrupted,
             };
-            if is_interrupted {
-                return Err(io::Error::from(io::ErrorKind::Interrupted));
-            }
             most = size;
         }
         let bytes = self.bytes;
@@ -121,6 +107,13 @@ impl<'a> Shelf<'a> {
         None
     }
 
+    // The state file at the path, if it is there.
+    fn take_state(&mut self, path: &str) -> Option<MemoryDisk>
+        ensures { self.new.trace ≡ self.old.trace }
+    {
+        if path == "k" { self.state.take() } else { None }
+    }
+
     // Writes a path and after it these bytes to the list of what was written.
     fn note_written(&mut self, path: &str, bytes: &[u8]) -> Option<()>
         ensures { self.new.trace ≡ self.old.trace }
@@ -152,24 +145,21 @@ impl<'a> Folder for Shelf<'a> {
 
     ghost content = { λ _ _. None };
 
-    fn open(&mut self, role: Role, path: &str) -> Result<ShelfFile<'a>, Refusal> {
-        let found = self.find(path).ok_or(Refusal::FileFailed);
-        let content = self.trace.note_opening(role, path, found)?;
-        Ok(ShelfFile { role, content })
-    }
-
     fn read(&mut self, file: &mut ShelfFile<'a>, buffer: &mut [u8]) -> io::Result<usize> {
         let answer = file.content.read(buffer);
         self.trace.note_read(file.role, answer, buffer)
     }
 }
 
-impl Outlet for Shelf<'_> {
-    fn check_writable(&mut self, role: Role, path: &str) -> Result<(), Refusal> {
-        self.trace.note(&Event::Writable(role, path));
-        Ok(())
+impl<'a, 'w> LineFiles<'w> for Shelf<'a> {
+    fn open(&mut self, role: Role, path: &'w str) -> Result<ShelfFile<'a>, Refusal> {
+        let found = self.find(path).ok_or(Refusal::FileFailed);
+        let content = self.trace.note_opening(role, path, found)?;
+        Ok(ShelfFile { role, content })
     }
+}
 
+impl Outlet for Shelf<'_> {
     fn write(&mut self, role: Role, path: &str, bytes: &[u8]) -> Result<(), Refusal> {
         if self.note_written(path, bytes).is_none() {
             self.trace.note(&Event::NotWritten(role, path));
@@ -180,7 +170,7 @@ impl Outlet for Shelf<'_> {
     }
 }
 
-impl<'a> SignerFolder for Shelf<'a> {
+impl<'a, 'w> SignerFolder<'w> for Shelf<'a> {
     type Disk = MemoryDisk;
 
     type Random = RngSource<RandomFile<Content<'a>>>;
@@ -189,9 +179,8 @@ impl<'a> SignerFolder for Shelf<'a> {
 
     ghost is_closed = { λ _ _. ⊤ };
 
-    fn open_state(&mut self, path: &str) -> Result<MemoryDisk, Refusal> {
-        let found = if path == "k" { self.state.take() } else { None };
-        match found {
+    fn open_state(&mut self, path: &'w str) -> Result<MemoryDisk, Refusal> {
+        match self.take_state(path) {
             Some(disk) => {
                 self.trace.note(&Event::Opened(Role::State, path));
                 Ok(disk)
@@ -203,8 +192,21 @@ impl<'a> SignerFolder for Shelf<'a> {
         }
     }
 
+    fn open_state_to_read(&mut self, path: &'w str) -> Result<MemoryDisk, Refusal> {
+        match self.take_state(path) {
+            Some(disk) => {
+                self.trace.note(&Event::OpenedToRead(path));
+                Ok(disk)
+            }
+            None => {
+                self.trace.note(&Event::NotOpened(Role::State, path));
+                Err(Refusal::FileFailed)
+            }
+        }
+    }
+
     // None is made here.
-    fn open_or_make_state(&mut self, path: &str) -> Result<MemoryDisk, Refusal> {
+    fn open_or_make_state(&mut self, path: &'w str) -> Result<MemoryDisk, Refusal> {
         self.trace.note(&Event::NotMade(path));
         Err(Refusal::FileFailed)
     }
@@ -213,7 +215,10 @@ impl<'a> SignerFolder for Shelf<'a> {
         self.state = Some(disk);
     }
 
-    fn open_random(&mut self, path: &str) -> Result<RngSource<RandomFile<Content<'a>>>, Refusal> {
+    fn open_random(
+        &mut self,
+        path: &'w str,
+    ) -> Result<RngSource<RandomFile<Content<'a>>>, Refusal> {
         let found = self.find(path).ok_or(Refusal::FileFailed);
         match self.trace.note_opening(Role::Random, path, found) {
             Ok(content) => Ok(RngSource::new(RandomFile::new(content))),

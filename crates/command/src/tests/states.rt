@@ -1,36 +1,42 @@
-//! State files of the machine: which are opened, made and locked.
+//! State files of the machine: which are opened, made and locked, and which mode they have.
 
 use super::place::Place;
-use crate::file_disk::StateFile;
 use crate::refusal::Refusal;
+use crate::standard::Standard;
+use crate::state::{Access, StateFile};
 use std::fs;
 use std::os::unix::fs::PermissionsExt;
 use std::test::Fail;
 
-// Why the file of this path isn't opened, without leave to make it and with it.
-fn refusals(rt: &HostRuntime, path: &str) -> (Option<Refusal>, Option<Refusal>) {
-    let opened = StateFile::open(rt, path).err();
-    (opened, StateFile::open_or_make(rt, path).err())
+// Why the file of this path isn't opened: to be read, to be written too, and with leave to make it.
+fn refusals(rt: &HostRuntime, standard: &Standard, path: &str) -> [Option<Refusal>; 3] {
+    [
+        StateFile::open(rt, standard, path, Access::Read).err(),
+        StateFile::open(rt, standard, path, Access::ReadAndWrite).err(),
+        StateFile::open_or_make(rt, standard, path).err(),
+    ]
 }
 
 // A state file is made for its owner, and locked; and no other file is one.
 #[test]
 fn state_files_are_opened_made_and_locked(rt: HostRuntime) -> Result<(), Fail> {
     let folder = Place::new(&rt, "state").ok_or("no folder")?;
+    let standard = Standard::take(&rt)?;
     let path = folder.path.join(rt.alloc(), "state")?;
     let path = path.as_str();
     let missing = folder.path.join(rt.alloc(), "missing/state")?;
     let failed = Some(Refusal::FileFailed);
-    assert_eq!(rt; StateFile::open(&rt, path).err(), failed);
-    let locked = StateFile::open_or_make(&rt, path);
+    for access in [Access::Read, Access::ReadAndWrite] {
+        assert_eq!(rt; StateFile::open(&rt, &standard, path, access).err(), failed);
+    }
+    let locked = StateFile::open_or_make(&rt, &standard, path);
     assert!(rt; locked.is_ok());
     let found = fs::metadata(&rt, path)?;
     assert_eq!(rt;
         (found.len(), found.permissions().mode() & 0o777),
         (0, 0o600)
     );
-    let both = Some(Refusal::Locked);
-    assert_eq!(rt; refusals(&rt, path), (both, both));
+    assert_eq!(rt; refusals(&rt, &standard, path), [Some(Refusal::Locked); 3]);
     drop(locked);
     for (path, refusal) in [
         (path, None),
@@ -39,7 +45,43 @@ fn state_files_are_opened_made_and_locked(rt: HostRuntime) -> Result<(), Fail> {
         ("/dev/null", failed),
         ("", failed),
     ] {
-        assert_eq!(rt; refusals(&rt, path), (refusal, refusal), "{path}");
+        assert_eq!(rt; refusals(&rt, &standard, path), [refusal; 3], "{path}");
+    }
+    Ok(folder.remove(&rt)?)
+}
+
+// Files that are there: their bytes, the number of these and the first, and their mode after they were opened to make
+// a key in them.
+const FOUND: &[(usize, u8, u32)] = &[
+    (0, 0, 0o600),
+    (1, 0xA5, 0o600),
+    (256, 0xA5, 0o600),
+    (257, 0, 0o600),
+    (257, 0xA5, 0o644),
+    (258, 0, 0o644),
+    (513, 0xA5, 0o644),
+];
+
+// Where a key may be made in a file, its owner alone may read and write it; any other file keeps its mode.
+#[test]
+fn a_file_that_may_take_a_key_becomes_its_owners(rt: HostRuntime) -> Result<(), Fail> {
+    let folder = Place::new(&rt, "mode").ok_or("no folder")?;
+    let standard = Standard::take(&rt)?;
+    for (size, first, mode) in FOUND {
+        let mut bytes = vec![in rt.alloc(); 0; *size]?;
+        if let Some(gate) = bytes.first_mut() {
+            *gate = *first;
+        }
+        folder.write(&rt, "k", &bytes).ok_or("not written")?;
+        let path = folder.path.join(rt.alloc(), "k")?;
+        fs::set_permissions(&rt, path.as_path(), fs::Permissions::from_mode(0o644))?;
+        assert!(rt; StateFile::open_or_make(&rt, &standard, path.as_str()).is_ok());
+        let found = fs::metadata(&rt, path.as_path())?;
+        assert_eq!(rt;
+            (found.len(), found.permissions().mode() & 0o777),
+            (*size as u64, *mode),
+            "{size} {first}"
+        );
     }
     Ok(folder.remove(&rt)?)
 }

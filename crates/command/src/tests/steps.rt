@@ -1,10 +1,9 @@
 //! Scripts on files of the machine: steps, and what has to come of each.
 
-use super::place::{Outcome, Place, Room, WIDE, run_on};
+use super::place::{Outcome, Place, Room, WIDE, run_on_machine};
 use super::sample::Sample;
-use crate::file_disk::StateFile;
-use crate::machine::Machine;
 use crate::number::read_number;
+use std::fs;
 
 // A step in a folder of a test's own. In its texts {name} stands for the bytes of a file of the folder, in lower-case
 // hex digits, and {name:from:to} for some of them. In a word of a line, @ stands for the folder, as @k for the path of
@@ -80,9 +79,11 @@ fn folder_with_files(rt: &HostRuntime, name: &str) -> Option<Place> {
 }
 
 // The file k, locked.
-fn lock(rt: &HostRuntime, folder: &Place) -> Option<StateFile> {
+fn lock(rt: &HostRuntime, folder: &Place) -> Option<fs::File> {
     let path = folder.path.join(rt.alloc(), "k").ok()?;
-    StateFile::open(rt, path.as_str()).ok()
+    let file = fs::open(rt, path.as_path()).ok()?;
+    file.try_lock().ok()?;
+    Some(file)
 }
 
 // Whether a step comes to what it has to.
@@ -165,7 +166,7 @@ fn run_line(
         given.push_str(end).ok()?;
         words.push(given).ok()?;
     }
-    Some(run_on(rt, &mut Machine::new(rt), &words, input, room))
+    Some(run_on_machine(rt, &words, input, room))
 }
 
 // A text with the bytes of files that it names.

@@ -1,24 +1,56 @@
-//! Files of the machine that are written: none that was opened, by whatever path.
+//! Files of the machine that are written: none that was opened, by whatever path, and none that has a key.
 
 use super::place::Place;
-use crate::files::{Folder, Outlet, SignerFolder};
+use crate::files::{LineFiles, Outlet, SignerFolder};
 use crate::machine::Machine;
 use crate::refusal::Refusal;
+use crate::standard::Standard;
 use crate::trace::Role;
 use std::fs;
 use std::os::unix::fs::{MetadataExt, PermissionsExt, symlink};
+use std::path::PathBuf;
 use std::test::Fail;
 
-// Makes the files k, m, r and s, the folder f, a link and a hard link to k, m and r each, and one link to nothing.
+// What files have that begin as a state file does: one with an open gate, one with a closed gate, and one of no more
+// bytes than tell it; and what others have, of a byte less or another one.
+const KEY: &[u8] = b"\xA5\x01HBSSTATE\x00\x01 and more";
+
+const CLOSED_KEY: &[u8] = b"\x00\x01HBSSTATE\x00\x01 and more";
+
+const SHORT_KEY: &[u8] = b"7\x01HBSSTATE";
+
+const SHORTER: &[u8] = b"\xA5\x01HBSSTAT";
+
+const OTHER_KIND: &[u8] = b"\xA5\x02HBSSTATE\x00\x01 and more";
+
+const OTHER_MAGIC: &[u8] = b"\xA5\x01HBSSTATF\x00\x01 and more";
+
+// Makes the files k, m, r and s, those that begin as a state file does and that don't, the folder f, a link and a hard
+// link to k, m, r and a key each, and one link to nothing.
 fn prepare(rt: &HostRuntime, folder: &Place) -> Option<()> {
     let alloc = rt.alloc();
     let path = &folder.path;
     fs::create_dir(rt, path.join(alloc, "f").ok()?.as_path()).ok()?;
-    folder.write(rt, "k", b"the state")?;
-    folder.write(rt, "m", b"the message")?;
-    folder.write(rt, "r", b"random")?;
-    folder.write(rt, "s", b"a signature of before")?;
-    for (name, link, other) in [("k", "k1", "k2"), ("m", "m1", "m2"), ("r", "r1", "r2")] {
+    for (name, bytes) in [
+        ("k", b"the state".as_slice()),
+        ("m", b"the message"),
+        ("r", b"random"),
+        ("s", b"a signature of before"),
+        ("key", KEY),
+        ("closed", CLOSED_KEY),
+        ("short", SHORT_KEY),
+        ("shorter", SHORTER),
+        ("kind", OTHER_KIND),
+        ("magic", OTHER_MAGIC),
+    ] {
+        folder.write(rt, name, bytes)?;
+    }
+    for (name, link, other) in [
+        ("k", "k1", "k2"),
+        ("m", "m1", "m2"),
+        ("r", "r1", "r2"),
+        ("key", "key1", "key2"),
+    ] {
         symlink(rt, name, path.join(alloc, link).ok()?.as_path()).ok()?;
         let named = path.join(alloc, name).ok()?;
         fs::hard_link(rt, named.as_path(), path.join(alloc, other).ok()?.as_path()).ok()?;
@@ -26,65 +58,74 @@ fn prepare(rt: &HostRuntime, folder: &Place) -> Option<()> {
     symlink(rt, "t", path.join(alloc, "t1").ok()?.as_path()).ok()
 }
 
-// What a command with the files k, m and r is answered, that is to write a file: whether it may, and whether it can.
-fn answers(
-    rt: &HostRuntime,
-    folder: &Place,
-    name: &str,
-) -> Option<(Result<(), Refusal>, Result<(), Refusal>)> {
+// What a command with the files k, m and r is answered that writes a file.
+fn answer(rt: &HostRuntime, folder: &Place, name: &str) -> Option<Result<(), Refusal>> {
     let alloc = rt.alloc();
     let path = &folder.path;
     let target = path.join(alloc, name).ok()?;
-    let mut machine = Machine::new(rt);
-    let state = machine
-        .open_state(path.join(alloc, "k").ok()?.as_str())
-        .ok()?;
-    let message = machine
-        .open(Role::Message, path.join(alloc, "m").ok()?.as_str())
-        .ok()?;
-    let random = machine
-        .open_random(path.join(alloc, "r").ok()?.as_str())
-        .ok()?;
-    let before = fs::exists(rt, target.as_path()).ok();
-    let checked = machine.check_writable(Role::Signature, target.as_str());
-    if fs::exists(rt, target.as_path()).ok() != before {
-        return None;
-    }
-    let written = machine.write(Role::Signature, target.as_str(), b"new");
+    let opened = [
+        path.join(alloc, "k").ok()?,
+        path.join(alloc, "m").ok()?,
+        path.join(alloc, "r").ok()?,
+    ];
+    let standard = Standard::take(rt).ok()?;
+    write(rt, &standard, &opened, target.as_str())
+}
+
+// The same: a command that opened a state file, a message and a file of random bytes of these paths.
+fn write<'a>(
+    rt: &HostRuntime,
+    standard: &'a Standard,
+    opened: &'a [PathBuf; 3],
+    target: &str,
+) -> Option<Result<(), Refusal>> {
+    let mut machine = Machine::new(rt, standard);
+    let [state, message, random] = opened;
+    let state = machine.open_state(state.as_str()).ok()?;
+    let message = machine.open(Role::Message, message.as_str()).ok()?;
+    let random = machine.open_random(random.as_str()).ok()?;
+    let written = machine.write(Role::Signature, target, b"new");
     drop((state, message, random));
-    Some((checked, written))
+    Some(written)
 }
 
 const FAILED: Result<(), Refusal> = Err(Refusal::FileFailed);
 
-// Files, whether they may be written, and whether they can: none that was opened, and nothing that can't be. What fails
-// only when it is written isn't found before.
-const TARGETS: &[(&str, Result<(), Refusal>, Result<(), Refusal>)] = &[
-    ("k", FAILED, FAILED),
-    ("m", FAILED, FAILED),
-    ("r", FAILED, FAILED),
-    ("k1", FAILED, FAILED),
-    ("m1", FAILED, FAILED),
-    ("r1", FAILED, FAILED),
-    ("k2", FAILED, FAILED),
-    ("m2", FAILED, FAILED),
-    ("r2", FAILED, FAILED),
-    ("./k", FAILED, FAILED),
-    ("f/../m", FAILED, FAILED),
-    (".//r", FAILED, FAILED),
-    ("f", FAILED, FAILED),
-    ("", FAILED, FAILED),
-    ("f/", FAILED, FAILED),
-    ("n/", FAILED, FAILED),
-    ("missing/s", FAILED, FAILED),
-    ("s/s", FAILED, FAILED),
-    ("f/missing/s", FAILED, FAILED),
-    ("s", Ok(()), Ok(())),
-    ("n", Ok(()), Ok(())),
-    ("f/n", Ok(()), Ok(())),
-    ("t1", Ok(()), Ok(())),
-    ("/dev/null", Ok(()), Ok(())),
-    ("/dev/full", Ok(()), FAILED),
+// Files, and whether they are written: none that was opened, none that has a key, and nothing that can't be.
+const TARGETS: &[(&str, Result<(), Refusal>)] = &[
+    ("k", FAILED),
+    ("m", FAILED),
+    ("r", FAILED),
+    ("k1", FAILED),
+    ("m1", FAILED),
+    ("r1", FAILED),
+    ("k2", FAILED),
+    ("m2", FAILED),
+    ("r2", FAILED),
+    ("./k", FAILED),
+    ("f/../m", FAILED),
+    (".//r", FAILED),
+    ("key", FAILED),
+    ("key1", FAILED),
+    ("key2", FAILED),
+    ("closed", FAILED),
+    ("short", FAILED),
+    ("f", FAILED),
+    ("", FAILED),
+    ("f/", FAILED),
+    ("n/", FAILED),
+    ("missing/s", FAILED),
+    ("s/s", FAILED),
+    ("f/missing/s", FAILED),
+    ("s", Ok(())),
+    ("shorter", Ok(())),
+    ("kind", Ok(())),
+    ("magic", Ok(())),
+    ("n", Ok(())),
+    ("f/n", Ok(())),
+    ("t1", Ok(())),
+    ("/dev/null", Ok(())),
+    ("/dev/full", FAILED),
 ];
 
 // What the files have afterwards.
@@ -92,22 +133,24 @@ const CONTENTS: &[(&str, &[u8])] = &[
     ("k", b"the state"),
     ("m", b"the message"),
     ("r", b"random"),
+    ("key", KEY),
+    ("closed", CLOSED_KEY),
+    ("short", SHORT_KEY),
     ("s", b"new"),
+    ("shorter", b"new"),
+    ("kind", b"new"),
+    ("magic", b"new"),
     ("n", b"new"),
     ("f/n", b"new"),
     ("t", b"new"),
 ];
 
 #[test]
-fn writes_no_file_that_was_opened(rt: HostRuntime) -> Result<(), Fail> {
+fn writes_no_file_that_was_opened_or_has_a_key(rt: HostRuntime) -> Result<(), Fail> {
     let folder = Place::new(&rt, "targets").ok_or("no folder")?;
     assert!(rt; prepare(&rt, &folder).is_some());
-    for (name, checked, written) in TARGETS {
-        assert_eq!(rt;
-            answers(&rt, &folder, name),
-            Some((*checked, *written)),
-            "{name}"
-        );
+    for (name, written) in TARGETS {
+        assert_eq!(rt; answer(&rt, &folder, name), Some(*written), "{name}");
     }
     for (name, bytes) in CONTENTS {
         let content = folder.content(&rt, name);
@@ -117,7 +160,7 @@ fn writes_no_file_that_was_opened(rt: HostRuntime) -> Result<(), Fail> {
     let path = folder.path.join(rt.alloc(), "s")?;
     let found = fs::metadata(&rt, path.as_path())?;
     fs::set_permissions(&rt, path.as_path(), fs::Permissions::from_mode(0o400))?;
-    let answer = if found.uid() == 0 { Ok(()) } else { FAILED };
-    assert_eq!(rt; answers(&rt, &folder, "s"), Some((answer, answer)));
+    let written = if found.uid() == 0 { Ok(()) } else { FAILED };
+    assert_eq!(rt; answer(&rt, &folder, "s"), Some(written));
     Ok(folder.remove(&rt)?)
 }

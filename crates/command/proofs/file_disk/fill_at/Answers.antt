@@ -1,32 +1,39 @@
-use Rattle.std.proofs.Common.{◌≡◌, ◌+◌, ◌-◌, ◌++◌, rules, arith, length, take, sym, ap, ◌∙◌, inr, le_refl}
-use Rattle.std.proofs.lemmas.Slice.{take-put_mid_below}
-use borrow.Rule.Slice.PartMut.{put_mid}
-use Rattle.typecodes.proofs.Written.{slice_range-put_mid, take_split}
-use Rattle.command.proofs.Offsets.{read_on, read_again, read_ended, read_broke}
+use Rattle.std.proofs.Common.{rules, ℕ, ◌+◌, ◌<◌, ◌^◌, ◌≡◌, length, arith, Ok, Err}
+use Rattle.state_file.specs.declared.disk.DiskFault.TheVariants as fault
+use Rattle.command.specs.FileDisk.{ReadsAt}
+use Rattle.command.proofs.Offsets.{broke_there, ended_there, filled_there, same_file_read}
+use Rattle.command.proofs.Reading.{via}
 use Rattle.command.proofs.file_disk.fill_at.Goals as goal
-use Rattle.command.proofs.file_disk.fill_at.Goals.{in-Ok, in-Err+else-ne}
 
-pub loop-turn-preserved : goal.loop-turn-preserved
-loop-turn-preserved g c =
-    let from = c.loop-turn.done in
-    let room = length c.loop-turn.into - from in
-    let within = c.loop-turn.invariant.1 in
-    let front : take from (put_mid from room c.loop-turn.into c.read_at.new.into) ≡ take from c.loop-turn.into =
-    take-put_mid_below _ _ _ _ _ (le_refl _) within in
-    elim c.match-read_at.branch [
-      | in-Ok w ↦
-          let part = slice_range-put_mid from room w.in-Ok.n c.loop-turn.into c.read_at.new.into within w.in-Ok.ensures.bound.0 in
-          let whole = ap (λ l. take from c.loop-turn.into ++ l) (sym part)
-          ∙ take_split from (from + w.in-Ok.n) c.loop-turn.into (put_mid from room c.loop-turn.into c.read_at.new.into) (omega arith) front in
-          rw w.done-is (search rules, search rules, read_on _ _ _ _ _ _ _ _ _ _ _ _ _ c.loop-turn.invariant.2 w.in-Ok.ensures.trace (search rules) (search rules) w.in-Ok.ensures.bound.0 (search rules) whole (search rules))
-      | in-Err+else-ne w ↦
-          rw w.done-is (search rules, search rules, read_again _ _ _ _ _ _ _ _ _ _ _ _ c.loop-turn.invariant.2 w.in-Err.ensures.trace (search rules) (search rules) (search rules) (sym front) (search rules))
-    ]
+pub returns-then-n-into : goal.returns-then-n-into
+returns-then-n-into g c =
+    let trace_of = g.F.OffsetFile.trace in
+    let buffer = c.read_full.new.buffer in
+    let asks = c.read_full.ensures.requests in
+    let ends : c.args.at + length buffer < 2 ^ 64 = search rules in
+    let here : c.args.at ≡ c.args.at + 0 = omega arith in
+    let file = same_file_read g.F.OffsetFile.trace c.args.at _ _ _ _ c.read_full.ensures.requests ends here in
+    via (λ f. ReadsAt {A = Unit {0}} c.args.at buffer (Err fault.PastEnd) (trace_of c.args.file.now) (trace_of f)) c.read_full.new.message.file.now _
+    (ended_there trace_of c.args.at _ _ _ _ asks ends here (Unit {0}) c.in-Ok.n c.in-Ok.is c.if-n-into.true) (search rules)
 
-pub returns-in-Ok-eq0 : goal.returns-in-Ok-eq0
-returns-in-Ok-eq0 g c =
-    inr (read_ended _ _ _ _ _ _ _ _ _ _ _ _ c.loop-turn.invariant.2 c.in-Ok-eq0.ensures.trace (search rules) (search rules) (search rules) (search rules))
+pub returns-else-n-into : goal.returns-else-n-into
+returns-else-n-into g c =
+    let trace_of = g.F.OffsetFile.trace in
+    let buffer = c.read_full.new.buffer in
+    let asks = c.read_full.ensures.requests in
+    let ends : c.args.at + length buffer < 2 ^ 64 = search rules in
+    let here : c.args.at ≡ c.args.at + 0 = omega arith in
+    let file = same_file_read g.F.OffsetFile.trace c.args.at _ _ _ _ c.read_full.ensures.requests ends here in
+    via (λ f. ReadsAt {A = Unit {0}} c.args.at buffer (Ok (tt {0})) (trace_of c.args.file.now) (trace_of f)) c.read_full.new.message.file.now _
+    (filled_there trace_of c.args.at _ _ _ _ asks ends here (tt {0}) c.in-Ok.n c.in-Ok.is (search rules)) (search rules)
 
-pub returns-then-ne : goal.returns-then-ne
-returns-then-ne g c =
-    read_broke _ _ _ _ _ _ _ _ _ _ _ c.loop-turn.invariant.2 c.in-Err.ensures.trace (search rules) (search rules) (search rules) (search rules)
+pub returns-in-Err : goal.returns-in-Err
+returns-in-Err g c =
+    let trace_of = g.F.OffsetFile.trace in
+    let buffer = c.read_full.new.buffer in
+    let asks = c.read_full.ensures.requests in
+    let ends : c.args.at + length buffer < 2 ^ 64 = search rules in
+    let here : c.args.at ≡ c.args.at + 0 = omega arith in
+    let file = same_file_read g.F.OffsetFile.trace c.args.at _ _ _ _ c.read_full.ensures.requests ends here in
+    via (λ f. ReadsAt {A = Unit {0}} c.args.at buffer (Err fault.Failed) (trace_of c.args.file.now) (trace_of f)) c.read_full.new.message.file.now _
+    (broke_there trace_of c.args.at _ _ _ _ asks ends here (Unit {0}) _ c.in-Err.is) (search rules)

@@ -1,25 +1,28 @@
-use Rattle.std.proofs.Common.{◌++◌, rules, ap, sym, ◌∙◌, take, inl, inr, take-add}
-use Rattle.command.proofs.Offsets.{rest_of, written_on, written_again, written_nothing, write_broke}
+use Rattle.std.proofs.Common.{rules, ℕ, ◌+◌, ◌<◌, ◌^◌, ◌≡◌, length, arith, Ok, Err}
+use Rattle.state_file.specs.declared.disk.DiskFault.TheVariants as fault
+use Rattle.command.specs.FileDisk.{WritesAt}
+use Rattle.command.proofs.Offsets.{not_written_there, same_file_written, written_there}
+use Rattle.command.proofs.Reading.{via}
 use Rattle.command.proofs.file_disk.write_all_at.Goals as goal
-use Rattle.command.proofs.file_disk.write_all_at.Goals.{in-Ok, in-Err+else-ne}
 
-pub loop-turn-preserved : goal.loop-turn-preserved
-loop-turn-preserved g c =
+pub returns-in-Ok : goal.returns-in-Ok
+returns-in-Ok g c =
+    let trace_of = g.F.OffsetFile.trace in
     let bytes = c.args.bytes.now in
-    let done = c.loop-turn.done in
-    let rest = rest_of done bytes in
-    elim c.match-write_at.branch [
-      | in-Ok w ↦
-          let whole = ap (λ r. take done bytes ++ take w.in-Ok.n r) rest ∙ sym (take-add done w.in-Ok.n bytes) in
-          rw w.done-is (search rules, written_on _ _ _ _ _ _ _ _ _ _ _ c.loop-turn.invariant.1 w.in-Ok.ensures.trace (search rules) rest w.in-Ok.ensures.bound (search rules) whole)
-      | in-Err+else-ne w ↦
-          rw w.done-is (search rules, written_again _ _ _ _ _ _ _ _ _ _ c.loop-turn.invariant.1 w.in-Err.ensures.trace (search rules) rest (search rules))
-    ]
+    let offers = c.write_all.ensures in
+    let ends : c.args.at + length bytes < 2 ^ 64 = search rules in
+    let here : c.args.at ≡ c.args.at + 0 = omega arith in
+    let file = same_file_written g.F.OffsetFile.trace c.args.at _ _ _ _ c.write_all.ensures ends here in
+    via (λ f. WritesAt {A = Unit {0}} c.args.at bytes (Ok (tt {0})) (trace_of c.args.file.now) (trace_of f)) c.write_all.new.sink.file.now _
+    (written_there trace_of c.args.at _ _ _ _ offers ends here (tt {0}) c.in-Ok.is) (search rules)
 
-pub returns-in-Ok-eq0 : goal.returns-in-Ok-eq0
-returns-in-Ok-eq0 g c =
-    inr (inl (written_nothing _ _ _ _ _ _ _ _ _ _ c.loop-turn.invariant.1 c.in-Ok-eq0.ensures.trace (search rules) (rest_of c.loop-turn.done c.args.bytes.now) (search rules)))
-
-pub returns-then-ne : goal.returns-then-ne
-returns-then-ne g c =
-    inr (inr (write_broke _ _ _ _ _ _ _ _ _ _ c.loop-turn.invariant.1 c.in-Err.ensures.trace (search rules) (rest_of c.loop-turn.done c.args.bytes.now) (search rules)))
+pub returns-in-Err : goal.returns-in-Err
+returns-in-Err g c =
+    let trace_of = g.F.OffsetFile.trace in
+    let bytes = c.args.bytes.now in
+    let offers = c.write_all.ensures in
+    let ends : c.args.at + length bytes < 2 ^ 64 = search rules in
+    let here : c.args.at ≡ c.args.at + 0 = omega arith in
+    let file = same_file_written g.F.OffsetFile.trace c.args.at _ _ _ _ c.write_all.ensures ends here in
+    via (λ f. WritesAt {A = Unit {0}} c.args.at bytes (Err fault.Failed) (trace_of c.args.file.now) (trace_of f)) c.write_all.new.sink.file.now _
+    (not_written_there trace_of c.args.at _ _ _ _ offers ends here _ c.in-Err.is) (search rules)

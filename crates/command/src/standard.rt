@@ -1,0 +1,256 @@
+//! The standard streams of the process, and what standard error says of calls of the system that failed.
+
+ghost use Rattle.std.specs.Prelude.{◌≡◌, IfErr};
+
+use crate::file_id::FileId;
+use crate::key_start::has_key;
+use crate::refusal::Refusal;
+use arrayvec::ArrayString;
+use std::cell::Cell;
+use std::fmt::{Display, Formatter, Write as _};
+use std::fs::{File, Files};
+use std::io::{ErrorKind, IsTerminal, Read, Stderr, Write};
+use std::os::fd::AsFd;
+use std::os::unix::fs::FileTypeExt;
+use std::{fmt, fs, io};
+
+/// A standard stream that is written to: which file of the machine it is, where this can be found out.
+#[derive(Drop)]
+pub struct Stream {
+    id: Option<FileId>,
+    // nothing more is written to it: it is a file with a key, or an output of which a write failed
+    is_shut: Cell<bool>,
+    ends_at_failure: bool,
+}
+
+impl Stream {
+    // The one that this path of the system leads to. A device that is no terminal takes each text by itself, as the null
+    // device does, and counts as no file. Nothing is written to a file with a key.
+    fn of<R: Files<File = File>>(
+        rt: &R,
+        path: &str,
+        is_terminal: bool,
+        ends_at_failure: bool,
+    ) -> Self {
+        let (id, has_key) = match fs::metadata(rt, path) {
+            Ok(found) if is_terminal || !found.file_type().is_char_device() => {
+                (
+                    Some(FileId::of(&found)),
+                    found.is_file() && leads_to_key(rt, path),
+                )
+            }
+            _ => (None, false),
+        };
+        Stream {
+            id,
+            is_shut: Cell::new(has_key),
+            ends_at_failure,
+        }
+    }
+
+    /// Which file it is, where this could be found out.
+    pub fn id(&self) -> Option<FileId> {
+        self.id
+    }
+
+    /// Whether it is this file.
+    pub fn is(&self, id: FileId) -> bool {
+        self.id == Some(id)
+    }
+}
+
+// Whether a path leads to a file with a key, as far as this can be seen.
+fn leads_to_key<R: Files<File = File>>(rt: &R, path: &str) -> bool {
+    match fs::open(rt, path) {
+        Ok(file) => has_key(&file).unwrap_or(false),
+        Err(_) => false,
+    }
+}
+
+/// A writer to a standard stream. It refuses each write to a file with a key, and to an output of which a write failed,
+/// so that a line which couldn't be written isn't written later.
+#[derive(Drop)]
+pub struct StreamWriter<'a, W> {
+    pub stream: &'a Stream,
+    pub writer: W,
+}
+
+impl<W: Write> Write for StreamWriter<'_, W> {
+    ghost contents = { λ stream. W.contents stream.writer };
+
+    fn write(&mut self, bytes: &[u8]) -> io::Result<usize> {
+        if self.stream.is_shut.get() {
+            return Err(io::Error::from(ErrorKind::ResourceBusy));
+        }
+        let answer = self.writer.write(bytes);
+        if answer.is_err() && self.stream.ends_at_failure {
+            self.stream.is_shut.set(true);
+        }
+        answer
+    }
+
+    fn flush(&mut self) -> io::Result<()> {
+        self.writer.flush()
+    }
+}
+
+/// The standard streams. None of them is closed: a file that is opened later is none of them.
+#[derive(Drop)]
+pub struct Standard {
+    /// Standard output.
+    pub output: Stream,
+    /// Standard error.
+    pub errors: Stream,
+    stderr: Stderr,
+    // The null device in place of each stream that was closed, held as long as this is.
+    _null_devices: [Option<File>; 3],
+}
+
+impl Standard {
+    /// Takes the standard streams before any file is opened. In place of one that was closed there is the null device,
+    /// opened for reading: it has no input, and refuses output.
+    pub fn take(rt: &HostRuntime) -> io::Result<Self> {
+        let stderr = rt.stderr();
+        // A file that is opened gets the least descriptor that is free, so each device takes the place it is for.
+        let input = null_device(rt, &rt.stdin())?;
+        let output = null_device(rt, &rt.stdout())?;
+        let errors = null_device(rt, &stderr)?;
+        Ok(Standard {
+            output: Stream::of(rt, "/proc/self/fd/1", rt.stdout().is_terminal(), true),
+            errors: Stream::of(rt, "/proc/self/fd/2", stderr.is_terminal(), false),
+            stderr,
+            _null_devices: [input, output, errors],
+        })
+    }
+
+    /// Says on standard error what failed with the file of this path: what was tried, and the system's reason.
+    pub fn tell(&self, path: &str, tried: &str, error: &io::Error) {
+        let mut text = ArrayString::<256>::new();
+        let _ = write!(text, "{error}");
+        // The number of the error stands behind the text.
+        let reason = text.as_str().split(" (os error").next();
+        self.tell_reason(path, tried, reason.unwrap_or(""));
+    }
+
+    /// The same for a reason of this program's own.
+    pub fn tell_reason(&self, path: &str, tried: &str, reason: &str) {
+        let mut line = Line {
+            text: ArrayString::new(),
+            writer: StreamWriter {
+                stream: &self.errors,
+                writer: self.stderr,
+            },
+        };
+        let _ = write!(line, "hbsign: {}: {tried}: {reason}\n", Escaped(path));
+        let _ = line.pass_on();
+    }
+
+    /// The answer of a call of the system on the file of this path. Where it failed, standard error says so.
+    pub fn told<T>(&self, path: &str, tried: &str, answer: io::Result<T>) -> Result<T, Refusal>
+        ensures { IfErr result (λ refusal. refusal ≡ Refusal.FileFailed) }
+    {
+        match answer {
+            Ok(value) => Ok(value),
+            Err(error) => {
+                self.tell(path, tried, &error);
+                Err(Refusal::FileFailed)
+            }
+        }
+    }
+
+    /// Refuses a state file that is standard output or standard error. From then on nothing is written to that stream.
+    pub fn refuse_state(&self, path: &str, id: FileId) -> Result<(), Refusal>
+        ensures { IfErr result (λ refusal. refusal ≡ Refusal.FileFailed) }
+    {
+        let is_output = self.output.is(id);
+        let is_errors = self.errors.is(id);
+        if !is_output && !is_errors {
+            return Ok(());
+        }
+        if is_output {
+            self.output.is_shut.set(true);
+        }
+        if is_errors {
+            self.errors.is_shut.set(true);
+        }
+        let reason = if is_output {
+            "it is the standard output"
+        } else {
+            "it is the standard error"
+        };
+        self.tell_reason(path, "can't be opened", reason);
+        Err(Refusal::FileFailed)
+    }
+}
+
+// The null device, opened for reading, if this stream is closed.
+fn null_device<S: AsFd>(rt: &HostRuntime, stream: &S) -> io::Result<Option<File>> {
+    if stream.as_fd().try_clone_to_owned().is_ok() {
+        return Ok(None);
+    }
+    Ok(Some(fs::open(rt, "/dev/null")?))
+}
+
+/// The standard input. What fails of it is told.
+#[derive(Drop)]
+pub struct Input<'a, R> {
+    pub standard: &'a Standard,
+    pub reader: R,
+}
+
+impl<R: Read> Read for Input<'_, R> {
+    ghost remaining = { λ input. R.remaining input.reader };
+
+    fn read(&mut self, buffer: &mut [u8]) -> io::Result<usize> {
+        let answer = self.reader.read(buffer);
+        if let Err(error) = &answer {
+            self.standard.tell("standard input", "can't be read", error);
+        }
+        answer
+    }
+}
+
+// A line that is gathered, so that one of usual length is written in one piece.
+#[derive(Drop)]
+struct Line<W> {
+    text: ArrayString<1024>,
+    writer: W,
+}
+
+impl<W: Write> Line<W> {
+    // Writes what was gathered.
+    fn pass_on(&mut self) -> io::Result<()> {
+        self.writer.write_all(self.text.as_bytes())?;
+        self.text.clear();
+        Ok(())
+    }
+}
+
+impl<W: Write> fmt::Write for Line<W> {
+    fn write_str(&mut self, text: &str) -> fmt::Result {
+        if self.text.try_push_str(text).is_ok() {
+            return Ok(());
+        }
+        if self.pass_on().is_err() || self.writer.write_all(text.as_bytes()).is_err() {
+            return Err(fmt::Error);
+        }
+        Ok(())
+    }
+}
+
+// A path of which control characters are shown by two hex digits each, so that it can't change the terminal.
+#[derive(Clone, Copy)]
+struct Escaped<'a>(&'a str);
+
+impl Display for Escaped<'_> {
+    fn fmt<W: fmt::Write>(&self, f: &mut Formatter<W>) -> fmt::Result {
+        for c in self.0.chars() {
+            if c.is_control() {
+                write!(f, "\\x{:02x}", c as u32)?;
+            } else {
+                f.write_char(c)?;
+            }
+        }
+        Ok(())
+    }
+}

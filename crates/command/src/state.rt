@@ -1,0 +1,264 @@
+//! A state file of the machine: how it is opened, locked, and kept from other users. What fails of it is told.
+
+ghost use Rattle.std.specs.Prelude.{◌≡◌, ◌++◌, ◌∷◌, [], List, length, IfErr};
+ghost use Rattle.typecodes.specs.Message.{read_outcome};
+ghost use Rattle.command.specs.FileDisk.{OpensState, kept};
+ghost use Rattle.command.specs.Trace.{Happening, measured, read_at, synced, written_at};
+
+use crate::file_disk::{OffsetFile, kind_kept};
+use crate::file_id::FileId;
+use crate::refusal::Refusal;
+use crate::standard::Standard;
+use crate::trace::{Event, Trace};
+use std::fs::{File, Files, OpenOptions, Permissions, TryLockError};
+use std::io::ErrorKind;
+use std::marker::Model;
+use std::os::unix::fs::{FileExt, OpenOptionsExt, PermissionsExt};
+use std::path::Path;
+use std::{fs, io};
+
+// The mode of a file that its owner alone may read and write.
+const PRIVATE: u32 = 0o600;
+
+// The bytes of a state file with a key and no record after it.
+const KEY_ALONE: u64 = 257;
+
+// The first byte of a state file that has a key: the gate of its first slot is open.
+const OPEN_GATE: u8 = 0xA5;
+
+/// What a state file is opened for.
+#[derive(Clone, Copy, Debug, PartialEq, Eq)]
+pub enum Access {
+    /// To be read alone.
+    Read,
+    /// To be read and written.
+    ReadAndWrite,
+}
+
+/// A state file of the machine that is open.
+#[derive(Drop)]
+pub struct StateFile<'a> {
+    path: &'a str,
+    file: File,
+    id: FileId,
+    standard: &'a Standard,
+    trace: Trace,
+}
+
+// Contracts see what happened to it.
+impl<'a> Model for StateFile<'a> {
+    ghost Value = { List Happening };
+
+    ghost view = { λ file. file.trace.events };
+}
+
+impl<'a> StateFile<'a> {
+    /// Opens the state file at this path, and locks it without waiting. It has to be a regular file, and is never made.
+    pub fn open<R: Files<File = File>>(
+        rt: &R,
+        standard: &'a Standard,
+        path: &'a str,
+        access: Access,
+    ) -> Result<Self, Refusal>
+        ensures { OpensState result }
+    {
+        // It is looked at before it is opened, too: opening a device may do something.
+        let found = standard.told(path, "can't be opened", fs::metadata(rt, path))?;
+        if !found.is_file() {
+            return Err(not_regular(standard, path));
+        }
+        let opened = OpenOptions::new()
+            .read(true)
+            .write(access == Access::ReadAndWrite)
+            .open(rt, path);
+        StateFile::lock(
+            standard,
+            path,
+            standard.told(path, "can't be opened", opened)?,
+        )
+    }
+
+    /// Opens it for reading and writing, and makes it where there is none. Where a key may be made in it, its owner
+    /// alone may read and write it from then on. Its folder is synced, so that the file's name stays: it may have been
+    /// made by a run that was stopped.
+    pub fn open_or_make<R: Files<File = File>>(
+        rt: &R,
+        standard: &'a Standard,
+        path: &'a str,
+    ) -> Result<Self, Refusal>
+        ensures { OpensState result }
+    {
+        let made = OpenOptions::new()
+            .read(true)
+            .write(true)
+            .create_new(true)
+            .mode(PRIVATE)
+            .open(rt, path);
+        let file = match made {
+            Err(error) if error.kind() == ErrorKind::AlreadyExists => {
+                StateFile::open(rt, standard, path, Access::ReadAndWrite)?
+            }
+            made => StateFile::lock(
+                standard,
+                path,
+                standard.told(path, "can't be opened", made)?,
+            )?,
+        };
+        file.make_private()?;
+        sync_folder(rt, standard, path)?;
+        Ok(file)
+    }
+
+    // The file that was opened, locked for this process alone. Nothing happened to it yet.
+    fn lock(standard: &'a Standard, path: &'a str, file: File) -> Result<Self, Refusal>
+        ensures { OpensState result }
+    {
+        let found = standard.told(path, "can't be opened", file.metadata())?;
+        if !found.is_file() {
+            return Err(not_regular(standard, path));
+        }
+        let id = FileId::of(&found);
+        standard.refuse_state(path, id)?;
+        match file.try_lock() {
+            Ok(()) => Ok(StateFile {
+                path,
+                file,
+                id,
+                standard,
+                trace: Trace::new(),
+            }),
+            Err(TryLockError::WouldBlock) => {
+                standard.tell_reason(path, "can't be locked", "another process has locked it");
+                Err(Refusal::Locked)
+            }
+            Err(TryLockError::Error(error)) => {
+                standard.tell(path, "can't be locked", &error);
+                Err(Refusal::FileFailed)
+            }
+        }
+    }
+
+    // Lets its owner alone read and write it, if a key may be made in it: one that has a key, or anything else of more
+    // bytes, is refused later, and keeps its mode.
+    fn make_private(&self) -> Result<(), Refusal>
+        ensures { IfErr result (λ refusal. refusal ≡ Refusal.FileFailed) }
+    {
+        if !self.may_take_a_key()? {
+            return Ok(());
+        }
+        let set = self.file.set_permissions(Permissions::from_mode(PRIVATE));
+        self.standard.told(self.path, "its mode can't be set", set)
+    }
+
+    // Whether it has fewer bytes than a key, or as many with a closed gate.
+    fn may_take_a_key(&self) -> Result<bool, Refusal>
+        ensures { IfErr result (λ refusal. refusal ≡ Refusal.FileFailed) }
+    {
+        let found = self.standard.told(
+            self.path,
+            "its length can't be read",
+            self.file.metadata(),
+        )?;
+        if found.len() != KEY_ALONE {
+            return Ok(found.len() < KEY_ALONE);
+        }
+        let mut gate = [0; 1];
+        self.standard.told(self.path, "can't be read", self.file.read_at(&mut gate, 0))?;
+        Ok(gate[0] != OPEN_GATE)
+    }
+
+    /// Which file of the machine it is.
+    pub fn id(&self) -> FileId {
+        self.id
+    }
+
+    // The answer of a call of the system. Where it failed, standard error says so.
+    fn told<T>(&self, tried: &str, answer: io::Result<T>) -> io::Result<T>
+        ensures { result ≡ answer }
+    {
+        if let Err(error) = &answer {
+            self.standard.tell(self.path, tried, error);
+        }
+        answer
+    }
+}
+
+// Says that the file of this path is no regular file.
+fn not_regular(standard: &Standard, path: &str) -> Refusal
+    ensures { result ≡ Refusal.FileFailed }
+{
+    standard.tell_reason(path, "can't be opened", "it isn't a regular file");
+    Refusal::FileFailed
+}
+
+impl OffsetFile for StateFile<'_> {
+    ghost trace = { λ file. file };
+
+    fn len(&mut self) -> io::Result<u64> {
+        let answer = match self.file.metadata() {
+            Ok(metadata) => Ok(metadata.len()),
+            Err(error) => Err(error),
+        };
+        let answer = self.told("its length can't be read", answer);
+        self.trace.note(&Event::Measured(kind_kept(&answer)));
+        answer
+    }
+
+    fn read_at(&mut self, at: u64, into: &mut [u8]) -> io::Result<usize> {
+        let answer = self.told("can't be read", self.file.read_at(into, at));
+        let size = into.len();
+        if let Ok(0) = &answer {
+            self.standard.tell_reason(
+                self.path,
+                "can't be read",
+                "it ended before the bytes that are wanted",
+            );
+        }
+        match &answer {
+            Ok(n) => self.trace.note(&Event::ReadAt(at, size, Ok(&into[..*n]))),
+            Err(error) => self.trace.note(&Event::ReadAt(at, size, Err(error.kind()))),
+        }
+        answer
+    }
+
+    fn write_at(&mut self, at: u64, bytes: &[u8]) -> io::Result<usize> {
+        let answer = self.told("can't be written", self.file.write_at(bytes, at));
+        if let Ok(0) = &answer {
+            self.standard
+                .tell_reason(self.path, "can't be written", "no byte was taken");
+        }
+        let taken = match &answer {
+            Ok(n) => Ok(&bytes[..*n]),
+            Err(error) => Err(error.kind()),
+        };
+        self.trace.note(&Event::WrittenAt(at, bytes, taken));
+        answer
+    }
+
+    fn sync(&mut self) -> io::Result<()> {
+        let answer = self.told("can't be synced", self.file.sync_data());
+        self.trace.note(&Event::Synced(kind_kept(&answer)));
+        answer
+    }
+}
+
+// Syncs the folder in which the file of this path stands.
+fn sync_folder<R: Files<File = File>>(
+    rt: &R,
+    standard: &Standard,
+    path: &str,
+) -> Result<(), Refusal>
+    ensures { IfErr result (λ refusal. refusal ≡ Refusal.FileFailed) }
+{
+    let folder = folder_of(path);
+    let opened = standard.told(folder, "can't be opened", File::open(rt, folder))?;
+    standard.told(folder, "can't be synced", opened.sync_all())
+}
+
+// The folder in which the file of this path stands.
+fn folder_of(path: &str) -> &str {
+    match Path::new(path).parent() {
+        Some(folder) if !folder.as_str().is_empty() => folder.as_str(),
+        _ => ".",
+    }
+}
