@@ -293,11 +293,16 @@ def is_record(record):
     return kind == 5 and number(record, 2, 3) == 2 and not any(part(record, 4, 223))
 
 
+def holds_key(content):
+    """Whether a file begins like a state file, whatever its gate 0 is: nothing is written over it as PUBLIC or OUT."""
+    return content[1:10] == b"\x01HBSSTATE"
+
+
 def records_of(content):
     """The records of a state file up to its first closed gate, or the first fault that an opening finds (40 to 43)."""
     if len(content) < 257 or content[0] != 0xA5:
         raise Refused(40)
-    if content[1:10] != b"\x01HBSSTATE":
+    if not holds_key(content):
         raise Refused(41)
     if content[10:12] != u16(1):
         raise Refused(42)
