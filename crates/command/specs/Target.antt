@@ -17,8 +17,8 @@ abbrev pub writing_all : {A E : Type 0} → (bytes : List ℕ) → Result A E �
 writing_all bytes (Ok _) = wrote bytes
 writing_all bytes (Err _) = not_wrote
 
--- A regular file was cut after it was seen to have no key. One that has a key wasn't cut, nor one of which this couldn't
--- be seen; or it can't be cut.
+-- A regular file was cut after it was seen to have no key. One that has a key wasn't cut, nor one of which this
+-- couldn't be seen; or it can't be cut.
 abbrev pub MakesEmpty : {A : Type 0} → Result A NotReplaced → (old new : List Happening) → Type 0
 MakesEmpty (Ok _) old new = new ≡ old ++ looked false ∷ cut ∷ []
 MakesEmpty (Err Kept) old new = ⊥

@@ -14,8 +14,8 @@ use Rattle.typecodes.specs.Message.{FailsBy, GivesText, GivesAll, GoesOn, ReadOu
 -- failed. Of a file that is read and written at offsets: its length was requested; a read at an offset, for so many
 -- bytes, gave these; a write of bytes at an offset took these, which are the first of them; it was synced. Of a file
 -- that is to be written: it has these bytes and no others, or wasn't written. Of one that is open to be written: it was
--- looked whether it has a key, or this couldn't be seen; it was cut to no bytes, or couldn't be; these bytes were written
--- from its beginning on, or not all of them.
+-- looked whether it has a key, or this couldn't be seen; it was cut to no bytes, or couldn't be; these bytes were
+-- written from its beginning on, or not all of them.
 pub data Happening : Type 0 where
   opened : Role → List ℕ → Happening
   not_opened : Role → List ℕ → Happening
@@ -103,8 +103,8 @@ ReadsOnce role old outcome new = new ≡ old ++ happened role outcome ∷ []
 abbrev pub nothing_known : List Happening → Option (List ℕ)
 nothing_known happenings = None
 
--- Since then this file was read, and nothing else was done: each read gave a byte at least, and together they gave these
--- bytes.
+-- Since then this file was read, and nothing else was done: each read gave a byte at least, and together they gave
+-- these bytes.
 abbrev pub ReadsOn : Role → List ℕ → List Happening → List Happening → Type 0
 ReadsOn role bytes old new = GivesText (ReadsOnce role) bytes old new
 

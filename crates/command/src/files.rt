@@ -11,7 +11,8 @@ ghost use Rattle.command.specs.Files.{BeginsContent, CantKeep, FailsFile, FailsT
 ghost use Rattle.command.specs.Files.{KeepsContents, KeepsOtherContents, ReadsAllOrFails, ReadsFile, ReadsKey};
 ghost use Rattle.command.specs.Files.{ReadsFileOnce, ReadsStart, ShowsContent, decisive, left_of};
 ghost use Rattle.command.specs.FileDisk.{IsStateRefusal};
-ghost use Rattle.command.specs.Trace.{ReadsOnce, ReadsToEnd, opening_state_to_read, making, opening, opening_state, writing};
+ghost use Rattle.command.specs.Trace.{ReadsOnce, ReadsToEnd, making, opening, opening_state};
+ghost use Rattle.command.specs.Trace.{opening_state_to_read, writing};
 ghost use Rattle.command.specs.declared.trace.Role.{Role as FileRole};
 
 use crate::refusal::Refusal;

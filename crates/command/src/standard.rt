@@ -24,8 +24,8 @@ pub struct Stream {
 }
 
 impl Stream {
-    // The one that this path of the system leads to. A device that is no terminal takes each text by itself, as the null
-    // device does, and counts as no file. Nothing is written to a file with a key.
+    // The one that this path of the system leads to. A device that is no terminal takes each text by itself, as the
+    // null device does, and counts as no file. Nothing is written to a file with a key.
     fn of<R: Files<File = File>>(
         rt: &R,
         path: &str,
