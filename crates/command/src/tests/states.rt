@@ -17,6 +17,18 @@ fn refusals(rt: &HostRuntime, standard: &Standard, path: &str) -> [Option<Refusa
     ]
 }
 
+// The same while the file is open, which is made where there is none.
+fn refusals_while_open<'a>(
+    rt: &HostRuntime,
+    standard: &'a Standard,
+    path: &'a str,
+) -> Option<[Option<Refusal>; 3]> {
+    let open = StateFile::open_or_make(rt, standard, path).ok()?;
+    let refused = refusals(rt, standard, path);
+    drop(open);
+    Some(refused)
+}
+
 // A state file is made for its owner, and locked; and no other file is one.
 #[test]
 fn state_files_are_opened_made_and_locked(rt: HostRuntime) -> Result<(), Fail> {
@@ -29,24 +41,20 @@ fn state_files_are_opened_made_and_locked(rt: HostRuntime) -> Result<(), Fail> {
     for access in [Access::Read, Access::ReadAndWrite] {
         assert_eq!(rt; StateFile::open(&rt, &standard, path, access).err(), failed);
     }
-    let locked = StateFile::open_or_make(&rt, &standard, path);
-    assert!(rt; locked.is_ok());
+    assert_eq!(rt;
+        refusals_while_open(&rt, &standard, path),
+        Some([Some(Refusal::Locked); 3])
+    );
     let found = fs::metadata(&rt, path)?;
     assert_eq!(rt;
         (found.len(), found.permissions().mode() & 0o777),
         (0, 0o600)
     );
-    assert_eq!(rt; refusals(&rt, &standard, path), [Some(Refusal::Locked); 3]);
-    drop(locked);
-    for (path, refusal) in [
-        (path, None),
-        (folder.path.as_str(), failed),
-        (missing.as_str(), failed),
-        ("/dev/null", failed),
-        ("", failed),
-    ] {
-        assert_eq!(rt; refusals(&rt, &standard, path), [refusal; 3], "{path}");
-    }
+    assert_eq!(rt; refusals(&rt, &standard, path), [None; 3]);
+    assert_eq!(rt; refusals(&rt, &standard, folder.path.as_str()), [failed; 3]);
+    assert_eq!(rt; refusals(&rt, &standard, missing.as_str()), [failed; 3]);
+    assert_eq!(rt; refusals(&rt, &standard, "/dev/null"), [failed; 3]);
+    assert_eq!(rt; refusals(&rt, &standard, ""), [failed; 3]);
     Ok(folder.remove(&rt)?)
 }
 
