@@ -103,26 +103,9 @@ const NO_LEAVES: &[Step] = &[
     Step::Prints("retire @k 5", "retired upto 5", 0, Some(513)),
 ];
 
-// Files that can't be opened, or that are others of the same line: each is found before a leaf is used.
+// Files that can't be opened: those that are read are found before a leaf is used, and one that is written after it, as
+// is one that is another file of the line.
 const WRONG_FILES: &[Step] = &[
-    Step::Prints(
-        "make @k @k lms:H5/W8 --random @r",
-        "refused 53 FileFailed",
-        3,
-        Some(0),
-    ),
-    Step::Prints(
-        "make @k @r lms:H5/W8 --random @r",
-        "refused 53 FileFailed",
-        3,
-        Some(0),
-    ),
-    Step::Prints(
-        "make @k @no/p lms:H5/W8 --random @r",
-        "refused 53 FileFailed",
-        3,
-        Some(0),
-    ),
     Step::Prints(
         "make @k @p lms:H5/W8 --random @none",
         "refused 53 FileFailed",
@@ -136,9 +119,15 @@ const WRONG_FILES: &[Step] = &[
         Some(0),
     ),
     Step::Prints(
-        "make @k @p lms:H5/W8 --random @r",
-        "public 00000005..",
-        0,
+        "make @k @k lms:H5/W8 --random @r",
+        "refused 53 FileFailed",
+        3,
+        Some(257),
+    ),
+    Step::Prints(
+        "make @k @no/p lms:H5/W8 --random @r",
+        "refused 50 KeyThere",
+        1,
         Some(257),
     ),
     Step::Prints(
@@ -154,31 +143,7 @@ const WRONG_FILES: &[Step] = &[
         Some(257),
     ),
     Step::Prints(
-        "sign @k fw-1 @m @no/s --random @r",
-        "refused 53 FileFailed",
-        3,
-        Some(257),
-    ),
-    Step::Prints(
-        "sign @k fw-1 @m @k --random @r",
-        "refused 53 FileFailed",
-        3,
-        Some(257),
-    ),
-    Step::Prints(
-        "sign @k fw-1 @m @m --random @r",
-        "refused 53 FileFailed",
-        3,
-        Some(257),
-    ),
-    Step::Prints(
-        "sign @k fw-1 @m @r --random @r",
-        "refused 53 FileFailed",
-        3,
-        Some(257),
-    ),
-    Step::Prints(
-        "sign @k fw-1 @m @s --random @m",
+        "sign @k fw-1 @m @no/s --random @m",
         "refused 23 RandomFailed",
         3,
         Some(257),
@@ -192,6 +157,36 @@ const WRONG_FILES: &[Step] = &[
     Step::Prints("sign @k fw-1 @m @s --random", "", 2, Some(257)),
     Step::Prints("sign @k fw-1 @m", "", 2, Some(257)),
     Step::Prints("make @k @p", "", 2, Some(257)),
+    Step::Prints(
+        "sign @k fw-1 @m @no/s --random @r",
+        "refused 53 FileFailed",
+        3,
+        Some(513),
+    ),
+    Step::Prints(
+        "sign @k fw-1 @m @k --random @r",
+        "refused 53 FileFailed",
+        3,
+        Some(513),
+    ),
+    Step::Prints(
+        "sign @k fw-1 @m @m --random @r",
+        "refused 53 FileFailed",
+        3,
+        Some(513),
+    ),
+    Step::Prints(
+        "sign @k fw-1 @m @r --random @r",
+        "refused 53 FileFailed",
+        3,
+        Some(513),
+    ),
+    Step::Prints(
+        "sign @k fw-1 @m2 @no/s --random @r",
+        "refused 21 Changed",
+        1,
+        Some(513),
+    ),
     Step::Prints(
         "sign @k fw-1 @m @s --random @r",
         "signed fw-1 1292 bytes",
