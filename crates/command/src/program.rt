@@ -33,8 +33,8 @@ const VERSION_LINE: &str = "hbsign 0.1.0\n";
 ///
 /// A line on the output reports what came of it. Of `serve` the output has replies and nothing else, also where serving
 /// fails: a line on `errors` then says why, or that there was no memory to read the line. A line that is refused is
-/// explained on `errors` alone, and status 2 is that of such a line, or of a name or a spec that is refused. What of the
-/// machine failed is told elsewhere, by the folder, the disk and the source that made the call.
+/// explained on `errors` alone, and status 2 is that of such a line, or of a name or a spec that is refused. What
+/// failed of the machine is told elsewhere, by the folder, the disk and the source that made the call.
 pub fn run<'a, L, D, S, I, O, E>(
     alloc: Global,
     lines: &mut L,
