@@ -14,7 +14,9 @@ use Rattle.clap.specs.Walk.{Held as Collected, nothing_held as nothing_collected
 use Rattle.clap.specs.Words.{Rule, Text, all_of, fault_of, first_of, subcommand_of}
 use Rattle.clap.proofs.OnLiterals.{clap_on_literals}
 use Rattle.clap.specs.Simple.{Shape}
-use Rattle.command.specs.Line.{AreTexts, FindsTask, GivesValues, IsCommandLine, IsLineOf, IsPlainWord, Task, audit, audit_anchored, audit_given, audit_given_pairs, audit_given_task, audit_task, hbsign_app, make, make_task, retire, retire_number, serve, serve_task, sign, sign_task, task_found, task_named, verify}
+use Rattle.command.specs.Make.{format_in}
+use Rattle.state_file.specs.declared.record.Version.{Version}
+use Rattle.command.specs.Line.{AreTexts, FindsTask, GivesValues, IsCommandLine, IsLineOf, IsPlainWord, Task, audit, audit_anchored, audit_given, audit_given_pairs, audit_given_task, audit_task, hbsign_app, make, make_formatted, make_task, migrate, retire, retire_number, serve, serve_task, sign, sign_task, task_found, task_named, verify}
 use Rattle.key_audit.specs.declared.report.Anchor.{Anchor}
 use Rattle.command.specs.Audit.{anchor_in}
 use Rattle.command.specs.AuditGiven.{Pair, pairs_in}
@@ -22,7 +24,7 @@ use Rattle.command.specs.declared.line.UsageFault.{UsageFault}
 use Rattle.command.specs.LineFault.{usage_faults, line_faults}
 use Rattle.command.specs.Number.{number_in}
 use Rattle.command.specs.Retire.{most_leaves}
-use Rattle.command.proofs.Walking.{Enters, IsTaken, TakesValue, at, audit_given_shape, audit_shape, end_fault, enters_audit, enters_audit_given, enters_make, enters_retire, enters_serve, enters_sign, enters_verify, entered_faults, entered_rows, finds_retire, finds_task, finds_verify, is_no_hyphen, make_shape, retire_1, retire_2, retire_shape, serve_shape, sign_shape, takes_either, takes_message, takes_public, takes_signature, takes_state, takes_upto, turn_passes, verify_1, verify_2, verify_3, verify_shape, whole, word_is_value, word_walks}
+use Rattle.command.proofs.Walking.{Enters, IsTaken, TakesValue, at, audit_given_shape, audit_shape, end_fault, enters_audit, enters_audit_given, enters_make, enters_migrate, enters_retire, enters_serve, enters_sign, enters_verify, entered_faults, entered_rows, finds_migrate, finds_retire, finds_task, finds_verify, is_no_hyphen, make_shape, migrate_1, migrate_2, migrate_shape, retire_1, retire_2, retire_shape, serve_shape, sign_shape, takes_either, takes_message, takes_new, takes_old, takes_public, takes_signature, takes_state, takes_upto, turn_passes, verify_1, verify_2, verify_3, verify_shape, whole, word_is_value, word_walks}
 
 -- where nothing is wrong with two parts, nothing is wrong with either
 pub none_of : (a b : Kinds) → or_else a b ≡ [] → (a ≡ []) × (b ≡ [])
@@ -111,6 +113,13 @@ verify_asks = (
 retire_asks : AllAsk retire_shape.args_override_self retire_shape.rules
 unfolding clap_on_literals
 retire_asks = (
+  λ name. asks_if false (has_long (help_at 3) name) (Some (help_at 3)) None (help_asks 3) tt,
+  λ x. asks_if false (has_short (help_at 3) x) (Some (help_at 3)) None (help_asks 3) tt,
+)
+
+migrate_asks : AllAsk migrate_shape.args_override_self migrate_shape.rules
+unfolding clap_on_literals
+migrate_asks = (
   λ name. asks_if false (has_long (help_at 3) name) (Some (help_at 3)) None (help_asks 3) tt,
   λ x. asks_if false (has_short (help_at 3) x) (Some (help_at 3)) None (help_asks 3) tt,
 )
@@ -286,6 +295,11 @@ unfolding clap_on_literals
 retire_full state upto b word taken none =
     let fault = sym (turn_passes retire_shape b 3 word (retire_2 state upto) taken) ∙ none in cc
 
+migrate_full : (old new : Text) (b : Bool) (word : Text) → IsTaken b word → turn_fault migrate_shape [] (at b (migrate_2 old new) 3) word ≢ []
+unfolding clap_on_literals
+migrate_full old new b word taken none =
+    let fault = sym (turn_passes migrate_shape b 3 word (migrate_2 old new) taken) ∙ none in cc
+
 -- and where one is missing the words don't end
 verify_misses : (b : Bool) → end_fault verify_shape (at b nothing_collected 1) ≢ []
 unfolding clap_on_literals
@@ -306,6 +320,14 @@ retire_misses b none = cc
 retire_misses_1 : (state : Text) (b : Bool) → end_fault retire_shape (at b (retire_1 state) 2) ≢ []
 unfolding clap_on_literals
 retire_misses_1 state b none = cc
+
+migrate_misses : (b : Bool) → end_fault migrate_shape (at b nothing_collected 1) ≢ []
+unfolding clap_on_literals
+migrate_misses b none = cc
+
+migrate_misses_1 : (old : Text) (b : Bool) → end_fault migrate_shape (at b (migrate_1 old) 2) ≢ []
+unfolding clap_on_literals
+migrate_misses_1 old b none = cc
 
 verify_waits : Waits verify_shape 3 1 nothing_collected
 verify_waits = (
@@ -334,6 +356,17 @@ retire_waits = (
     retire_1 state,
     takes_state state,
     (refl, retire_misses_1 state, λ upto. (retire_2 state upto, takes_upto state upto, (refl, retire_full state upto))),
+  ),
+)
+
+migrate_waits : Waits migrate_shape 2 1 nothing_collected
+migrate_waits = (
+  refl,
+  migrate_misses,
+  λ old. (
+    migrate_1 old,
+    takes_old old,
+    (refl, migrate_misses_1 old, λ new. (migrate_2 old new, takes_new old new, (refl, migrate_full old new))),
   ),
 )
 
@@ -366,22 +399,22 @@ first_fault named word = or_else (other_fault whole.top named word nothing_colle
     (subcommand_or_other whole.top.rules named idle 1 word nothing_collected).1)
 
 -- a word that is no subcommand's name names none
-find_none : {A : Type 0} (test : A → Bool) (s t u v w x y z : A) → test s ≡ false → test t ≡ false → test u ≡ false → test v ≡ false
-    → test w ≡ false → test x ≡ false → test y ≡ false → test z ≡ false → find test (s ∷ t ∷ u ∷ v ∷ w ∷ x ∷ y ∷ z ∷ []) ≡ None
-find_none test s t u v w x y z first second third fourth fifth sixth seventh eighth =
-    rw (first, second, third, fourth, fifth, sixth, seventh, eighth) refl
+find_none : {A : Type 0} (test : A → Bool) (r s t u v w x y z : A) → test r ≡ false → test s ≡ false → test t ≡ false → test u ≡ false
+    → test v ≡ false → test w ≡ false → test x ≡ false → test y ≡ false → test z ≡ false → find test (r ∷ s ∷ t ∷ u ∷ v ∷ w ∷ x ∷ y ∷ z ∷ []) ≡ None
+find_none test r s t u v w x y z first second third fourth fifth sixth seventh eighth ninth =
+    rw (first, second, third, fourth, fifth, sixth, seventh, eighth, ninth) refl
 
 or_none : (b : Bool) → b ≡ false → (b || false) ≡ false
 or_none b isnt = rw isnt refl
 
 names_none : (word : Text) → bytes_eq (codes "make") word ≡ false → bytes_eq (codes "sign") word ≡ false
     → bytes_eq (codes "verify") word ≡ false → bytes_eq (codes "retire") word ≡ false → bytes_eq (codes "audit") word ≡ false
-    → bytes_eq (codes "audit-given") word ≡ false → bytes_eq (codes "serve") word ≡ false → bytes_eq (codes "help") word ≡ false
-    → subcommand_met (names_of whole) idle word ≡ None
-names_none word no_make no_sign no_verify no_retire no_audit no_audit_given no_serve no_help = ap (option_map (λ s. s.0))
+    → bytes_eq (codes "audit-given") word ≡ false → bytes_eq (codes "serve") word ≡ false → bytes_eq (codes "migrate") word ≡ false
+    → bytes_eq (codes "help") word ≡ false → subcommand_met (names_of whole) idle word ≡ None
+names_none word no_make no_sign no_verify no_retire no_audit no_audit_given no_serve no_migrate no_help = ap (option_map (λ s. s.0))
     (find_none (answers_to word) (codes "make", []) (codes "sign", []) (codes "verify", []) (codes "retire", []) (codes "audit", [])
-    (codes "audit-given", []) (codes "serve", []) (codes "help", []) (or_none _ no_make) (or_none _ no_sign) (or_none _ no_verify)
-    (or_none _ no_retire) (or_none _ no_audit) (or_none _ no_audit_given) (or_none _ no_serve) (or_none _ no_help))
+    (codes "audit-given", []) (codes "serve", []) (codes "migrate", []) (codes "help", []) (or_none _ no_make) (or_none _ no_sign) (or_none _ no_verify)
+    (or_none _ no_retire) (or_none _ no_audit) (or_none _ no_audit_given) (or_none _ no_serve) (or_none _ no_migrate) (or_none _ no_help))
 
 -- such a word isn't accepted first,
 plain_fails : (word : Text) → IsPlainWord word → first_fault None word ≢ []
@@ -428,17 +461,18 @@ pub data IsCommandName (word : Text) : Type 0 where
   is_audit : word ≡ codes "audit" → IsCommandName word
   is_audit_given : word ≡ codes "audit-given" → IsCommandName word
   is_serve : word ≡ codes "serve" → IsCommandName word
+  is_migrate : word ≡ codes "migrate" → IsCommandName word
 
 -- for any other name
 other_fails : (word : Text) (words : List Text) → IsUtf8 word → fault_of hbsign_app (word ∷ words) ≡ []
     → bytes_eq (codes "make") word ≡ false → bytes_eq (codes "sign") word ≡ false → bytes_eq (codes "verify") word ≡ false
     → bytes_eq (codes "retire") word ≡ false → bytes_eq (codes "audit") word ≡ false → bytes_eq (codes "audit-given") word ≡ false
-    → bytes_eq (codes "serve") word ≡ false → ⊥
-other_fails word words text none no_make no_sign no_verify no_retire no_audit no_audit_given no_serve = elim (cases_Bool (bytes_eq (codes "help") word)) [
+    → bytes_eq (codes "serve") word ≡ false → bytes_eq (codes "migrate") word ≡ false → ⊥
+other_fails word words text none no_make no_sign no_verify no_retire no_audit no_audit_given no_serve no_migrate = elim (cases_Bool (bytes_eq (codes "help") word)) [
   | inl same ↦ help_fails (subst (λ w. first_fault (subcommand_met (names_of whole) idle w) w ≡ [])
       (sym ((bytes_eq-Decides (codes "help") word).0 same)) (first_passes word words none))
   | inr no_help ↦
-      let passes = subst (λ named. first_fault named word ≡ []) (names_none word no_make no_sign no_verify no_retire no_audit no_audit_given no_serve no_help) (first_passes word words none) in
+      let passes = subst (λ named. first_fault named word ≡ []) (names_none word no_make no_sign no_verify no_retire no_audit no_audit_given no_serve no_migrate no_help) (first_passes word words none) in
       elim (word_is word) [
         | inl plain ↦ plain_fails word plain passes
         | inr (inl hyphens) ↦ hyphens_fail words (subst (λ w. fault_of hbsign_app (w ∷ words) ≡ []) hyphens none)
@@ -461,7 +495,10 @@ is_named word words text none = elim (cases_Bool (bytes_eq (codes "make") word))
             | inl same ↦ is_audit_given (sym ((bytes_eq-Decides (codes "audit-given") word).0 same))
             | inr no_audit_given ↦ elim (cases_Bool (bytes_eq (codes "serve") word)) [
               | inl same ↦ is_serve (sym ((bytes_eq-Decides (codes "serve") word).0 same))
-              | inr no_serve ↦ absurd (other_fails word words text none no_make no_sign no_verify no_retire no_audit no_audit_given no_serve)
+              | inr no_serve ↦ elim (cases_Bool (bytes_eq (codes "migrate") word)) [
+                | inl same ↦ is_migrate (sym ((bytes_eq-Decides (codes "migrate") word).0 same))
+                | inr no_migrate ↦ absurd (other_fails word words text none no_make no_sign no_verify no_retire no_audit no_audit_given no_serve no_migrate)
+              ]
             ]
           ]
         ]
@@ -481,14 +518,20 @@ of_retire words state text task (Some upto) spells line same =
 of_retire words state text task None spells line same = absurd cc
 
 -- that of a line `make` is one
-of_make : (words : List Text) (state public spec random : Option Text) (task : Task) → make_task state public spec random ≡ Ok task
+of_formatted : (words : List Text) (state public spec : Text) (version : Option Version) (random : Text) (task : Task)
+    → make_formatted state public spec version random ≡ Ok task → FindsTask words task → IsLineOf words task
+of_formatted words state public spec (Some version) random task same found =
+    let is = ok_same (make state public spec version random) task same in subst (IsLineOf words) is (subst (FindsTask words) (sym is) found)
+of_formatted words state public spec None random task same found = absurd cc
+
+of_make : (words : List Text) (state public spec format random : Option Text) (task : Task) → make_task state public spec format random ≡ Ok task
     → FindsTask words task → IsLineOf words task
-of_make words (Some s) (Some p) (Some x) (Some r) task same found =
-    let is = ok_same (make s p x r) task same in subst (IsLineOf words) is (subst (FindsTask words) (sym is) found)
-of_make words None public spec random task same found = absurd cc
-of_make words (Some s) None spec random task same found = absurd cc
-of_make words (Some s) (Some p) None random task same found = absurd cc
-of_make words (Some s) (Some p) (Some x) None task same found = absurd cc
+of_make words (Some s) (Some p) (Some x) (Some f) (Some r) task same found = of_formatted words s p x (format_in f) r task same found
+of_make words None public spec format random task same found = absurd cc
+of_make words (Some s) None spec format random task same found = absurd cc
+of_make words (Some s) (Some p) None format random task same found = absurd cc
+of_make words (Some s) (Some p) (Some x) None random task same found = absurd cc
+of_make words (Some s) (Some p) (Some x) (Some f) None task same found = absurd cc
 
 -- and so is that of a line `sign`
 of_sign : (words : List Text) (state name message out random : Option Text) (task : Task) → sign_task state name message out random ≡ Ok task
@@ -545,7 +588,7 @@ pub is_line_of : (words : List Text) (task : Task) → fault_of hbsign_app words
     → AreTexts words → IsLineOf words task
 is_line_of [] task none found texts = absurd (nothing_fails none)
 is_line_of (word ∷ names) task none found texts = elim (is_named word names texts.0 none) [
-  | is_make is ↦ of_make (word ∷ names) _ _ _ _ task (found_in (codes "make") make_shape word names task enters_make is found) (none, found)
+  | is_make is ↦ of_make (word ∷ names) _ _ _ _ _ task (found_in (codes "make") make_shape word names task enters_make is found) (none, found)
   | is_sign is ↦ of_sign (word ∷ names) _ _ _ _ _ task (found_in (codes "sign") sign_shape word names task enters_sign is found) (none, found)
   | is_audit is ↦ of_audit (word ∷ names) _ _ _ task (found_in (codes "audit") audit_shape word names task enters_audit is found) (none, found)
   | is_serve is ↦ of_serve (word ∷ names) _ _ task (found_in (codes "serve") serve_shape word names task enters_serve is found) (none, found)
@@ -560,6 +603,13 @@ is_line_of (word ∷ names) task none found texts = elim (is_named word names te
       let line : IsCommandLine (word ∷ names) (codes "verify") (p ∷ m ∷ s ∷ []) =
       (names, ap (λ w. w ∷ names) is, subst (GivesValues names) same given) in
       subst (IsLineOf (word ∷ names)) (ok_same (verify p m s) task (sym (finds_verify (word ∷ names) p m s line).1 ∙ found)) line
+  | is_migrate is ↦
+      let (values, long, given) = all_given migrate_shape 2 1 nothing_collected names migrate_asks migrate_waits texts.1
+      (command_passes (codes "migrate") migrate_shape names enters_migrate (subst (λ w. fault_of hbsign_app (w ∷ names) ≡ []) is none)) in
+      let (old, new, same) = two_values values long in
+      let line : IsCommandLine (word ∷ names) (codes "migrate") (old ∷ new ∷ []) =
+      (names, ap (λ w. w ∷ names) is, subst (GivesValues names) same given) in
+      subst (IsLineOf (word ∷ names)) (ok_same (migrate old new) task (sym (finds_migrate (word ∷ names) old new line).1 ∙ found)) line
   | is_retire is ↦
       let (values, long, given) = all_given retire_shape 2 1 nothing_collected names retire_asks retire_waits texts.1
       (command_passes (codes "retire") retire_shape names enters_retire (subst (λ w. fault_of hbsign_app (w ∷ names) ≡ []) is none)) in

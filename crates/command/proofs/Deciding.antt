@@ -33,7 +33,7 @@ use Rattle.command.specs.Files.{Decides, decisive}
 use Rattle.command.specs.Verify.{Judgement}
 use Rattle.command.specs.declared.refusal.Refusal.{Refusal}
 use Rattle.command.specs.declared.refusal.Refusal.TheVariants.{Key, Signature, OutOfMemory, FileFailed}
-use Rattle.command.specs.declared.refusal.Refusal.TheVariants.{Signer, Opening, Preparing, Audit, Given, Serving, Locked, BadName, BadSpec}
+use Rattle.command.specs.declared.refusal.Refusal.TheVariants.{Signer, Opening, Preparing, Audit, Given, Migration, Serving, Locked, BadName, BadSpec}
 use Rattle.command.proofs.Taking.{TakesAtMost, Any, most-greater, most-bind, most-if, most-done, most-refuse, most-number, most-block, most-typed, most-values, spells-at_most, spells-first, fault-first}
 
 -- ---- LMS: 4 + 4 + 32 + 265 * 32 + 4 + 25 * 32 bytes
@@ -235,6 +235,7 @@ decided_by count public message signature (Err (Preparing fault)) less never = a
 decided_by count public message signature (Err (Audit fault)) less never = absurd never
 decided_by count public message signature (Err (Given fault)) less never = absurd never
 decided_by count public message signature (Err (Serving fault)) less never = absurd never
+decided_by count public message signature (Err (Migration fault)) less never = absurd never
 decided_by count public message signature (Err Locked) less never = absurd never
 decided_by count public message signature (Err BadName) less never = absurd never
 decided_by count public message signature (Err BadSpec) less never = absurd never

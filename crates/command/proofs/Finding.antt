@@ -1,7 +1,10 @@
 -- From what a parse says to what is requested.
-use Rattle.std.proofs.Common.{◌≡◌, ◌∙◌, List, [], ◌∷◌, Option, Some, None, Result, Ok, Err, IfErr, IsErrAnd, IsSome, inl, inr, ap₂, refl, sym, subst, option_map, unwrap_or}
+use Rattle.std.proofs.Common.{◌≡◌, ◌≢◌, ◌∙◌, List, [], ◌∷◌, Option, Some, None, Result, Ok, Err, IfErr, IsErrAnd, IsSome, inl, inr, ap₂, codes, refl, sym, subst, option_map, unwrap_or}
 use Rattle.std.specs.Prelude.{Box}
 use Rattle.std.specs.Box.{box_value}
+use Rattle.std.specs.Str.{bytes_eq}
+use Rattle.std.proofs.lemmas.Bool.{cases_Bool}
+use Rattle.std.proofs.lemmas.Slice.Eq.{bytes_eq-Decides}
 use Rattle.clap.specs.Kinds.{or_else}
 use Rattle.clap.specs.Simple.{subcommand_rows}
 use Rattle.clap.specs.Words.{HasKind, Kinds, Row, Text, kind_of, subcommand_name_of, subcommand_rows_of}
@@ -11,18 +14,20 @@ use Rattle.clap.specs.declared.parser.matches.ArgMatches.{ArgMatches}
 use Rattle.clap.specs.declared.parser.matches.ArgMatches.TheViews.{out-ArgMatches, out-SubCommand}
 use Rattle.clap.specs.declared.parser.matches.SubCommand.{SubCommand}
 use Rattle.command.specs.LineFault.{usage_faults}
-use Rattle.command.specs.Line.{Task, usage_kind, audit, audit_given, audit_given_task, audit_task, make, make_task, retire, retire_task, serve, serve_task, sign, sign_task, verify, verify_task}
+use Rattle.command.specs.Line.{Task, usage_kind, fixed_task_named, task_named, audit, audit_given, audit_given_task, audit_task, make, make_task, migrate, migrate_task, retire, retire_task, serve, serve_task, sign, sign_task, verify, verify_task}
 use Rattle.command.specs.Audit.{IsAudit}
 use Rattle.command.specs.AuditGiven.{IsAuditGiven, pairs_of}
 use Rattle.command.specs.declared.audit.Audit.{Audit}
 use Rattle.command.specs.declared.audit_given.AuditGiven.{AuditGiven}
-use Rattle.command.specs.Make.{IsMake}
+use Rattle.command.specs.Make.{IsMake, format_in}
+use Rattle.command.specs.Migrate.{IsMigrate}
 use Rattle.command.specs.Retire.{IsRetire}
 use Rattle.command.specs.Serve.{IsServe}
 use Rattle.command.specs.Sign.{IsSign}
 use Rattle.command.specs.declared.line.UsageFault.{UsageFault}
-use Rattle.command.specs.declared.line.UsageFault.TheVariants.{Anchor as NoAnchor, Command, Count, Number, Pairs, Tag}
+use Rattle.command.specs.declared.line.UsageFault.TheVariants.{Anchor as NoAnchor, Command, Count, Format, Number, Pairs, Tag}
 use Rattle.command.specs.declared.make.Make.{Make}
+use Rattle.command.specs.declared.migrate.Migrate.{Migrate}
 use Rattle.command.specs.declared.retire.Retire.{Retire}
 use Rattle.command.specs.declared.serve.Serve.{Serve}
 use Rattle.command.specs.declared.sign.Sign.{Sign}
@@ -58,20 +63,43 @@ not_all_files (Some p) None signature none = refl
 not_all_files None message signature none = refl
 
 -- the task of `make`, where all its words are given
-pub is_make_task : (state public spec random : Option Text) (words : Make) → IsMake state public spec random (Some words)
-    → Ok (make words.state.now words.public.now words.spec.now words.random.now) ≡ make_task state public spec random
-is_make_task state public spec random words (state_is, public_is, spec_is, random_is) = rw (state_is, public_is, spec_is, random_is) refl
+pub is_make_task : (state public spec format random : Option Text) (words : Make) → IsMake state public spec format random (Ok words)
+    → Ok (make words.state.now words.public.now words.spec.now words.version words.random.now) ≡ make_task state public spec format random
+is_make_task state public spec format random words (state_is, public_is, spec_is, (text, format_is, names), random_is) =
+    rw (state_is, public_is, spec_is, format_is, random_is, names) refl
 
 -- .. and where not
-pub no_make_task : (state public spec random : Option Text) → IsMake state public spec random None → Err Command ≡ make_task state public spec random
-no_make_task None public spec random missing = refl
-no_make_task (Some s) None spec random missing = refl
-no_make_task (Some s) (Some p) None random missing = refl
-no_make_task (Some s) (Some p) (Some x) None missing = refl
-no_make_task (Some s) (Some p) (Some x) (Some r) (inl none) = absurd cc
-no_make_task (Some s) (Some p) (Some x) (Some r) (inr (inl none)) = absurd cc
-no_make_task (Some s) (Some p) (Some x) (Some r) (inr (inr (inl none))) = absurd cc
-no_make_task (Some s) (Some p) (Some x) (Some r) (inr (inr (inr none))) = absurd cc
+no_version : (state public spec format random : Option Text) (text : Text) → state ≢ None → public ≢ None → spec ≢ None → format ≡ Some text
+    → format_in text ≡ None → random ≢ None → Err Format ≡ make_task state public spec format random
+no_version (Some s) (Some p) (Some x) format (Some r) text state public spec is names random = rw (is, names) refl
+no_version None p x format r text state public spec is names random = absurd (state refl)
+no_version (Some s) None x format r text state public spec is names random = absurd (public refl)
+no_version (Some s) (Some p) None format r text state public spec is names random = absurd (spec refl)
+no_version (Some s) (Some p) (Some x) format None text state public spec is names random = absurd (random refl)
+
+one_missing : (state public spec format random : Option Text) → IsMake state public spec format random (Err Command)
+    → Err Command ≡ make_task state public spec format random
+one_missing None public spec format random missing = refl
+one_missing (Some s) None spec format random missing = refl
+one_missing (Some s) (Some p) None format random missing = refl
+one_missing (Some s) (Some p) (Some x) None random missing = refl
+one_missing (Some s) (Some p) (Some x) (Some f) None missing = refl
+one_missing (Some s) (Some p) (Some x) (Some f) (Some r) (inl none) = absurd cc
+one_missing (Some s) (Some p) (Some x) (Some f) (Some r) (inr (inl none)) = absurd cc
+one_missing (Some s) (Some p) (Some x) (Some f) (Some r) (inr (inr (inl none))) = absurd cc
+one_missing (Some s) (Some p) (Some x) (Some f) (Some r) (inr (inr (inr (inl none)))) = absurd cc
+one_missing (Some s) (Some p) (Some x) (Some f) (Some r) (inr (inr (inr (inr none)))) = absurd cc
+
+pub no_make_task : (state public spec format random : Option Text) (fault : UsageFault) → IsMake state public spec format random (Err fault)
+    → Err fault ≡ make_task state public spec format random
+no_make_task state public spec format random Format (state_is, public_is, spec_is, (text, format_is, names), random_is) =
+    no_version state public spec format random text state_is public_is spec_is format_is names random_is
+no_make_task state public spec format random Command missing = one_missing state public spec format random missing
+no_make_task state public spec format random Number never = absurd never
+no_make_task state public spec format random Count never = absurd never
+no_make_task state public spec format random Tag never = absurd never
+no_make_task state public spec format random NoAnchor never = absurd never
+no_make_task state public spec format random Pairs never = absurd never
 
 -- the task of `sign`, where all its words are given
 pub is_sign_task : (state name message out random : Option Text) (words : Sign) → IsSign state name message out random (Some words)
@@ -94,10 +122,11 @@ no_sign_task (Some s) (Some n) (Some m) (Some o) (Some r) (inr (inr (inr (inl no
 no_sign_task (Some s) (Some n) (Some m) (Some o) (Some r) (inr (inr (inr (inr none)))) = absurd cc
 
 -- values that are the same say the same
-pub same_make : {s t p q x y r u : Option Text} (words : Option Make) → s ≡ t → p ≡ q → x ≡ y → r ≡ u → IsMake s p x r words → IsMake t q y u words
-same_make {s = s} {t = t} {p = p} {q = q} {x = x} {y = y} {r = r} {u = u} words state public spec random is =
-    subst (λ a. IsMake a q y u words) state (subst (λ a. IsMake s a y u words) public
-    (subst (λ a. IsMake s p a u words) spec (subst (λ a. IsMake s p x a words) random is)))
+pub same_make : {s t p q x y f g r u : Option Text} (words : Result Make UsageFault) → s ≡ t → p ≡ q → x ≡ y → f ≡ g → r ≡ u → IsMake s p x f r words
+    → IsMake t q y g u words
+same_make {s = s} {t = t} {p = p} {q = q} {x = x} {y = y} {f = f} {g = g} {r = r} {u = u} words state public spec format random is =
+    subst (λ a. IsMake a q y g u words) state (subst (λ a. IsMake s a y g u words) public (subst (λ a. IsMake s p a g u words) spec
+    (subst (λ a. IsMake s p x a u words) format (subst (λ a. IsMake s p x f a words) random is))))
 
 pub same_sign : {s t n o m l p q r u : Option Text} (words : Option Sign) → s ≡ t → n ≡ o → m ≡ l → p ≡ q → r ≡ u → IsSign s n m p r words
     → IsSign t o l q u words
@@ -121,6 +150,22 @@ pub same_serve : {s t r u : Option Text} (words : Option Serve) → s ≡ t → 
 same_serve {s = s} {t = t} {r = r} {u = u} words state random is =
     subst (λ a. IsServe a u words) state (subst (λ a. IsServe s a words) random is)
 
+-- the task of `migrate`, where both its words are given
+pub is_migrate_task : (old new : Option Text) (words : Migrate) → IsMigrate old new (Some words)
+    → Ok (migrate words.old.now words.new.now) ≡ migrate_task old new
+is_migrate_task old new words (old_is, new_is) = rw (old_is, new_is) refl
+
+-- .. and where not
+pub no_migrate_task : (old new : Option Text) → IsMigrate old new None → Err Command ≡ migrate_task old new
+no_migrate_task None new missing = refl
+no_migrate_task (Some o) None missing = refl
+no_migrate_task (Some o) (Some n) (inl none) = absurd cc
+no_migrate_task (Some o) (Some n) (inr none) = absurd cc
+
+pub same_migrate : {o p n m : Option Text} (words : Option Migrate) → o ≡ p → n ≡ m → IsMigrate o n words → IsMigrate p m words
+same_migrate {o = o} {p = p} {n = n} {m = m} words old new is =
+    subst (λ a. IsMigrate a m words) old (subst (λ a. IsMigrate o a words) new is)
+
 -- the task of `retire`, where its words say what they have to
 pub is_retire_task : (state upto : Option Text) (words : Retire) → IsRetire state upto (Ok words)
     → Ok (retire words.state.now words.upto) ≡ retire_task state upto
@@ -133,6 +178,7 @@ no_retire_task None upto Command missing = refl
 no_retire_task (Some path) None Command missing = refl
 no_retire_task (Some path) (Some text) Command (inl none) = absurd cc
 no_retire_task (Some path) (Some text) Command (inr none) = absurd cc
+no_retire_task state upto Format never = absurd never
 no_retire_task state upto Count never = absurd never
 no_retire_task state upto Tag never = absurd never
 no_retire_task state upto NoAnchor never = absurd never
@@ -169,6 +215,13 @@ pub same_audit_given : {p q : Option Text} {f g : Option (List Text)} (words : R
     → IsAuditGiven q g words
 same_audit_given {p = p} {q = q} {f = f} {g = g} words public files is =
     subst (λ a. IsAuditGiven a g words) public (subst (λ a. IsAuditGiven p a words) files is)
+
+-- a command of another name than `audit-given` has as many values on each line
+pub fixed_task : (name : Text) (rows : List Row) → name ≢ codes "audit-given" → fixed_task_named name rows ≡ task_named name rows
+fixed_task name rows isnt = elim (cases_Bool (bytes_eq name (codes "audit-given"))) [
+  | inl same ↦ absurd (isnt ((bytes_eq-Decides name (codes "audit-given")).0 same))
+  | inr differs ↦ rw differs refl
+]
 
 -- an error that is handed on keeps what holds of it
 pub handed_err : {T : Type 0} (r : Result T Error) (e : Error) (Q : Error → Type 0) → IsErrAnd r (λ x. x ≡ e) → Q e → IfErr r Q

@@ -7,7 +7,7 @@ use Rattle.command.specs.Verify.{AnswersFiles, Judgement}
 use Rattle.command.specs.Files.{ReadsKey}
 use Rattle.command.specs.declared.refusal.Refusal.{Refusal}
 use Rattle.command.specs.declared.refusal.Refusal.TheVariants.{Key, Signature, OutOfMemory, FileFailed}
-use Rattle.command.specs.declared.refusal.Refusal.TheVariants.{Signer, Opening, Preparing, Audit, Given, Serving, Locked, BadName, BadSpec}
+use Rattle.command.specs.declared.refusal.Refusal.TheVariants.{Signer, Opening, Preparing, Audit, Given, Migration, Serving, Locked, BadName, BadSpec}
 
 -- the key that was read is the one that the bytes spell
 pub read_key : (bytes : List ℕ) (key : AnyPublic) (read : Result AnyPublic KeyFault) (r : Result AnyPublic Refusal)
@@ -46,6 +46,7 @@ judgement_answers p m s (Err (Preparing fault)) never = absurd never
 judgement_answers p m s (Err (Audit fault)) never = absurd never
 judgement_answers p m s (Err (Given fault)) never = absurd never
 judgement_answers p m s (Err (Serving fault)) never = absurd never
+judgement_answers p m s (Err (Migration fault)) never = absurd never
 judgement_answers p m s (Err Locked) never = absurd never
 judgement_answers p m s (Err BadName) never = absurd never
 judgement_answers p m s (Err BadSpec) never = absurd never

@@ -6,6 +6,7 @@ use Rattle.typecodes.specs.Name.{IsName}
 use Rattle.typecodes.specs.Spec.{IsSpec, spec_text}
 use Rattle.sign_core.specs.declared.source.Source as source
 use Rattle.state_file.specs.declared.disk.Disk as disk
+use Rattle.state_file.specs.declared.record.Version.{Version}
 use Rattle.state_file.specs.declared.store.Store as store
 use Rattle.state_file.specs.declared.store.file_store.FileStore.{FileStore}
 use Rattle.command.specs.declared.answer.Done.{Done}
@@ -20,24 +21,24 @@ use Rattle.command.specs.Trace.{Happening, made, opened}
 
 -- the file of random bytes was opened before
 pub makes_opened : {K R : Type 0} {bound : _} (d : disk.Ghosts K) (g : store.Ghosts (FileStore K bound)) (r : source.Ghosts R)
-    (content : List ℕ → Option (List ℕ)) (before after : K) (spec : Spec) (public random : List ℕ) (source : R)
+    (content : List ℕ → Option (List ℕ)) (before after : K) (version : Version) (spec : Spec) (public random : List ℕ) (source : R)
     (answer : Result PublicBytes Refusal) (old ready new : List Happening) → ShowsContent (content random) (r.upcoming source)
     → ready ≡ old ++ opened role.Random random ∷ []
-    → MakesAndPublishes {bound = bound} d g r before after spec source public answer ready new
-    → MakesOpened {bound = bound} d g r content before after spec public random answer old new
-makes_opened {bound = bound} d g r content before after spec public random source answer old ready new drawn begins makes =
-    inr (source, drawn, subst (λ t. MakesAndPublishes {bound = bound} d g r before after spec source public answer t new) begins makes)
+    → MakesAndPublishes {bound = bound} d g r before after version spec source public answer ready new
+    → MakesOpened {bound = bound} d g r content before after version spec public random answer old new
+makes_opened {bound = bound} d g r content before after version spec public random source answer old ready new drawn begins makes =
+    inr (source, drawn, subst (λ t. MakesAndPublishes {bound = bound} d g r before after version spec source public answer t new) begins makes)
 
 -- a key was made on the disk of a state file that was opened and closed
 pub makes_in : {K R : Type 0} {bound : _} (d : disk.Ghosts K) (g : store.Ghosts (FileStore K bound)) (r : source.Ghosts R) (files : FilesSeen K)
-    (spec : Spec) (state public text random : List ℕ) (before after : K) (content : List ℕ → Option (List ℕ)) (published : Result PublicBytes Refusal)
+    (version : Version) (spec : Spec) (state public text random : List ℕ) (before after : K) (content : List ℕ → Option (List ℕ)) (published : Result PublicBytes Refusal)
     (answer : Result Done Refusal) (old first last new : List Happening) → IsSpec spec → text ≡ spec_text spec
-    → KeepsOtherContents state files.content content → files.IsOpenedDisk before
-    → MakesOpened {bound = bound} d g r content before after spec public random published first last → first ≡ old ++ made state ∷ []
-    → new ≡ last → files.IsClosedDisk after → answer ≡ make_answer published → MakesIn {bound = bound} d g r files state public text random answer old new
-makes_in {bound = bound} d g r files spec state public text random before after content published answer old first last new is spelled known was makes begins ends closed answers =
-    let from = subst (λ t. MakesOpened {bound = bound} d g r content before after spec public random published t last) begins makes in
-    let to = subst (λ t. MakesOpened {bound = bound} d g r content before after spec public random published (old ++ made state ∷ []) t) (sym ends) from in
+    → KeepsOtherContents state files.content content → files.IsOpenedDisk state before
+    → MakesOpened {bound = bound} d g r content before after version spec public random published first last → first ≡ old ++ made state ∷ []
+    → new ≡ last → files.IsClosedDisk after → answer ≡ make_answer published → MakesIn {bound = bound} d g r files state public text version random answer old new
+makes_in {bound = bound} d g r files version spec state public text random before after content published answer old first last new is spelled known was makes begins ends closed answers =
+    let from = subst (λ t. MakesOpened {bound = bound} d g r content before after version spec public random published t last) begins makes in
+    let to = subst (λ t. MakesOpened {bound = bound} d g r content before after version spec public random published (old ++ made state ∷ []) t) (sym ends) from in
     inr (spec, is, spelled, inr (before, after, content, published, known, was, to, closed, answers))
 
 -- ---- signing
@@ -76,7 +77,7 @@ signs_opened {bound = bound} d g r content before after name message out random 
 pub signs_in : {K R : Type 0} {bound : _} (d : disk.Ghosts K) (g : store.Ghosts (FileStore K bound)) (r : source.Ghosts R) (files : FilesSeen K)
     (state given name message out random : List ℕ) (before after : K) (content : List ℕ → Option (List ℕ)) (signed : Result ℕ Refusal)
     (answer : Result Done Refusal) (old first last new : List Happening) → given ≡ name → IsName name
-    → KeepsContents files.content content → files.IsOpenedDisk before
+    → KeepsContents files.content content → files.IsOpenedDisk state before
     → SignsOpened {bound = bound} d g r content before after given message out random signed first last → first ≡ old ++ opened role.State state ∷ []
     → new ≡ last → files.IsClosedDisk after → answer ≡ sign_answer name signed
     → SignsIn {bound = bound} d g r files state name message out random answer old new
@@ -92,7 +93,7 @@ signs_in {bound = bound} d g r files state given name message out random before 
 pub serves_in : {K R I W : Type 0} {bound : _} (d : disk.Ghosts K) (g : store.Ghosts (FileStore K bound)) (r : source.Ghosts R) (m : message.Ghosts I)
     (contents : W → Option (List ℕ)) (files : FilesSeen K) (state random : List ℕ) (before after : K) (content : List ℕ → Option (List ℕ))
     (from to : I × W) (served : Result ℕ Refusal) (old first last new : List Happening)
-    → KeepsContents files.content content → files.IsOpenedDisk before
+    → KeepsContents files.content content → files.IsOpenedDisk state before
     → ServesOpened {bound = bound} d g r m contents content before after random from to served first last → first ≡ old ++ opened role.State state ∷ []
     → new ≡ last → files.IsClosedDisk after → ServesIn {bound = bound} d g r m contents files state random from to served old new
 serves_in {bound = bound} d g r m contents files state random before after content from to served old first last new known was serves begins ends closed =

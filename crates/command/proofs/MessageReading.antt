@@ -13,7 +13,7 @@ use Rattle.command.proofs.Reading.{Notes, noted, stays}
 use Rattle.command.specs.Verify.{AnswerLeaves}
 use Rattle.command.specs.declared.refusal.Refusal.{Refusal}
 use Rattle.command.specs.declared.refusal.Refusal.TheVariants.{Key, Signature, OutOfMemory, FileFailed}
-use Rattle.command.specs.declared.refusal.Refusal.TheVariants.{Signer, Opening, Preparing, Audit, Given, Serving, Locked, BadName, BadSpec}
+use Rattle.command.specs.declared.refusal.Refusal.TheVariants.{Signer, Opening, Preparing, Audit, Given, Migration, Serving, Locked, BadName, BadSpec}
 use Rattle.command.specs.declared.trace.Role.{Role}
 
 -- a key that can't be read leaves the message
@@ -78,6 +78,7 @@ answer-carried step remaining other left public text old new before after (Err (
 answer-carried step remaining other left public text old new before after (Err (Audit fault)) to never = absurd never
 answer-carried step remaining other left public text old new before after (Err (Given fault)) to never = absurd never
 answer-carried step remaining other left public text old new before after (Err (Serving fault)) to never = absurd never
+answer-carried step remaining other left public text old new before after (Err (Migration fault)) to never = absurd never
 answer-carried step remaining other left public text old new before after (Err Locked) to never = absurd never
 answer-carried step remaining other left public text old new before after (Err BadName) to never = absurd never
 answer-carried step remaining other left public text old new before after (Err BadSpec) to never = absurd never
@@ -155,6 +156,7 @@ answer-ends step remaining public text old new (Err (Preparing fault)) never = a
 answer-ends step remaining public text old new (Err (Audit fault)) never = absurd never
 answer-ends step remaining public text old new (Err (Given fault)) never = absurd never
 answer-ends step remaining public text old new (Err (Serving fault)) never = absurd never
+answer-ends step remaining public text old new (Err (Migration fault)) never = absurd never
 answer-ends step remaining public text old new (Err Locked) never = absurd never
 answer-ends step remaining public text old new (Err BadName) never = absurd never
 answer-ends step remaining public text old new (Err BadSpec) never = absurd never

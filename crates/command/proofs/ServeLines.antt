@@ -18,36 +18,44 @@ use Rattle.command.specs.declared.line_fault.LineFault.TheVariants.{OutOfMemory}
 use Rattle.command.specs.declared.refusal.Refusal.{Refusal}
 use Rattle.command.specs.AuditGiven.{Pair, pairs_in}
 use Rattle.command.specs.Audit.{anchor_in}
+use Rattle.state_file.specs.declared.record.Version.{Version}
 use Rattle.command.specs.Files.{FilesSeen}
-use Rattle.command.specs.Line.{AreTexts, FindsTask, Task, audit, audit_anchored, audit_given, audit_given_pairs, audit_given_task, audit_task, hbsign_app, make, make_task, retire, retire_number, retire_task, serve, serve_task, sign, sign_task, task_found, verify, verify_task}
+use Rattle.command.specs.Line.{AreTexts, FindsTask, Task, audit, audit_anchored, audit_given, audit_given_pairs, audit_given_task, audit_task, hbsign_app, make, make_formatted, make_task, migrate, migrate_task, retire, retire_number, retire_task, serve, serve_task, sign, sign_task, task_found, verify, verify_task}
 use Rattle.command.specs.LineFault.{HasLineFault, usage_faults, line_faults}
+use Rattle.command.specs.Make.{format_in}
 use Rattle.command.specs.Number.{number_in}
 use Rattle.command.specs.Output.{Taken}
 use Rattle.command.specs.Program.{AsksToServe, Explains, HasRepliesAlone, KeepsErrorsUnlessServing, ReportsOutOfMemory, ReportsTask, begins_with_serve}
 use Rattle.command.specs.Retire.{most_leaves}
 use Rattle.command.specs.Streams.{OutputSeen, Streams, taken}
 use Rattle.command.specs.Trace.{Happening}
-use Rattle.command.proofs.Accepting.{found_in, is_audit, is_audit_given, is_make, is_named, is_retire, is_serve, is_sign, is_verify, no_line_faults, none_of, nothing_fails, ok_same}
-use Rattle.command.proofs.Walking.{audit_given_shape, audit_shape, enters_audit, enters_audit_given, enters_make, enters_retire, enters_serve, enters_sign, enters_verify, entered_rows, make_shape, retire_shape, serve_shape, sign_shape, verify_shape}
+use Rattle.command.proofs.Accepting.{found_in, is_audit, is_audit_given, is_make, is_migrate, is_named, is_retire, is_serve, is_sign, is_verify, no_line_faults, none_of, nothing_fails, ok_same}
+use Rattle.command.proofs.Walking.{audit_given_shape, audit_shape, enters_audit, enters_audit_given, enters_make, enters_migrate, enters_retire, enters_serve, enters_sign, enters_verify, entered_rows, make_shape, migrate_shape, retire_shape, serve_shape, sign_shape, verify_shape}
 
 -- whether what is found is a task of `serve`
 abbrev serves : Result Task UsageFault → Bool
 serves (Ok (serve state random)) = true
-serves (Ok (make state public spec random)) = false
+serves (Ok (make state public spec version random)) = false
 serves (Ok (sign state name message out random)) = false
 serves (Ok (verify public message signature)) = false
 serves (Ok (retire state upto)) = false
 serves (Ok (audit state anchor)) = false
 serves (Ok (audit_given public files)) = false
+serves (Ok (migrate old new)) = false
 serves (Err fault) = false
 
 -- what is found in a line of another command isn't
-not_make : (state public spec random : Option Text) → serves (make_task state public spec random) ≡ false
-not_make (Some s) (Some p) (Some x) (Some r) = refl
-not_make None public spec random = refl
-not_make (Some s) None spec random = refl
-not_make (Some s) (Some p) None random = refl
-not_make (Some s) (Some p) (Some x) None = refl
+not_formatted : (state public spec : Text) (version : Option Version) (random : Text) → serves (make_formatted state public spec version random) ≡ false
+not_formatted state public spec (Some version) random = refl
+not_formatted state public spec None random = refl
+
+not_make : (state public spec format random : Option Text) → serves (make_task state public spec format random) ≡ false
+not_make (Some s) (Some p) (Some x) (Some f) (Some r) = not_formatted s p x (format_in f) r
+not_make None public spec format random = refl
+not_make (Some s) None spec format random = refl
+not_make (Some s) (Some p) None format random = refl
+not_make (Some s) (Some p) (Some x) None random = refl
+not_make (Some s) (Some p) (Some x) (Some f) None = refl
 
 not_sign : (state name message out random : Option Text) → serves (sign_task state name message out random) ≡ false
 not_sign (Some s) (Some n) (Some m) (Some o) (Some r) = refl
@@ -80,6 +88,11 @@ not_audit : (state count tag : Option Text) → serves (audit_task state count t
 not_audit (Some state) count tag = not_anchored state (anchor_in count tag)
 not_audit None count tag = refl
 
+not_migrate : (old new : Option Text) → serves (migrate_task old new) ≡ false
+not_migrate (Some old) (Some new) = refl
+not_migrate None new = refl
+not_migrate (Some old) None = refl
+
 not_pairs : (public : Text) (pairs : Option (List Pair)) → serves (audit_given_pairs public pairs) ≡ false
 not_pairs public (Some pairs) = refl
 not_pairs public None = refl
@@ -98,10 +111,11 @@ pub begins : (words : List Text) (state random : Text) → AreTexts words → Fi
 begins [] state random texts (none, found) = absurd (nothing_fails none)
 begins (word ∷ names) state random texts (none, found) = elim (is_named word names texts.0 none) [
   | is_serve is ↦ subst (λ w. bytes_eq w (codes "serve") ≡ true) (sym is) refl
-  | is_make is ↦ absurd (differs _ state random (not_make _ _ _ _) (found_in (codes "make") make_shape word names (serve state random) enters_make is found))
+  | is_make is ↦ absurd (differs _ state random (not_make _ _ _ _ _) (found_in (codes "make") make_shape word names (serve state random) enters_make is found))
   | is_sign is ↦ absurd (differs _ state random (not_sign _ _ _ _ _) (found_in (codes "sign") sign_shape word names (serve state random) enters_sign is found))
   | is_verify is ↦ absurd (differs _ state random (not_verify _ _ _) (found_in (codes "verify") verify_shape word names (serve state random) enters_verify is found))
   | is_retire is ↦ absurd (differs _ state random (not_retire _ _) (found_in (codes "retire") retire_shape word names (serve state random) enters_retire is found))
+  | is_migrate is ↦ absurd (differs _ state random (not_migrate _ _) (found_in (codes "migrate") migrate_shape word names (serve state random) enters_migrate is found))
   | is_audit is ↦ absurd (differs _ state random (not_audit _ _ _) (found_in (codes "audit") audit_shape word names (serve state random) enters_audit is found))
   | is_audit_given is ↦ absurd (differs _ state random (not_audit_given _ _) (found_in (codes "audit-given") audit_given_shape word names (serve state random) enters_audit_given is found))
 ]

@@ -8,10 +8,11 @@ use Rattle.clap.specs.Faults.{turn_fault, step_fault, word_fault, walk_fault, se
 use Rattle.clap.specs.Kinds.{Kinds, or_else}
 use Rattle.clap.specs.Words.{Rule, Text, is_simple, subcommand_of, fault_of, is_simple_and_free}
 use Rattle.clap.proofs.OnLiterals.{clap_on_literals}
-use Rattle.command.specs.Line.{ArePlainWords, GivesValues, IsCommandLine, IsLineOf, IsPlainWord, Task, audit, audit_given, hbsign_app, make, retire, retire_number, retire_task, serve, sign, task_found, verify}
+use Rattle.command.specs.Line.{ArePlainWords, GivesValues, IsCommandLine, IsLineOf, IsPlainWord, Task, audit, audit_given, hbsign_app, make, migrate, retire, retire_number, retire_task, serve, sign, task_found, verify}
 use Rattle.command.specs.Audit.{audit_app}
 use Rattle.command.specs.AuditGiven.{audit_given_app}
 use Rattle.command.specs.Make.{make_app}
+use Rattle.command.specs.Migrate.{migrate_app}
 use Rattle.command.specs.Retire.{retire_app}
 use Rattle.command.specs.Serve.{serve_app}
 use Rattle.command.specs.Sign.{sign_app}
@@ -322,6 +323,34 @@ retire_found : (state upto : Text)
     → task_found (Some (codes "retire", finished retire_shape.rules (retire_2 state upto))) ≡ retire_task (Some state) (Some upto)
 retire_found state upto = refl
 
+-- ---- migrate
+
+abbrev pub migrate_shape : Shape
+migrate_shape = built_leaf (inherited (with_leaf_noted (marked_built hbsign_app.top)) migrate_app.top)
+
+pub enters_migrate : Enters (codes "migrate") migrate_shape
+unfolding clap_on_literals
+enters_migrate = record { step = refl; well = refl; rows = λ words. refl; fault = λ words. refl }
+
+abbrev pub migrate_1 : Text → Collected
+migrate_1 old = first_collected (codes "OLD") old
+
+abbrev pub migrate_2 : Text → Text → Collected
+migrate_2 old new = next_collected migrate_shape 2 new (migrate_1 old)
+
+pub takes_old : (old : Text) → TakesValue migrate_shape 1 nothing_collected old (migrate_1 old)
+takes_old old = record { before = refl; after = refl; well = refl }
+
+pub takes_new : (old new : Text) → TakesValue migrate_shape 2 (migrate_1 old) new (migrate_2 old new)
+takes_new old new = record { before = refl; after = refl; well = refl }
+
+migrate_ends : (old new : Text) (b : Bool) → end_fault migrate_shape (at b (migrate_2 old new) 3) ≡ []
+unfolding clap_on_literals
+migrate_ends old new b = refl
+
+migrate_found : (old new : Text) → task_found (Some (codes "migrate", finished migrate_shape.rules (migrate_2 old new))) ≡ Ok (migrate old new)
+migrate_found old new = refl
+
 -- ---- make and sign
 
 abbrev pub make_shape : Shape
@@ -373,6 +402,14 @@ finds_verify words p m s line =
     (verify_1 p, takes_public p, (verify_2 p m, takes_message p m, (verify_3 p m s, takes_signature p m s, (refl, refl))))
     (verify_ends p m s) line in (none, ap task_found rows ∙ verify_found p m s)
 
+-- a line `migrate` has none and this one,
+pub finds_migrate : (words : List Text) (old new : Text) → IsCommandLine words (codes "migrate") (old ∷ new ∷ [])
+    → (fault_of hbsign_app words ≡ []) × (task_found (subcommand_of hbsign_app words) ≡ Ok (migrate old new))
+finds_migrate words old new line =
+    let (none, rows) = takes_line words (codes "migrate") (old ∷ new ∷ []) migrate_shape 3 (migrate_2 old new) enters_migrate
+    (migrate_1 old, takes_old old, (migrate_2 old new, takes_new old new, (refl, refl)))
+    (migrate_ends old new) line in (none, ap task_found rows ∙ migrate_found old new)
+
 -- and so has a line `retire`, where the number is one.
 pub finds_retire : (words : List Text) (state upto : Text) → IsCommandLine words (codes "retire") (state ∷ upto ∷ [])
     → (fault_of hbsign_app words ≡ []) × (task_found (subcommand_of hbsign_app words) ≡ retire_task (Some state) (Some upto))
@@ -384,7 +421,7 @@ finds_retire words state upto line =
 -- So the line of a task has no fault, and the task is found in it.
 pub finds_task : (words : List Text) (task : Task) → IsLineOf words task
     → (fault_of hbsign_app words ≡ []) × (task_found (subcommand_of hbsign_app words) ≡ Ok task)
-finds_task words (make state public spec random) found = found
+finds_task words (make state public spec version random) found = found
 finds_task words (sign state name message out random) found = found
 finds_task words (verify p m s) line = finds_verify words p m s line
 finds_task words (retire state upto) (text, spells, line) =
@@ -392,3 +429,4 @@ finds_task words (retire state upto) (text, spells, line) =
 finds_task words (audit state anchor) found = found
 finds_task words (audit_given public files) found = found
 finds_task words (serve state random) found = found
+finds_task words (migrate old new) line = finds_migrate words old new line

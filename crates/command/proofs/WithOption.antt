@@ -7,8 +7,11 @@ use Rattle.clap.specs.Simple.{Shape}
 use Rattle.clap.specs.Walk.{Held as Collected, Walk, after_step, finished, nothing_held as nothing_collected, option, plain_word, walk, walked, word_met}
 use Rattle.clap.specs.Words.{Rule, Text, fault_of, subcommand_of}
 use Rattle.clap.proofs.OnLiterals.{clap_on_literals}
+use Rattle.state_file.specs.declared.record.Version.TheVariants.{Two}
 use Rattle.command.specs.Argument.{default_random}
-use Rattle.command.specs.Line.{FindsTask, IsLineWithOption, IsPlainWord, hbsign_app, make, serve, sign, task_found}
+use Rattle.command.specs.Line.{FindsTask, IsFormattedLine, IsLineWithOption, IsMakeLine, IsPlainWord, hbsign_app, make, make_formatted, serve, sign, task_found}
+use Rattle.command.specs.Make.{format_in}
+use Rattle.command.specs.Number.{number_after}
 use Rattle.command.proofs.Accepting.{none_of}
 use Rattle.command.proofs.Walking.{Enters, Goes, TakesAll, at, end_fault, entered_faults, entered_rows, enters_make, enters_serve, enters_sign, first_collected, goes, is_no_hyphen, make_shape, next_collected, over_all, plain_taken, serve_shape, sign_shape, stays, takes_line}
 
@@ -90,10 +93,11 @@ unfolding clap_on_literals
 make_ends state public spec b = refl
 
 make_found : (state public spec : Text)
-    → task_found (Some (codes "make", finished make_shape.rules (make_3 state public spec))) ≡ Ok (make state public spec default_random)
+    → task_found (Some (codes "make", finished make_shape.rules (make_3 state public spec))) ≡ Ok (make state public spec Two default_random)
+unfolding number_after
 make_found state public spec = refl
 
--- and then the option
+-- and then the file of random bytes
 abbrev make_option : (state public spec : Text) → Walk
 make_option state public spec = after_word make_shape (at false (make_3 state public spec) 4) (codes "--random")
 
@@ -113,20 +117,97 @@ unfolding clap_on_literals
 make_all_ends state public spec random = refl
 
 make_all_found : (state public spec random : Text)
-    → task_found (Some (codes "make", finished make_shape.rules (make_all state public spec random).held)) ≡ Ok (make state public spec random)
-unfolding clap_on_literals
+    → task_found (Some (codes "make", finished make_shape.rules (make_all state public spec random).held)) ≡ Ok (make state public spec Two random)
+unfolding clap_on_literals number_after
 make_all_found state public spec random = refl
 
-pub finds_make : (words : List Text) (state public spec random : Text) → IsLineWithOption words (codes "make") (state ∷ public ∷ spec ∷ []) random
-    → FindsTask words (make state public spec random)
-finds_make words state public spec random (inl (line, same)) =
+finds_version_two : (words : List Text) (state public spec random : Text) → IsLineWithOption words (codes "make") (state ∷ public ∷ spec ∷ []) random
+    → FindsTask words (make state public spec Two random)
+finds_version_two words state public spec random (inl (line, same)) =
     let (none, rows) = takes_line words (codes "make") (state ∷ public ∷ spec ∷ []) make_shape 4 (make_3 state public spec) enters_make (make_takes state public spec) (make_ends state public spec) line in
-    (none, ap task_found rows ∙ make_found state public spec ∙ ap (λ r. Ok (make state public spec r)) (sym same))
-finds_make words state public spec random (inr (same, plain, file)) =
+    (none, ap task_found rows ∙ make_found state public spec ∙ ap (λ r. Ok (make state public spec Two r)) (sym same))
+finds_version_two words state public spec random (inr (same, plain, file)) =
     let values = over_all make_shape false 1 nothing_collected (state ∷ public ∷ spec ∷ []) 4 (make_3 state public spec) (plain_taken (state ∷ public ∷ spec ∷ []) plain) (make_takes state public spec) in
     let line = goes_on make_shape _ _ (make_all state public spec random) (state ∷ public ∷ spec ∷ []) (codes "--random" ∷ random ∷ []) values (make_goes state public spec random file) in
     let (none, rows) = goes_line words (codes "make") _ make_shape (make_all state public spec random) enters_make same line (make_all_ends state public spec random) in
     (none, ap task_found rows ∙ make_all_found state public spec random)
+
+-- or the format
+abbrev format_option : (state public spec : Text) → Walk
+format_option state public spec = after_word make_shape (at false (make_3 state public spec) 4) (codes "--format")
+
+abbrev formatted : (state public spec format : Text) → Walk
+formatted state public spec format = after_value_word make_shape (format_option state public spec) format
+
+format_goes : (state public spec format : Text) (to : Walk) (more : List Text) → IsPlainWord format
+    → Goes make_shape (formatted state public spec format) more to
+    → Goes make_shape (at false (make_3 state public spec) 4) (codes "--format" ∷ format ∷ more) to
+unfolding clap_on_literals walked
+format_goes state public spec format to more plain rest =
+    goes make_shape (at false (make_3 state public spec) 4) (format_option state public spec) to (codes "--format") (format ∷ more) refl refl
+    (goes make_shape (format_option state public spec) (formatted state public spec format) to format more (value_walks make_shape (format_option state public spec) (codes "format") format refl refl refl plain)
+    (value_turn_passes make_shape (format_option state public spec) (codes "format") format refl refl refl plain refl) rest)
+
+formatted_ends : (state public spec format : Text) → end_fault make_shape (formatted state public spec format) ≡ []
+unfolding clap_on_literals
+formatted_ends state public spec format = refl
+
+formatted_found : (state public spec format : Text)
+    → task_found (Some (codes "make", finished make_shape.rules (formatted state public spec format).held))
+    ≡ make_formatted state public spec (format_in format) default_random
+unfolding clap_on_literals
+formatted_found state public spec format = refl
+
+-- and behind it the file of random bytes
+abbrev then_option : (state public spec format : Text) → Walk
+then_option state public spec format = after_word make_shape (formatted state public spec format) (codes "--random")
+
+abbrev then_all : (state public spec format random : Text) → Walk
+then_all state public spec format random = after_value_word make_shape (then_option state public spec format) random
+
+then_goes : (state public spec format random : Text) → IsPlainWord random
+    → Goes make_shape (formatted state public spec format) (codes "--random" ∷ random ∷ []) (then_all state public spec format random)
+unfolding clap_on_literals walked
+then_goes state public spec format random plain =
+    goes make_shape (formatted state public spec format) (then_option state public spec format) (then_all state public spec format random) (codes "--random") (random ∷ []) refl refl
+    (goes make_shape (then_option state public spec format) (then_all state public spec format random) (then_all state public spec format random) random [] (value_walks make_shape (then_option state public spec format) (codes "random") random refl refl refl plain)
+    (value_turn_passes make_shape (then_option state public spec format) (codes "random") random refl refl refl plain refl) (stays make_shape (then_all state public spec format random) (then_all state public spec format random) refl))
+
+then_all_ends : (state public spec format random : Text) → end_fault make_shape (then_all state public spec format random) ≡ []
+unfolding clap_on_literals
+then_all_ends state public spec format random = refl
+
+then_all_found : (state public spec format random : Text)
+    → task_found (Some (codes "make", finished make_shape.rules (then_all state public spec format random).held))
+    ≡ make_formatted state public spec (format_in format) random
+unfolding clap_on_literals
+then_all_found state public spec format random = refl
+
+-- a line with a format at its end
+finds_formatted : (words : List Text) (state public spec : Text) (version : _) (random : Text) → IsFormattedLine words state public spec version random
+    → FindsTask words (make state public spec version random)
+finds_formatted words state public spec version random line = elim line.words_are [
+  | inl (same, given) ↦
+      let rest = stays make_shape (formatted state public spec line.format) (formatted state public spec line.format) refl in
+      let all = goes_on make_shape _ _ (formatted state public spec line.format) (state ∷ public ∷ spec ∷ []) (codes "--format" ∷ line.format ∷ [])
+      (over_all make_shape false 1 nothing_collected (state ∷ public ∷ spec ∷ []) 4 (make_3 state public spec) (line.plain.0, (line.plain.1.0, (line.plain.1.1.0, tt))) (make_takes state public spec))
+      (format_goes state public spec line.format (formatted state public spec line.format) [] line.plain.1.1.1.0 rest) in
+      let (none, rows) = goes_line words (codes "make") _ make_shape (formatted state public spec line.format) enters_make same all (formatted_ends state public spec line.format) in
+      (none, ap task_found rows ∙ formatted_found state public spec line.format ∙ ap (λ v. make_formatted state public spec v default_random) line.format_is ∙ ap (λ r. Ok (make state public spec version r)) (sym given))
+  | inr same ↦
+      let rest = then_goes state public spec line.format random line.plain.1.1.1.1.0 in
+      let all = goes_on make_shape _ _ (then_all state public spec line.format random) (state ∷ public ∷ spec ∷ []) (codes "--format" ∷ line.format ∷ codes "--random" ∷ random ∷ [])
+      (over_all make_shape false 1 nothing_collected (state ∷ public ∷ spec ∷ []) 4 (make_3 state public spec) (line.plain.0, (line.plain.1.0, (line.plain.1.1.0, tt))) (make_takes state public spec))
+      (format_goes state public spec line.format (then_all state public spec line.format random) (codes "--random" ∷ random ∷ []) line.plain.1.1.1.0 rest) in
+      let (none, rows) = goes_line words (codes "make") _ make_shape (then_all state public spec line.format random) enters_make same all (then_all_ends state public spec line.format random) in
+      (none, ap task_found rows ∙ then_all_found state public spec line.format random ∙ ap (λ v. make_formatted state public spec v random) line.format_is)
+]
+
+pub finds_make : (words : List Text) (state public spec : Text) (version : _) (random : Text) → IsMakeLine words state public spec version random
+    → FindsTask words (make state public spec version random)
+finds_make words state public spec version random (inl (two, line)) =
+    subst (λ v. FindsTask words (make state public spec v random)) (sym two) (finds_version_two words state public spec random line)
+finds_make words state public spec version random (inr line) = finds_formatted words state public spec version random line
 
 -- ---- sign
 

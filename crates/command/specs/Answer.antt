@@ -4,11 +4,12 @@ use Rattle.std.proofs.lemmas.Bool.{false≢true, or_right}
 use Rattle.std.specs.Prelude.{ℕ, List, [], ◌∷◌, codes, decimal, ◌++◌, Option, Some, None, Result, Ok, Err, ◌≡◌, ◌⊎◌}
 use Rattle.std.specs.Prelude.{true}
 use Rattle.command.specs.declared.answer.Done.{Done}
-use Rattle.command.specs.declared.answer.Done.TheVariants.{Audited, Checked, Made, Retired, Signed, Verified}
+use Rattle.command.specs.declared.answer.Done.TheVariants.{Audited, Checked, Made, Migrated, Retired, Signed, Verified}
 use Rattle.hex.specs.Hex.{encode_lower}
 use Rattle.command.specs.declared.refusal.Refusal.{Refusal}
 use Rattle.command.specs.declared.refusal.Refusal.TheVariants.{Signature, OutOfMemory, FileFailed, BadName, BadSpec}
 use Rattle.command.specs.declared.refusal.Refusal.TheVariants.{Signer, Opening, Preparing, Audit, Given, Serving}
+use Rattle.command.specs.declared.refusal.Refusal.TheVariants.{Migration}
 use Rattle.key_audit.specs.declared.given.GivenFault.TheVariants as given
 use Rattle.key_audit.specs.declared.report.AuditFault.TheVariants as audit
 use Rattle.key_audit.specs.declared.report.Report.{Report}
@@ -16,6 +17,7 @@ use Rattle.sign_core.specs.declared.fault.ServeFault.TheVariants as serve
 use Rattle.sign_core.specs.declared.fault.SignFault.TheVariants as sign
 use Rattle.state_file.specs.declared.file.opening.OpenFault.TheVariants as opening
 use Rattle.state_file.specs.declared.file.format.FormatFault.TheVariants as preparing
+use Rattle.state_file.specs.declared.migration.MigrateFault.TheVariants as migrate
 use Rattle.typecodes.specs.declared.refusal.Refusal.TheVariants.{MessageRead}
 use Rattle.command.specs.LineFault.{BeginsWithCapital, IsHelp, has_lowercase_line}
 use Rattle.command.specs.Refusal.{refusal_line}
@@ -41,6 +43,7 @@ done_lines (Made public) = codes "public " ++ encode_lower public.items ++ codes
 done_lines (Signed name size) = codes "signed " ++ name ++ codes " " ++ decimal size ++ codes " bytes\n"
 done_lines (Audited public report) = report_lines public.items report
 done_lines (Checked count) = codes "given " ++ decimal count ++ codes " signatures, no leaf twice\n"
+done_lines (Migrated count) = codes "migrated " ++ decimal count ++ codes " records\n"
 
 -- the line with its end; an audit has several
 abbrev pub answer_line : Result Done Refusal → List ℕ
@@ -66,6 +69,8 @@ status_of (Err (Signer sign.NoMemoryToOpen)) = 3
 status_of (Err (Audit audit.DeviceFailed)) = 3
 status_of (Err (Audit audit.OutOfMemory)) = 3
 status_of (Err (Given given.OutOfMemory)) = 3
+status_of (Err (Migration migrate.DeviceFailed)) = 3
+status_of (Err (Migration migrate.OutOfMemory)) = 3
 status_of (Err (Serving serve.MessageRead)) = 3
 status_of (Err (Serving serve.WriteFailed)) = 3
 status_of (Err _) = 1
@@ -95,6 +100,7 @@ line_is_lower (Ok (Made public)) capital = omega (arith, capital)
 line_is_lower (Ok (Signed name size)) capital = omega (arith, capital)
 line_is_lower (Ok (Audited public report)) capital = omega (arith, capital)
 line_is_lower (Ok (Checked count)) capital = omega (arith, capital)
+line_is_lower (Ok (Migrated count)) capital = omega (arith, capital)
 line_is_lower (Err refusal) capital = omega (arith, capital)
 
 -- A text that begins with an answer's line has a line that begins with a lowercase letter,
@@ -107,6 +113,7 @@ line_is_lowercase (Ok (Made public)) after = refl
 line_is_lowercase (Ok (Signed name size)) after = refl
 line_is_lowercase (Ok (Audited public report)) after = refl
 line_is_lowercase (Ok (Checked count)) after = refl
+line_is_lowercase (Ok (Migrated count)) after = refl
 line_is_lowercase (Err refusal) after = refl
 
 -- and so has one in which this stands after a line's end.

@@ -18,14 +18,14 @@ several_rule name = record (new_rule name) {
 abbrev pub option_rule : List ℕ → Rule
 option_rule name = record (new_rule name) { long = Some name; value_names = 1 }
 
+-- .. which has this value where it is left out
+abbrev pub default_rule : (name value : List ℕ) → Rule
+default_rule name value = record (option_rule name) { defaults = value ∷ [] }
+
 -- the file of random bytes where the line names none
 abbrev pub default_random : List ℕ
 default_random = codes "/dev/urandom"
 
 -- `--random FILE`
 abbrev pub random_rule : Rule
-random_rule = record (new_rule (codes "random")) {
-  long = Some (codes "random");
-  value_names = 1;
-  defaults = default_random ∷ [];
-}
+random_rule = default_rule (codes "random") default_random

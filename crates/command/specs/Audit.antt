@@ -73,6 +73,6 @@ abbrev pub AuditsIn : {K : Type 0} → disk.Ghosts K → FilesSeen K → (state 
 AuditsIn {K} d files state anchor answer old new =
     ((refusal : Refusal) × IsStateRefusal refusal × (answer ≡ Err refusal)
     × (new ≡ old ++ opening_state_to_read {A = K} state (Err refusal) ∷ []))
-    ⊎ ((before after : K) × (audited : Result Report Refusal) × files.IsOpenedDisk before
+    ⊎ ((before after : K) × (audited : Result Report Refusal) × files.IsOpenedDisk state before
     × AuditsOn d before after anchor audited × files.IsClosedDisk after × IsAudited audited answer
     × (new ≡ old ++ opened_to_read state ∷ []))

@@ -32,10 +32,19 @@ past_ends_of disk = disk.past_ends
 abbrev pub IsStateRefusal : Refusal → Type 0
 IsStateRefusal refusal = (refusal ≡ FileFailed) ⊎ (refusal ≡ Locked)
 
--- A state file was opened, and nothing happened to it yet; or it can't be opened, or is locked.
-abbrev pub OpensState : Result (List Happening) Refusal → Type 0
-OpensState (Ok happenings) = happenings ≡ []
-OpensState (Err refusal) = IsStateRefusal refusal
+-- a state file that was opened: its path, and what happened to it since then
+pub record OpenedState : Type 0 where
+  pub path : List ℕ
+  pub happenings : List Happening
+
+-- .. to which nothing happened yet
+abbrev pub opened_at : (path : List ℕ) → OpenedState
+opened_at path = record { path = path; happenings = [] }
+
+-- The state file at this path was opened, and nothing happened to it yet; or it can't be opened, or is locked.
+abbrev pub OpensState : (path : List ℕ) → Result OpenedState Refusal → Type 0
+OpensState path (Ok file) = file ≡ opened_at path
+OpensState path (Err refusal) = IsStateRefusal refusal
 
 -- an answer, of whose error the kind alone is kept
 abbrev pub kept : {A : Type 0} → Result A Error → Result A ErrorKind

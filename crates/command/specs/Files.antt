@@ -120,13 +120,14 @@ abbrev pub KeepsOtherContents : (path : List ℕ) → (old new : List ℕ → Op
 KeepsOtherContents path old new = (other : List ℕ) → other ≢ path → new other ≡ old other
 
 -- What is seen of the files of a signer: the content of each path's file where that is known, whether a disk is as
--- opening a state file gives it, and whether it is that of the state file that was closed last.
+-- opening the state file at a path gives it, and whether it is that of a state file that was closed.
 pub record FilesSeen (K : Type 0) : Type 1 where
   pub content : List ℕ → Option (List ℕ)
-  pub IsOpenedDisk : K → Type 0
+  pub IsOpenedDisk : (path : List ℕ) → K → Type 0
   pub IsClosedDisk : K → Type 0
 
-abbrev pub files_seen : {K : Type 0} → (List ℕ → Option (List ℕ)) → (is_opened is_closed : K → Type 0) → FilesSeen K
+abbrev pub files_seen : {K : Type 0} → (List ℕ → Option (List ℕ)) → (is_opened : List ℕ → K → Type 0)
+    → (is_closed : K → Type 0) → FilesSeen K
 files_seen content is_opened is_closed =
     record { content = content; IsOpenedDisk = is_opened; IsClosedDisk = is_closed }
 

@@ -9,6 +9,8 @@ use Rattle.typecodes.specs.declared.spec.Spec.{Spec}
 use Rattle.state_file.specs.declared.disk.Disk as disk
 use Rattle.state_file.specs.declared.file.format.FormatFault.{FormatFault}
 use Rattle.state_file.specs.declared.file.opening.OpenFault.{OpenFault}
+use Rattle.state_file.specs.declared.migration.MigrateFault.{MigrateFault}
+use Rattle.state_file.specs.declared.record.Version.{Version}
 use Rattle.state_file.specs.declared.refused.Refused.{Refused}
 use Rattle.state_file.specs.declared.store.Store as store
 use Rattle.state_file.specs.declared.store.file_store.FileStore.{FileStore}
@@ -17,10 +19,11 @@ use Rattle.sign_core.specs.declared.fault.ServeFault.{ServeFault}
 use Rattle.sign_core.specs.declared.fault.SignFault.{SignFault}
 use Rattle.sign_core.specs.declared.source.Source as source
 use Rattle.sign_core.specs.declared.source.TapeSource.{TapeSource}
+use Rattle.sign_core.specs.Migration.{Migrates}
 use Rattle.sign_core.specs.Serving.{Serves}
 use Rattle.sign_core.specs.Signer.{Creates, Opens, Signs, View}
 use Rattle.command.specs.declared.refusal.Refusal.{Refusal}
-use Rattle.command.specs.declared.refusal.Refusal.TheVariants.{Audit, Opening, Preparing, Serving, Signer}
+use Rattle.command.specs.declared.refusal.Refusal.TheVariants.{Audit, Migration, Opening, Preparing, Serving, Signer}
 use Rattle.command.specs.Signing.{RetiresBelow}
 
 -- what a refusal hands back, with its fault
@@ -50,17 +53,19 @@ RetiresOn {K} {bound} d g old new upto answer =
     ⊎ ((random : TapeSource) × (before after : View (FileStore K bound) TapeSource)
     × OpensOn d g old random (Ok before) × RetiresBelow g before after upto answer × (new ≡ disk_of after.store))
 
--- A key was made on a disk: the disk was prepared, and a signer made on it. Or one of the two was refused, which is
--- reported, and the disk is handed back.
+-- A key of a version was made on a disk: the disk was prepared, and a signer made on it. Or one of the two was refused,
+-- which is reported, and the disk is handed back.
 abbrev pub MakesOn : {K R : Type 0} {bound : _} → disk.Ghosts K → store.Ghosts (FileStore K bound) → source.Ghosts R
-    → (given : K) → Spec → (random : R) → Result (View (FileStore K bound) R) (Refused K Refusal) → Type 0
-MakesOn {K} {R} {bound} d g r given spec random (Ok signer) =
-    (prepared : FileStore K bound) × PreparesDisk d given (Ok prepared) × Creates g r spec prepared random (Ok signer)
-MakesOn {K} {R} {bound} d g r given spec random (Err refused) =
+    → (given : K) → Version → Spec → (random : R) → Result (View (FileStore K bound) R) (Refused K Refusal) → Type 0
+MakesOn {K} {R} {bound} d g r given version spec random (Ok signer) =
+    (prepared : FileStore K bound) × PreparesDisk d given (Ok prepared)
+    × Creates g r version spec prepared random (Ok signer)
+MakesOn {K} {R} {bound} d g r given version spec random (Err refused) =
     ((fault : FormatFault) × PreparesDisk {bound = bound} d given (Err (refused_with fault refused.given))
     × (refused.fault ≡ Preparing fault))
     ⊎ ((prepared : FileStore K bound) × (fault : SignFault) × (after : FileStore K bound) × (drawn : R)
-    × PreparesDisk d given (Ok prepared) × Creates g r spec prepared random (Err (refused_with fault (after, drawn)))
+    × PreparesDisk d given (Ok prepared)
+    × Creates g r version spec prepared random (Err (refused_with fault (after, drawn)))
     × (refused.fault ≡ Signer fault) × (refused.given ≡ disk_of after))
 
 -- What a request came to: a signature, which the output has, or a refusal, which is reported.
@@ -119,3 +124,15 @@ AuditsOn {K} d old new anchor answer =
     × (answer ≡ Err (Opening fault)))
     ⊎ ((found after : FileStore K d) × (audited : Result Report AuditFault) × FindsRecords d old (Ok found)
     × Audits d found after anchor audited × (answer ≡ audit_reported audited) × (new ≡ disk_of after))
+
+-- what a migration answered, as the command reports it
+abbrev pub migrate_reported : Result ℕ MigrateFault → Result ℕ Refusal
+migrate_reported (Ok count) = Ok count
+migrate_reported (Err fault) = Err (Migration fault)
+
+-- The records of a key were migrated from one disk to another, which left the two so, and what came of it is reported.
+abbrev pub MigratesOn : {K : Type 0} → (d : disk.Ghosts K) → (old new old_after new_after : K) → Result ℕ Refusal
+    → Type 0
+MigratesOn d old new old_after new_after answer =
+    (migrated : Result ℕ MigrateFault) × Migrates d d old new old_after new_after migrated
+    × (answer ≡ migrate_reported migrated)

@@ -9,6 +9,7 @@ pub mod KeyFile
 pub mod Line
 pub mod LineFault
 pub mod Make
+pub mod Migrate
 pub mod Number
 pub mod Output
 pub mod Program

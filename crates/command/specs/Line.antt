@@ -8,6 +8,8 @@ use Rattle.clap.specs.declared.error.kind.ErrorKind.TheVariants as kind
 use Rattle.key_audit.specs.declared.report.Anchor.{Anchor}
 use Rattle.sign_core.specs.declared.source.Source as source
 use Rattle.state_file.specs.declared.disk.Disk as disk
+use Rattle.state_file.specs.declared.record.Version.{Version}
+use Rattle.state_file.specs.declared.record.Version.TheVariants.{Two}
 use Rattle.state_file.specs.declared.store.Store as store
 use Rattle.state_file.specs.declared.store.file_store.FileStore.{FileStore}
 use Rattle.state_file.specs.File.{most_records}
@@ -15,14 +17,16 @@ use Rattle.command.specs.declared.line.UsageFault.{UsageFault}
 use Rattle.command.specs.declared.line.UsageFault.TheVariants as usage
 use Rattle.command.specs.declared.line.UsageFault.TheVariants.{Command, Number}
 use Rattle.command.specs.declared.line.Request.{Request}
-use Rattle.command.specs.declared.line.Request.TheVariants.{Make, Sign, Verify, Retire, Audit, AuditGiven, Serve}
+use Rattle.command.specs.declared.line.Request.TheVariants.{Make, Sign, Verify, Retire, Audit, AuditGiven}
+use Rattle.command.specs.declared.line.Request.TheVariants.{Serve, Migrate}
 use Rattle.command.specs.declared.answer.Done.{Done}
 use Rattle.command.specs.declared.refusal.Refusal.{Refusal}
 use Rattle.command.specs.Argument.{default_random}
 use Rattle.command.specs.Audit.{AuditsIn, anchor_in, audit_app, tag_in}
 use Rattle.command.specs.AuditGiven.{ChecksIn, Pair, audit_given_app, pairs_in, pairs_of, paths_of}
 use Rattle.command.specs.Files.{FilesSeen}
-use Rattle.command.specs.Make.{MakesIn, make_app}
+use Rattle.command.specs.Make.{MakesIn, format_in, make_app}
+use Rattle.command.specs.Migrate.{MigratesIn, migrate_app}
 use Rattle.command.specs.Number.{number_in}
 use Rattle.command.specs.Verify.{verify_app, VerifiesIn}
 use Rattle.command.specs.Retire.{RetiresIn, most_leaves, retire_app}
@@ -44,8 +48,8 @@ bare_app = record (new_app (codes "hbsign")) {
 -- the program
 abbrev pub hbsign_app : App
 hbsign_app = with_subcommand (with_subcommand (with_subcommand (with_subcommand (with_subcommand (with_subcommand
-    (with_subcommand bare_app make_app.top) sign_app.top) verify_app.top) retire_app.top) audit_app.top)
-    audit_given_app.top) serve_app.top
+    (with_subcommand (with_subcommand bare_app make_app.top) sign_app.top) verify_app.top) retire_app.top)
+    audit_app.top) audit_given_app.top) serve_app.top) migrate_app.top
 
 -- ---- the words of a line
 
@@ -80,17 +84,18 @@ IsCommandLine words name values = (after : List (List ℕ)) × (words ≡ name �
 
 -- a command, and what its words name
 pub data Task : Type 0 where
-  make : (state public spec random : List ℕ) → Task
+  make : (state public spec : List ℕ) (version : Version) (random : List ℕ) → Task
   sign : (state name message out random : List ℕ) → Task
   verify : (public message signature : List ℕ) → Task
   retire : (state : List ℕ) (upto : ℕ) → Task
   audit : (state : List ℕ) (anchor : Option Anchor) → Task
   audit_given : (public : List ℕ) (files : List Pair) → Task
   serve : (state random : List ℕ) → Task
+  migrate : (old new : List ℕ) → Task
 
 -- what a request is
 abbrev pub task_of : Request → Task
-task_of (Make words) = make words.state.now words.public.now words.spec.now words.random.now
+task_of (Make words) = make words.state.now words.public.now words.spec.now words.version words.random.now
 task_of (Sign words) =
     sign words.state.now words.name.now words.message.now words.out.now words.random.now
 task_of (Verify files) = verify files.public.now files.message.now files.signature.now
@@ -98,6 +103,7 @@ task_of (Retire words) = retire words.state.now words.upto
 task_of (Audit words) = audit words.state.now words.anchor
 task_of (AuditGiven words) = audit_given words.public.now (pairs_of words)
 task_of (Serve words) = serve words.state.now words.random.now
+task_of (Migrate words) = migrate words.old.now words.new.now
 
 -- the same, where there is one
 abbrev pub task_or_fault : Result Request UsageFault → Result Task UsageFault
@@ -107,9 +113,14 @@ task_or_fault (Err fault) = Err fault
 -- ---- what `clap` finds in a line
 
 -- the task of `make`, by the values of its words
-abbrev pub make_task : (state public spec random : Option Text) → Result Task UsageFault
-make_task (Some state) (Some public) (Some spec) (Some random) = Ok (make state public spec random)
-make_task _ _ _ _ = Err Command
+abbrev pub make_formatted : (state public spec : Text) → Option Version → (random : Text) → Result Task UsageFault
+make_formatted state public spec (Some version) random = Ok (make state public spec version random)
+make_formatted state public spec None random = Err usage.Format
+
+abbrev pub make_task : (state public spec format random : Option Text) → Result Task UsageFault
+make_task (Some state) (Some public) (Some spec) (Some format) (Some random) =
+    make_formatted state public spec (format_in format) random
+make_task _ _ _ _ _ = Err Command
 
 -- that of `sign`
 abbrev pub sign_task : (state name message out random : Option Text) → Result Task UsageFault
@@ -144,6 +155,11 @@ abbrev pub serve_task : (state random : Option Text) → Result Task UsageFault
 serve_task (Some state) (Some random) = Ok (serve state random)
 serve_task _ _ = Err Command
 
+-- that of `migrate`
+abbrev pub migrate_task : (old new : Option Text) → Result Task UsageFault
+migrate_task (Some old) (Some new) = Ok (migrate old new)
+migrate_task _ _ = Err Command
+
 -- that of `audit-given`
 abbrev pub audit_given_pairs : Text → Option (List Pair) → Result Task UsageFault
 audit_given_pairs public (Some pairs) = Ok (audit_given public pairs)
@@ -158,7 +174,7 @@ abbrev pub fixed_task_named : Text → List Row → Result Task UsageFault
 fixed_task_named name rows =
     if bytes_eq name (codes "make")
     then make_task (first_of (codes "STATE") rows) (first_of (codes "PUBLIC") rows) (first_of (codes "SPEC") rows)
-    (first_of (codes "random") rows)
+    (first_of (codes "format") rows) (first_of (codes "random") rows)
     else (if bytes_eq name (codes "sign")
     then sign_task (first_of (codes "STATE") rows) (first_of (codes "NAME") rows) (first_of (codes "MESSAGE") rows)
     (first_of (codes "OUT") rows) (first_of (codes "random") rows)
@@ -171,7 +187,9 @@ fixed_task_named name rows =
     then audit_task (first_of (codes "STATE") rows) (first_of (codes "count") rows) (first_of (codes "tag") rows)
     else (if bytes_eq name (codes "serve")
     then serve_task (first_of (codes "STATE") rows) (first_of (codes "random") rows)
-    else Err Command)))))
+    else (if bytes_eq name (codes "migrate")
+    then migrate_task (first_of (codes "OLD") rows) (first_of (codes "NEW") rows)
+    else Err Command))))))
 
 -- .. and of every command
 abbrev pub task_named : Text → List Row → Result Task UsageFault
@@ -189,10 +207,10 @@ task_found (Some (name, rows)) = task_named name rows
 abbrev pub FindsTask : List (List ℕ) → Task → Type 0
 FindsTask words task = (fault_of hbsign_app words ≡ []) × (task_found (subcommand_of hbsign_app words) ≡ Ok task)
 
--- The line of a task: `verify PUBLIC MESSAGE SIGNATURE`, or `retire STATE UPTO`; and of the commands that have options
--- or any number of files, each in which `clap` finds it.
+-- The line of a task: `verify PUBLIC MESSAGE SIGNATURE`, `retire STATE UPTO` or `migrate OLD NEW`; and of the commands
+-- that have options or any number of files, each in which `clap` finds it.
 abbrev pub IsLineOf : List (List ℕ) → Task → Type 0
-IsLineOf words (make state public spec random) = FindsTask words (make state public spec random)
+IsLineOf words (make state public spec version random) = FindsTask words (make state public spec version random)
 IsLineOf words (sign state name message out random) = FindsTask words (sign state name message out random)
 IsLineOf words (verify public message signature) =
     IsCommandLine words (codes "verify") (public ∷ message ∷ signature ∷ [])
@@ -201,12 +219,30 @@ IsLineOf words (retire state upto) = (text : List ℕ) × (number_in most_leaves
 IsLineOf words (audit state anchor) = FindsTask words (audit state anchor)
 IsLineOf words (audit_given public files) = FindsTask words (audit_given public files)
 IsLineOf words (serve state random) = FindsTask words (serve state random)
+IsLineOf words (migrate old new) = IsCommandLine words (codes "migrate") (old ∷ new ∷ [])
 
 -- A line of values, with the option at its end or without it. None of the values looks like an option.
 abbrev pub IsLineWithOption : List (List ℕ) → (name : List ℕ) → (values : List (List ℕ)) → (random : List ℕ) → Type 0
 IsLineWithOption words name values random =
     (IsCommandLine words name values × (random ≡ default_random))
     ⊎ ((words ≡ name ∷ (values ++ codes "--random" ∷ random ∷ [])) × ArePlainWords values × IsPlainWord random)
+
+-- The line of a `make` with its format at the end, or behind that the file of random bytes. None of the values looks
+-- like an option.
+pub record IsFormattedLine (words : List (List ℕ)) (state public spec : List ℕ) (version : Version)
+    (random : List ℕ) : Type 0 where
+  pub format : List ℕ
+  pub plain : ArePlainWords (state ∷ public ∷ spec ∷ format ∷ random ∷ [])
+  pub format_is : format_in format ≡ Some version
+  pub words_are : ((words ≡ codes "make" ∷ state ∷ public ∷ spec ∷ codes "--format" ∷ format ∷ [])
+      × (random ≡ default_random))
+      ⊎ (words ≡ codes "make" ∷ state ∷ public ∷ spec ∷ codes "--format" ∷ format ∷ codes "--random" ∷ random ∷ [])
+
+-- .. or without one: a key of version 2 is made then
+abbrev pub IsMakeLine : List (List ℕ) → (state public spec : List ℕ) → Version → (random : List ℕ) → Type 0
+IsMakeLine words state public spec version random =
+    ((version ≡ Two) × IsLineWithOption words (codes "make") (state ∷ public ∷ spec ∷ []) random)
+    ⊎ IsFormattedLine words state public spec version random
 
 -- The line of an audit with an anchor at its end. None of the values looks like an option.
 pub record IsAnchoredLine (words : List (List ℕ)) (state : List ℕ) (anchor : Anchor) : Type 0 where
@@ -222,13 +258,12 @@ abbrev pub IsAuditLine : List (List ℕ) → (state : List ℕ) → Option Ancho
 IsAuditLine words state None = IsCommandLine words (codes "audit") (state ∷ [])
 IsAuditLine words state (Some anchor) = IsAnchoredLine words state anchor
 
--- The line of a task as help shows it: `make STATE PUBLIC SPEC [--random FILE]`,
+-- The line of a task as help shows it: `make STATE PUBLIC SPEC [--format N] [--random FILE]`,
 -- `sign STATE NAME MESSAGE OUT [--random FILE]`, `verify PUBLIC MESSAGE SIGNATURE`, `retire STATE UPTO`,
--- `audit STATE [--count K --tag T]`, `audit-given PUBLIC FILES..` with a pair of files at least, or
--- `serve STATE [--random FILE]`.
+-- `audit STATE [--count K --tag T]`, `audit-given PUBLIC FILES..` with a pair of files at least,
+-- `serve STATE [--random FILE]`, or `migrate OLD NEW`.
 abbrev pub IsShownLineOf : List (List ℕ) → Task → Type 0
-IsShownLineOf words (make state public spec random) =
-    IsLineWithOption words (codes "make") (state ∷ public ∷ spec ∷ []) random
+IsShownLineOf words (make state public spec version random) = IsMakeLine words state public spec version random
 IsShownLineOf words (sign state name message out random) =
     IsLineWithOption words (codes "sign") (state ∷ name ∷ message ∷ out ∷ []) random
 IsShownLineOf words (verify public message signature) = IsLineOf words (verify public message signature)
@@ -237,11 +272,13 @@ IsShownLineOf words (audit state anchor) = IsAuditLine words state anchor
 IsShownLineOf words (audit_given public files) =
     (files ≢ []) × IsCommandLine words (codes "audit-given") (public ∷ paths_of files)
 IsShownLineOf words (serve state random) = IsLineWithOption words (codes "serve") (state ∷ []) random
+IsShownLineOf words (migrate old new) = IsLineOf words (migrate old new)
 
 -- the kind of error that a usage fault is
 abbrev pub usage_kind : UsageFault → ErrorKind
 usage_kind Command = kind.MissingSubcommand
 usage_kind Number = kind.ValueValidation
+usage_kind usage.Format = kind.ValueValidation
 usage_kind usage.Count = kind.ValueValidation
 usage_kind usage.Tag = kind.ValueValidation
 usage_kind usage.Anchor = kind.MissingRequiredArgument
@@ -252,8 +289,8 @@ usage_kind usage.Pairs = kind.WrongNumberOfValues
 -- A task whose answer is reported is served so. Those of `serve` are replies.
 abbrev pub ServesTask : {K R : Type 0} {bound : _} → disk.Ghosts K → store.Ghosts (FileStore K bound) → source.Ghosts R
     → FilesSeen K → Task → Result Done Refusal → List Happening → List Happening → Type 0
-ServesTask d g r files (make state public spec random) answer old new =
-    MakesIn d g r files state public spec random answer old new
+ServesTask d g r files (make state public spec version random) answer old new =
+    MakesIn d g r files state public spec version random answer old new
 ServesTask d g r files (sign state name message out random) answer old new =
     SignsIn d g r files state name message out random answer old new
 ServesTask d g r files (verify public message signature) answer old new =
@@ -263,3 +300,4 @@ ServesTask d g r files (audit state anchor) answer old new = AuditsIn d files st
 ServesTask d g r files (audit_given public pairs) answer old new =
     ChecksIn files.content public pairs answer old new
 ServesTask d g r files (serve state random) answer old new = ⊥
+ServesTask d g r files (migrate from to) answer old new = MigratesIn d files from to answer old new

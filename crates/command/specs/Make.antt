@@ -1,60 +1,86 @@
--- `make STATE PUBLIC SPEC [--random FILE]`: its words, and what it does.
+-- `make STATE PUBLIC SPEC [--format N] [--random FILE]`: its words, and what it does.
 use Rattle.std.specs.Prelude.{◌≡◌, ◌≢◌, ◌⊎◌, ◌++◌, ◌∷◌, [], ℕ, List, codes, Option, Some, None, Result, Ok, Err}
 use Rattle.clap.specs.Words.{App, Text, new_app, with_rule}
 use Rattle.typecodes.specs.declared.spec.Spec.{Spec}
 use Rattle.typecodes.specs.Spec.{IsSpec, spec_text}
+use Rattle.typecodes.specs.Types.{named}
 use Rattle.sign_core.specs.declared.source.Source as source
 use Rattle.sign_core.specs.Records.{key_in}
 use Rattle.sign_core.specs.Signer.{View}
 use Rattle.state_file.specs.declared.disk.Disk as disk
+use Rattle.state_file.specs.declared.record.Version.{Version}
 use Rattle.state_file.specs.declared.store.Store as store
 use Rattle.state_file.specs.declared.store.file_store.FileStore.{FileStore}
 use Rattle.state_file.specs.FileStore.{disk_of}
+use Rattle.state_file.specs.Slot.{version_code, versions}
 use Rattle.command.specs.declared.answer.Done.{Done}
 use Rattle.command.specs.declared.answer.Done.TheVariants.{Made}
+use Rattle.command.specs.declared.line.UsageFault.{UsageFault}
+use Rattle.command.specs.declared.line.UsageFault.TheVariants.{Command, Format}
 use Rattle.command.specs.declared.make.Make.{Make}
 use Rattle.command.specs.declared.refusal.Refusal.{Refusal}
 use Rattle.command.specs.declared.refusal.Refusal.TheVariants.{BadSpec, FileFailed}
 use Rattle.command.specs.declared.trace.Role.TheVariants as role
-use Rattle.command.specs.Argument.{random_rule, required_rule}
+use Rattle.command.specs.Argument.{default_rule, random_rule, required_rule}
 use Rattle.command.specs.FileDisk.{IsStateRefusal}
 use Rattle.command.specs.Files.{FilesSeen, KeepsOtherContents, ShowsContent}
 use Rattle.command.specs.KeyFile.{MakesOn, refused_with}
+use Rattle.command.specs.Number.{number_in}
 use Rattle.command.specs.Signing.{PublicBytes, Publishes}
 use Rattle.command.specs.Trace.{Happening, made, making, not_opened, opened}
 
+-- the format where the line names none: version 2 of the state file
+abbrev pub default_format : List ℕ
+default_format = codes "2"
+
 -- the command
 abbrev pub make_app : App
-make_app = with_rule (with_rule (with_rule (with_rule (new_app (codes "make")) (required_rule (codes "STATE")))
-    (required_rule (codes "PUBLIC"))) (required_rule (codes "SPEC"))) random_rule
+make_app = with_rule (with_rule (with_rule (with_rule (with_rule (new_app (codes "make"))
+    (required_rule (codes "STATE"))) (required_rule (codes "PUBLIC"))) (required_rule (codes "SPEC")))
+    (default_rule (codes "format") default_format)) random_rule
 
--- What the values of the words say: three files and a spec; or one of the four isn't given.
-abbrev pub IsMake : (state public spec random : Option Text) → Option Make → Type 0
-IsMake state public spec random (Some words) = (state ≡ Some words.state.now) × (public ≡ Some words.public.now)
-    × (spec ≡ Some words.spec.now) × (random ≡ Some words.random.now)
-IsMake state public spec random None = (state ≡ None) ⊎ (public ≡ None) ⊎ (spec ≡ None) ⊎ (random ≡ None)
+-- the version of the state file with this number
+abbrev pub version_numbered : Option ℕ → Option Version
+version_numbered (Some number) = named version_code versions number
+version_numbered None = None
 
--- A key was made on a disk, and only then its public key written to its file; or one of the two was refused, which is
--- reported. Where no key was made, the public key's file wasn't opened. Afterwards the disk is what the signer, or the
--- refusal, has of it.
+-- the version that a format names, by its number: 1 or 2
+abbrev pub format_in : Text → Option Version
+format_in text = version_numbered (number_in 2 text)
+
+-- What the values of the words say: three files, a spec and a version; or one of the five isn't given, or the format
+-- names no version.
+abbrev pub IsMake : (state public spec format random : Option Text) → Result Make UsageFault → Type 0
+IsMake state public spec format random (Ok words) = (state ≡ Some words.state.now) × (public ≡ Some words.public.now)
+    × (spec ≡ Some words.spec.now) × ((text : Text) × (format ≡ Some text) × (format_in text ≡ Some words.version))
+    × (random ≡ Some words.random.now)
+IsMake state public spec format random (Err Format) = (state ≢ None) × (public ≢ None) × (spec ≢ None)
+    × ((text : Text) × (format ≡ Some text) × (format_in text ≡ None)) × (random ≢ None)
+IsMake state public spec format random (Err Command) =
+    (state ≡ None) ⊎ (public ≡ None) ⊎ (spec ≡ None) ⊎ (format ≡ None) ⊎ (random ≡ None)
+IsMake state public spec format random (Err _) = ⊥
+
+-- A key of a version was made on a disk, and only then its public key written to its file; or one of the two was
+-- refused, which is reported. Where no key was made, the public key's file wasn't opened. Afterwards the disk is what
+-- the signer, or the refusal, has of it.
 abbrev pub MakesAndPublishes : {K R : Type 0} {bound : _} → disk.Ghosts K → store.Ghosts (FileStore K bound)
-    → source.Ghosts R → (before after : K) → Spec → (random : R) → (public : List ℕ) → Result PublicBytes Refusal
-    → (old new : List Happening) → Type 0
-MakesAndPublishes {K} {R} {bound} d g r before after spec random public answer old new =
+    → source.Ghosts R → (before after : K) → Version → Spec → (random : R) → (public : List ℕ)
+    → Result PublicBytes Refusal → (old new : List Happening) → Type 0
+MakesAndPublishes {K} {R} {bound} d g r before after version spec random public answer old new =
     ((refusal : Refusal) × (answer ≡ Err refusal) × (new ≡ old)
-    × MakesOn {bound = bound} d g r before spec random (Err (refused_with refusal after)))
-    ⊎ ((signer : View (FileStore K bound) R) × MakesOn d g r before spec random (Ok signer)
+    × MakesOn {bound = bound} d g r before version spec random (Err (refused_with refusal after)))
+    ⊎ ((signer : View (FileStore K bound) R) × MakesOn d g r before version spec random (Ok signer)
     × Publishes (key_in signer.records) public old new answer × (after ≡ disk_of signer.store))
 
 -- On the disk of a state file that was opened: the file of random bytes was, whose bytes this source gives, and a key
--- made and published; or it can't be opened, and the disk is as it was.
+-- of a version made and published; or it can't be opened, and the disk is as it was.
 abbrev pub MakesOpened : {K R : Type 0} {bound : _} → disk.Ghosts K → store.Ghosts (FileStore K bound)
-    → source.Ghosts R → (content : List ℕ → Option (List ℕ)) → (before after : K) → Spec → (public random : List ℕ)
-    → Result PublicBytes Refusal → (old new : List Happening) → Type 0
-MakesOpened {K} {R} {bound} d g r content before after spec public random answer old new =
+    → source.Ghosts R → (content : List ℕ → Option (List ℕ)) → (before after : K) → Version → Spec
+    → (public random : List ℕ) → Result PublicBytes Refusal → (old new : List Happening) → Type 0
+MakesOpened {K} {R} {bound} d g r content before after version spec public random answer old new =
     ((answer ≡ Err FileFailed) × (after ≡ before) × (new ≡ old ++ not_opened role.Random random ∷ []))
     ⊎ ((source : R) × ShowsContent (content random) (r.upcoming source)
-    × MakesAndPublishes {bound = bound} d g r before after spec source public answer
+    × MakesAndPublishes {bound = bound} d g r before after version spec source public answer
     (old ++ opened role.Random random ∷ []) new)
 
 -- the answer, for what came of making a key
@@ -63,22 +89,25 @@ make_answer (Ok bytes) = Ok (Made bytes)
 make_answer (Err refusal) = Err refusal
 
 -- The state file at this path couldn't be opened or made, or is locked, which is reported. Or it was opened, and made
--- where there was none; on the disk that this gave a key was made, once, and it was closed; what came of it is the
--- answer. The content of the file of random bytes is known where it is another than the state file.
+-- where there was none; on the disk that this gave a key of a version was made, once, and it was closed; what came of
+-- it is the answer. The content of the file of random bytes is known where it is another than the state file.
 abbrev pub MakesAt : {K R : Type 0} {bound : _} → disk.Ghosts K → store.Ghosts (FileStore K bound) → source.Ghosts R
-    → FilesSeen K → Spec → (state public random : List ℕ) → Result Done Refusal → (old new : List Happening) → Type 0
-MakesAt {K} {R} {bound} d g r files spec state public random answer old new =
+    → FilesSeen K → Version → Spec → (state public random : List ℕ) → Result Done Refusal
+    → (old new : List Happening) → Type 0
+MakesAt {K} {R} {bound} d g r files version spec state public random answer old new =
     ((refusal : Refusal) × IsStateRefusal refusal × (answer ≡ Err refusal)
     × (new ≡ old ++ making {A = K} state (Err refusal) ∷ []))
     ⊎ ((before after : K) × (content : List ℕ → Option (List ℕ)) × (published : Result PublicBytes Refusal)
-    × KeepsOtherContents state files.content content × files.IsOpenedDisk before
-    × MakesOpened {bound = bound} d g r content before after spec public random published (old ++ made state ∷ []) new
-    × files.IsClosedDisk after × (answer ≡ make_answer published))
+    × KeepsOtherContents state files.content content × files.IsOpenedDisk state before
+    × MakesOpened {bound = bound} d g r content before after version spec public random published
+    (old ++ made state ∷ []) new × files.IsClosedDisk after × (answer ≡ make_answer published))
 
--- The words were refused as none of a spec, and no file was opened; or they are this spec's, for which a key was made.
+-- The words were refused as none of a spec, and no file was opened; or they are this spec's, for which a key of the
+-- version was made.
 abbrev pub MakesIn : {K R : Type 0} {bound : _} → disk.Ghosts K → store.Ghosts (FileStore K bound) → source.Ghosts R
-    → FilesSeen K → (state public spec random : List ℕ) → Result Done Refusal → (old new : List Happening) → Type 0
-MakesIn {K} {R} {bound} d g r files state public text random answer old new =
+    → FilesSeen K → (state public spec : List ℕ) → Version → (random : List ℕ) → Result Done Refusal
+    → (old new : List Happening) → Type 0
+MakesIn {K} {R} {bound} d g r files state public text version random answer old new =
     (((spec : Spec) → IsSpec spec → text ≢ spec_text spec) × (answer ≡ Err BadSpec) × (new ≡ old))
     ⊎ ((spec : Spec) × IsSpec spec × (text ≡ spec_text spec)
-    × MakesAt {bound = bound} d g r files spec state public random answer old new)
+    × MakesAt {bound = bound} d g r files version spec state public random answer old new)

@@ -60,7 +60,7 @@ Helps text old new status = ((status ≡ 0) × WritesText text old new) ⊎ ((st
 
 -- the line of the program's name and version
 abbrev pub version_line : List ℕ
-version_line = codes "hbsign 0.1.0\n"
+version_line = codes "hbsign 0.2.0\n"
 
 -- A text was written, or the output failed.
 abbrev pub Says : List ℕ → Taken → Taken → Type 0

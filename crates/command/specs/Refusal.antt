@@ -4,7 +4,7 @@ use Rattle.std.specs.declared.io.ErrorKind.TheVariants as kind
 use Rattle.command.specs.declared.refusal.Refusal.{Refusal}
 use Rattle.command.specs.declared.refusal.Refusal.TheVariants.{OutOfMemory, FileFailed, Key, Signature}
 use Rattle.command.specs.declared.refusal.Refusal.TheVariants.{Signer, Opening, Preparing, Audit, Given, Locked}
-use Rattle.command.specs.declared.refusal.Refusal.TheVariants.{BadName, BadSpec, Serving}
+use Rattle.command.specs.declared.refusal.Refusal.TheVariants.{BadName, BadSpec, Migration, Serving}
 use Rattle.sign_core.specs.declared.fault.ServeFault.{ServeFault}
 use Rattle.sign_core.specs.declared.fault.ServeFault.TheVariants as serve
 use Rattle.sign_core.specs.declared.fault.SignFault.{SignFault}
@@ -20,6 +20,9 @@ use Rattle.state_file.specs.declared.file.opening.OpenFault.{OpenFault}
 use Rattle.state_file.specs.declared.file.opening.OpenFault.TheVariants as opening
 use Rattle.state_file.specs.declared.file.format.FormatFault.{FormatFault}
 use Rattle.state_file.specs.declared.file.format.FormatFault.TheVariants as preparing
+use Rattle.state_file.specs.declared.migration.MigrateFault.{MigrateFault}
+use Rattle.state_file.specs.declared.migration.MigrateFault.TheVariants as migrate
+use Rattle.state_file.specs.MigrateFault.{number_of as migrate_number}
 use Rattle.std.specs.Prelude.{ℕ, length, List, codes, [], ◌++◌, decimal}
 use Rattle.typecodes.specs.Fault.{cause_number}
 use Rattle.typecodes.specs.Refusal.{refusal_number}
@@ -49,6 +52,7 @@ signer_name_of sign.OutOfMemory = codes "OutOfMemory"
 signer_name_of sign.LedgerFull = codes "LedgerFull"
 signer_name_of sign.Moved = codes "Moved"
 signer_name_of sign.RetireRange = codes "RetireRange"
+signer_name_of sign.LongName = codes "LongName"
 signer_name_of sign.NoKey = codes "NoKey"
 signer_name_of (sign.Unreadable slot) = codes "Damaged"
 signer_name_of (sign.Illegal slot) = codes "Illegal"
@@ -99,6 +103,19 @@ given_name_of (given.NotValid place) = codes "NotValid"
 given_name_of (given.LeafTwice first second) = codes "LeafTwice"
 given_name_of given.OutOfMemory = codes "OutOfMemory"
 
+-- .. of a migration's fault
+abbrev pub migrate_name_of : MigrateFault → List ℕ
+migrate_name_of migrate.Stopped = codes "Stopped"
+migrate_name_of migrate.NoKey = codes "NoKey"
+migrate_name_of migrate.NotKeyFile = codes "NotKeyFile"
+migrate_name_of migrate.Version = codes "Version"
+migrate_name_of (migrate.Damaged slot) = codes "Damaged"
+migrate_name_of (migrate.Illegal slot) = codes "Illegal"
+migrate_name_of migrate.DeviceFailed = codes "DeviceFailed"
+migrate_name_of migrate.OutOfMemory = codes "OutOfMemory"
+migrate_name_of migrate.KeyThere = codes "KeyThere"
+migrate_name_of migrate.Full = codes "Full"
+
 -- .. of what breaks off a serving of requests
 abbrev pub serve_name_of : ServeFault → List ℕ
 serve_name_of serve.MessageRead = codes "MessageRead"
@@ -115,6 +132,7 @@ number_of (Opening fault) = open_number_of fault
 number_of (Preparing fault) = format_number_of fault
 number_of (Audit fault) = audit_number fault
 number_of (Given fault) = given_number fault
+number_of (Migration fault) = migrate_number fault
 number_of (Serving fault) = serve_number_of fault
 number_of OutOfMemory = 46
 number_of FileFailed = 53
@@ -144,6 +162,7 @@ name_of (Opening fault) = open_name_of fault
 name_of (Preparing fault) = format_name_of fault
 name_of (Audit fault) = audit_name_of fault
 name_of (Given fault) = given_name_of fault
+name_of (Migration fault) = migrate_name_of fault
 name_of (Serving fault) = serve_name_of fault
 name_of OutOfMemory = codes "OutOfMemory"
 name_of FileFailed = codes "FileFailed"
@@ -166,6 +185,8 @@ detail_of (Signer (sign.Illegal slot)) = codes " slot " ++ decimal slot
 detail_of (Opening (opening.Damaged slot)) = codes " slot " ++ decimal slot
 detail_of (Audit (audit.Damaged slot)) = codes " slot " ++ decimal slot
 detail_of (Audit (audit.Illegal slot)) = codes " slot " ++ decimal slot
+detail_of (Migration (migrate.Damaged slot)) = codes " slot " ++ decimal slot
+detail_of (Migration (migrate.Illegal slot)) = codes " slot " ++ decimal slot
 detail_of (Given (given.NotValid place)) = codes " file " ++ decimal place
 detail_of (Given (given.LeafTwice first second)) =
     codes " files " ++ decimal first ++ codes " " ++ decimal second

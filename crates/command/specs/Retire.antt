@@ -48,6 +48,6 @@ abbrev pub RetiresIn : {K : Type 0} {bound : _} → disk.Ghosts K → store.Ghos
 RetiresIn {K} d g files state upto answer old new =
     ((refusal : Refusal) × IsStateRefusal refusal × (answer ≡ Err refusal)
     × (new ≡ old ++ opening_state {A = K} state (Err refusal) ∷ []))
-    ⊎ ((before after : K) × (retired : Result Unit Refusal) × files.IsOpenedDisk before
+    ⊎ ((before after : K) × (retired : Result Unit Refusal) × files.IsOpenedDisk state before
     × RetiresOn d g before after upto retired × files.IsClosedDisk after
     × (answer ≡ retire_answer upto retired) × (new ≡ old ++ opened role.State state ∷ []))

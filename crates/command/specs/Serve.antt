@@ -47,7 +47,7 @@ ServesIn {K} {R} {I} {W} {bound} d g r m contents files state random from to ser
     ((refusal : Refusal) × IsStateRefusal refusal × (served ≡ Err refusal) × (to ≡ from)
     × (new ≡ old ++ opening_state {A = K} state (Err refusal) ∷ []))
     ⊎ ((before after : K) × (content : List ℕ → Option (List ℕ))
-    × KeepsContents files.content content × files.IsOpenedDisk before
+    × KeepsContents files.content content × files.IsOpenedDisk state before
     × ServesOpened {bound = bound} d g r m contents content before after random from to served
     (old ++ opened role.State state ∷ []) new
     × files.IsClosedDisk after)

@@ -119,7 +119,7 @@ SignsAt {K} {R} {bound} d g r files state name message out random answer old new
     ((refusal : Refusal) × IsStateRefusal refusal × (answer ≡ Err refusal)
     × (new ≡ old ++ opening_state {A = K} state (Err refusal) ∷ []))
     ⊎ ((before after : K) × (content : List ℕ → Option (List ℕ)) × (signed : Result ℕ Refusal)
-    × KeepsContents files.content content × files.IsOpenedDisk before
+    × KeepsContents files.content content × files.IsOpenedDisk state before
     × SignsOpened {bound = bound} d g r content before after name message out random signed
     (old ++ opened role.State state ∷ []) new
     × files.IsClosedDisk after × (answer ≡ sign_answer name signed))

@@ -8,7 +8,7 @@ use Rattle.sign_core.specs.Key.{KeyHasFault, KeyLeavesMessage, KeyVerdict, Spell
 use Rattle.command.specs.declared.refusal.Refusal.{Refusal}
 use Rattle.command.specs.declared.refusal.Refusal.TheVariants.{Key, Signature, OutOfMemory, FileFailed}
 use Rattle.command.specs.declared.refusal.Refusal.TheVariants.{Signer, Opening, Preparing, Audit, Given, Locked}
-use Rattle.command.specs.declared.refusal.Refusal.TheVariants.{Serving}
+use Rattle.command.specs.declared.refusal.Refusal.TheVariants.{Migration, Serving}
 use Rattle.command.specs.declared.refusal.Refusal.TheVariants.{BadName, BadSpec}
 use Rattle.std.specs.declared.io.ErrorKind.{ErrorKind}
 use Rattle.command.specs.declared.trace.Role.{Role}
@@ -59,6 +59,7 @@ Judgement public message signature (Err (Preparing fault)) = ⊥
 Judgement public message signature (Err (Audit fault)) = ⊥
 Judgement public message signature (Err (Given fault)) = ⊥
 Judgement public message signature (Err (Serving fault)) = ⊥
+Judgement public message signature (Err (Migration fault)) = ⊥
 Judgement public message signature (Err Locked) = ⊥
 Judgement public message signature (Err BadName) = ⊥
 Judgement public message signature (Err BadSpec) = ⊥
@@ -77,6 +78,7 @@ AnswersFiles public message signature (Err (Preparing fault)) = ⊥
 AnswersFiles public message signature (Err (Audit fault)) = ⊥
 AnswersFiles public message signature (Err (Given fault)) = ⊥
 AnswersFiles public message signature (Err (Serving fault)) = ⊥
+AnswersFiles public message signature (Err (Migration fault)) = ⊥
 AnswersFiles public message signature (Err Locked) = ⊥
 AnswersFiles public message signature (Err BadName) = ⊥
 AnswersFiles public message signature (Err BadSpec) = ⊥
@@ -106,6 +108,7 @@ AnswerLeaves step remaining public text old new (Err (Preparing fault)) = ⊥
 AnswerLeaves step remaining public text old new (Err (Audit fault)) = ⊥
 AnswerLeaves step remaining public text old new (Err (Given fault)) = ⊥
 AnswerLeaves step remaining public text old new (Err (Serving fault)) = ⊥
+AnswerLeaves step remaining public text old new (Err (Migration fault)) = ⊥
 AnswerLeaves step remaining public text old new (Err Locked) = ⊥
 AnswerLeaves step remaining public text old new (Err BadName) = ⊥
 AnswerLeaves step remaining public text old new (Err BadSpec) = ⊥

@@ -11,7 +11,7 @@ use crate::refusal::Refusal;
 use arrayvec::ArrayVec;
 use key_audit::{AuditFault, GivenFault, Report};
 use sign_core::{ServeFault, SignFault};
-use state_file::{FormatFault, OpenFault};
+use state_file::{FormatFault, MigrateFault, OpenFault};
 use std::io;
 use typecodes::{Name, Refusal as SignatureRefusal};
 
@@ -30,6 +30,8 @@ pub enum Done {
     Audited(ArrayVec<u8, 68>, Report),
     /// So many signatures of a key are valid, and no leaf signed two digests.
     Checked(usize),
+    /// So many records of a key go on in a new state file.
+    Migrated(u32),
 }
 
 impl Done {
@@ -63,6 +65,10 @@ impl Done {
                     count,
                     Part::Text(" signatures, no leaf twice\n"),
                 ])
+            }
+            Done::Migrated(count) => {
+                let count = Part::Number(u64::from(*count));
+                output.print(&[Part::Text("migrated "), count, Part::Text(" records\n")])
             }
         }
     }
@@ -162,6 +168,7 @@ fn status(answer: &Answer) -> u8
             | Refusal::Preparing(FormatFault::DeviceFailed)
             | Refusal::Audit(AuditFault::DeviceFailed | AuditFault::OutOfMemory)
             | Refusal::Given(GivenFault::OutOfMemory)
+            | Refusal::Migration(MigrateFault::DeviceFailed | MigrateFault::OutOfMemory)
             | Refusal::Serving(ServeFault::MessageRead | ServeFault::WriteFailed)
             | Refusal::Signer(
                 SignFault::RandomFailed

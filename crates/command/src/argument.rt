@@ -2,7 +2,7 @@
 
 ghost use Rattle.std.specs.Prelude.{◌≡◌, false};
 ghost use Rattle.clap.specs.Words.{rule_of};
-ghost use Rattle.command.specs.Argument.{option_rule, random_rule, required_rule, several_rule};
+ghost use Rattle.command.specs.Argument.{default_rule, option_rule, random_rule, required_rule, several_rule};
 
 use crate::random_file::DEFAULT_RANDOM;
 use clap::Arg;
@@ -38,14 +38,30 @@ pub fn option<'a>(alloc: Global, name: &'a str, value: &'a str, help: &'a str) -
         .help(help)
 }
 
+/// An option with a value, which is this one where the line gives none. The value has this name in help.
+pub fn option_or<'a>(
+    alloc: Global,
+    name: &'a str,
+    value: &'a str,
+    help: &'a str,
+    default: &'a str,
+) -> Arg<'a>
+    ensures rule { rule_of result ≡ default_rule name.now default.now }
+    ensures own { result.global ≡ false }
+{
+    option(alloc, name, value, help).default_value(default)
+}
+
 /// `--random FILE`, which is the system's random device where it isn't given.
 pub fn random_file<'a>(alloc: Global) -> Arg<'a>
     ensures rule { rule_of result ≡ random_rule }
     ensures own { result.global ≡ false }
 {
-    Arg::new(alloc, "random")
-        .long("random")
-        .value_name("FILE")
-        .help("File of random bytes, read from its beginning")
-        .default_value(DEFAULT_RANDOM)
+    option_or(
+        alloc,
+        "random",
+        "FILE",
+        "File of random bytes, read from its beginning",
+        DEFAULT_RANDOM,
+    )
 }

@@ -75,6 +75,15 @@ pub trait Outlet: Traced {
         ensures err { IfErr result (λ refusal. refusal ≡ Refusal.FileFailed) };
 }
 
+/// What a state file that is opened or made is to take.
+#[derive(Clone, Copy, Debug, PartialEq, Eq)]
+pub enum NewContent {
+    /// A key that is made: in place of fewer bytes than a key has, or of as many whose first gate is closed.
+    Key,
+    /// The records of another file: in place of whatever has no open first gate.
+    Records,
+}
+
 /// Where the commands of a signer have their files.
 pub trait SignerFolder<'a>: LineFiles<'a> + Outlet {
     /// The disk over a state file.
@@ -83,10 +92,10 @@ pub trait SignerFolder<'a>: LineFiles<'a> + Outlet {
     /// The source over a file of random bytes.
     type Random: Source + Drop;
 
-    // this is a disk as opening a state file gives it
-    ghost is_opened: { Self.Disk → Type 0 };
+    // this is a disk as opening the state file at a path gives it
+    ghost is_opened: { List ℕ → Self.Disk → Type 0 };
 
-    // the state file that was closed last had this disk
+    // a state file that was closed had this disk
     ghost is_closed: { Self → Self.Disk → Type 0 };
 
     /// Opens the state file at this very path for reading and writing, and locks it without waiting. It is a regular
@@ -94,29 +103,34 @@ pub trait SignerFolder<'a>: LineFiles<'a> + Outlet {
     fn open_state(&mut self, path: &'a str) -> Result<Self::Disk, Refusal>
         ensures trace { Self.trace self.new ≡ Self.trace self.old ++ opening_state path.now result ∷ [] }
         ensures content { KeepsContents (Self.content self.old) (Self.content self.new) }
-        ensures opened { IfOk result is_opened }
+        ensures opened { IfOk result (is_opened path.now) }
         ensures err { IfErr result IsStateRefusal };
 
     /// The same, but that it is opened for reading alone: its disk refuses each write.
     fn open_state_to_read(&mut self, path: &'a str) -> Result<Self::Disk, Refusal>
         ensures trace { Self.trace self.new ≡ Self.trace self.old ++ opening_state_to_read path.now result ∷ [] }
         ensures content { KeepsContents (Self.content self.old) (Self.content self.new) }
-        ensures opened { IfOk result is_opened }
+        ensures opened { IfOk result (is_opened path.now) }
         ensures err { IfErr result IsStateRefusal };
 
-    /// Opens the state file for reading and writing as `open_state` does, and makes it where there is none. A file in
-    /// which a key may be made is one that its owner alone may read and write, and its name stays: its folder is
+    /// Opens the state file for reading and writing as `open_state` does, and makes it where there is none. A file that
+    /// may take the new content is one that its owner alone may read and write, and its name stays: its folder is
     /// synced.
-    fn open_or_make_state(&mut self, path: &'a str) -> Result<Self::Disk, Refusal>
+    fn open_or_make_state(
+        &mut self,
+        path: &'a str,
+        content: NewContent,
+    ) -> Result<Self::Disk, Refusal>
         ensures trace { Self.trace self.new ≡ Self.trace self.old ++ making path.now result ∷ [] }
         ensures content { KeepsOtherContents path.now (Self.content self.old) (Self.content self.new) }
-        ensures opened { IfOk result is_opened }
+        ensures opened { IfOk result (is_opened path.now) }
         ensures err { IfErr result IsStateRefusal };
 
     /// Closes a state file, which frees its lock.
     fn close_state(&mut self, disk: Self::Disk)
         ensures trace { Self.trace self.new ≡ Self.trace self.old }
-        ensures closed { is_closed self.new disk };
+        ensures closed { is_closed self.new disk }
+        ensures stays { (other : Self.Disk) → is_closed self.old other → is_closed self.new other };
 
     /// Opens the file of random bytes at this very path. The source gives its bytes from the first on.
     fn open_random(&mut self, path: &'a str) -> Result<Self::Random, Refusal>

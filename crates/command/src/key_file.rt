@@ -2,14 +2,14 @@
 
 ghost use Rattle.std.specs.Prelude.{◌≡◌, vec_capacity};
 ghost use Rattle.state_file.specs.FileStore.{disk_of};
-ghost use Rattle.command.specs.KeyFile.{AuditsOn, MakesOn, OpensOn, RetiresOn, ServesOn, SignsFor, SignsOn};
-ghost use Rattle.command.specs.KeyFile.{audit_reported, serve_reported};
+ghost use Rattle.command.specs.KeyFile.{AuditsOn, MakesOn, MigratesOn, OpensOn, RetiresOn, ServesOn, SignsFor, SignsOn};
+ghost use Rattle.command.specs.KeyFile.{audit_reported, migrate_reported, serve_reported};
 
 use crate::refusal::Refusal;
 use crate::signing;
 use key_audit::{Anchor, AuditFault, Report};
 use sign_core::{ServeFault, SignFault, Signer, Source, TapeSource};
-use state_file::{Disk, FileStore, Refused, Store};
+use state_file::{Disk, FileStore, MigrateFault, Refused, Store, Version};
 use std::alloc::Global;
 use std::io::Write;
 use typecodes::{Message, Name, Spec};
@@ -63,17 +63,18 @@ pub fn retire<D: Disk + Drop>(alloc: Global, disk: D, upto: u32) -> (D, Result<(
     }
 }
 
-/// Makes a key on a disk that has none, and gives the signer of it. A refusal hands the disk back.
+/// Makes a key of a version on a disk that has none, and gives the signer of it. A refusal hands the disk back.
 pub fn make<D: Disk + Drop, R: Source + Drop>(
     alloc: Global,
     disk: D,
+    version: Version,
     spec: Spec,
     random: R,
 ) -> Result<Signer<FileStore<D>, R>, Refused<D, Refusal>>
-    ensures { MakesOn D.Disk ⟦<FileStore<D> as Store>⟧ R.Source disk spec random result }
+    ensures { MakesOn D.Disk ⟦<FileStore<D> as Store>⟧ R.Source disk version spec random result }
 {
     match FileStore::format(disk) {
-        Ok(store) => match Signer::create(alloc, spec, store, random) {
+        Ok(store) => match Signer::create_in(alloc, version, spec, store, random) {
             Ok(signer) => Ok(signer),
             Err(refused) => Err(handed_back(refused)),
         },
@@ -179,5 +180,23 @@ fn reported(audited: Result<Report, AuditFault>) -> Result<Report, Refusal>
     match audited {
         Ok(report) => Ok(report),
         Err(fault) => Err(Refusal::Audit(fault)),
+    }
+}
+
+/// Migrates the records of a key from the old disk to the new one, and gives both back, with how many the new one has.
+pub fn migrate<D: Disk + Drop>(alloc: Global, old: D, new: D) -> (D, D, Result<u32, Refusal>)
+    ensures { MigratesOn D.Disk old new result.0 result.1 result.2 }
+{
+    let (old, new, migrated) = sign_core::migrate_key(alloc, old, new);
+    (old, new, migrate_reported(migrated))
+}
+
+// What a migration answers, as it is reported.
+fn migrate_reported(migrated: Result<u32, MigrateFault>) -> Result<u32, Refusal>
+    ensures { result ≡ migrate_reported migrated }
+{
+    match migrated {
+        Ok(count) => Ok(count),
+        Err(fault) => Err(Refusal::Migration(fault)),
     }
 }

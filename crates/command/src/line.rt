@@ -14,6 +14,7 @@ use crate::audit_given::AuditGiven;
 use crate::files::SignerFolder;
 use crate::line_fault::LineFault;
 use crate::make::Make;
+use crate::migrate::Migrate;
 use crate::output::Output;
 use crate::retire::Retire;
 use crate::serve::Serve;
@@ -44,6 +45,8 @@ pub enum Request<'a> {
     AuditGiven(AuditGiven<'a>),
     /// To serve requests that come on the input.
     Serve(Serve<'a>),
+    /// To move a key to a new state file.
+    Migrate(Migrate<'a>),
 }
 
 impl<'a> Request<'a> {
@@ -81,6 +84,7 @@ impl<'a> Request<'a> {
             Request::Serve(words) => {
                 report_serving(&words.answer(alloc, folder, input, output), errors)
             }
+            Request::Migrate(words) => report(&words.answer(alloc, folder), output),
         }
     }
 }
@@ -92,6 +96,8 @@ pub enum UsageFault {
     Command,
     /// UPTO is no decimal number, or too great a one.
     Number,
+    /// N of `--format` isn't 1 or 2.
+    Format,
     /// K of `--count` is no decimal number, or too great a one.
     Count,
     /// T of `--tag` isn't 64 hex digits.
@@ -109,7 +115,9 @@ impl UsageFault {
     {
         match self {
             UsageFault::Command => ErrorKind::MissingSubcommand,
-            UsageFault::Number | UsageFault::Count | UsageFault::Tag => ErrorKind::ValueValidation,
+            UsageFault::Number | UsageFault::Format | UsageFault::Count | UsageFault::Tag => {
+                ErrorKind::ValueValidation
+            }
             UsageFault::Anchor => ErrorKind::MissingRequiredArgument,
             UsageFault::Pairs => ErrorKind::WrongNumberOfValues,
         }
@@ -120,6 +128,7 @@ impl UsageFault {
         match self {
             UsageFault::Command => "no command was given",
             UsageFault::Number => "UPTO is a decimal number up to 33554432",
+            UsageFault::Format => "N of --format is 1 or 2",
             UsageFault::Count => "K of --count is a decimal number up to 2147483648",
             UsageFault::Tag => "T of --tag is 64 hex digits",
             UsageFault::Anchor => "--count and --tag are given together, or neither is",
@@ -129,7 +138,7 @@ impl UsageFault {
 }
 
 /// The program's version, as its package has it.
-pub const VERSION: &str = "0.1.0";
+pub const VERSION: &str = "0.2.0";
 
 /// What reads lines, and counts how often it is refused memory.
 pub trait LineReader {
@@ -221,7 +230,8 @@ fn hbsign<'a>(alloc: Global) -> Result<Command<'a>, AllocError>
         .subcommand(Retire::command(alloc)?)?
         .subcommand(Audit::command(alloc)?)?
         .subcommand(AuditGiven::command(alloc)?)?
-        .subcommand(Serve::command(alloc)?)
+        .subcommand(Serve::command(alloc)?)?
+        .subcommand(Migrate::command(alloc)?)
 }
 
 // The program, before its commands.
@@ -264,8 +274,8 @@ fn find_fixed_request<'a>(name: &str, words: &ArgMatches<'a>) -> Result<Request<
 {
     match name {
         Make::NAME => match Make::of(words) {
-            Some(words) => Ok(Request::Make(words)),
-            None => Err(UsageFault::Command),
+            Ok(words) => Ok(Request::Make(words)),
+            Err(fault) => Err(fault),
         },
         Sign::NAME => match Sign::of(words) {
             Some(words) => Ok(Request::Sign(words)),
@@ -285,6 +295,10 @@ fn find_fixed_request<'a>(name: &str, words: &ArgMatches<'a>) -> Result<Request<
         },
         Serve::NAME => match Serve::of(words) {
             Some(words) => Ok(Request::Serve(words)),
+            None => Err(UsageFault::Command),
+        },
+        Migrate::NAME => match Migrate::of(words) {
+            Some(words) => Ok(Request::Migrate(words)),
             None => Err(UsageFault::Command),
         },
         _ => Err(UsageFault::Command),

@@ -2,12 +2,12 @@
 
 ghost use Rattle.std.specs.Prelude.{◌≡◌, ◌++◌, ◌∷◌, [], List, None, IfErr, IfOk, ⊤};
 ghost use Rattle.std.specs.Io.{ReadsAtMost};
-ghost use Rattle.command.specs.FileDisk.{file_of};
+ghost use Rattle.command.specs.FileDisk.{file_of, opened_at};
 ghost use Rattle.command.specs.Trace.{Happening, opening};
 
 use crate::file_disk::FileDisk;
 use crate::file_id::{FileId, KeptFiles};
-use crate::files::{Folder, LineFiles, OpenFile, Outlet, SignerFolder};
+use crate::files::{Folder, LineFiles, NewContent, OpenFile, Outlet, SignerFolder};
 use crate::key_start::has_key;
 use crate::random_file::RandomFile;
 use crate::refusal::Refusal;
@@ -333,7 +333,7 @@ impl<'a, R: Files<File = File>> SignerFolder<'a> for Machine<'a, R> {
     type Random = RngSource<RandomFile<MachineFile<'a>>>;
 
     // nothing happened to it yet; what else holds of a disk over a file of the machine isn't known
-    ghost is_opened = { λ disk. file_of disk ≡ [] };
+    ghost is_opened = { λ path disk. file_of disk ≡ opened_at path };
 
     ghost is_closed = { λ _ _. ⊤ };
 
@@ -369,8 +369,12 @@ impl<'a, R: Files<File = File>> SignerFolder<'a> for Machine<'a, R> {
         }
     }
 
-    fn open_or_make_state(&mut self, path: &'a str) -> Result<FileDisk<StateFile<'a>>, Refusal> {
-        match StateFile::open_or_make(&self.rt, self.standard, path) {
+    fn open_or_make_state(
+        &mut self,
+        path: &'a str,
+        content: NewContent,
+    ) -> Result<FileDisk<StateFile<'a>>, Refusal> {
+        match StateFile::open_or_make(&self.rt, self.standard, path, content) {
             Ok(file) => {
                 self.trace.note(&Event::Made(path));
                 Ok(self.disk_over(file))

@@ -12,7 +12,8 @@
 //! `program::run` is the whole program, over a reader of lines, a folder of files, an input and two outputs. It reads
 //! the line (`line`; `number` reads its numbers, `line_fault` is why one gives no request, and `texts` makes the text
 //! that says so), does what is requested (a module for each command: `make`, `sign`, `verify`, `retire`, `audit`,
-//! `audit_given` and `serve`, whose arguments `argument` has) and reports what came of it (`answer`, `refusal`).
+//! `audit_given`, `serve` and `migrate`, whose arguments `argument` has) and reports what came of it (`answer`,
+//! `refusal`).
 //! `files` has the traits by which it meets files, `machine` those of a machine (which they are: `file_id`; how one is
 //! written in place of what it has: `target`; how one with a key is known: `key_start`), `standard` its standard
 //! streams and what is said there of a call that failed, `output` is where the program writes, and `trace` is what
@@ -36,6 +37,7 @@ mod line;
 mod line_fault;
 mod machine;
 mod make;
+mod migrate;
 mod number;
 mod output;
 mod program;

@@ -1,20 +1,22 @@
-//! `make STATE PUBLIC SPEC [--random FILE]`.
+//! `make STATE PUBLIC SPEC [--format N] [--random FILE]`.
 
 ghost use Rattle.std.specs.Prelude.{◌≡◌, IfOk, codes};
 ghost use Rattle.clap.specs.declared.builder.command.Command.{Command as ClapCommand};
 ghost use Rattle.clap.specs.Words.{AddsSubcommand, app_of, first_value, found_of, with_subcommand};
 ghost use Rattle.command.specs.Files.{files_seen};
-ghost use Rattle.command.specs.Make.{IsMake, MakesAndPublishes, MakesIn, MakesOpened, make_app};
+ghost use Rattle.command.specs.Make.{IsMake, MakesAndPublishes, MakesIn, MakesOpened, format_in, make_app};
 
 use crate::answer::{Answer, Done};
-use crate::argument::{random_file, required};
-use crate::files::SignerFolder;
+use crate::argument::{option_or, random_file, required};
+use crate::files::{NewContent, SignerFolder};
 use crate::key_file;
+use crate::line::UsageFault;
+use crate::number::read_number;
 use crate::refusal::Refusal;
 use crate::signing::publish;
 use arrayvec::ArrayVec;
 use clap::{ArgMatches, Command};
-use state_file::{Disk, FileStore, Store};
+use state_file::{Disk, FileStore, Store, Version};
 use std::alloc::{AllocError, Global};
 use typecodes::Spec;
 
@@ -27,9 +29,14 @@ pub struct Make<'a> {
     pub public: &'a str,
     /// Which kind of key it is, as `lms:H5/W8`.
     pub spec: &'a str,
+    /// The version of the state file.
+    pub version: Version,
     /// The path of the file of random bytes.
     pub random: &'a str,
 }
+
+// The format where the line names none.
+const DEFAULT_FORMAT: &str = "2";
 
 impl<'a> Make<'a> {
     /// The command's name on the line.
@@ -57,33 +64,52 @@ impl<'a> Make<'a> {
                 "lms:H10/W8, hss:H10/W8,H5/W4 (1 to 8 levels, the top one first) or xmss:10. H is a height of 5, \
                          10, 15, 20 or 25, and W a width of 1, 2, 4 or 8; xmss has height 10, 16 or 20",
             ))?
+            .arg(option_or(
+                alloc,
+                "format",
+                "N",
+                "Format of the state file: 2, whose names have up to 128 bytes; or 1, whose names have up to 64, for \
+                         programs that don't read format 2",
+                DEFAULT_FORMAT,
+            ))?
             .arg(random_file(alloc))
     }
 
     /// What the words say.
-    pub fn of(matches: &ArgMatches<'a>) -> Option<Self>
+    pub fn of(matches: &ArgMatches<'a>) -> Result<Self, UsageFault>
         ensures { IsMake (first_value (found_of matches.now) (codes "STATE"))
             (first_value (found_of matches.now) (codes "PUBLIC")) (first_value (found_of matches.now) (codes "SPEC"))
-            (first_value (found_of matches.now) (codes "random")) result }
+            (first_value (found_of matches.now) (codes "format")) (first_value (found_of matches.now) (codes "random"))
+            result }
     {
-        Some(Make {
-            state: matches.get_str("STATE")?,
-            public: matches.get_str("PUBLIC")?,
-            spec: matches.get_str("SPEC")?,
-            random: matches.get_str("random")?,
-        })
+        let state = matches.get_str("STATE").ok_or(UsageFault::Command)?;
+        let public = matches.get_str("PUBLIC").ok_or(UsageFault::Command)?;
+        let spec = matches.get_str("SPEC").ok_or(UsageFault::Command)?;
+        let format = matches.get_str("format").ok_or(UsageFault::Command)?;
+        let random = matches.get_str("random").ok_or(UsageFault::Command)?;
+        match read_format(format) {
+            Some(version) => Ok(Make {
+                state,
+                public,
+                spec,
+                version,
+                random,
+            }),
+            None => Err(UsageFault::Format),
+        }
     }
 
     /// Opens the state file, which is made where there is none, makes a key in it, and writes its public key.
     pub fn answer<D: SignerFolder<'a>>(&self, alloc: Global, folder: &mut D) -> Answer
         ensures { MakesIn D.Disk.Disk ⟦<FileStore<D::Disk> as Store>⟧ D.Random.Source
             (files_seen (D.content folder.old) D.is_opened (D.is_closed folder.new)) self.now.state.now
-            self.now.public.now self.now.spec.now self.now.random.now result (D.trace folder.old) (D.trace folder.new) }
+            self.now.public.now self.now.spec.now self.now.version self.now.random.now result (D.trace folder.old)
+            (D.trace folder.new) }
     {
         let Ok(spec) = Spec::parse(self.spec) else {
             return Err(Refusal::BadSpec);
         };
-        let disk = folder.open_or_make_state(self.state)?;
+        let disk = folder.open_or_make_state(self.state, NewContent::Key)?;
         let (disk, made) = self.make_on(alloc, folder, disk, spec);
         folder.close_state(disk);
         match made {
@@ -101,32 +127,44 @@ impl<'a> Make<'a> {
         spec: Spec,
     ) -> (D::Disk, Result<ArrayVec<u8, 68>, Refusal>)
         ensures { MakesOpened D.Disk.Disk ⟦<FileStore<D::Disk> as Store>⟧ D.Random.Source (D.content folder.old) disk
-            result.0 spec self.now.public.now self.now.random.now result.1 (D.trace folder.old) (D.trace folder.new) }
+            result.0 self.now.version spec self.now.public.now self.now.random.now result.1 (D.trace folder.old)
+            (D.trace folder.new) }
     {
         match folder.open_random(self.random) {
-            Ok(random) => make_key(alloc, folder, disk, spec, random, self.public),
+            Ok(random) => self.make_key(alloc, folder, disk, spec, random),
             Err(refusal) => (disk, Err(refusal)),
+        }
+    }
+
+    // Makes a key on a disk, and then writes its public key. The disk is given back.
+    fn make_key<D: SignerFolder<'a>>(
+        &self,
+        alloc: Global,
+        folder: &mut D,
+        disk: D::Disk,
+        spec: Spec,
+        random: D::Random,
+    ) -> (D::Disk, Result<ArrayVec<u8, 68>, Refusal>)
+        ensures { MakesAndPublishes D.Disk.Disk ⟦<FileStore<D::Disk> as Store>⟧ D.Random.Source disk result.0
+            self.now.version spec random self.now.public.now result.1 (D.trace folder.old) (D.trace folder.new) }
+    {
+        match key_file::make(alloc, disk, self.version, spec, random) {
+            Ok(signer) => {
+                let published = publish(&signer, folder, self.public);
+                (signer.into_store().into_disk(), published)
+            }
+            Err(refused) => (refused.given, Err(refused.fault)),
         }
     }
 }
 
-// Makes a key on a disk, and then writes its public key. The disk is given back.
-fn make_key<'a, D: SignerFolder<'a>>(
-    alloc: Global,
-    folder: &mut D,
-    disk: D::Disk,
-    spec: Spec,
-    random: D::Random,
-    public: &str,
-) -> (D::Disk, Result<ArrayVec<u8, 68>, Refusal>)
-    ensures { MakesAndPublishes D.Disk.Disk ⟦<FileStore<D::Disk> as Store>⟧ D.Random.Source disk result.0 spec random
-        public.now result.1 (D.trace folder.old) (D.trace folder.new) }
+// The version that a format names, by its number: 1 or 2.
+fn read_format(text: &str) -> Option<Version>
+    ensures { result ≡ format_in text.now }
 {
-    match key_file::make(alloc, disk, spec, random) {
-        Ok(signer) => {
-            let published = publish(&signer, folder, public);
-            (signer.into_store().into_disk(), published)
-        }
-        Err(refused) => (refused.given, Err(refused.fault)),
+    match read_number(text.as_bytes(), 2) {
+        Some(1) => Some(Version::One),
+        Some(2) => Some(Version::Two),
+        _ => None,
     }
 }

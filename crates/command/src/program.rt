@@ -27,7 +27,7 @@ use typecodes::Message;
 pub const LINE_REFUSED: u8 = 2;
 
 // The program's name and version.
-const VERSION_LINE: &str = "hbsign 0.1.0\n";
+const VERSION_LINE: &str = "hbsign 0.2.0\n";
 
 /// Does what the words of a line request, without the program's name, and gives the exit status.
 ///

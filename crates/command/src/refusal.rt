@@ -5,12 +5,12 @@ ghost use Rattle.std.specs.IoError.{error_kind};
 ghost use Rattle.command.specs.Output.{text_of};
 ghost use Rattle.command.specs.Refusal.{detail_of, fault_name_of, name_of, number_of, refusal_line, refusal_of};
 ghost use Rattle.command.specs.Refusal.{format_name_of, format_number_of, open_name_of, open_number_of};
-ghost use Rattle.command.specs.Refusal.{audit_name_of, given_name_of, serve_name_of, signer_name_of};
+ghost use Rattle.command.specs.Refusal.{audit_name_of, given_name_of, migrate_name_of, serve_name_of, signer_name_of};
 
 use crate::output::Part;
 use key_audit::{AuditFault, GivenFault};
 use sign_core::{KeyFault, ServeFault, SignFault};
-use state_file::{FormatFault, OpenFault};
+use state_file::{FormatFault, MigrateFault, OpenFault};
 use std::io;
 use std::io::ErrorKind;
 use typecodes::{Cause, Refusal as SignatureRefusal};
@@ -22,7 +22,7 @@ pub enum Refusal {
     Key(KeyFault),
     /// 1 to 5, 10 to 12 and 14: a signature isn't verified.
     Signature(SignatureRefusal),
-    /// 21 to 32, 40, 43 to 46 and 50: the signer refuses.
+    /// 21 to 33, 40, 43 to 46 and 50: the signer refuses.
     Signer(SignFault),
     /// 40 to 43 and 45: the state file's records can't be found.
     Opening(OpenFault),
@@ -32,6 +32,8 @@ pub enum Refusal {
     Audit(AuditFault),
     /// 46, 60 and 61: signatures that were given out aren't those of a key whose leaves sign once.
     Given(GivenFault),
+    /// 26, 40 to 46, 50 and 52: the records aren't migrated.
+    Migration(MigrateFault),
     /// 27, 35 and 36: the serving of requests breaks off.
     Serving(ServeFault),
     /// 46: there is no memory.
@@ -40,7 +42,7 @@ pub enum Refusal {
     FileFailed,
     /// 54: the state file is locked.
     Locked,
-    /// 34: a name isn't 1 to 64 visible characters of ASCII.
+    /// 34: a name isn't 1 to 128 visible characters of ASCII.
     BadName,
     /// 51: a spec isn't one of those that `Spec::parse` reads.
     BadSpec,
@@ -60,6 +62,7 @@ impl Refusal {
             Refusal::Preparing(fault) => format_number(*fault),
             Refusal::Audit(fault) => fault.number(),
             Refusal::Given(fault) => fault.number(),
+            Refusal::Migration(fault) => fault.number(),
             Refusal::Serving(fault) => fault.number(),
             Refusal::OutOfMemory => 46,
             Refusal::FileFailed => 53,
@@ -86,6 +89,7 @@ impl Refusal {
             Refusal::Preparing(fault) => format_name(*fault),
             Refusal::Audit(fault) => audit_name(*fault),
             Refusal::Given(fault) => given_name(*fault),
+            Refusal::Migration(fault) => migrate_name(*fault),
             Refusal::Serving(fault) => serve_name(*fault),
             Refusal::OutOfMemory => "OutOfMemory",
             Refusal::FileFailed => "FileFailed",
@@ -112,7 +116,8 @@ impl Refusal {
                 SignFault::Damaged(slot) | SignFault::Unreadable(slot) | SignFault::Illegal(slot),
             )
             | Refusal::Opening(OpenFault::Damaged(slot))
-            | Refusal::Audit(AuditFault::Damaged(slot) | AuditFault::Illegal(slot)) => {
+            | Refusal::Audit(AuditFault::Damaged(slot) | AuditFault::Illegal(slot))
+            | Refusal::Migration(MigrateFault::Damaged(slot) | MigrateFault::Illegal(slot)) => {
                 number_detail(" slot ", u64::from(*slot))
             }
             Refusal::Given(GivenFault::NotValid(place)) => number_detail(" file ", *place as u64),
@@ -172,6 +177,7 @@ fn signer_name(fault: SignFault) -> &'static str
         SignFault::LedgerFull => "LedgerFull",
         SignFault::Moved => "Moved",
         SignFault::RetireRange => "RetireRange",
+        SignFault::LongName => "LongName",
         SignFault::NoKey => "NoKey",
         SignFault::Illegal(_) => "Illegal",
         SignFault::DeviceFailed => "DeviceFailed",
@@ -251,6 +257,24 @@ fn given_name(fault: GivenFault) -> &'static str
         GivenFault::NotValid(_) => "NotValid",
         GivenFault::LeafTwice(_, _) => "LeafTwice",
         GivenFault::OutOfMemory => "OutOfMemory",
+    }
+}
+
+// The name of a migration's fault.
+fn migrate_name(fault: MigrateFault) -> &'static str
+    ensures { result.now ≡ migrate_name_of fault }
+{
+    match fault {
+        MigrateFault::Stopped => "Stopped",
+        MigrateFault::NoKey => "NoKey",
+        MigrateFault::NotKeyFile => "NotKeyFile",
+        MigrateFault::Version => "Version",
+        MigrateFault::Damaged(_) => "Damaged",
+        MigrateFault::Illegal(_) => "Illegal",
+        MigrateFault::DeviceFailed => "DeviceFailed",
+        MigrateFault::OutOfMemory => "OutOfMemory",
+        MigrateFault::KeyThere => "KeyThere",
+        MigrateFault::Full => "Full",
     }
 }
 

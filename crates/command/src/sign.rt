@@ -56,7 +56,8 @@ impl<'a> Sign<'a> {
             .arg(required(
                 alloc,
                 "NAME",
-                "Name of what is signed, of 1 to 64 visible characters; it signs one message, however often",
+                "Name of what is signed, of 1 to 128 visible characters (64 in format 1); it signs one message, \
+                         however often",
             ))?
             .arg(required(alloc, "MESSAGE", "File of the message"))?
             .arg(required(alloc, "OUT", "File that the signature is written to"))?

@@ -7,6 +7,7 @@ ghost use Rattle.command.specs.Trace.{Happening, measured, read_at, synced, writ
 
 use crate::file_disk::{OffsetFile, kind_kept};
 use crate::file_id::FileId;
+use crate::files::NewContent;
 use crate::refusal::Refusal;
 use crate::standard::Standard;
 use crate::trace::{Event, Trace};
@@ -45,11 +46,13 @@ pub struct StateFile<'a> {
     trace: Trace,
 }
 
-// Contracts see what happened to it.
+// Contracts see its path, and what happened to it.
 impl<'a> Model for StateFile<'a> {
-    ghost Value = { List Happening };
+    ghost use Rattle.command.specs.FileDisk.{OpenedState};
 
-    ghost view = { λ file. file.trace.events };
+    ghost Value = { OpenedState };
+
+    ghost view = { λ file. record { path = file.path.now; happenings = file.trace.events } };
 }
 
 impl<'a> StateFile<'a> {
@@ -60,7 +63,7 @@ impl<'a> StateFile<'a> {
         path: &'a str,
         access: Access,
     ) -> Result<Self, Refusal>
-        ensures { OpensState result }
+        ensures { OpensState path.now result }
     {
         // It is looked at before it is opened, too: opening a device may do something.
         let found = standard.told(path, "can't be opened", fs::metadata(rt, path))?;
@@ -78,15 +81,16 @@ impl<'a> StateFile<'a> {
         )
     }
 
-    /// Opens it for reading and writing, and makes it where there is none. Where a key may be made in it, its owner
+    /// Opens it for reading and writing, and makes it where there is none. Where it may take the new content, its owner
     /// alone may read and write it from then on. Its folder is synced, so that the file's name stays: it may have been
     /// made by a run that was stopped.
     pub fn open_or_make<R: Files<File = File>>(
         rt: &R,
         standard: &'a Standard,
         path: &'a str,
+        content: NewContent,
     ) -> Result<Self, Refusal>
-        ensures { OpensState result }
+        ensures { OpensState path.now result }
     {
         let made = OpenOptions::new()
             .read(true)
@@ -104,14 +108,14 @@ impl<'a> StateFile<'a> {
                 standard.told(path, "can't be opened", made)?,
             )?,
         };
-        file.make_private()?;
+        file.make_private(content)?;
         sync_folder(rt, standard, path)?;
         Ok(file)
     }
 
     // The file that was opened, locked for this process alone. Nothing happened to it yet.
     fn lock(standard: &'a Standard, path: &'a str, file: File) -> Result<Self, Refusal>
-        ensures { OpensState result }
+        ensures { OpensState path.now result }
     {
         let found = standard.told(path, "can't be opened", file.metadata())?;
         if !found.is_file() {
@@ -128,7 +132,11 @@ impl<'a> StateFile<'a> {
                 trace: Trace::new(),
             }),
             Err(TryLockError::WouldBlock) => {
-                standard.tell_reason(path, "can't be locked", "another process has locked it");
+                standard.tell_reason(
+                    path,
+                    "can't be locked",
+                    "it is locked already, by another process or by this one",
+                );
                 Err(Refusal::Locked)
             }
             Err(TryLockError::Error(error)) => {
@@ -138,20 +146,19 @@ impl<'a> StateFile<'a> {
         }
     }
 
-    // Lets its owner alone read and write it, if a key may be made in it: one that has a key, or anything else of more
-    // bytes, is refused later, and keeps its mode.
-    fn make_private(&self) -> Result<(), Refusal>
+    // Lets its owner alone read and write it, if it may take this content: one that is refused later keeps its mode.
+    fn make_private(&self, content: NewContent) -> Result<(), Refusal>
         ensures { IfErr result (λ refusal. refusal ≡ Refusal.FileFailed) }
     {
-        if !self.may_take_a_key()? {
+        if !self.may_take(content)? {
             return Ok(());
         }
         let set = self.file.set_permissions(Permissions::from_mode(PRIVATE));
         self.standard.told(self.path, "its mode can't be set", set)
     }
 
-    // Whether it has fewer bytes than a key, or as many with a closed gate.
-    fn may_take_a_key(&self) -> Result<bool, Refusal>
+    // Whether it has fewer bytes than a key, or a closed gate and as many; records take the place of more bytes, too.
+    fn may_take(&self, content: NewContent) -> Result<bool, Refusal>
         ensures { IfErr result (λ refusal. refusal ≡ Refusal.FileFailed) }
     {
         let found = self.standard.told(
@@ -159,8 +166,11 @@ impl<'a> StateFile<'a> {
             "its length can't be read",
             self.file.metadata(),
         )?;
-        if found.len() != KEY_ALONE {
-            return Ok(found.len() < KEY_ALONE);
+        if found.len() < KEY_ALONE {
+            return Ok(true);
+        }
+        if found.len() > KEY_ALONE && content == NewContent::Key {
+            return Ok(false);
         }
         let mut gate = [0; 1];
         self.standard.told(self.path, "can't be read", self.file.read_at(&mut gate, 0))?;
@@ -192,7 +202,7 @@ fn not_regular(standard: &Standard, path: &str) -> Refusal
 }
 
 impl OffsetFile for StateFile<'_> {
-    ghost trace = { λ file. file };
+    ghost trace = { λ file. file.happenings };
 
     fn len(&mut self) -> io::Result<u64> {
         let answer = match self.file.metadata() {

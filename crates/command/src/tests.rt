@@ -5,6 +5,7 @@ mod failures;
 mod key_files;
 mod key_lines;
 mod lines;
+mod migrating;
 mod place;
 mod randoms;
 mod retiring;

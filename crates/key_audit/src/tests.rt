@@ -2,7 +2,7 @@
 
 use crate::*;
 use sign_core::{AnyPublic, Signer, Source, SourceFault, TapeSource};
-use state_file::{Disk, FileStore, MemoryDisk, MemoryStore, Store};
+use state_file::{Disk, FileStore, MemoryDisk, MemoryStore, Store, Version};
 use std::alloc::Global;
 use typecodes::{Name, Spec};
 
@@ -37,9 +37,10 @@ impl Source for Numbers {
     }
 }
 
-// The signer of a new key in a store, by this source.
+// The signer of a new key of a version in a store, by this source.
 fn created<S: Store + Drop, R: Source + Drop>(
     alloc: Global,
+    version: Version,
     spec: &str,
     store: S,
     random: R,
@@ -47,7 +48,7 @@ fn created<S: Store + Drop, R: Source + Drop>(
     if store.limit() == 0 {
         return None;
     }
-    Signer::create(alloc, Spec::parse(spec).ok()?, store, random).ok()
+    Signer::create_in(alloc, version, Spec::parse(spec).ok()?, store, random).ok()
 }
 
 // Signs a message of this byte under a name.
@@ -79,15 +80,16 @@ fn sign_letters<S: Store, R: Source>(
     Some(())
 }
 
-// The same by a new key in a store: the key, and the store then.
+// The same by a new key of a version in a store: the key, and the store then.
 fn sign<S: Store + Drop, R: Source + Drop>(
     alloc: Global,
+    version: Version,
     (spec, letters, byte): (&str, &[u8], Option<u8>),
     store: S,
     random: R,
     given: &mut Vec<Given>,
 ) -> Option<(AnyPublic, S)> {
-    let mut signer = created(alloc, spec, store, random)?;
+    let mut signer = created(alloc, version, spec, store, random)?;
     sign_letters(alloc, &mut signer, (letters, byte), given)?;
     let public = signer.public_key();
     Some((public, signer.into_store()))
@@ -125,7 +127,8 @@ fn signatures_of(
         let tape = tape_of(shared, other)?;
         let store = MemoryStore::with_limit(alloc, 100);
         let random = TapeSource::new(&tape);
-        let (public, _store) = sign(alloc, (spec, letters, None), store, random, &mut given)?;
+        let signing = (spec, letters, None);
+        let (public, _store) = sign(alloc, Version::One, signing, store, random, &mut given)?;
         key = key.or(Some(public));
     }
     change(&mut given, changed)?;

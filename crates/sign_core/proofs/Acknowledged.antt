@@ -14,7 +14,7 @@ use Rattle.sign_core.specs.Records.{first_illegal, has_moved, key_in, leaves_of_
 use Rattle.sign_core.specs.Textbook.{public_in}
 use Rattle.sign_core.specs.World.{Creation, Event, Fate, Opening, Outcome, State, World, acked, after, appended, begun, create, created_after}
 use Rattle.sign_core.specs.World.{cut_new, cut_old, new_key, no_memory, opened_by, opened_on, published, reopen, request, retire, retired_under}
-use Rattle.sign_core.specs.World.{secret_from, stop}
+use Rattle.sign_core.specs.World.{secret_from, stop, migrate}
 use Rattle.sign_core.proofs.Ends.{Ends, ended_request}
 
 -- where the signer is open, its records are those acknowledged
@@ -39,7 +39,7 @@ all_published records None = λ is. refl
 all_begun : (state : State) (chance : Creation) (secret : Option Secret) → AreAll (begun state chance secret)
 all_begun state chance None = λ is. refl
 all_begun state chance (Some secret) = all_choice chance.has_room _ _
-    (all_append state (KeyRecord (new_key secret)) chance.fate _ (λ records. all_published records (public_in (new_key secret)))) (λ is. refl)
+    (all_append state (KeyRecord (new_key chance.version secret)) chance.fate _ (λ records. all_published records (public_in (new_key chance.version secret)))) (λ is. refl)
 
 all_created : (failed : Option SignFault) (state : State) (spec : Spec) (chance : Creation) → AreAll (created_after failed state spec chance)
 all_created (Some fault) state spec chance = λ is. refl
@@ -82,4 +82,5 @@ open_acknowledged limit world (reopen chance) = all_opened world.state chance (f
 open_acknowledged limit world (request name chance) =
     ended_request AreAll all_requested limit world.state name chance (λ key keyed level tree slot damaged is. refl) (λ is. refl)
 open_acknowledged limit world (retire upto fate) = all_retired limit world.state upto fate (key_in world.state.records)
+open_acknowledged limit world (migrate fate) = λ is. refl
 open_acknowledged limit world stop = λ is. refl

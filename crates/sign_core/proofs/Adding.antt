@@ -1,18 +1,19 @@
 -- What an append comes to for a signer, and for its store at any moment.
 use Rattle.std.proofs.Common.{◌≡◌, ◌⊎◌, ℕ, ◌+◌, ◌<◌, ◌≤◌, Bool, true, false, not, List, [], ◌∷◌, ◌++◌, length, Some, Ok, Err, refl}
-use Rattle.std.proofs.Common.{sym, ap, ◌∙◌, subst, arith, ⊎_elim, inl, inr, IsTrue, true≢false}
+use Rattle.std.proofs.Common.{sym, ap, ◌∙◌, subst, arith, ⊎_elim, inl, inr, IsTrue, true≢false, ltb-false}
 use Rattle.std.specs.Prelude.{take}
 use Rattle.std.proofs.Math.Seq.{take-length}
 use Rattle.std.proofs.lemmas.List.{take_at}
+use Rattle.std.proofs.lemmas.Option.{same_Some}
 use Rattle.std.proofs.Common.{append-nil}
 use Rattle.state_file.specs.declared.record.Record.{Record}
 use Rattle.state_file.specs.declared.store.Store as store
 use Rattle.state_file.specs.Disk.{LeavesOnly}
 use Rattle.state_file.specs.Laws.{IsLegal}
-use Rattle.state_file.specs.Store.{WhileRunning}
+use Rattle.state_file.specs.Store.{WhileRunning, CanFollow}
 use Rattle.state_file.proofs.Moments.{weaker}
 use Rattle.sign_core.specs.declared.fault.SignFault.{SignFault}
-use Rattle.sign_core.specs.declared.fault.SignFault.TheVariants.{RandomRepeated, MessageRead, Moved as MovedFault, RetireRange, NoKey, Illegal, DeviceFailed}
+use Rattle.sign_core.specs.declared.fault.SignFault.TheVariants.{RandomRepeated, MessageRead, Moved as MovedFault, RetireRange, LongName, NoKey, Illegal, DeviceFailed}
 use Rattle.sign_core.specs.declared.fault.SignFault.TheVariants.{NoMemoryToOpen}
 use Rattle.sign_core.specs.declared.fault.SignFault.TheVariants.{Changed, Exhausted, RandomFailed, StoreFailed, Stopped, Damaged, OutOfMemory, LedgerFull}
 use Rattle.sign_core.specs.declared.fault.SignFault.TheVariants.{Unreadable, KeyThere}
@@ -20,11 +21,12 @@ use Rattle.sign_core.specs.Fault.{closes}
 use Rattle.sign_core.specs.Once.{IsBeginning}
 use Rattle.sign_core.specs.Caches.{Cached}
 use Rattle.sign_core.specs.Signer.{IsSigner, view_of, Adds, IsAppended, IsTied, LeavesEither, LeavesOld, UsesMemory, View}
-use Rattle.sign_core.specs.Records.{can_follow, key_in}
+use Rattle.sign_core.specs.Records.{can_follow, key_in, is_long}
 use Rattle.sign_core.specs.Ledger.{Grows, Table, TakesMemory}
 use Rattle.sign_core.specs.Textbook.{AllHaveSizes, HasSizes, SecretHasSizes}
 use Rattle.state_file.specs.Laws.{levels_of}
 use Rattle.state_file.specs.declared.record.Key.{Key}
+use Rattle.state_file.specs.declared.record.Record.TheVariants.{Key as KeyRecord, Extend as ExtendRecord, Bound as BoundRecord, Retire, Moved}
 use Rattle.state_file.specs.declared.record.Secret.{Secret}
 use Rattle.state_file.specs.declared.record.Secret.TheVariants.{Lms, Hss, Xmss}
 use Rattle.sign_core.proofs.Follow.{key_stays}
@@ -32,6 +34,8 @@ use Rattle.sign_core.proofs.Legal.{grows as legal_grows}
 use Rattle.sign_core.proofs.Sizes.{key_has_sizes}
 use Rattle.sign_core.proofs.Stays.{old_or_new}
 use Rattle.sign_core.specs.World.{acked, cut_old, cut_new, no_memory}
+use Rattle.state_file.specs.Slot.{FitsVersion, version_in, name_most}
+use Rattle.state_file.specs.declared.record.Bound.{Bound}
 
 -- what a stop leaves of a store between two calls: its list
 abbrev pub LeavesItsList : {S : Type 0} → store.Ghosts S → S → Type 0
@@ -183,6 +187,7 @@ adds_err g old new entry RandomRepeated was tied is records is_open random memor
 adds_err g old new entry MessageRead was tied is records is_open random memory untaken = absurd is.stored
 adds_err g old new entry MovedFault was tied is records is_open random memory untaken = absurd is.stored
 adds_err g old new entry RetireRange was tied is records is_open random memory untaken = absurd is.stored
+adds_err g old new entry LongName was tied is records is_open random memory untaken = absurd is.stored
 adds_err g old new entry NoKey was tied is records is_open random memory untaken = absurd is.stored
 adds_err g old new entry DeviceFailed was tied is records is_open random memory untaken = absurd is.stored
 adds_err g old new entry NoMemoryToOpen was tied is records is_open random memory untaken = absurd is.stored
@@ -252,3 +257,36 @@ levels_range records key n sizes keyed is = by_secret key.secret (key_has_sizes 
     by_secret (Lms pair identifier seed) sized is = (omega (arith, is), omega (arith, is))
     by_secret (Hss levels identifier seed) sized is = (omega (arith, is, sized.2.0), omega (arith, is, sized.2.1))
     by_secret (Xmss tree secret_seed prf_key public_seed) sized is = (omega (arith, is), omega (arith, is))
+
+-- ---- what an append wants
+
+-- records that are some go on with one that their file can hold
+follows_some : (records : List Record) (entry : Record) → 0 < length records → FitsVersion (version_in records) entry → CanFollow records entry
+follows_some [] entry some fits = absurd (omega (arith, some))
+follows_some (first ∷ rest) entry some fits = fits
+
+-- so does an honest store of them
+pub follows_tied : {S : Type 0} (g : store.Ghosts S) (kept_in : S) (records : List Record) (entry : Record) (key : Key) → key_in records ≡ Some key
+    → IsTied g kept_in records → FitsVersion (version_in records) entry → IsTrue (g.honest kept_in) → CanFollow (g.list kept_in) entry
+follows_tied g kept_in records entry key keyed tied fits honest =
+    subst (λ list. CanFollow list entry) (sym (tied.same honest)) (follows_some records entry (some_records records key keyed) fits)
+
+-- none go on with a Key
+pub follows_none : (list : List Record) (key : Key) → length list ≡ 0 → CanFollow list (KeyRecord key)
+follows_none [] key none = refl
+follows_none (first ∷ rest) key none = absurd (omega (arith, none))
+
+-- the version of records is that of their key
+pub version_of_key : (records : List Record) (key : Key) → key_in records ≡ Some key → version_in records ≡ key.version
+version_of_key [] key is = absurd (cc)
+version_of_key (KeyRecord own ∷ rest) key is = ap (λ (k : Key). k.version) (same_Some own key is)
+version_of_key (ExtendRecord extend ∷ rest) key is = absurd (cc)
+version_of_key (BoundRecord bound ∷ rest) key is = absurd (cc)
+version_of_key (Retire upto ∷ rest) key is = absurd (cc)
+version_of_key (Moved ∷ rest) key is = absurd (cc)
+
+-- a name that isn't too long is one that a file of the records can hold
+pub name_fits : (records : List Record) (key : Key) (bound : Bound) → key_in records ≡ Some key → is_long key bound.name ≡ false
+    → FitsVersion (version_in records) (BoundRecord bound)
+name_fits records key bound keyed short =
+    subst (λ v. length bound.name ≤ name_most v) (sym (version_of_key records key keyed)) (ltb-false (name_most key.version) (length bound.name) short)

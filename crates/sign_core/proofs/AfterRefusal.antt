@@ -416,12 +416,12 @@ retires limit state upto fate (Some key) =
 
 module _ (state : State) (spec : Spec) (chance : Creation) (can : IsSpec spec) (are : AreFields (key_sizes spec) chance.fields) where
   abbrev QuietHere : Outcome AnyPublic → Type 0
-  QuietHere outcome = QuietIn state.records (IsDrawnKey spec chance.fields outcome.drawn) outcome
+  QuietHere outcome = QuietIn state.records (IsDrawnKey chance.version spec chance.fields outcome.drawn) outcome
 
   -- the Key of the secret of these fields
   abbrev IsKeyOf : Record → Type 0
   IsKeyOf entry =
-      (secret : Secret) × (secret_from spec chance.fields ≡ Some secret) × (entry ≡ KeyRecord (new_key secret))
+      (secret : Secret) × (secret_from spec chance.fields ≡ Some secret) × (entry ≡ KeyRecord (new_key chance.version secret))
 
   published_never : (records : List Record) (found : Option AnyPublic) (public : AnyPublic) → found ≡ Some public → IsRefusal (published records found) → ⊥
   published_never records (Some other) public is refusal = cc (refusal.1)
@@ -444,7 +444,7 @@ module _ (state : State) (spec : Spec) (chance : Creation) (can : IsSpec spec) (
       → QuietIn state.records IsKeyOf (begun state chance found)
   begins None is = plain state _
   begins (Some secret) is =
-      let key = new_key secret in
+      let key = new_key chance.version secret in
       let (public, has) = public_made secret key.root (secret_sizes spec chance.fields secret can are is) in
       let next = λ (all : List Record). published all (public_in key) in
       choice state.records chance.has_room _ _
@@ -468,9 +468,9 @@ module _ (state : State) (spec : Spec) (chance : Creation) (can : IsSpec spec) (
       by_fate key cut_new = refl
       by_fate key no_memory = refl
 
-      by_room : (has_room : Bool) → (if has_room then appended state (KeyRecord (new_key secret)) chance.fate
-          (λ records. published records (public_in (new_key secret))) else refused state OutOfMemory).drawn ≡ []
-      by_room true = by_fate (new_key secret) chance.fate
+      by_room : (has_room : Bool) → (if has_room then appended state (KeyRecord (new_key chance.version secret)) chance.fate
+          (λ records. published records (public_in (new_key chance.version secret))) else refused state OutOfMemory).drawn ≡ []
+      by_room true = by_fate (new_key chance.version secret) chance.fate
       by_room false = refl
 
   quiet_choice : (test : Bool) (x y : Outcome AnyPublic) → QuietHere x → QuietHere y → QuietHere (if test then x else y)

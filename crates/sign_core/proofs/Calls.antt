@@ -13,7 +13,7 @@ use Rattle.sign_core.specs.Once.{AllEvents, AreDraws, AreDrawsOf, AreFields, IsB
 use Rattle.sign_core.specs.Records.{first_illegal, key_in}
 use Rattle.sign_core.specs.Textbook.{public_in}
 use Rattle.sign_core.specs.World.{Chance, Event, Opening, State, World, after, beginning, create, opened_by, opened_on, published, reopen}
-use Rattle.sign_core.specs.World.{request, retire, run, stop}
+use Rattle.sign_core.specs.World.{request, retire, run, stop, migrate}
 use Rattle.sign_core.proofs.Acknowledged.{open_acknowledged}
 use Rattle.sign_core.proofs.Events.{kept_by_run}
 use Rattle.sign_core.proofs.OnceParts.{once}
@@ -49,6 +49,7 @@ stop_left limit world (reopen chance) left can is =
     (whole_left world.state.records _ left (opened_reaches world.state chance (first_illegal world.state.records)) is)
 stop_left limit world (request name chance) left can is = stop_law.requests limit world name chance left can is
 stop_left limit world (retire upto fate) left can is = stop_law.retires limit world upto fate left is
+stop_left limit world (migrate fate) left can is = left_by_stop limit world left (whole_left world.state.records world.state.records left refl is)
 stop_left limit world stop left can is = left_by_stop limit world left (whole_left world.state.records world.state.records left refl is)
 
 step_run : (limit : ℕ) (world : World) (step : Step) → IsStep limit world step → IsRun limit world (stepped limit world step)

@@ -15,7 +15,7 @@ use Rattle.state_file.specs.Store.{Collects, WhileRunning}
 use Rattle.state_file.proofs.Moments.{combined}
 use Rattle.sign_core.specs.declared.key.AnyPublic.{AnyPublic}
 use Rattle.sign_core.specs.declared.fault.SignFault.{SignFault}
-use Rattle.sign_core.specs.declared.fault.SignFault.TheVariants.{RandomRepeated, MessageRead, Moved, RetireRange, NoKey, Illegal, DeviceFailed, NoMemoryToOpen}
+use Rattle.sign_core.specs.declared.fault.SignFault.TheVariants.{RandomRepeated, MessageRead, Moved, RetireRange, LongName, NoKey, Illegal, DeviceFailed, NoMemoryToOpen}
 use Rattle.sign_core.specs.declared.fault.SignFault.TheVariants.{Changed, Exhausted, RandomFailed, StoreFailed, Stopped, Damaged, OutOfMemory, LedgerFull}
 use Rattle.sign_core.specs.declared.fault.SignFault.TheVariants.{Unreadable, KeyThere}
 use Rattle.sign_core.specs.declared.source.Source as source
@@ -29,6 +29,7 @@ use Rattle.sign_core.specs.Textbook.{public_in}
 use Rattle.sign_core.proofs.Adding.{moments_kept, moments_left}
 use Rattle.sign_core.proofs.Drawing.{provides_none}
 use Rattle.sign_core.proofs.Sizes.{spec_public}
+use Rattle.state_file.specs.declared.record.Version.{Version}
 
 -- ---- refused before the append
 
@@ -55,15 +56,16 @@ drawn_from [] before after none = tt
 drawn_from (first ∷ rest) before after none = absurd (omega (arith, none))
 
 -- a create that ends with its look at the store
-refused_first : {S R : Type 0} (g : store.Ghosts S) (r : source.Ghosts R) (spec : Spec) (old new : S) (random : R) (fault : SignFault)
+refused_first : {S R : Type 0} (g : store.Ghosts S) (r : source.Ghosts R) (version : Version) (spec : Spec) (old new : S) (random : R) (fault : SignFault)
     (failed : Option SignFault) → LooksForKey {A = Unit {0}} g old new (Err fault) → LoadFails failed (g.list old) (g.stopped old) (g.honest old)
-    → created (closed_on (g.list old)) spec (record { failed_load = failed; fields = []; has_room = true; fate = acked })
+    → created (closed_on (g.list old)) spec (record { version = version; failed_load = failed; fields = []; has_room = true; fate = acked })
     ≡ refused (closed_on (g.list old)) fault
     → Counts {A = AnyPublic} is_store_failed (g.failures old) (g.failures new) (Err fault)
     → Counts {A = AnyPublic} is_random_failed (r.failures random) (r.failures random) (Err fault)
-    → MakesKey g r spec old new random random (IsAnsweredByKey (Err fault))
-refused_first g r spec old new random fault failed is load step failures unfailed = record {
-  chance = record { failed_load = failed; fields = []; has_room = true; fate = acked };
+    → MakesKey g r version spec old new random random (IsAnsweredByKey (Err fault))
+refused_first g r version spec old new random fault failed is load step failures unfailed = record {
+  chance = record { version = version; failed_load = failed; fields = []; has_room = true; fate = acked };
+  of_version = refl;
   outcome = refused (closed_on (g.list old)) fault;
   step = step;
   answer = refl;
@@ -80,56 +82,58 @@ refused_first g r spec old new random fault failed is load step failures unfaile
   stays = is.stays;
 }
 
-there_step : (list : List Record) (spec : Spec) → 1 ≤ length list
-    → created (closed_on list) spec (record { failed_load = None; fields = []; has_room = true; fate = acked }) ≡ refused (closed_on list) KeyThere
-there_step list spec some =
-    let chance : Creation = record { failed_load = None; fields = []; has_room = true; fate = acked } in
+there_step : (version : Version) (list : List Record) (spec : Spec) → 1 ≤ length list
+    → created (closed_on list) spec (record { version = version; failed_load = None; fields = []; has_room = true; fate = acked }) ≡ refused (closed_on list) KeyThere
+there_step version list spec some =
+    let chance : Creation = record { version = version; failed_load = None; fields = []; has_room = true; fate = acked } in
     let state = closed_on list in
     let there : nat_le 1 (length list) ≡ true = grind (arith, nat_tests) in
     ap (λ (is : Bool). if is then refused {A = AnyPublic} state KeyThere else drawing [] (begun state chance (secret_from spec []))) there
 
-pub looked : {S R : Type 0} (g : store.Ghosts S) (r : source.Ghosts R) (spec : Spec) (old new : S) (random : R) (fault : SignFault)
-    → LooksForKey {A = Unit {0}} g old new (Err fault) → MakesKey g r spec old new random random (IsAnsweredByKey (Err fault))
-looked g r spec old new random KeyThere is =
-    refused_first g r spec old new random KeyThere None is is.finds.0 (there_step (g.list old) spec is.finds.1) is.finds.2 refl
-looked g r spec old new random Stopped is = refused_first g r spec old new random Stopped (Some Stopped) is is.finds.0 refl is.finds.1 refl
-looked g r spec old new random (Unreadable slot) is =
-    refused_first g r spec old new random (Unreadable slot) (Some (Unreadable slot)) is (is.finds.0, is.finds.1, is.finds.2, is.finds.3) refl is.finds.4 refl
-looked g r spec old new random StoreFailed is =
-    refused_first g r spec old new random StoreFailed (Some StoreFailed) is is.finds.0 refl is.finds.1 refl
-looked g r spec old new random OutOfMemory is =
-    refused_first g r spec old new random OutOfMemory (Some OutOfMemory) is is.finds.0 refl is.finds.1 refl
-looked g r spec old new random Changed is = absurd is.finds
-looked g r spec old new random Exhausted is = absurd is.finds
-looked g r spec old new random RandomFailed is = absurd is.finds
-looked g r spec old new random LedgerFull is = absurd is.finds
-looked g r spec old new random RandomRepeated is = absurd is.finds
-looked g r spec old new random MessageRead is = absurd is.finds
-looked g r spec old new random Moved is = absurd is.finds
-looked g r spec old new random RetireRange is = absurd is.finds
-looked g r spec old new random NoKey is = absurd is.finds
-looked g r spec old new random DeviceFailed is = absurd is.finds
-looked g r spec old new random NoMemoryToOpen is = absurd is.finds
-looked g r spec old new random (Damaged k) is = absurd is.finds
-looked g r spec old new random (Illegal k) is = absurd is.finds
+pub looked : {S R : Type 0} (g : store.Ghosts S) (r : source.Ghosts R) (version : Version) (spec : Spec) (old new : S) (random : R) (fault : SignFault)
+    → LooksForKey {A = Unit {0}} g old new (Err fault) → MakesKey g r version spec old new random random (IsAnsweredByKey (Err fault))
+looked g r version spec old new random KeyThere is =
+    refused_first g r version spec old new random KeyThere None is is.finds.0 (there_step version (g.list old) spec is.finds.1) is.finds.2 refl
+looked g r version spec old new random Stopped is = refused_first g r version spec old new random Stopped (Some Stopped) is is.finds.0 refl is.finds.1 refl
+looked g r version spec old new random (Unreadable slot) is =
+    refused_first g r version spec old new random (Unreadable slot) (Some (Unreadable slot)) is (is.finds.0, is.finds.1, is.finds.2, is.finds.3) refl is.finds.4 refl
+looked g r version spec old new random StoreFailed is =
+    refused_first g r version spec old new random StoreFailed (Some StoreFailed) is is.finds.0 refl is.finds.1 refl
+looked g r version spec old new random OutOfMemory is =
+    refused_first g r version spec old new random OutOfMemory (Some OutOfMemory) is is.finds.0 refl is.finds.1 refl
+looked g r version spec old new random Changed is = absurd is.finds
+looked g r version spec old new random Exhausted is = absurd is.finds
+looked g r version spec old new random RandomFailed is = absurd is.finds
+looked g r version spec old new random LedgerFull is = absurd is.finds
+looked g r version spec old new random RandomRepeated is = absurd is.finds
+looked g r version spec old new random MessageRead is = absurd is.finds
+looked g r version spec old new random Moved is = absurd is.finds
+looked g r version spec old new random RetireRange is = absurd is.finds
+looked g r version spec old new random LongName is = absurd is.finds
+looked g r version spec old new random NoKey is = absurd is.finds
+looked g r version spec old new random DeviceFailed is = absurd is.finds
+looked g r version spec old new random NoMemoryToOpen is = absurd is.finds
+looked g r version spec old new random (Damaged k) is = absurd is.finds
+looked g r version spec old new random (Illegal k) is = absurd is.finds
 
 -- a create where no record stands
-empty_step : (list : List Record) (spec : Spec) (fields : List (List ℕ)) (fate : Fate) (secret : Option Secret) → length list ≡ 0
+empty_step : (version : Version) (list : List Record) (spec : Spec) (fields : List (List ℕ)) (fate : Fate) (secret : Option Secret) → length list ≡ 0
     → secret_from spec fields ≡ secret
-    → created (closed_on list) spec (record { failed_load = None; fields = fields; has_room = true; fate = fate })
-    ≡ drawing (concat fields) (begun (closed_on list) (record { failed_load = None; fields = fields; has_room = true; fate = fate }) secret)
-empty_step [] spec fields fate secret none is =
-    ap (λ s. drawing (concat fields) (begun (closed_on []) (record { failed_load = None; fields = fields; has_room = true; fate = fate }) s)) is
-empty_step (first ∷ rest) spec fields fate secret none is = absurd (omega (arith, none))
+    → created (closed_on list) spec (record { version = version; failed_load = None; fields = fields; has_room = true; fate = fate })
+    ≡ drawing (concat fields) (begun (closed_on list) (record { version = version; failed_load = None; fields = fields; has_room = true; fate = fate }) secret)
+empty_step version [] spec fields fate secret none is =
+    ap (λ s. drawing (concat fields) (begun (closed_on []) (record { version = version; failed_load = None; fields = fields; has_room = true; fate = fate }) s)) is
+empty_step version (first ∷ rest) spec fields fate secret none is = absurd (omega (arith, none))
 
 -- a create where the source fails
-undrawn_random : {S R : Type 0} (g : store.Ghosts S) (r : source.Ghosts R) (spec : Spec) (old mid : S) (before after : R)
+undrawn_random : {S R : Type 0} (g : store.Ghosts S) (r : source.Ghosts R) (version : Version) (spec : Spec) (old mid : S) (before after : R)
     → LooksForKey {A = Unit {0}} g old mid (Ok tt) → DrawsSecret r spec before after (Err RandomFailed)
-    → MakesKey g r spec old mid before after (IsAnsweredByKey (Err RandomFailed))
-undrawn_random g r spec old mid before after is draws = record {
-  chance = record { failed_load = None; fields = draws.fields; has_room = true; fate = acked };
+    → MakesKey g r version spec old mid before after (IsAnsweredByKey (Err RandomFailed))
+undrawn_random g r version spec old mid before after is draws = record {
+  chance = record { version = version; failed_load = None; fields = draws.fields; has_room = true; fate = acked };
+  of_version = refl;
   outcome = drawing (concat draws.fields) (refused (closed_on (g.list old)) RandomFailed);
-  step = empty_step (g.list old) spec draws.fields acked None is.finds.1 draws.drawn;
+  step = empty_step version (g.list old) spec draws.fields acked None is.finds.1 draws.drawn;
   answer = refl;
   store = keeps_old g old mid (concat draws.fields) RandomFailed is.list is.moments is.finds.3 is.honest is.most;
   stopped = is.stopped;
@@ -144,27 +148,28 @@ undrawn_random g r spec old mid before after is draws = record {
   stays = λ stopped. absurd (true≢false (sym stopped ∙ is.finds.0));
 }
 
-pub undrawn : {S R : Type 0} (g : store.Ghosts S) (r : source.Ghosts R) (spec : Spec) (old mid : S) (before after : R) (fault : SignFault)
+pub undrawn : {S R : Type 0} (g : store.Ghosts S) (r : source.Ghosts R) (version : Version) (spec : Spec) (old mid : S) (before after : R) (fault : SignFault)
     → LooksForKey {A = Unit {0}} g old mid (Ok tt) → DrawsSecret r spec before after (Err fault)
-    → MakesKey g r spec old mid before after (IsAnsweredByKey (Err fault))
-undrawn g r spec old mid before after RandomFailed is draws = undrawn_random g r spec old mid before after is draws
-undrawn g r spec old mid before after Changed is draws = absurd draws.drawn
-undrawn g r spec old mid before after Exhausted is draws = absurd draws.drawn
-undrawn g r spec old mid before after StoreFailed is draws = absurd draws.drawn
-undrawn g r spec old mid before after OutOfMemory is draws = absurd draws.drawn
-undrawn g r spec old mid before after LedgerFull is draws = absurd draws.drawn
-undrawn g r spec old mid before after Stopped is draws = absurd draws.drawn
-undrawn g r spec old mid before after KeyThere is draws = absurd draws.drawn
-undrawn g r spec old mid before after RandomRepeated is draws = absurd draws.drawn
-undrawn g r spec old mid before after MessageRead is draws = absurd draws.drawn
-undrawn g r spec old mid before after Moved is draws = absurd draws.drawn
-undrawn g r spec old mid before after RetireRange is draws = absurd draws.drawn
-undrawn g r spec old mid before after NoKey is draws = absurd draws.drawn
-undrawn g r spec old mid before after DeviceFailed is draws = absurd draws.drawn
-undrawn g r spec old mid before after NoMemoryToOpen is draws = absurd draws.drawn
-undrawn g r spec old mid before after (Damaged k) is draws = absurd draws.drawn
-undrawn g r spec old mid before after (Unreadable k) is draws = absurd draws.drawn
-undrawn g r spec old mid before after (Illegal k) is draws = absurd draws.drawn
+    → MakesKey g r version spec old mid before after (IsAnsweredByKey (Err fault))
+undrawn g r version spec old mid before after RandomFailed is draws = undrawn_random g r version spec old mid before after is draws
+undrawn g r version spec old mid before after Changed is draws = absurd draws.drawn
+undrawn g r version spec old mid before after Exhausted is draws = absurd draws.drawn
+undrawn g r version spec old mid before after StoreFailed is draws = absurd draws.drawn
+undrawn g r version spec old mid before after OutOfMemory is draws = absurd draws.drawn
+undrawn g r version spec old mid before after LedgerFull is draws = absurd draws.drawn
+undrawn g r version spec old mid before after Stopped is draws = absurd draws.drawn
+undrawn g r version spec old mid before after KeyThere is draws = absurd draws.drawn
+undrawn g r version spec old mid before after RandomRepeated is draws = absurd draws.drawn
+undrawn g r version spec old mid before after MessageRead is draws = absurd draws.drawn
+undrawn g r version spec old mid before after Moved is draws = absurd draws.drawn
+undrawn g r version spec old mid before after RetireRange is draws = absurd draws.drawn
+undrawn g r version spec old mid before after LongName is draws = absurd draws.drawn
+undrawn g r version spec old mid before after NoKey is draws = absurd draws.drawn
+undrawn g r version spec old mid before after DeviceFailed is draws = absurd draws.drawn
+undrawn g r version spec old mid before after NoMemoryToOpen is draws = absurd draws.drawn
+undrawn g r version spec old mid before after (Damaged k) is draws = absurd draws.drawn
+undrawn g r version spec old mid before after (Unreadable k) is draws = absurd draws.drawn
+undrawn g r version spec old mid before after (Illegal k) is draws = absurd draws.drawn
 
 -- ---- the append
 
@@ -193,20 +198,21 @@ old_moments g old mid new entry answer has leaves all is honest running =
     (moments_kept g mid new (g.list old) [] all leaves (λ _. has.looked.list) is (honest_mid has honest) has.looked.finds.2)
 
 -- a key whose append has this fate, with the public key that it has where it is acknowledged
-made_by_fate : {S R : Type 0} (g : store.Ghosts S) (r : source.Ghosts R) (spec : Spec) (old mid new : S) (before after : R) (secret : Secret) (fate : Fate)
+made_by_fate : {S R : Type 0} (g : store.Ghosts S) (r : source.Ghosts R) (version : Version) (spec : Spec) (old mid new : S) (before after : R) (secret : Secret) (fate : Fate)
     (outcome : Outcome AnyPublic) (answer : Result (Unit {0}) SignFault) (IsAnswer : Outcome AnyPublic → Type 0)
-    → HasAppended g old mid new (KeyRecord (new_key secret)) answer → (draws : DrawsSecret r spec before after (Ok secret))
-    → appended (closed_on (g.list old)) (KeyRecord (new_key secret)) fate (λ records. published records (public_in (new_key secret))) ≡ outcome
+    → HasAppended g old mid new (KeyRecord (new_key version secret)) answer → (draws : DrawsSecret r spec before after (Ok secret))
+    → appended (closed_on (g.list old)) (KeyRecord (new_key version secret)) fate (λ records. published records (public_in (new_key version secret))) ≡ outcome
     → outcome.drawn ≡ [] → IsAnswer (drawing (concat draws.fields) outcome) → KeepsStore g old new (g.list old) (drawing (concat draws.fields) outcome)
     → g.stopped new ≡ (is_fault is_store_failed outcome.answer || g.stopped old)
     → Counts is_random_failed (r.failures before) (r.failures after) outcome.answer
     → Counts is_out_of_memory (g.refusals old) (g.refusals new) outcome.answer
     → Collects unreadable_slot (g.unreadable old) (g.unreadable new) outcome.answer
-    → MakesKey g r spec old new before after IsAnswer
-made_by_fate g r spec old mid new before after secret fate outcome answer IsAnswer has draws step undrawn is keeps stopped failures refusals unreadable = record {
-  chance = record { failed_load = None; fields = draws.fields; has_room = true; fate = fate };
+    → MakesKey g r version spec old new before after IsAnswer
+made_by_fate g r version spec old mid new before after secret fate outcome answer IsAnswer has draws step undrawn is keeps stopped failures refusals unreadable = record {
+  chance = record { version = version; failed_load = None; fields = draws.fields; has_room = true; fate = fate };
+  of_version = refl;
   outcome = drawing (concat draws.fields) outcome;
-  step = empty_step (g.list old) spec draws.fields fate (Some secret) has.looked.finds.1 draws.drawn ∙ ap (drawing (concat draws.fields)) step;
+  step = empty_step version (g.list old) spec draws.fields fate (Some secret) has.looked.finds.1 draws.drawn ∙ ap (drawing (concat draws.fields)) step;
   answer = is;
   store = keeps;
   stopped = stopped;
@@ -226,16 +232,16 @@ alone : (list : List Record) (entry : Record) → length list ≡ 0 → list ++ 
 alone [] entry none = refl
 alone (first ∷ rest) entry none = absurd (omega (arith, none))
 
-pub made : {S R : Type 0} (g : store.Ghosts S) (r : source.Ghosts R) (spec : Spec) (old mid new : S) (before after : R) (secret : Secret) → IsSpec spec
-    → DrawsSecret r spec before after (Ok secret) → HasAppended {A = Unit {0}} g old mid new (KeyRecord (new_key secret)) (Ok tt)
-    → MakesKey g r spec old new before after (IsAnsweredByKey (Ok (new_key secret)))
-made g r spec old mid new before after secret can draws has =
-    let entry = KeyRecord (new_key secret) in
+pub made : {S R : Type 0} (g : store.Ghosts S) (r : source.Ghosts R) (version : Version) (spec : Spec) (old mid new : S) (before after : R) (secret : Secret) → IsSpec spec
+    → DrawsSecret r spec before after (Ok secret) → HasAppended {A = Unit {0}} g old mid new (KeyRecord (new_key version secret)) (Ok tt)
+    → MakesKey g r version spec old new before after (IsAnsweredByKey (Ok (new_key version secret)))
+made g r version spec old mid new before after secret can draws has =
+    let entry = KeyRecord (new_key version secret) in
     let list = g.list old ++ entry ∷ [] in
     let (public, is) = spec_public spec draws.fields secret can draws.drawn in
     let loaded = has.looked in
     let stored = has.appended in
-    made_by_fate g r spec old mid new before after secret acked (answered (open_on list) public) (Ok tt) (IsAnsweredByKey (Ok (new_key secret))) has draws
+    made_by_fate g r version spec old mid new before after secret acked (answered (open_on list) public) (Ok tt) (IsAnsweredByKey (Ok (new_key version secret))) has draws
     (ap (published list) is) refl (public, refl, is, alone (g.list old) entry loaded.finds.1)
     (record {
       list = record { more = entry ∷ []; list = stored.stored.0 ∙ ap (λ l. l ++ entry ∷ []) loaded.list; records = refl };
@@ -245,15 +251,15 @@ made g r spec old mid new before after secret can draws has =
       most = stored.most ∙ loaded.most;
     }) (stored.stored.1 ∙ sym loaded.finds.0) draws.failures (stored.refusals ∙ loaded.refusals) (stored.unreadable ∙ loaded.unreadable)
 
-made_cut : {S R : Type 0} (g : store.Ghosts S) (r : source.Ghosts R) (spec : Spec) (old mid new : S) (before after : R) (secret : Secret)
-    → (draws : DrawsSecret r spec before after (Ok secret)) → (has : HasAppended {A = Unit {0}} g old mid new (KeyRecord (new_key secret)) (Err StoreFailed))
-    → (g.list new ≡ g.list mid) ⊎ (g.list new ≡ g.list mid ++ KeyRecord (new_key secret) ∷ [])
-    → MakesKey g r spec old new before after (IsAnsweredByKey (Err StoreFailed))
-made_cut g r spec old mid new before after secret draws has (inl same) =
-    let entry = KeyRecord (new_key secret) in
+made_cut : {S R : Type 0} (g : store.Ghosts S) (r : source.Ghosts R) (version : Version) (spec : Spec) (old mid new : S) (before after : R) (secret : Secret)
+    → (draws : DrawsSecret r spec before after (Ok secret)) → (has : HasAppended {A = Unit {0}} g old mid new (KeyRecord (new_key version secret)) (Err StoreFailed))
+    → (g.list new ≡ g.list mid) ⊎ (g.list new ≡ g.list mid ++ KeyRecord (new_key version secret) ∷ [])
+    → MakesKey g r version spec old new before after (IsAnsweredByKey (Err StoreFailed))
+made_cut g r version spec old mid new before after secret draws has (inl same) =
+    let entry = KeyRecord (new_key version secret) in
     let loaded = has.looked in
     let stored = has.appended in
-    made_by_fate g r spec old mid new before after secret cut_old (cut (g.list old) entry (g.list old)) (Err StoreFailed) (IsAnsweredByKey (Err StoreFailed)) has draws
+    made_by_fate g r version spec old mid new before after secret cut_old (cut (g.list old) entry (g.list old)) (Err StoreFailed) (IsAnsweredByKey (Err StoreFailed)) has draws
     refl refl refl
     (record {
       list = record { more = []; list = same ∙ loaded.list ∙ sym (append-nil _); records = sym (append-nil _) };
@@ -262,11 +268,11 @@ made_cut g r spec old mid new before after secret draws has (inl same) =
       honest = stored.honest ∙ loaded.honest;
       most = stored.most ∙ loaded.most;
     }) stored.stored.1 draws.failures (stored.refusals ∙ loaded.refusals) (stored.unreadable ∙ loaded.unreadable)
-made_cut g r spec old mid new before after secret draws has (inr more) =
-    let entry = KeyRecord (new_key secret) in
+made_cut g r version spec old mid new before after secret draws has (inr more) =
+    let entry = KeyRecord (new_key version secret) in
     let loaded = has.looked in
     let stored = has.appended in
-    made_by_fate g r spec old mid new before after secret cut_new (cut (g.list old) entry (g.list old ++ entry ∷ [])) (Err StoreFailed)
+    made_by_fate g r version spec old mid new before after secret cut_new (cut (g.list old) entry (g.list old ++ entry ∷ [])) (Err StoreFailed)
     (IsAnsweredByKey (Err StoreFailed)) has draws refl refl refl
     (record {
       list = record { more = entry ∷ []; list = more ∙ ap (λ l. l ++ entry ∷ []) loaded.list; records = refl };
@@ -276,16 +282,16 @@ made_cut g r spec old mid new before after secret draws has (inr more) =
       most = stored.most ∙ loaded.most;
     }) stored.stored.1 draws.failures (stored.refusals ∙ loaded.refusals) (stored.unreadable ∙ loaded.unreadable)
 
-pub unmade : {S R : Type 0} (g : store.Ghosts S) (r : source.Ghosts R) (spec : Spec) (old mid new : S) (before after : R) (secret : Secret) (fault : SignFault)
-    → DrawsSecret r spec before after (Ok secret) → HasAppended {A = Unit {0}} g old mid new (KeyRecord (new_key secret)) (Err fault)
-    → MakesKey g r spec old new before after (IsAnsweredByKey (Err fault))
-unmade g r spec old mid new before after secret StoreFailed draws has =
-    made_cut g r spec old mid new before after secret draws has has.appended.stored.0
-unmade g r spec old mid new before after secret OutOfMemory draws has =
-    let entry = KeyRecord (new_key secret) in
+pub unmade : {S R : Type 0} (g : store.Ghosts S) (r : source.Ghosts R) (version : Version) (spec : Spec) (old mid new : S) (before after : R) (secret : Secret) (fault : SignFault)
+    → DrawsSecret r spec before after (Ok secret) → HasAppended {A = Unit {0}} g old mid new (KeyRecord (new_key version secret)) (Err fault)
+    → MakesKey g r version spec old new before after (IsAnsweredByKey (Err fault))
+unmade g r version spec old mid new before after secret StoreFailed draws has =
+    made_cut g r version spec old mid new before after secret draws has has.appended.stored.0
+unmade g r version spec old mid new before after secret OutOfMemory draws has =
+    let entry = KeyRecord (new_key version secret) in
     let loaded = has.looked in
     let stored = has.appended in
-    made_by_fate g r spec old mid new before after secret no_memory (refused (closed_on (g.list old)) OutOfMemory) (Err OutOfMemory)
+    made_by_fate g r version spec old mid new before after secret no_memory (refused (closed_on (g.list old)) OutOfMemory) (Err OutOfMemory)
     (IsAnsweredByKey (Err OutOfMemory)) has draws refl refl refl
     (record {
       list = record { more = []; list = stored.stored.0 ∙ loaded.list ∙ sym (append-nil _); records = sym (append-nil _) };
@@ -295,19 +301,20 @@ unmade g r spec old mid new before after secret OutOfMemory draws has =
       most = stored.most ∙ loaded.most;
     }) (stored.stored.1 ∙ sym loaded.finds.0) draws.failures (stored.refusals ∙ ap (λ n. n + 1) loaded.refusals)
     (stored.unreadable ∙ loaded.unreadable)
-unmade g r spec old mid new before after secret Changed draws has = absurd has.appended.stored
-unmade g r spec old mid new before after secret Exhausted draws has = absurd has.appended.stored
-unmade g r spec old mid new before after secret LedgerFull draws has = absurd has.appended.stored
-unmade g r spec old mid new before after secret Stopped draws has = absurd has.appended.stored
-unmade g r spec old mid new before after secret KeyThere draws has = absurd has.appended.stored
-unmade g r spec old mid new before after secret RandomRepeated draws has = absurd has.appended.stored
-unmade g r spec old mid new before after secret MessageRead draws has = absurd has.appended.stored
-unmade g r spec old mid new before after secret Moved draws has = absurd has.appended.stored
-unmade g r spec old mid new before after secret RetireRange draws has = absurd has.appended.stored
-unmade g r spec old mid new before after secret NoKey draws has = absurd has.appended.stored
-unmade g r spec old mid new before after secret DeviceFailed draws has = absurd has.appended.stored
-unmade g r spec old mid new before after secret NoMemoryToOpen draws has = absurd has.appended.stored
-unmade g r spec old mid new before after secret (Damaged k) draws has = absurd has.appended.stored
-unmade g r spec old mid new before after secret (Unreadable k) draws has = absurd has.appended.stored
-unmade g r spec old mid new before after secret (Illegal k) draws has = absurd has.appended.stored
-unmade g r spec old mid new before after secret RandomFailed draws has = absurd has.appended.stored
+unmade g r version spec old mid new before after secret Changed draws has = absurd has.appended.stored
+unmade g r version spec old mid new before after secret Exhausted draws has = absurd has.appended.stored
+unmade g r version spec old mid new before after secret LedgerFull draws has = absurd has.appended.stored
+unmade g r version spec old mid new before after secret Stopped draws has = absurd has.appended.stored
+unmade g r version spec old mid new before after secret KeyThere draws has = absurd has.appended.stored
+unmade g r version spec old mid new before after secret RandomRepeated draws has = absurd has.appended.stored
+unmade g r version spec old mid new before after secret MessageRead draws has = absurd has.appended.stored
+unmade g r version spec old mid new before after secret Moved draws has = absurd has.appended.stored
+unmade g r version spec old mid new before after secret RetireRange draws has = absurd has.appended.stored
+unmade g r version spec old mid new before after secret LongName draws has = absurd has.appended.stored
+unmade g r version spec old mid new before after secret NoKey draws has = absurd has.appended.stored
+unmade g r version spec old mid new before after secret DeviceFailed draws has = absurd has.appended.stored
+unmade g r version spec old mid new before after secret NoMemoryToOpen draws has = absurd has.appended.stored
+unmade g r version spec old mid new before after secret (Damaged k) draws has = absurd has.appended.stored
+unmade g r version spec old mid new before after secret (Unreadable k) draws has = absurd has.appended.stored
+unmade g r version spec old mid new before after secret (Illegal k) draws has = absurd has.appended.stored
+unmade g r version spec old mid new before after secret RandomFailed draws has = absurd has.appended.stored

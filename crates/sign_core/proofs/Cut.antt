@@ -10,7 +10,7 @@ use Rattle.state_file.specs.declared.record.Record.{Record}
 use Rattle.state_file.specs.declared.record.Record.TheVariants.{Key as KeyRecord, Retire}
 use Rattle.state_file.specs.declared.record.Secret.{Secret}
 use Rattle.sign_core.specs.declared.fault.SignFault.{SignFault}
-use Rattle.sign_core.specs.Records.{are_same, binding_in, deepest, has_identifier, has_moved, key_in, leaves_of_current, next_at, wanted_count}
+use Rattle.sign_core.specs.Records.{are_same, binding_in, deepest, has_identifier, has_moved, key_in, leaves_of_current, next_at, wanted_count, is_long}
 use Rattle.sign_core.specs.Textbook.{Trees, damaged_in, digest_at, public_in, tree_before, trees_of}
 use Rattle.sign_core.specs.World.{Chance, Creation, Draw, Fate, Outcome, State, acked, answered, appended, begun, bound_anew, bound_sound}
 use Rattle.sign_core.specs.World.{bound_with, created, created_after, drawing, reading}
@@ -96,7 +96,7 @@ whole_published state key records = elim (public_in key) as (λ public. (publish
 other_begun : (state : State) (chance : Creation) (secret : Option Secret) → IsOther (begun state chance secret) (begun state (turned_creation chance) secret)
 other_begun state chance None = same_outcome (refused state _) refl
 other_begun state chance (Some secret) = other_choice chance.has_room _ _ _ _
-    (other_append state (KeyRecord (new_key secret)) chance.fate _ _ (λ records. same_outcome _ (whole_published state (new_key secret) records)))
+    (other_append state (KeyRecord (new_key chance.version secret)) chance.fate _ _ (λ records. same_outcome _ (whole_published state (new_key chance.version secret) records)))
     (same_outcome (refused state _) refl)
 
 other_after : (failed : Option SignFault) (state : State) (spec : Spec) (chance : Creation)
@@ -182,7 +182,8 @@ other_repeated state key k bound chance (Some message) = other_reading _ _
 other_of : (limit : ℕ) (state : State) (key : Key) (name : List ℕ) (chance : Chance) (found : Option (ℕ × Bound))
     → IsOther (requested_of limit state key name chance found) (requested_of limit state key name (turned_chance chance) found)
 other_of limit state key name chance (Some (k, bound)) = other_repeated state key k bound chance chance.given
-other_of limit state key name chance None = other_anew limit state key name chance (deepest key.secret state.records)
+other_of limit state key name chance None = other_choice (is_long key name) _ _ _ _ (same_outcome (refused state _) refl)
+    (other_anew limit state key name chance (deepest key.secret state.records))
 
 other_under : (limit : ℕ) (state : State) (name : List ℕ) (chance : Chance) (found : Option Key)
     → IsOther (requested_under limit state name chance found) (requested_under limit state name (turned_chance chance) found)

@@ -9,7 +9,7 @@ use Rattle.state_file.specs.declared.record.Key.{Key}
 use Rattle.state_file.specs.declared.record.Record.{Record}
 use Rattle.sign_core.specs.declared.fault.SignFault.TheVariants.{Damaged}
 use Rattle.sign_core.specs.Opened.{IsDamagedFor, IsFirstDamaged}
-use Rattle.sign_core.specs.Records.{are_same, binding_in, deepest, has_moved, key_in, wanted_count}
+use Rattle.sign_core.specs.Records.{are_same, binding_in, deepest, has_moved, key_in, wanted_count, is_long}
 use Rattle.sign_core.specs.Textbook.{chain, damaged_in, digest_at, is_sound_at, tree_before}
 use Rattle.sign_core.specs.World.{Chance, Outcome, State, bound_anew, bound_sound, repeated, repeated_sound, requested, requested_of, requested_under}
 use Rattle.sign_core.proofs.Ends.{ended_fulfilled, not_damaged}
@@ -115,7 +115,9 @@ module _ (limit : ℕ) (state : State) (key : Key) (name : List ℕ) (chance : C
 
   names_of : (found : Option (ℕ × Bound)) → Names found (requested_of limit state key name chance found)
   names_of (Some (k, bound)) = names_repeated k bound chance.given
-  names_of None = names_anew (deepest key.secret state.records) refl
+  names_of None =
+      kept_choice (Names None) (is_long key name) _ _ (λ long slot answer. absurd (cc (answer)))
+      (λ short. names_anew (deepest key.secret state.records) refl)
 
   names_request : key_in state.records ≡ Some key → Names (binding_in state.records name) (requested limit state name chance)
   names_request keyed =

@@ -6,7 +6,7 @@ use Rattle.std.proofs.lemmas.List.Folds.{concat-append}
 use Rattle.typecodes.specs.declared.spec.Spec.{Spec}
 use Rattle.state_file.specs.declared.record.Secret.{Secret}
 use Rattle.sign_core.specs.declared.fault.SignFault.{SignFault}
-use Rattle.sign_core.specs.declared.fault.SignFault.TheVariants.{RandomRepeated, MessageRead, Moved, RetireRange, NoKey, Illegal, DeviceFailed, NoMemoryToOpen}
+use Rattle.sign_core.specs.declared.fault.SignFault.TheVariants.{RandomRepeated, MessageRead, Moved, RetireRange, LongName, NoKey, Illegal, DeviceFailed, NoMemoryToOpen}
 use Rattle.sign_core.specs.declared.fault.SignFault.TheVariants.{Changed, Exhausted, RandomFailed, StoreFailed, Stopped, Damaged, OutOfMemory, LedgerFull}
 use Rattle.sign_core.specs.declared.fault.SignFault.TheVariants.{Unreadable, KeyThere}
 use Rattle.sign_core.specs.declared.source.Source as source
@@ -85,6 +85,7 @@ draw_stops r spec old mid new fields RandomRepeated has are is failed = absurd f
 draw_stops r spec old mid new fields MessageRead has are is failed = absurd failed
 draw_stops r spec old mid new fields Moved has are is failed = absurd failed
 draw_stops r spec old mid new fields RetireRange has are is failed = absurd failed
+draw_stops r spec old mid new fields LongName has are is failed = absurd failed
 draw_stops r spec old mid new fields NoKey has are is failed = absurd failed
 draw_stops r spec old mid new fields DeviceFailed has are is failed = absurd failed
 draw_stops r spec old mid new fields NoMemoryToOpen has are is failed = absurd failed

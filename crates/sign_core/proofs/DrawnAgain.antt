@@ -12,10 +12,10 @@ use Rattle.state_file.specs.declared.record.Bound.{Bound}
 use Rattle.state_file.specs.declared.record.Key.{Key}
 use Rattle.state_file.specs.declared.record.Record.{Record}
 use Rattle.sign_core.specs.declared.fault.SignFault.{SignFault}
-use Rattle.sign_core.specs.declared.fault.SignFault.TheVariants.{Changed, Damaged, Exhausted, LedgerFull, MessageRead, OutOfMemory}
+use Rattle.sign_core.specs.declared.fault.SignFault.TheVariants.{Changed, Damaged, Exhausted, LedgerFull, MessageRead, OutOfMemory, LongName}
 use Rattle.sign_core.specs.declared.fault.SignFault.TheVariants.{RandomRepeated, Stopped}
 use Rattle.sign_core.specs.declared.fault.SignFault.TheVariants.{Moved as MovedAway}
-use Rattle.sign_core.specs.Records.{are_same, binding_in, deepest, has_identifier, has_moved, key_in, next_at, wanted_count}
+use Rattle.sign_core.specs.Records.{are_same, binding_in, deepest, has_identifier, has_moved, key_in, next_at, wanted_count, is_long}
 use Rattle.sign_core.specs.AfterRefusal.{WantsRecords}
 use Rattle.sign_core.specs.Once.{AreDrawsOf, AreFields, DrewAgain, IsTreeDraw, bytes_drawn, randomizer_sizes}
 use Rattle.sign_core.specs.Once.{tree_sizes}
@@ -76,7 +76,8 @@ module _ (Q : Outcome (List ℕ) → Type 0) (limit : ℕ) (state : State) (name
       → Q (fulfilled key name chance (bottom_of key.secret - level) chance.trees state.records))
       → Q (requested_of limit state key name chance found)
   settled_of key (Some (k, bound)) is again rest = again k bound
-  settled_of key None is again rest = settled_anew key (deepest key.secret state.records) refl (rest is)
+  settled_of key None is again rest = kept_choice Q (is_long key name) _ _ (λ long. refuses LongName (λ e. cc))
+      (λ short. settled_anew key (deepest key.secret state.records) refl (rest is))
 
   pub settled_under : (found : Option Key) → key_in state.records ≡ found
       → ((key : Key) (k : ℕ) (bound : Bound) → Q (repeated state key k bound chance chance.given))

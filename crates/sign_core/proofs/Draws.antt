@@ -4,7 +4,7 @@ use Rattle.std.specs.List.{concat}
 use Rattle.typecodes.specs.Layout.{AreBytes}
 use Rattle.state_file.specs.declared.record.Record.{Record}
 use Rattle.sign_core.specs.declared.fault.SignFault.{SignFault}
-use Rattle.sign_core.specs.declared.fault.SignFault.TheVariants.{RandomRepeated, MessageRead, Moved, RetireRange, NoKey, Illegal, DeviceFailed, NoMemoryToOpen}
+use Rattle.sign_core.specs.declared.fault.SignFault.TheVariants.{RandomRepeated, MessageRead, Moved, RetireRange, LongName, NoKey, Illegal, DeviceFailed, NoMemoryToOpen}
 use Rattle.sign_core.specs.declared.fault.SignFault.TheVariants.{Changed, Exhausted, RandomFailed, StoreFailed, Stopped, Damaged, OutOfMemory, LedgerFull, Unreadable, KeyThere}
 use Rattle.sign_core.specs.declared.signer.signing.TreeSeeds.{TreeSeeds}
 use Rattle.sign_core.specs.Source.{DrawsBytes}
@@ -37,6 +37,7 @@ draw_fails before after upcoming left RandomRepeated h = absurd h
 draw_fails before after upcoming left MessageRead h = absurd h
 draw_fails before after upcoming left Moved h = absurd h
 draw_fails before after upcoming left RetireRange h = absurd h
+draw_fails before after upcoming left LongName h = absurd h
 draw_fails before after upcoming left NoKey h = absurd h
 draw_fails before after upcoming left (Illegal k) h = absurd h
 draw_fails before after upcoming left DeviceFailed h = absurd h

@@ -7,10 +7,10 @@ use Rattle.state_file.specs.declared.record.Bound.{Bound}
 use Rattle.state_file.specs.declared.record.Key.{Key}
 use Rattle.state_file.specs.declared.record.Record.{Record}
 use Rattle.sign_core.specs.declared.fault.SignFault.{SignFault}
-use Rattle.sign_core.specs.declared.fault.SignFault.TheVariants.{Changed, Damaged, Exhausted, LedgerFull, MessageRead, OutOfMemory, RandomFailed}
+use Rattle.sign_core.specs.declared.fault.SignFault.TheVariants.{Changed, Damaged, Exhausted, LedgerFull, MessageRead, OutOfMemory, RandomFailed, LongName}
 use Rattle.sign_core.specs.declared.fault.SignFault.TheVariants.{RandomRepeated, Stopped, StoreFailed}
 use Rattle.sign_core.specs.declared.fault.SignFault.TheVariants.{Moved as MovedAway}
-use Rattle.sign_core.specs.Records.{are_same, binding_in, deepest, has_identifier, has_moved, key_in, next_at, wanted_count}
+use Rattle.sign_core.specs.Records.{are_same, binding_in, deepest, has_identifier, has_moved, key_in, next_at, wanted_count, is_long}
 use Rattle.sign_core.specs.World.{Chance, Draw, Fate, Outcome, State, acked, answered, appended, bound_anew, bound_sound, bound_with, cut}
 use Rattle.sign_core.specs.World.{cut_new, cut_old, drawing, extended}
 use Rattle.sign_core.specs.World.{extended_by, extended_with, first_draw, fulfilled, later_draws, no_memory, open_on, randomizer_from, reading}
@@ -127,7 +127,9 @@ ended_repeated Q ends state key k bound chance (Some message) bad =
 ended_of : (Q : Outcome (List ℕ) → Type 0) → Ends Q → (limit : ℕ) (state : State) (key : Key) (name : List ℕ) (chance : Chance) (found : Option (ℕ × Bound))
     → IsDamaged Q state key → Q (refused state Exhausted) → Q (requested_of limit state key name chance found)
 ended_of Q ends limit state key name chance (Some (k, bound)) bad used_up = ended_repeated Q ends state key k bound chance chance.given bad
-ended_of Q ends limit state key name chance None bad used_up = ended_free Q ends limit state key name chance (deepest key.secret state.records) bad used_up
+ended_of Q ends limit state key name chance None bad used_up =
+    kept_choice Q (is_long key name) _ _ (λ long. ends.refused_for state LongName (λ e. cc, λ e. cc, λ slot e. cc))
+    (λ short. ended_free Q ends limit state key name chance (deepest key.secret state.records) bad used_up)
 
 ended_under : (Q : Outcome (List ℕ) → Type 0) → Ends Q → (limit : ℕ) (state : State) (name : List ℕ) (chance : Chance) (found : Option Key)
     → ((key : Key) → found ≡ Some key → IsDamaged Q state key) → Q (refused state Exhausted) → Q (requested_under limit state name chance found)

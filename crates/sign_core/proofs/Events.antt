@@ -18,28 +18,30 @@ use Rattle.sign_core.specs.Once.{AllEvents, AreFields, IsEvent, key_sizes}
 use Rattle.sign_core.specs.World.{Creation, Event, Fate, Handed, Opening, Outcome, State, World, acked, after, appended, beginning, begun}
 use Rattle.sign_core.specs.World.{create, created_after}
 use Rattle.sign_core.specs.World.{cut_new, cut_old, new_key, no_memory, opened_by, opened_on, published, reopen, request, retire, retired_under}
-use Rattle.sign_core.specs.World.{run, secret_from, stop}
+use Rattle.sign_core.specs.World.{run, secret_from, stop, migrate}
 use Rattle.sign_core.specs.Textbook.{HasSizes, SecretHasSizes, is_sound_at, public_in, root_by}
 use Rattle.sign_core.proofs.Illegal.{legal_alone}
 use Rattle.sign_core.proofs.OnceKept.{IsKept, kept_empty, kept_grown}
+use Rattle.sign_core.proofs.Migrating.{kept_migrated}
 use Rattle.sign_core.proofs.Requests.{kept_request}
 use Rattle.sign_core.proofs.Sizes.{root_size, secret_sizes}
+use Rattle.state_file.specs.declared.record.Version.{Version}
 
 -- ---- the first record
 
-key_sound : (secret : Secret) (k : ℕ) → is_sound_at (new_key secret) (KeyRecord (new_key secret) ∷ []) k ≡ true
-key_sound secret zero = (bytes_decides (root_by secret) (root_by secret)).1 refl
-key_sound secret (suc k) = refl
+key_sound : (version : Version) (secret : Secret) (k : ℕ) → is_sound_at (new_key version secret) (KeyRecord (new_key version secret) ∷ []) k ≡ true
+key_sound version secret zero = (bytes_decides (root_by secret) (root_by secret)).1 refl
+key_sound version secret (suc k) = refl
 
-key_sizes_at : (secret : Secret) (k : ℕ) (entry : Record) → SecretHasSizes secret → slice_get (KeyRecord (new_key secret) ∷ []) k ≡ Some entry → HasSizes entry
-key_sizes_at secret zero entry sizes is = let same : KeyRecord (new_key secret) ≡ entry = cc in subst HasSizes same (sizes, root_size secret sizes)
-key_sizes_at secret (suc k) entry sizes is = absurd (cc)
+key_sizes_at : (version : Version) (secret : Secret) (k : ℕ) (entry : Record) → SecretHasSizes secret → slice_get (KeyRecord (new_key version secret) ∷ []) k ≡ Some entry → HasSizes entry
+key_sizes_at version secret zero entry sizes is = let same : KeyRecord (new_key version secret) ≡ entry = cc in subst HasSizes same (sizes, root_size secret sizes)
+key_sizes_at version secret (suc k) entry sizes is = absurd (cc)
 
 -- nothing was handed out before
-pub kept_key : (secret : Secret) (handed : List Handed) → SecretHasSizes secret → IsKept [] handed → IsKept (KeyRecord (new_key secret) ∷ []) handed
-kept_key secret handed sizes kept = record {
-  ground = inr (record { legal = legal_alone (new_key secret); key = new_key secret; keyed = refl; sound = key_sound secret });
-  sizes = λ k entry is. key_sizes_at secret k entry sizes is;
+pub kept_key : (version : Version) (secret : Secret) (handed : List Handed) → SecretHasSizes secret → IsKept [] handed → IsKept (KeyRecord (new_key version secret) ∷ []) handed
+kept_key version secret handed sizes kept = record {
+  ground = inr (record { legal = legal_alone (new_key version secret); key = new_key version secret; keyed = refl; sound = key_sound version secret });
+  sizes = λ k entry is. key_sizes_at version secret k entry sizes is;
   recorded = λ x there. let none = (kept.recorded x there).is_bound.keyed in absurd (cc);
 }
 
@@ -74,11 +76,11 @@ after_begun : (state : State) (handed : List Handed) (chance : Creation) (secret
     → ((made : Secret) → secret ≡ Some made → SecretHasSizes made) → After handed (begun state chance secret)
 after_begun state handed chance None kept empty sizes = kept
 after_begun state handed chance (Some secret) kept empty sizes =
-    let first = kept_key secret handed (sizes secret refl) (subst (λ records. IsKept records handed) empty kept) in
-    let more : IsKept (state.records ++ KeyRecord (new_key secret) ∷ []) handed =
-    subst (λ records. IsKept (records ++ KeyRecord (new_key secret) ∷ []) handed) (sym empty) first in
+    let first = kept_key chance.version secret handed (sizes secret refl) (subst (λ records. IsKept records handed) empty kept) in
+    let more : IsKept (state.records ++ KeyRecord (new_key chance.version secret) ∷ []) handed =
+    subst (λ records. IsKept (records ++ KeyRecord (new_key chance.version secret) ∷ []) handed) (sym empty) first in
     after_choice handed chance.has_room _ _
-    (λ room. after_append state handed (KeyRecord (new_key secret)) chance.fate _ kept more (after_published _ handed (public_in (new_key secret)) more))
+    (λ room. after_append state handed (KeyRecord (new_key chance.version secret)) chance.fate _ kept more (after_published _ handed (public_in (new_key chance.version secret)) more))
     (λ none. kept)
 
 after_created : (failed : Option SignFault) (state : State) (handed : List Handed) (spec : Spec) (chance : Creation) → IsSpec spec
@@ -143,6 +145,7 @@ kept_after limit world (create spec chance) can kept = after_created chance.fail
 kept_after limit world (reopen chance) can kept = after_opened world.state world.handed chance (first_illegal world.state.records) kept
 kept_after limit world (request name chance) can kept = kept_request limit world.state world.handed name chance can.1 kept
 kept_after limit world (retire upto fate) can kept = after_retired limit world.state world.handed upto fate (key_in world.state.records) kept refl
+kept_after limit world (migrate fate) can kept = kept_migrated world.state world.handed fate kept
 kept_after limit world stop can kept = kept
 
 kept_along : (limit : ℕ) (world : World) (events : List Event) → AllEvents events → IsKept world.state.records world.handed

@@ -10,7 +10,7 @@ use Rattle.state_file.specs.declared.record.Record.{Record}
 use Rattle.state_file.specs.declared.store.Store as store
 use Rattle.sign_core.specs.declared.fault.SignFault.{SignFault}
 use Rattle.sign_core.specs.declared.fault.SignFault.TheVariants.{Changed, DeviceFailed, Exhausted, Illegal, KeyThere, LedgerFull, MessageRead, Moved}
-use Rattle.sign_core.specs.declared.fault.SignFault.TheVariants.{NoKey, NoMemoryToOpen, OutOfMemory, RandomFailed, RandomRepeated, RetireRange}
+use Rattle.sign_core.specs.declared.fault.SignFault.TheVariants.{NoKey, NoMemoryToOpen, OutOfMemory, RandomFailed, RandomRepeated, RetireRange, LongName}
 use Rattle.sign_core.specs.declared.fault.SignFault.TheVariants.{Damaged, Stopped, StoreFailed, Unreadable}
 use Rattle.sign_core.specs.declared.source.Source as source
 use Rattle.typecodes.specs.declared.types.LmsPair.{LmsPair}
@@ -147,6 +147,7 @@ module _ {S R : Type 0} (g : store.Ghosts S) (r : source.Ghosts R) (level : ℕ)
   undrawn view random MessageRead answer rests is draws = absurd draws
   undrawn view random Moved answer rests is draws = absurd draws
   undrawn view random RetireRange answer rests is draws = absurd draws
+  undrawn view random LongName answer rests is draws = absurd draws
   undrawn view random NoKey answer rests is draws = absurd draws
   undrawn view random (Illegal k) answer rests is draws = absurd draws
   undrawn view random DeviceFailed answer rests is draws = absurd draws

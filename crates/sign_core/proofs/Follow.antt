@@ -13,9 +13,11 @@ use Rattle.state_file.specs.declared.record.Record.{Record}
 use Rattle.state_file.specs.declared.record.Record.TheVariants.{Key as KeyRecord, Extend as ExtendRecord, Bound as BoundRecord, Retire, Moved}
 use Rattle.state_file.specs.declared.record.Secret.{Secret}
 use Rattle.state_file.specs.declared.record.Secret.TheVariants.{Lms, Hss, Xmss}
+use Rattle.state_file.specs.declared.record.Version.{Version}
+use Rattle.state_file.specs.declared.record.Version.TheVariants.{One, Two}
 use Rattle.state_file.specs.Laws.{Fits, HasRandomizer, IsCurrent, IsLegal, Names, bottom_of, identifier_of, leaves_at, levels_of}
 use Rattle.state_file.proofs.Legal.{current-all, current-front}
-use Rattle.sign_core.specs.Records.{binding_in, can_follow_legal, current, has_identifier, has_moved, has_randomizer}
+use Rattle.sign_core.specs.Records.{binding_in, can_follow_legal, can_move, current, has_identifier, has_moved, has_randomizer}
 use Rattle.sign_core.specs.Records.{in_tree, is_free, is_moved, key_in, next_at, next_in, next_of, reaches}
 use Rattle.sign_core.proofs.TreeSteps.{before_current, current_before, current_is, is_current}
 use Rattle.sign_core.proofs.Leaves.{is_next}
@@ -41,7 +43,7 @@ pub key_stays : (records more : List Record) → 0 < length records → key_in (
 key_stays [] more some = absurd (omega (arith, some))
 key_stays (entry ∷ rest) more some = first_alone entry (rest ++ more) rest
 
-moved_means : (last : Option Record) → is_moved last ≡ true → last ≡ Some Moved
+pub moved_means : (last : Option Record) → is_moved last ≡ true → last ≡ Some Moved
 moved_means None is = absurd (true≢false (sym is))
 moved_means (Some (KeyRecord key)) is = absurd (true≢false (sym is))
 moved_means (Some (ExtendRecord extend)) is = absurd (true≢false (sym is))
@@ -52,7 +54,7 @@ moved_means (Some Moved) is = refl
 -- a legal list with no Moved at its end has none
 pub none_moved : (records : List Record) (k : ℕ) → IsLegal records → has_moved records ≡ false → slice_get records k ≡ Some Moved → ⊥
 none_moved records k legal stays is =
-    let last : k ≡ length records - 1 = omega (arith, legal.fits k Moved is) in
+    let last : k ≡ length records - 1 = omega (arith, (legal.fits k Moved is).1) in
     let moved : is_moved (slice_get records (length records - 1)) ≡ true = ap (λ n. is_moved (slice_get records n)) (sym last) ∙ ap is_moved is in
     true≢false (sym moved ∙ stays)
 
@@ -95,23 +97,23 @@ retire_reaches secret records k upto tree within is =
     ap (λ o. in_tree o upto) (before_current records k (bottom_of secret) tree within is)
 
 -- no other record reaches a number
-pub reach_names : (secret : Secret) (records : List Record) (k : ℕ) (entry : Record) (tree n : ℕ) → k ≤ length records
-    → Fits secret records k entry → reaches secret (take k records) entry ≡ Some (tree, n)
-    → ((leaf : ℕ) × Names secret records k entry tree leaf × (n ≡ leaf + 1))
-    ⊎ ((entry ≡ Retire n) × IsCurrent records k (bottom_of secret) tree)
-reach_names secret records k (KeyRecord key) tree n within fits is = absurd (none-some (tree, n) is)
-reach_names secret records k (ExtendRecord extend) tree n within (level, of, high, parent, inside) is =
+pub reach_names : (key : Key) (records : List Record) (k : ℕ) (entry : Record) (tree n : ℕ) → k ≤ length records
+    → Fits key records k entry → reaches key.secret (take k records) entry ≡ Some (tree, n)
+    → ((leaf : ℕ) × Names key.secret records k entry tree leaf × (n ≡ leaf + 1))
+    ⊎ ((entry ≡ Retire n) × IsCurrent records k (bottom_of key.secret) tree)
+reach_names key records k (KeyRecord other) tree n within fits is = absurd (none-some (tree, n) is)
+reach_names key records k (ExtendRecord extend) tree n within (level, of, high, parent, inside) is =
     let above : level ≡ extend.level - 1 = omega (arith, of) in
     let (at, number) = in_tree_means (current (extend.level - 1) (take k records)) (extend.parent_leaf + 1) tree n is in
     let there : current level (take k records) ≡ Some tree = ap (λ l. current l (take k records)) above ∙ at in
     inl (extend.parent_leaf, (level, of, current_before records k level tree within there, refl), sym number)
-reach_names secret records k (BoundRecord bound) tree n within fits is =
-    let (at, number) = in_tree_means (current (bottom_of secret) (take k records)) (bound.leaf + 1) tree n is in
-    inl (bound.leaf, (current_before records k (bottom_of secret) tree within at, refl), sym number)
-reach_names secret records k (Retire upto) tree n within fits is =
-    let (at, number) = in_tree_means (current (bottom_of secret) (take k records)) upto tree n is in
-    inr (ap Retire number, current_before records k (bottom_of secret) tree within at)
-reach_names secret records k Moved tree n within fits is = absurd (none-some (tree, n) is)
+reach_names key records k (BoundRecord bound) tree n within fits is =
+    let (at, number) = in_tree_means (current (bottom_of key.secret) (take k records)) (bound.leaf + 1) tree n is in
+    inl (bound.leaf, (current_before records k (bottom_of key.secret) tree within at, refl), sym number)
+reach_names key records k (Retire upto) tree n within fits is =
+    let (at, number) = in_tree_means (current (bottom_of key.secret) (take k records)) upto tree n is in
+    inr (ap Retire number, current_before records k (bottom_of key.secret) tree within at)
+reach_names key records k Moved tree n within fits is = absurd (none-some (tree, n) is)
 
 -- a leaf that is named lies below the next one
 pub named_below : (secret : Secret) (records : List Record) (k : ℕ) (entry : Record) (tree leaf : ℕ) → slice_get records k ≡ Some entry
@@ -154,18 +156,18 @@ tell_free secret records level leaf tree at low high =
 
 -- ---- a record that can follow
 
-extend_means : (secret : Secret) (before : List Record) (extend : Extend) → can_follow_legal secret before (ExtendRecord extend) ≡ true
-    → (1 ≤ extend.level) × (extend.level < levels_of secret) × (is_free secret before (extend.level - 1) extend.parent_leaf ≡ true)
+extend_means : (key : Key) (before : List Record) (extend : Extend) → can_follow_legal key before (ExtendRecord extend) ≡ true
+    → (1 ≤ extend.level) × (extend.level < levels_of key.secret) × (is_free key.secret before (extend.level - 1) extend.parent_leaf ≡ true)
     × (has_identifier before extend.identifier ≡ false)
-extend_means secret before extend is =
+extend_means key before extend is =
     let (three, fresh) = and_parts
-    (nat_le 1 extend.level && nat_lt extend.level (levels_of secret) && is_free secret before (extend.level - 1) extend.parent_leaf)
+    (nat_le 1 extend.level && nat_lt extend.level (levels_of key.secret) && is_free key.secret before (extend.level - 1) extend.parent_leaf)
     (not (has_identifier before extend.identifier)) is in
-    let (two, free) = and_parts (nat_le 1 extend.level && nat_lt extend.level (levels_of secret))
-    (is_free secret before (extend.level - 1) extend.parent_leaf) three in
-    let (low, high) = and_parts (nat_le 1 extend.level) (nat_lt extend.level (levels_of secret)) two in (
+    let (two, free) = and_parts (nat_le 1 extend.level && nat_lt extend.level (levels_of key.secret))
+    (is_free key.secret before (extend.level - 1) extend.parent_leaf) three in
+    let (low, high) = and_parts (nat_le 1 extend.level) (nat_lt extend.level (levels_of key.secret)) two in (
       leb-true 1 extend.level low,
-      ltb-true extend.level (levels_of secret) high,
+      ltb-true extend.level (levels_of key.secret) high,
       free,
       not_means (has_identifier before extend.identifier) fresh,
     )
@@ -174,13 +176,13 @@ extend_means secret before extend is =
     not_means true is = sym is
     not_means false is = refl
 
-bound_means : (secret : Secret) (before : List Record) (bound : Bound) → can_follow_legal secret before (BoundRecord bound) ≡ true
-    → (is_free secret before (bottom_of secret) bound.leaf ≡ true) × (binding_in before bound.name ≡ None) × HasRandomizer secret bound.randomizer
-bound_means secret before bound is =
-    let (two, random) = and_parts (is_free secret before (bottom_of secret) bound.leaf && not (is_some (binding_in before bound.name)))
-    (has_randomizer secret bound.randomizer) is in
-    let (free, new) = and_parts (is_free secret before (bottom_of secret) bound.leaf) (not (is_some (binding_in before bound.name))) two in
-    (free, none_means (binding_in before bound.name) new, randomizer_means secret bound.randomizer random)
+bound_means : (key : Key) (before : List Record) (bound : Bound) → can_follow_legal key before (BoundRecord bound) ≡ true
+    → (is_free key.secret before (bottom_of key.secret) bound.leaf ≡ true) × (binding_in before bound.name ≡ None) × HasRandomizer key.secret bound.randomizer
+bound_means key before bound is =
+    let (two, random) = and_parts (is_free key.secret before (bottom_of key.secret) bound.leaf && not (is_some (binding_in before bound.name)))
+    (has_randomizer key.secret bound.randomizer) is in
+    let (free, new) = and_parts (is_free key.secret before (bottom_of key.secret) bound.leaf) (not (is_some (binding_in before bound.name))) two in
+    (free, none_means (binding_in before bound.name) new, randomizer_means key.secret bound.randomizer random)
   where
     none_means : (found : Option (ℕ × Bound)) → not (is_some found) ≡ true → found ≡ None
     none_means None is = refl
@@ -196,23 +198,27 @@ was_current before more level tree is =
     is_current level before tree (current-front before more (length before) level tree (omega arith) is)
 
 -- it fits
-pub follower_fits : (secret : Secret) (before : List Record) (entry : Record) → can_follow_legal secret before entry ≡ true
-    → Fits secret (before ++ entry ∷ []) (length before) entry
-follower_fits secret before (KeyRecord key) is = absurd (true≢false (sym is))
-follower_fits secret before (ExtendRecord extend) is =
-    let (low, high, free, fresh) = extend_means secret before extend is in
-    let (tree, at, inside, next) = free_means secret before (extend.level - 1) extend.parent_leaf free in
+pub follower_fits : (key : Key) (before : List Record) (entry : Record) → can_follow_legal key before entry ≡ true
+    → Fits key (before ++ entry ∷ []) (length before) entry
+follower_fits key before (KeyRecord other) is = absurd (true≢false (sym is))
+follower_fits key before (ExtendRecord extend) is =
+    let (low, high, free, fresh) = extend_means key before extend is in
+    let (tree, at, inside, next) = free_means key.secret before (extend.level - 1) extend.parent_leaf free in
     let of : extend.level ≡ extend.level - 1 + 1 = omega (arith, low) in
     (extend.level - 1, of, high, (tree, still_current before (ExtendRecord extend ∷ []) (extend.level - 1) tree at), inside)
-follower_fits secret before (BoundRecord bound) is =
-    let (free, new, random) = bound_means secret before bound is in
-    let (tree, at, inside, next) = free_means secret before (bottom_of secret) bound.leaf free in
-    ((tree, still_current before (BoundRecord bound ∷ []) (bottom_of secret) tree at), inside, random)
-follower_fits secret before (Retire upto) is =
-    let (some, low) = and_parts (is_some (current (bottom_of secret) before)) (nat_le upto (leaves_at secret (bottom_of secret))) is in
-    let (tree, at) = some_tree (current (bottom_of secret) before) some in
-    ((tree, still_current before (Retire upto ∷ []) (bottom_of secret) tree at), leb-true upto (leaves_at secret (bottom_of secret)) low)
-follower_fits secret before Moved is = sym (length_push before Moved)
+follower_fits key before (BoundRecord bound) is =
+    let (free, new, random) = bound_means key before bound is in
+    let (tree, at, inside, next) = free_means key.secret before (bottom_of key.secret) bound.leaf free in
+    ((tree, still_current before (BoundRecord bound ∷ []) (bottom_of key.secret) tree at), inside, random)
+follower_fits key before (Retire upto) is =
+    let (some, low) = and_parts (is_some (current (bottom_of key.secret) before)) (nat_le upto (leaves_at key.secret (bottom_of key.secret))) is in
+    let (tree, at) = some_tree (current (bottom_of key.secret) before) some in
+    ((tree, still_current before (Retire upto ∷ []) (bottom_of key.secret) tree at), leb-true upto (leaves_at key.secret (bottom_of key.secret)) low)
+follower_fits key before Moved is = (moves key.version is, sym (length_push before Moved))
+  where
+    moves : (version : Version) → can_move version ≡ true → version ≡ One
+    moves One is = refl
+    moves Two is = absurd (true≢false (sym is))
 
 same_next : (secret : Secret) (before : List Record) (level tree own leaf : ℕ) → current level before ≡ Some own → current level before ≡ Some tree
     → next_in secret before own ≤ leaf → next_in secret before tree ≤ leaf
@@ -221,38 +227,38 @@ same_next secret before level tree own leaf at there next =
     subst (λ t. next_in secret before t ≤ leaf) same next
 
 -- it names no leaf below the next one
-pub follower_names : (secret : Secret) (before : List Record) (entry : Record) (tree leaf : ℕ) → can_follow_legal secret before entry ≡ true
-    → Names secret (before ++ entry ∷ []) (length before) entry tree leaf → next_in secret before tree ≤ leaf
-follower_names secret before (KeyRecord key) tree leaf is names = absurd names
-follower_names secret before (ExtendRecord extend) tree leaf is (level, of, there, same) =
-    let (low, high, free, fresh) = extend_means secret before extend is in
-    let (own, at, inside, next) = free_means secret before (extend.level - 1) extend.parent_leaf free in
+pub follower_names : (key : Key) (before : List Record) (entry : Record) (tree leaf : ℕ) → can_follow_legal key before entry ≡ true
+    → Names key.secret (before ++ entry ∷ []) (length before) entry tree leaf → next_in key.secret before tree ≤ leaf
+follower_names key before (KeyRecord other) tree leaf is names = absurd names
+follower_names key before (ExtendRecord extend) tree leaf is (level, of, there, same) =
+    let (low, high, free, fresh) = extend_means key before extend is in
+    let (own, at, inside, next) = free_means key.secret before (extend.level - 1) extend.parent_leaf free in
     let above : extend.level - 1 ≡ level = omega (arith, of) in
     let here : current level before ≡ Some own = ap (λ l. current l before) (sym above) ∙ at in
-    same_next secret before level tree own leaf here (was_current before (ExtendRecord extend ∷ []) level tree there) (omega (arith, next, same))
-follower_names secret before (BoundRecord bound) tree leaf is (there, same) =
-    let (free, new, random) = bound_means secret before bound is in
-    let (own, at, inside, next) = free_means secret before (bottom_of secret) bound.leaf free in
-    same_next secret before (bottom_of secret) tree own leaf at (was_current before (BoundRecord bound ∷ []) (bottom_of secret) tree there)
+    same_next key.secret before level tree own leaf here (was_current before (ExtendRecord extend ∷ []) level tree there) (omega (arith, next, same))
+follower_names key before (BoundRecord bound) tree leaf is (there, same) =
+    let (free, new, random) = bound_means key before bound is in
+    let (own, at, inside, next) = free_means key.secret before (bottom_of key.secret) bound.leaf free in
+    same_next key.secret before (bottom_of key.secret) tree own leaf at (was_current before (BoundRecord bound ∷ []) (bottom_of key.secret) tree there)
     (omega (arith, next, same))
-follower_names secret before (Retire upto) tree leaf is names = absurd names
-follower_names secret before Moved tree leaf is names = absurd names
+follower_names key before (Retire upto) tree leaf is names = absurd names
+follower_names key before Moved tree leaf is names = absurd names
 
 -- its I is new
-pub follower_identifier : (secret : Secret) (before : List Record) (entry : Record) (identifier : List ℕ) → can_follow_legal secret before entry ≡ true
+pub follower_identifier : (key : Key) (before : List Record) (entry : Record) (identifier : List ℕ) → can_follow_legal key before entry ≡ true
     → identifier_of entry ≡ Some identifier → has_identifier before identifier ≡ false
-follower_identifier secret before (KeyRecord key) identifier is own = absurd (true≢false (sym is))
-follower_identifier secret before (ExtendRecord extend) identifier is own =
-    let (low, high, free, fresh) = extend_means secret before extend is in
+follower_identifier key before (KeyRecord other) identifier is own = absurd (true≢false (sym is))
+follower_identifier key before (ExtendRecord extend) identifier is own =
+    let (low, high, free, fresh) = extend_means key before extend is in
     subst (λ i. has_identifier before i ≡ false) (same_Some extend.identifier identifier own) fresh
-follower_identifier secret before (BoundRecord bound) identifier is own = absurd (none-some identifier own)
-follower_identifier secret before (Retire upto) identifier is own = absurd (none-some identifier own)
-follower_identifier secret before Moved identifier is own = absurd (none-some identifier own)
+follower_identifier key before (BoundRecord bound) identifier is own = absurd (none-some identifier own)
+follower_identifier key before (Retire upto) identifier is own = absurd (none-some identifier own)
+follower_identifier key before Moved identifier is own = absurd (none-some identifier own)
 
 -- and so is its name
-pub follower_name : (secret : Secret) (before : List Record) (bound : Bound) → can_follow_legal secret before (BoundRecord bound) ≡ true
+pub follower_name : (key : Key) (before : List Record) (bound : Bound) → can_follow_legal key before (BoundRecord bound) ≡ true
     → binding_in before bound.name ≡ None
-follower_name secret before bound is = let (free, new, random) = bound_means secret before bound is in new
+follower_name key before bound is = let (free, new, random) = bound_means key before bound is in new
 
 -- ---- the last record of a legal list
 
@@ -274,7 +280,7 @@ next_under before entry tree leaf legal names = elim ((is_next legal.key.secret 
         let same : take k (before ++ entry ∷ []) ≡ take k before = take-append-le k before (entry ∷ []) (omega (arith, below)) in
         let there : reaches legal.key.secret (take k (before ++ entry ∷ [])) other ≡ Some (tree, next) =
         ap (λ l. reaches legal.key.secret l other) same ∙ reached in
-        elim (reach_names legal.key.secret (before ++ entry ∷ []) k other tree next within (legal.fits k other stands) there) [
+        elim (reach_names legal.key (before ++ entry ∷ []) k other tree next within (legal.fits k other stands) there) [
           | inl (earlier, named, number) ↦
               let rises : earlier < leaf =
               legal.rising k (length before) other entry tree earlier leaf below stands (slice_get_new before entry) named names in
@@ -298,12 +304,12 @@ new_name before bound legal = not_bound before bound.name (λ k other at.
 
 -- the last record of a legal list can follow those before it
 pub last_follows : (before : List Record) (entry : Record) (legal : IsLegal (before ++ entry ∷ [])) → 0 < length before
-    → can_follow_legal legal.key.secret before entry ≡ true
+    → can_follow_legal legal.key before entry ≡ true
 last_follows before (KeyRecord key) legal some =
     let fits : length before ≡ 0 = legal.fits (length before) (KeyRecord key) (slice_get_new before (KeyRecord key)) in
     absurd (omega (arith, some, fits))
 last_follows before (ExtendRecord extend) legal some =
-    let fits : Fits legal.key.secret (before ++ ExtendRecord extend ∷ []) (length before) (ExtendRecord extend) =
+    let fits : Fits legal.key (before ++ ExtendRecord extend ∷ []) (length before) (ExtendRecord extend) =
     legal.fits (length before) (ExtendRecord extend) (slice_get_new before (ExtendRecord extend)) in
     let (level, of, high, (tree, is), inside) = fits in
     let next : next_in legal.key.secret before tree ≤ extend.parent_leaf =
@@ -326,7 +332,7 @@ last_follows before (ExtendRecord extend) legal some =
     (is_free legal.key.secret before (extend.level - 1) extend.parent_leaf) two free)
     fresh
 last_follows before (BoundRecord bound) legal some =
-    let fits : Fits legal.key.secret (before ++ BoundRecord bound ∷ []) (length before) (BoundRecord bound) =
+    let fits : Fits legal.key (before ++ BoundRecord bound ∷ []) (length before) (BoundRecord bound) =
     legal.fits (length before) (BoundRecord bound) (slice_get_new before (BoundRecord bound)) in
     let ((tree, is), inside, random) = fits in
     let next : next_in legal.key.secret before tree ≤ bound.leaf =
@@ -341,14 +347,16 @@ last_follows before (BoundRecord bound) legal some =
     (and_from (is_free legal.key.secret before (bottom_of legal.key.secret) bound.leaf) (not (is_some (binding_in before bound.name))) free new)
     (tell_randomizer legal.key.secret bound.randomizer random)
 last_follows before (Retire upto) legal some =
-    let fits : Fits legal.key.secret (before ++ Retire upto ∷ []) (length before) (Retire upto) =
+    let fits : Fits legal.key (before ++ Retire upto ∷ []) (length before) (Retire upto) =
     legal.fits (length before) (Retire upto) (slice_get_new before (Retire upto)) in
     let ((tree, is), low) = fits in
     let at : current (bottom_of legal.key.secret) before ≡ Some tree =
     was_current before (Retire upto ∷ []) (bottom_of legal.key.secret) tree is in
     and_from (is_some (current (bottom_of legal.key.secret) before)) (nat_le upto (leaves_at legal.key.secret (bottom_of legal.key.secret)))
     (ap is_some at) (le-leb upto (leaves_at legal.key.secret (bottom_of legal.key.secret)) low)
-last_follows before Moved legal some = refl
+last_follows before Moved legal some =
+    let fits : Fits legal.key (before ++ Moved ∷ []) (length before) Moved = legal.fits (length before) Moved (slice_get_new before Moved) in
+    ap can_move fits.0
 
 -- and no Moved stands before it
 pub last_stays : (before : List Record) (entry : Record) → IsLegal (before ++ entry ∷ []) → has_moved before ≡ false
@@ -356,5 +364,5 @@ last_stays before entry legal = false_from_ne_true (has_moved before) (λ moved.
     let at : slice_get before (length before - 1) ≡ Some Moved = moved_means (slice_get before (length before - 1)) moved in
     let below : length before - 1 < length before = slice_get_within before (length before - 1) Moved at in
     let ends : length before - 1 + 1 ≡ length (before ++ entry ∷ []) =
-    legal.fits (length before - 1) Moved (slice_get_stays before (entry ∷ []) (length before - 1) Moved at) in
+    (legal.fits (length before - 1) Moved (slice_get_stays before (entry ∷ []) (length before - 1) Moved at)).1 in
     omega (arith, below, ends, length_push before entry))

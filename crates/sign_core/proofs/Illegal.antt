@@ -86,8 +86,8 @@ legal_alone key = record {
   retired = λ j k upto b tree leaf under at_a at_b. absurd (none_later j k b under at_b);
 }
   where
-    fits : (k : ℕ) (entry : Record) → slice_get (KeyRecord key ∷ []) k ≡ Some entry → Fits key.secret (KeyRecord key ∷ []) k entry
-    fits zero entry at = subst (λ e. Fits key.secret (KeyRecord key ∷ []) 0 e) (same_Some (KeyRecord key) entry at) refl
+    fits : (k : ℕ) (entry : Record) → slice_get (KeyRecord key ∷ []) k ≡ Some entry → Fits key (KeyRecord key ∷ []) k entry
+    fits zero entry at = subst (λ e. Fits key (KeyRecord key ∷ []) 0 e) (same_Some (KeyRecord key) entry at) refl
     fits (suc k) entry at = absurd (none-some entry at)
 
     none_later : (j k : ℕ) (entry : Record) → j < k → slice_get (KeyRecord key ∷ []) k ≡ Some entry → ⊥

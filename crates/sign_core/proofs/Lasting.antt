@@ -1,17 +1,17 @@
 -- No event takes a record or a signature away.
 use Rattle.std.proofs.Common.{◌≡◌, ◌∙◌, refl, sym, ap, ℕ, zero, suc, ◌+◌, ◌-◌, Bool, true, false, List, [], ◌∷◌, ◌++◌, length, Option, Some, None}
-use Rattle.std.proofs.Common.{append-nil, append_assoc}
+use Rattle.std.proofs.Common.{append-nil, append_assoc, inl, inr, map, take}
 use Rattle.std.specs.Prelude.{if◌then◌else◌, nat_le, nat_lt, not}
 use Rattle.typecodes.specs.declared.spec.Spec.{Spec}
 use Rattle.state_file.specs.Laws.{bottom_of}
 use Rattle.state_file.specs.declared.record.Bound.{Bound}
 use Rattle.state_file.specs.declared.record.Key.{Key}
 use Rattle.state_file.specs.declared.record.Record.{Record}
-use Rattle.state_file.specs.declared.record.Record.TheVariants.{Key as KeyRecord, Retire}
+use Rattle.state_file.specs.declared.record.Record.TheVariants.{Key as KeyRecord, Extend as ExtendRecord, Bound as BoundRecord, Retire, Moved as MovedRecord}
 use Rattle.state_file.specs.declared.record.Secret.{Secret}
 use Rattle.sign_core.specs.declared.key.AnyPublic.{AnyPublic}
 use Rattle.sign_core.specs.declared.fault.SignFault.{SignFault}
-use Rattle.sign_core.specs.Records.{are_same, binding_in, deepest, first_illegal, has_identifier, has_moved, key_in, leaves_of_current, next_at}
+use Rattle.sign_core.specs.Records.{are_same, binding_in, deepest, first_illegal, has_identifier, has_moved, key_in, leaves_of_current, next_at, is_long}
 use Rattle.sign_core.specs.Records.{wanted_count}
 use Rattle.sign_core.specs.Textbook.{Trees, damaged_in, digest_at, public_in, tree_before, trees_of}
 use Rattle.sign_core.specs.World.{Chance, Creation, Draw, Event, Fate, Opening, Outcome, State, World, acked, after, appended, begun, bound_anew}
@@ -20,8 +20,15 @@ use Rattle.sign_core.specs.World.{create, created, created_after, cut_new, cut_o
 use Rattle.sign_core.specs.World.{later_draws}
 use Rattle.sign_core.specs.World.{new_key, no_memory, open_on, opened, opened_by, opened_on, published, randomizer_from, reopen, repeated}
 use Rattle.sign_core.specs.World.{repeated_sound, request}
-use Rattle.sign_core.specs.World.{requested_of, requested_under, retire, retired, retired_under, run, secret_from, stop}
-use Rattle.sign_core.specs.Once.{LastsInto}
+use Rattle.sign_core.specs.World.{requested_of, requested_under, retire, retired, retired_under, run, secret_from, stop, migrate}
+use Rattle.sign_core.specs.Once.{IsCarriedInto, IsNoMigration, LastingLaw, LastsInto, lasting}
+use Rattle.sign_core.specs.World.{Migration, carried_over, left_alone, migrated_to, sealed}
+use Rattle.sign_core.proofs.Migrating.{front_of, migrated_has}
+use Rattle.state_file.specs.Carried.{carried, in_version, unmoved, with_moved}
+use Rattle.state_file.specs.declared.record.Version.{Version}
+use Rattle.state_file.specs.declared.record.Version.TheVariants.{One, Two}
+use Rattle.std.proofs.lemmas.Bool.{cases_Bool}
+use Rattle.std.specs.List.{AllByRecursion}
 
 -- the records begin with these
 abbrev Grown : {A : Type 0} → List Record → Outcome A → Type 0
@@ -56,7 +63,7 @@ grown_published records None = unchanged records
 grown_begun : (state : State) (chance : Creation) (secret : Option Secret) → Grown state.records (begun state chance secret)
 grown_begun state chance None = unchanged state.records
 grown_begun state chance (Some secret) = grown_choice state.records chance.has_room _ _
-    (grown_append state (KeyRecord (new_key secret)) chance.fate _ (λ records. grown_published records (public_in (new_key secret))))
+    (grown_append state (KeyRecord (new_key chance.version secret)) chance.fate _ (λ records. grown_published records (public_in (new_key chance.version secret))))
     (unchanged state.records)
 
 grown_created : (failed : Option SignFault) (state : State) (spec : Spec) (chance : Creation) → Grown state.records (created_after failed state spec chance)
@@ -137,7 +144,8 @@ grown_repeated state key k bound chance (Some message) =
 grown_of : (limit : ℕ) (state : State) (key : Key) (name : List ℕ) (chance : Chance) (found : Option (ℕ × Bound))
     → Grown state.records (requested_of limit state key name chance found)
 grown_of limit state key name chance (Some (k, bound)) = grown_repeated state key k bound chance chance.given
-grown_of limit state key name chance None = grown_anew limit state key name chance (deepest key.secret state.records)
+grown_of limit state key name chance None = grown_choice state.records (is_long key name) _ _ (unchanged state.records)
+    (grown_anew limit state key name chance (deepest key.secret state.records))
 
 grown_under : (limit : ℕ) (state : State) (name : List ℕ) (chance : Chance) (found : Option Key)
     → Grown state.records (requested_under limit state name chance found)
@@ -164,17 +172,18 @@ only_grown : {A : Type 0} (world : World) (outcome : Outcome A) → Grown world.
     → LastsInto world (record { state = outcome.state; handed = world.handed })
 only_grown world outcome (more, are) = record { records = more; handed = []; records_are = are; handed_are = sym (append-nil world.handed) }
 
-extends_after : (limit : ℕ) (world : World) (event : Event) → LastsInto world (after limit world event)
-extends_after limit world (create spec chance) =
+extends_after : (limit : ℕ) (world : World) (event : Event) → IsNoMigration event → LastsInto world (after limit world event)
+extends_after limit world (create spec chance) none =
     only_grown world (created world.state spec chance) (grown_created chance.failed_load world.state spec chance)
-extends_after limit world (reopen chance) =
+extends_after limit world (reopen chance) none =
     only_grown world (opened world.state chance) (grown_opened world.state chance (first_illegal world.state.records))
-extends_after limit world (request name chance) =
+extends_after limit world (request name chance) none =
     let (more, are) = grown_under limit world.state name chance (key_in world.state.records) in
     record { records = more; handed = _; records_are = are; handed_are = refl }
-extends_after limit world (retire upto fate) =
+extends_after limit world (retire upto fate) none =
     only_grown world (retired limit world.state upto fate) (grown_retired limit world.state upto fate (key_in world.state.records))
-extends_after limit world stop =
+extends_after limit world (migrate fate) none = absurd none
+extends_after limit world stop none =
     record { records = []; handed = []; records_are = sym (append-nil world.state.records); handed_are = sym (append-nil world.handed) }
 
 -- one after the other
@@ -186,13 +195,102 @@ extends_on first second third a b = record {
   handed_are = b.handed_are ∙ ap (λ l. l ++ b.handed) a.handed_are ∙ append_assoc first.handed a.handed b.handed;
 }
 
-pub extends_along : (limit : ℕ) (world : World) (events : List Event) → LastsInto world (run limit world events)
-extends_along limit world [] = record {
+pub extends_along : (limit : ℕ) (world : World) (events : List Event) → AllByRecursion IsNoMigration events → LastsInto world (run limit world events)
+extends_along limit world [] none = record {
   records = [];
   handed = [];
   records_are = sym (append-nil world.state.records);
   handed_are = sym (append-nil world.handed);
 }
-extends_along limit world (event ∷ events) =
-    extends_on world (after limit world event) (run limit world (event ∷ events)) (extends_after limit world event)
-    (extends_along limit (after limit world event) events)
+extends_along limit world (event ∷ events) none =
+    extends_on world (after limit world event) (run limit world (event ∷ events)) (extends_after limit world event none.0)
+    (extends_along limit (after limit world event) events none.1)
+
+-- ---- with migrations
+
+lasting_append : (xs ys : List Record) → lasting (xs ++ ys) ≡ lasting xs ++ lasting ys
+lasting_append [] ys = refl
+lasting_append (KeyRecord key ∷ xs) ys = ap (λ l. in_version One (KeyRecord key) ∷ l) (lasting_append xs ys)
+lasting_append (ExtendRecord extend ∷ xs) ys = ap (λ l. ExtendRecord extend ∷ l) (lasting_append xs ys)
+lasting_append (BoundRecord bound ∷ xs) ys = ap (λ l. BoundRecord bound ∷ l) (lasting_append xs ys)
+lasting_append (Retire upto ∷ xs) ys = ap (λ l. Retire upto ∷ l) (lasting_append xs ys)
+lasting_append (MovedRecord ∷ xs) ys = lasting_append xs ys
+
+-- the version doesn't last
+lasting_in : (version : Version) (records : List Record) → lasting (map (in_version version) records) ≡ lasting records
+lasting_in version [] = refl
+lasting_in version (KeyRecord key ∷ rest) = ap (λ l. in_version One (KeyRecord key) ∷ l) (lasting_in version rest)
+lasting_in version (ExtendRecord extend ∷ rest) = ap (λ l. ExtendRecord extend ∷ l) (lasting_in version rest)
+lasting_in version (BoundRecord bound ∷ rest) = ap (λ l. BoundRecord bound ∷ l) (lasting_in version rest)
+lasting_in version (Retire upto ∷ rest) = ap (λ l. Retire upto ∷ l) (lasting_in version rest)
+lasting_in version (MovedRecord ∷ rest) = lasting_in version rest
+
+-- nor does a Moved
+lasting_moved : (records : List Record) → lasting (records ++ MovedRecord ∷ []) ≡ lasting records
+lasting_moved records = lasting_append records (MovedRecord ∷ []) ∙ append-nil (lasting records)
+
+lasting_sealed : (records : List Record) → lasting (with_moved records) ≡ lasting records
+lasting_sealed records = by (has_moved records)
+  where
+    by : (test : Bool) → lasting (if test then records else records ++ MovedRecord ∷ []) ≡ lasting records
+    by true = refl
+    by false = lasting_moved records
+
+lasting_carried : (records : List Record) → lasting (carried records) ≡ lasting records
+unfolding carried
+lasting_carried records = lasting_in Two (unmoved records) ∙ (elim (cases_Bool (has_moved records)) [
+  | inl moved ↦
+      let (front, is, same) = front_of records moved in
+      ap lasting same ∙ sym (lasting_moved front) ∙ sym (ap lasting is)
+  | inr stays ↦ ap (λ test. lasting (if test then take (length records - 1) records else records)) stays
+])
+
+lasting_to : (records : List Record) (fate : Migration) → lasting (migrated_to records fate) ≡ lasting records
+lasting_to records left_alone = refl
+lasting_to records sealed = lasting_sealed records
+lasting_to records carried_over = lasting_carried records
+
+-- what lasts of a world's records, and then more
+of_grown : (earlier later : World) → LastsInto earlier later → IsCarriedInto earlier later
+of_grown earlier later is = record {
+  records = lasting is.records;
+  handed = is.handed;
+  records_are = ap lasting is.records_are ∙ lasting_append earlier.state.records is.records;
+  handed_are = is.handed_are;
+}
+
+carries_after : (limit : ℕ) (world : World) (event : Event) → IsCarriedInto world (after limit world event)
+carries_after limit world (create spec chance) = of_grown world _ (extends_after limit world (create spec chance) tt)
+carries_after limit world (reopen chance) = of_grown world _ (extends_after limit world (reopen chance) tt)
+carries_after limit world (request name chance) = of_grown world _ (extends_after limit world (request name chance) tt)
+carries_after limit world (retire upto fate) = of_grown world _ (extends_after limit world (retire upto fate) tt)
+carries_after limit world (migrate fate) = record {
+  records = [];
+  handed = [];
+  records_are = migrated_has (λ records. lasting records ≡ lasting world.state.records) world.state fate refl
+      (λ key keyed moves. lasting_to world.state.records fate) ∙ sym (append-nil (lasting world.state.records));
+  handed_are = sym (append-nil world.handed);
+}
+carries_after limit world stop = of_grown world _ (extends_after limit world stop tt)
+
+carries_on : (first second third : World) → IsCarriedInto first second → IsCarriedInto second third → IsCarriedInto first third
+carries_on first second third a b = record {
+  records = a.records ++ b.records;
+  handed = a.handed ++ b.handed;
+  records_are = b.records_are ∙ ap (λ l. l ++ b.records) a.records_are ∙ append_assoc (lasting first.state.records) a.records b.records;
+  handed_are = b.handed_are ∙ ap (λ l. l ++ b.handed) a.handed_are ∙ append_assoc first.handed a.handed b.handed;
+}
+
+pub carries_along : (limit : ℕ) (world : World) (events : List Event) → IsCarriedInto world (run limit world events)
+carries_along limit world [] = record {
+  records = [];
+  handed = [];
+  records_are = sym (append-nil (lasting world.state.records));
+  handed_are = sym (append-nil world.handed);
+}
+carries_along limit world (event ∷ events) =
+    carries_on world (after limit world event) (run limit world (event ∷ events)) (carries_after limit world event)
+    (carries_along limit (after limit world event) events)
+
+pub lasting_law : LastingLaw
+lasting_law = record { lasts = extends_along; carries = carries_along }

@@ -61,9 +61,9 @@ leaves_few (Xmss tree secret_seed prf_key public_seed) level = height_inside (xm
 -- ---- what can follow
 
 follows_legal : (records : List Record) (key : Key) (entry : Record) → can_follow (Some key) records entry ≡ true
-    → (has_moved records ≡ false) × (can_follow_legal key.secret records entry ≡ true)
+    → (has_moved records ≡ false) × (can_follow_legal key records entry ≡ true)
 follows_legal records key entry follows =
-    let (stays, rest) = and_parts (not (has_moved records)) (can_follow_legal key.secret records entry) follows in
+    let (stays, rest) = and_parts (not (has_moved records)) (can_follow_legal key records entry) follows in
     (not_means (has_moved records) stays, rest)
 
 bound_free : (records : List Record) (key : Key) (bound : Bound) → can_follow (Some key) records (BoundRecord bound) ≡ true
@@ -157,7 +157,7 @@ grown_bound records key made bindings identifiers levels count moved old bound b
           ∙ (λ i. cond (are_same (named i) name)
           (Some (record { place = old.counted i; leaf = bound.leaf; randomizer = bound.randomizer; digest = bound.digest; tree = under i }))
           (old.bindings_are name i))
-          ∙ sym (kept_bound key.secret records bound name (follower_name key.secret records bound rest));
+          ∙ sym (kept_bound key.secret records bound name (follower_name key records bound rest));
       identifiers_are = λ identifier. old.identifiers_are identifier ∙ sym (identifier_other records (BoundRecord bound) identifier some refl);
     })
 

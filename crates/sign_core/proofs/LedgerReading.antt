@@ -60,7 +60,7 @@ one_level records key first k level other tree within is before =
 
 module _ (records : List Record) (key : Key) (level tree n : ℕ) (first : slice_get records 0 ≡ Some (KeyRecord key))
     (is : current level records ≡ Some tree) (k : ℕ) (within : k ≤ length records) where
-  reach_inside : (entry : Record) → Fits key.secret records k entry → reaches key.secret (take k records) entry ≡ Some (tree, n)
+  reach_inside : (entry : Record) → Fits key records k entry → reaches key.secret (take k records) entry ≡ Some (tree, n)
       → n ≤ leaves_at key.secret level
   reach_inside (KeyRecord other) fits reached = absurd (none-some (tree, n) reached)
   reach_inside (ExtendRecord extend) (own, of, high, above, inside) reached =

@@ -199,7 +199,7 @@ pub grown_retire : (records : List Record) (key : Key) (made : ByPlace Made) (bi
     → (new_levels : List (Option Tree)) → FollowsRetire levels bottom upto new_levels → (new : List Record) → new ≡ records ++ Retire upto ∷ []
     → IsTableOf new key made bindings identifiers new_levels (count + 1) moved
 grown_retire records key made bindings identifiers levels count moved old upto bottom follows last new_levels trees new grown =
-    let (stays, rest) = and_parts (not (has_moved records)) (can_follow_legal key.secret records (Retire upto)) follows in
+    let (stays, rest) = and_parts (not (has_moved records)) (can_follow_legal key records (Retire upto)) follows in
     let (there, low) = and_parts (is_some (current (bottom_of key.secret) records)) (nat_le upto (leaves_at key.secret (bottom_of key.secret))) rest in
     let (tree, at) = some_means (current (bottom_of key.secret) records) there in
     grown_plain records key made bindings identifiers levels count moved old (Retire upto) follows (λ k. refl) (λ name. refl) refl (tt) new_levels

@@ -18,16 +18,16 @@ use Rattle.sign_core.proofs.Follow.{key_first, last_follows, last_stays, named_b
 
 -- ---- one more record
 
-fits_still : (secret : Secret) (xs ys : List Record) (k : ℕ) (entry : Record) → k < length xs → (entry ≢ Moved) → Fits secret xs k entry
-    → Fits secret (xs ++ ys) k entry
-fits_still secret xs ys k (KeyRecord key) within stays is = is
-fits_still secret xs ys k (ExtendRecord extend) within stays (level, of, high, (tree, current), inside) =
+fits_still : (key : Key) (xs ys : List Record) (k : ℕ) (entry : Record) → k < length xs → (entry ≢ Moved) → Fits key xs k entry
+    → Fits key (xs ++ ys) k entry
+fits_still key xs ys k (KeyRecord other) within stays is = is
+fits_still key xs ys k (ExtendRecord extend) within stays (level, of, high, (tree, current), inside) =
     (level, of, high, (tree, current-all xs ys k level tree (omega (arith, within)) current), inside)
-fits_still secret xs ys k (BoundRecord bound) within stays ((tree, current), inside, random) =
-    ((tree, current-all xs ys k (bottom_of secret) tree (omega (arith, within)) current), inside, random)
-fits_still secret xs ys k (Retire upto) within stays ((tree, current), inside) =
-    ((tree, current-all xs ys k (bottom_of secret) tree (omega (arith, within)) current), inside)
-fits_still secret xs ys k Moved within stays is = absurd (stays refl)
+fits_still key xs ys k (BoundRecord bound) within stays ((tree, current), inside, random) =
+    ((tree, current-all xs ys k (bottom_of key.secret) tree (omega (arith, within)) current), inside, random)
+fits_still key xs ys k (Retire upto) within stays ((tree, current), inside) =
+    ((tree, current-all xs ys k (bottom_of key.secret) tree (omega (arith, within)) current), inside)
+fits_still key xs ys k Moved within stays is = absurd (stays refl)
 
 names_front : (secret : Secret) (xs ys : List Record) (k : ℕ) (entry : Record) (tree leaf : ℕ) → k ≤ length xs → Names secret (xs ++ ys) k entry tree leaf
     → Names secret xs k entry tree leaf
@@ -49,14 +49,14 @@ names_at_end secret before entry last k tree leaf end same names =
     (subst (λ n. Names secret (before ++ entry ∷ []) n last tree leaf) end names)
 
 module _ (before : List Record) (entry : Record) (legal : IsLegal before) (stays : has_moved before ≡ false)
-    (follows : can_follow_legal legal.key.secret before entry ≡ true) where
-  all_fit : (k : ℕ) (other : Record) → slice_get (before ++ entry ∷ []) k ≡ Some other → Fits legal.key.secret (before ++ entry ∷ []) k other
+    (follows : can_follow_legal legal.key before entry ≡ true) where
+  all_fit : (k : ℕ) (other : Record) → slice_get (before ++ entry ∷ []) k ≡ Some other → Fits legal.key (before ++ entry ∷ []) k other
   all_fit k other at = elim (front_or_new before entry k other at) [
-    | inl (below, is) ↦ fits_still legal.key.secret before (entry ∷ []) k other below
+    | inl (below, is) ↦ fits_still legal.key before (entry ∷ []) k other below
         (λ moved. none_moved before k legal stays (is ∙ ap Some moved)) (legal.fits k other is)
     | inr (end, same) ↦
-        subst (λ n. Fits legal.key.secret (before ++ entry ∷ []) n other) (sym end)
-        (subst (λ e. Fits legal.key.secret (before ++ entry ∷ []) (length before) e) same (follower_fits legal.key.secret before entry follows))
+        subst (λ n. Fits legal.key (before ++ entry ∷ []) n other) (sym end)
+        (subst (λ e. Fits legal.key (before ++ entry ∷ []) (length before) e) same (follower_fits legal.key before entry follows))
   ]
 
   all_identifiers : (j k : ℕ) (a b : Record) (identifier : List ℕ) → j < k → slice_get (before ++ entry ∷ []) j ≡ Some a
@@ -67,7 +67,7 @@ module _ (before : List Record) (entry : Record) (legal : IsLegal before) (stays
     | inr (end, same) ↦
         let is_a : slice_get before j ≡ Some a = in_front before entry a j (omega (arith, under, end)) at_a in
         true≢false (sym (stands_identifier before identifier j a is_a own_a)
-        ∙ follower_identifier legal.key.secret before entry identifier follows (ap identifier_of same ∙ own_b))
+        ∙ follower_identifier legal.key before entry identifier follows (ap identifier_of same ∙ own_b))
   ]
 
   all_names : (j k : ℕ) (a b : Bound) → j < k → slice_get (before ++ entry ∷ []) j ≡ Some (BoundRecord a)
@@ -76,9 +76,9 @@ module _ (before : List Record) (entry : Record) (legal : IsLegal before) (stays
     | inl (below, is) ↦ legal.names j k a b under (in_front before entry (BoundRecord a) j (omega (arith, under, below)) at_a) is
     | inr (end, same) ↦
         let is_a : slice_get before j ≡ Some (BoundRecord a) = in_front before entry (BoundRecord a) j (omega (arith, under, end)) at_a in
-        let own : can_follow_legal legal.key.secret before (BoundRecord b) ≡ true =
-        subst (λ e. can_follow_legal legal.key.secret before e ≡ true) same follows in
-        unbound before b.name j a (follower_name legal.key.secret before b own) is_a
+        let own : can_follow_legal legal.key before (BoundRecord b) ≡ true =
+        subst (λ e. can_follow_legal legal.key before e ≡ true) same follows in
+        unbound before b.name j a (follower_name legal.key before b own) is_a
   ]
 
   all_rising : (j k : ℕ) (a b : Record) (tree leaf later : ℕ) → j < k → slice_get (before ++ entry ∷ []) j ≡ Some a
@@ -95,7 +95,7 @@ module _ (before : List Record) (entry : Record) (legal : IsLegal before) (stays
         named_below legal.key.secret before j a tree leaf is_a
         (names_front legal.key.secret before (entry ∷ []) j a tree leaf (omega (arith, under, end)) names_a) in
         let high : next_in legal.key.secret before tree ≤ later =
-        follower_names legal.key.secret before entry tree later follows
+        follower_names legal.key before entry tree later follows
         (names_at_end legal.key.secret before entry b k tree later end same names_b) in
         omega (arith, low, high)
   ]
@@ -114,7 +114,7 @@ module _ (before : List Record) (entry : Record) (legal : IsLegal before) (stays
         retired_below legal.key.secret before j upto tree is_a
         (current-front before (entry ∷ []) j (bottom_of legal.key.secret) tree (omega (arith, under, end)) current) in
         let high : next_in legal.key.secret before tree ≤ leaf =
-        follower_names legal.key.secret before entry tree leaf follows
+        follower_names legal.key before entry tree leaf follows
         (names_at_end legal.key.secret before entry b k tree leaf end same names_b) in
         omega (arith, low, high)
   ]
@@ -131,9 +131,9 @@ module _ (before : List Record) (entry : Record) (legal : IsLegal before) (stays
   }
 
 parts_of : (found : Option Key) (key : Key) (before : List Record) (entry : Record) → found ≡ Some key → can_follow found before entry ≡ true
-    → (not (has_moved before) ≡ true) × (can_follow_legal key.secret before entry ≡ true)
+    → (not (has_moved before) ≡ true) × (can_follow_legal key before entry ≡ true)
 parts_of found key before entry is follows =
-    and_parts (not (has_moved before)) (can_follow_legal key.secret before entry) (subst (λ o. can_follow o before entry ≡ true) is follows)
+    and_parts (not (has_moved before)) (can_follow_legal key before entry) (subst (λ o. can_follow o before entry ≡ true) is follows)
 
 not_means : (b : Bool) → not b ≡ true → b ≡ false
 not_means true is = sym is
@@ -151,5 +151,5 @@ pub grew : (before : List Record) (entry : Record) → 0 < length before → IsL
 grew before entry some legal =
     let first : slice_get before 0 ≡ Some (KeyRecord legal.key) = in_front before entry (KeyRecord legal.key) 0 some legal.first in
     subst (λ o. can_follow o before entry ≡ true) (sym (key_first before legal.key first))
-    (and_from (not (has_moved before)) (can_follow_legal legal.key.secret before entry)
+    (and_from (not (has_moved before)) (can_follow_legal legal.key before entry)
     (not_from_false (has_moved before) (last_stays before entry legal)) (last_follows before entry legal some))

@@ -26,6 +26,7 @@ pub mod Legal
 pub mod Illegal
 pub mod Append
 pub mod Appended
+pub mod Migrating
 pub mod Next
 pub mod Uses
 pub mod Kept
@@ -71,3 +72,6 @@ pub mod Replying
 pub mod RefusedDraws
 pub mod AfterRefusal
 pub mod Capacities
+pub mod OldFile
+pub mod MigrateKey
+pub mod Moves

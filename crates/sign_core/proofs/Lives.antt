@@ -1,5 +1,5 @@
 -- The lives of one disk are runs of the world.
-use Rattle.std.proofs.Common.{◌≡◌, ◌∙◌, refl, sym, ap, subst, ℕ, zero, suc, ◌≤◌, ◌⊎◌, inl, inr, true, false, IsTrue, true≢false}
+use Rattle.std.proofs.Common.{◌≡◌, ◌∙◌, refl, sym, ap, subst, ℕ, zero, suc, ◌≤◌, ◌⊎◌, inl, inr, true, false, IsTrue, true≢false, if◌then◌else◌}
 use Rattle.std.proofs.Common.{List, [], ◌∷◌, ◌++◌, length, take, Option, Some, None, Result, Ok, Err, append-nil, arith}
 use Rattle.std.proofs.lemmas.Bool.{cases_Bool}
 use Rattle.std.proofs.lemmas.List.{length_push}
@@ -17,11 +17,14 @@ use Rattle.state_file.proofs.Adding.{prepared_no_key}
 use Rattle.state_file.proofs.Contents.{some_opening, standing}
 use Rattle.sign_core.specs.declared.fault.SignFault.{SignFault}
 use Rattle.sign_core.specs.Calls.{AreLastingCalls, Call, IsCall, IsLastingCall, IsRun, events_of, reached_by, store_after_calls}
-use Rattle.sign_core.specs.Lives.{AreLives, IsAtStart, IsLeftByRun, IsLife, IsStoreOn, IsTriedOn, Life, LivesLaw, IsServingLife, disk_at_end, fails, handed_by, handed_by_all}
+use Rattle.sign_core.specs.Lives.{AreLives, IsAtStart, IsLeftByRun, IsLife, IsStoreOn, IsTriedOn, Life, LivesLaw, IsServingLife, disk_at_end, fails, handed_by, handed_by_all, CanMigrate, LedTo}
 use Rattle.sign_core.specs.Lives.{left_by, left_by_all, serves, world_after, world_on}
 use Rattle.sign_core.specs.Once.{IsBeginning, IsEvent, IsLeftBy, IsOnce}
 use Rattle.sign_core.specs.SignerCalls.{world_of}
-use Rattle.sign_core.specs.World.{Event, Handed, World, after, beginning, closed_on, create, handed_with, reopen, request, requested, retire, run, stop}
+use Rattle.sign_core.specs.World.{Event, Handed, World, after, beginning, closed_on, create, handed_with, reopen, request, requested, retire, run, stop, migrate}
+use Rattle.sign_core.specs.World.{Migration, carried_over, migrated_to, migrated_under, sealed}
+use Rattle.sign_core.specs.Records.{can_move}
+use Rattle.state_file.specs.Carried.{carried, with_moved}
 use Rattle.sign_core.proofs.Calls.{all_both, run_both, stop_left}
 use Rattle.sign_core.proofs.Events.{kept_by_run}
 use Rattle.sign_core.proofs.OnceParts.{once}
@@ -29,7 +32,7 @@ use Rattle.sign_core.proofs.Answered.{signed_open}
 
 -- ---- which list a content stands for
 
-spelled_stands : (records : List Record) (content : List ℕ) → SpellsRecords content records → StandsFor records content
+pub spelled_stands : (records : List Record) (content : List ℕ) → SpellsRecords content records → StandsFor records content
 spelled_stands [] content spells = let first = spells.first.1 in absurd (cc (first))
 spelled_stands (entry ∷ entries) content spells = spells
 
@@ -113,6 +116,7 @@ hands_nothing limit world (request name chance) closed =
     silent world.handed name chance.given (requested limit world.state name chance).answer
     (λ signature is. true≢false (sym (signed_open limit world.state name signature chance is) ∙ closed))
 hands_nothing limit world (retire upto fate) closed = refl
+hands_nothing limit world (migrate fate) closed = refl
 hands_nothing limit world stop closed = refl
 
 -- ---- calls on a store over the disk
@@ -299,11 +303,45 @@ module _ {D : Type 0} (d : disk.Ghosts D) (g : store.Ghosts (FileStore D d)) (ti
   all_lives before handed (life ∷ lives) known are =
       all_lives (left_by d life) (handed_by limit handed life) lives (one_life before handed life known are.0) are.1
 
-  known_first : LeavesByRuns HasNoKey []
-  known_first content none = record { records = []; stands = none; runs = no_run limit beginning }
+-- a place without a key
+none_led : (limit : ℕ) (content : List ℕ) → HasNoKey content → LedTo limit [] content
+none_led limit content none = record { records = []; stands = none; runs = no_run limit beginning }
 
-  known_after : (lives : List (Life D d)) → AreLives d g limit HasNoKey [] lives → LeavesByRuns (left_by_all d HasNoKey lives) (handed_by_all limit [] lives)
-  known_after lives are = all_lives HasNoKey [] lives known_first are
+start_without : {D : Type 0} (d : disk.Ghosts D) (limit : ℕ) (on : D) → IsAtStart d HasNoKey on → IsAtStart d (LedTo limit []) on
+start_without d limit on is = record { honest = is.honest; holds = λ content may. none_led limit content (is.holds content may) }
+
+without_key : {D : Type 0} (d : disk.Ghosts D) (g : store.Ghosts (FileStore D d)) (limit : ℕ) (lives : List (Life D d)) → AreLives d g limit HasNoKey [] lives
+    → AreLives d g limit (LedTo limit []) [] lives
+without_key d g limit [] are = tt
+without_key d g limit (fails old new ∷ lives) are = ((start_without d limit old are.0.0, are.0.1), are.1)
+without_key d g limit (serves on store calls last ∷ lives) are = ((start_without d limit on are.0.0, are.0.1), are.1)
+
+left_without_key : {D : Type 0} (d : disk.Ghosts D) (limit : ℕ) (lives : List (Life D d)) (content : List ℕ) → left_by_all d HasNoKey lives content
+    → left_by_all d (LedTo limit []) lives content
+left_without_key d limit [] content left = none_led limit content left
+left_without_key d limit (life ∷ lives) content left = left
+
+-- what a migration leads to
+migrated_run : (limit : ℕ) (handed : List Handed) (records : List Record) (fate : Migration) → IsRun limit beginning (world_of (closed_on records) handed)
+    → CanMigrate records → IsRun limit beginning (world_of (closed_on (migrated_to records fate)) handed)
+migrated_run limit handed records fate is (key, keyed, one) =
+    let event : Event = migrate fate in
+    let leads : after limit (world_of (closed_on records) handed) event ≡ world_of (closed_on (migrated_to records fate)) handed =
+    ap (λ found. world_of (migrated_under (closed_on records) fate found) handed) keyed
+    ∙ ap (λ version. world_of (if can_move version then closed_on (migrated_to records fate) else closed_on records) handed) one in
+    runs_on limit beginning (world_of (closed_on records) handed) _ is (subst (IsRun limit (world_of (closed_on records) handed)) leads
+    (one_event limit (world_of (closed_on records) handed) event tt))
+
+pub migrates : (limit : ℕ) (handed : List Handed) (records : List Record) (content moved : List ℕ) → IsLeftByRun limit beginning handed content
+    → StandsFor records content → CanMigrate records → StandsFor (carried records) moved ⊎ StandsFor (with_moved records) moved
+    → IsLeftByRun limit beginning handed moved
+migrates limit handed records content moved left stands can there =
+    let same : left.records ≡ records = stands_one left.records records content left.stands stands in
+    let was : IsRun limit beginning (world_of (closed_on records) handed) = subst (λ l. IsRun limit beginning (world_of (closed_on l) handed)) same left.runs in
+    elim there as (λ u. IsLeftByRun limit beginning handed moved) [
+      | inl over ↦ record { records = carried records; stands = over; runs = migrated_run limit handed records carried_over was can }
+      | inr last ↦ record { records = with_moved records; stands = last; runs = migrated_run limit handed records sealed was can }
+    ]
 
 -- ---- what a life may begin with
 
@@ -340,20 +378,29 @@ goes_on d g time tied limit before handed (serves on store calls last) honest is
       (no_earlier d g tied limit (world_after limit store calls handed) ended last is.1.is_last) may;
 }
 
+-- what runs lead to, they lead to
+known_led : (limit : ℕ) (handed : List Handed) (content : List ℕ) → LedTo limit handed content → IsLeftByRun limit beginning handed content
+known_led limit handed content led = led
+
 pub lives_law : {D : Type 0} (d : disk.Ghosts D) (g : store.Ghosts (FileStore D d)) → KeepsTime d → IsTiedToDisk d g → LivesLaw d g
 lives_law d g time tied = record {
-  after_power = λ lives on content honest same left. after_power d (left_by_all d HasNoKey lives) on content honest same left;
-  goes_on = λ limit lives life honest is. goes_on d g time tied limit (left_by_all d HasNoKey lives) (handed_by_all limit [] lives) life honest is;
+  without_key = without_key d g;
+  left_without_key = left_without_key d;
+  migrates = migrates;
+  after_power = λ limit handed lives on content honest same left. after_power d (left_by_all d (LedTo limit handed) lives) on content honest same left;
+  goes_on = λ limit handed lives life honest is.
+      goes_on d g time tied limit (left_by_all d (LedTo limit handed) lives) (handed_by_all limit handed lives) life honest is;
   finds = λ on store records is stands. finds d g time tied 0 on store records is stands;
-  leaves = λ limit lives content are left. known_after d g time tied limit lives are content left;
-  once = λ limit lives content records are left stands.
-      let by = known_after d g time tied limit lives are content left in
+  leaves = λ limit handed lives content are left. all_lives d g time tied limit (LedTo limit handed) handed lives (known_led limit handed) are content left;
+  once = λ limit handed lives content records are left stands.
+      let by = all_lives d g time tied limit (LedTo limit handed) handed lives (known_led limit handed) are content left in
       let same : by.records ≡ records = stands_one by.records records content by.stands stands in
-      subst (λ l. IsOnce limit (world_of (closed_on l) (handed_by_all limit [] lives))) same (run_once limit _ by.runs);
-  once_after = λ limit lives on store calls last are is.
-      let handed = handed_by_all limit [] lives in
-      let before = left_by_all d HasNoKey lives in
-      let start = run_to d g time tied limit before handed on store (known_after d g time tied limit lives are) is.0 is.1.is_store in
-      let served = after_service d g time tied limit before handed on store calls last is.0 is.1 in
-      run_once limit (world_after limit store calls handed) (runs_on limit beginning (world_on store handed) _ start served.runs);
+      subst (λ l. IsOnce limit (world_of (closed_on l) (handed_by_all limit handed lives))) same (run_once limit _ by.runs);
+  once_after = λ limit handed lives on store calls last are is.
+      let all = handed_by_all limit handed lives in
+      let left = left_by_all d (LedTo limit handed) lives in
+      let known = all_lives d g time tied limit (LedTo limit handed) handed lives (known_led limit handed) are in
+      let start = run_to d g time tied limit left all on store known is.0 is.1.is_store in
+      let served = after_service d g time tied limit left all on store calls last is.0 is.1 in
+      run_once limit (world_after limit store calls all) (runs_on limit beginning (world_on store all) _ start served.runs);
 }

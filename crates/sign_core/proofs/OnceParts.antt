@@ -3,7 +3,7 @@ use Rattle.std.proofs.Common.{◌≡◌, ◌≢◌, ◌∙◌, ◌↔◌, refl, 
 use Rattle.std.proofs.Common.{length, length-append, take, ◌<◌, Option, Some, None, Ok, Err, arith}
 use Rattle.std.specs.Prelude.{Contains, if◌then◌else◌, nat_le, nat_lt, not}
 use Rattle.std.specs.Cmp.Lexicographic.{bytes_decides}
-use Rattle.std.proofs.lemmas.Bool.{le-ltb, lt-leb}
+use Rattle.std.proofs.lemmas.Bool.{lt-ltb, le-ltb, lt-leb}
 use Rattle.std.proofs.lemmas.List.{length_push}
 use Rattle.std.proofs.lemmas.List.Elements.{Contains-push}
 use Rattle.typecodes.specs.declared.spec.Spec.{Spec}
@@ -14,10 +14,10 @@ use Rattle.state_file.specs.declared.record.Record.{Record}
 use Rattle.state_file.specs.declared.record.Record.TheVariants.{Bound as BoundRecord, Retire}
 use Rattle.state_file.specs.declared.record.Secret.{Secret}
 use Rattle.sign_core.specs.declared.key.AnyPublic.{AnyPublic}
-use Rattle.sign_core.specs.declared.fault.SignFault.TheVariants.{Changed, Damaged, Exhausted, Illegal, LedgerFull, OutOfMemory, Stopped, StoreFailed}
+use Rattle.sign_core.specs.declared.fault.SignFault.TheVariants.{Changed, Damaged, Exhausted, Illegal, LedgerFull, OutOfMemory, Stopped, StoreFailed, LongName}
 use Rattle.sign_core.specs.declared.fault.SignFault.TheVariants.{RandomRepeated, RetireRange}
 use Rattle.sign_core.specs.declared.fault.SignFault.TheVariants.{Moved as MovedAway}
-use Rattle.sign_core.specs.Records.{are_same, binding_in, deepest, first_illegal, has_moved, key_in, leaves_of_current, next_at, wanted_count}
+use Rattle.sign_core.specs.Records.{are_same, binding_in, deepest, first_illegal, has_moved, key_in, leaves_of_current, next_at, wanted_count, is_long}
 use Rattle.sign_core.specs.Once.{AreComplete, BeginsKey, BeginsTree, CanStopOpening, IsBoundTo, IsOnce, IsSigned, Reopens}
 use Rattle.sign_core.specs.World.{Chance, Creation, Handed, Opening, Fate, Outcome, State, World, acked, after, answered, appended, bound_anew, bound_sound, cut_new, cut_old, no_memory}
 use Rattle.sign_core.specs.World.{retired, retired_under}
@@ -36,6 +36,7 @@ use Rattle.sign_core.proofs.OnceKept.{IsKept, sound_with}
 use Rattle.sign_core.proofs.OneLeaf.{handed_valid, one_digest, one_name, one_signature}
 use Rattle.sign_core.proofs.Sizes.{key_has_sizes, spec_public, trees_made}
 use Rattle.sign_core.proofs.Unbound.{binds_none, moved_retires, retires_before, retires_full, retires_outside, retires_starved}
+use Rattle.state_file.specs.Slot.{name_most}
 
 -- ---- sound records
 
@@ -57,6 +58,21 @@ open_request limit state key name chance found open_now stays keyed is =
     ap (requested_under limit state name chance) keyed
     ∙ ap (λ test. if not test then refused state Stopped else rest (has_moved state.records)) open_now
     ∙ ap rest stays ∙ ap (requested_of limit state key name chance) is
+
+-- where it isn't bound, it goes on where it isn't too long
+new_request : (limit : ℕ) (state : State) (key : Key) (name : List ℕ) (chance : Chance) (long : Bool) → state.is_open ≡ true
+    → has_moved state.records ≡ false → key_in state.records ≡ Some key → binding_in state.records name ≡ None → is_long key name ≡ long
+    → requested limit state name chance ≡ (if long then refused state LongName else bound_anew limit state key name chance (deepest key.secret state.records))
+new_request limit state key name chance long open_now stays keyed unbound is =
+    open_request limit state key name chance None open_now stays keyed unbound
+    ∙ ap (λ test. if test then refused state LongName else bound_anew limit state key name chance (deepest key.secret state.records)) is
+
+-- one that is too long is refused
+pub long_request : (limit : ℕ) (state : State) (key : Key) (name : List ℕ) (chance : Chance) → state.is_open ≡ true → has_moved state.records ≡ false
+    → key_in state.records ≡ Some key → binding_in state.records name ≡ None → name_most key.version < length name
+    → requested limit state name chance ≡ refused state LongName
+long_request limit state key name chance open_now stays keyed unbound above =
+    new_request limit state key name chance true open_now stays keyed unbound (lt-ltb (name_most key.version) (length name) above)
 
 -- or no record follows
 moved_request : (limit : ℕ) (state : State) (key : Key) (name : List ℕ) (chance : Chance) → state.is_open ≡ true → has_moved state.records ≡ true
@@ -140,11 +156,11 @@ signed_by key records level name message chance outcome inside done =
 pub fresh_fine : (limit : ℕ) (state : State) (handed : List Handed) (key : Key) (level : ℕ) (name message : List ℕ) (chance : Chance)
     → IsKept state.records handed
     → state.is_open ≡ true → has_moved state.records ≡ false → key_in state.records ≡ Some key
-    → binding_in state.records name ≡ None → deepest key.secret state.records ≡ Some level
+    → binding_in state.records name ≡ None → length name ≤ name_most key.version → deepest key.secret state.records ≡ Some level
     → length state.records + wanted_count key.secret level ≤ limit → chance.given ≡ Some message
     → AreComplete key.secret (bottom_of key.secret - level) chance
     → ((requested limit state name chance).answer ≡ Err RandomRepeated) ⊎ IsSigned key state.records level name message chance (requested limit state name chance)
-fresh_fine limit state handed key level name message chance kept open_now stays keyed unbound is short given whole =
+fresh_fine limit state handed key level name message chance kept open_now stays keyed unbound has_room is short given whole =
     let records = state.records in
     let bottom = bottom_of key.secret in
     let inside = (deepest_is key.secret records level is).0 in
@@ -157,7 +173,7 @@ fresh_fine limit state handed key level name message chance kept open_now stays 
     (λ more. trees_made key.secret sizes (omega (arith, more))) whole.enough whole.each in
     let room_then : Bool → Outcome (List ℕ) = λ room. if not room then refused state OutOfMemory else bound_sound state key name chance level
     (damaged_in key level records tree) in
-    let way = open_request limit state key name chance None open_now stays keyed unbound
+    let way = new_request limit state key name chance false open_now stays keyed unbound (le-ltb (name_most key.version) (length name) has_room)
     ∙ ap (bound_anew limit state key name chance) is
     ∙ ap (λ full. if full then refused state LedgerFull else room_then chance.has_room) fits
     ∙ ap room_then whole.room
@@ -187,11 +203,11 @@ anew_exhausted limit state key name chance (Some level) is =
     absurd (ended_anew (λ outcome. outcome.answer ≢ Err Exhausted) not_exhausted limit state key name chance level (λ level tree slot damaged other. cc) is)
 
 pub exhausted_exactly : (limit : ℕ) (state : State) (key : Key) (name : List ℕ) (chance : Chance) → state.is_open ≡ true → has_moved state.records ≡ false
-    → key_in state.records ≡ Some key → binding_in state.records name ≡ None
+    → key_in state.records ≡ Some key → binding_in state.records name ≡ None → length name ≤ name_most key.version
     → ((requested limit state name chance).answer ≡ Err Exhausted) ↔ (deepest key.secret state.records ≡ None)
-exhausted_exactly limit state key name chance open_now stays keyed unbound =
+exhausted_exactly limit state key name chance open_now stays keyed unbound has_room =
     let way : requested limit state name chance ≡ bound_anew limit state key name chance (deepest key.secret state.records) =
-    open_request limit state key name chance None open_now stays keyed unbound in
+    new_request limit state key name chance false open_now stays keyed unbound (le-ltb (name_most key.version) (length name) has_room) in
     let answers = ap (λ outcome. outcome.answer) way in (
       λ is. anew_exhausted limit state key name chance (deepest key.secret state.records) (sym answers ∙ is),
       λ none. answers ∙ ap (λ level. (bound_anew limit state key name chance level).answer) none,
@@ -240,8 +256,8 @@ handed_out limit world name message signature chance given answer =
 -- ---- creates and openings
 
 pub begins_key : (state : State) (spec : Spec) (secret : Secret) (chance : Creation) (public : AnyPublic) → state.records ≡ [] → chance.failed_load ≡ None
-    → secret_from spec chance.fields ≡ Some secret → chance.has_room ≡ true → chance.fate ≡ acked → public_in (new_key secret) ≡ Some public
-    → BeginsKey state spec chance (new_key secret)
+    → secret_from spec chance.fields ≡ Some secret → chance.has_room ≡ true → chance.fate ≡ acked → public_in (new_key chance.version secret) ≡ Some public
+    → BeginsKey state spec chance (new_key chance.version secret)
 begins_key state spec secret chance public empty loaded drawn room fate is =
     record { public = public; is_public = is; begins = rw (loaded, empty, drawn, room, fate, is) refl }
 
@@ -345,6 +361,7 @@ once limit world kept = record {
   begins = λ spec secret chance can empty loaded drawn.
       let (public, is) = spec_public spec chance.fields secret can drawn in
       λ room fate. begins_key world.state spec secret chance public empty loaded drawn room fate is;
+  long = λ key name chance. long_request limit world.state key name chance;
   fresh = λ key level name message chance. fresh_fine limit world.state world.handed key level name message chance kept;
   again = λ name chance. drawn_again limit world.state name chance;
   draws = λ key name chance keyed drawn. drawn_most limit world.state key name chance keyed drawn;

@@ -2,7 +2,7 @@
 use Rattle.std.proofs.Common.{◌≡◌, ◌∙◌, refl, sym, ap, subst, ℕ, zero, suc, ◌+◌, ◌-◌, ◌<◌, inl, inr, Bool, true, false, List, [], ◌∷◌, ◌++◌}
 use Rattle.std.proofs.Common.{length, Option, Some, None, Result, Ok, Err, append-nil, arith}
 use Rattle.std.specs.Prelude.{Contains, if◌then◌else◌, nat_le, nat_lt, not}
-use Rattle.std.proofs.lemmas.Bool.{le-leb}
+use Rattle.std.proofs.lemmas.Bool.{cases_Bool, le-leb}
 use Rattle.std.specs.List.{AllByRecursion, concat}
 use Rattle.std.specs.Cmp.Lexicographic.{bytes_decides}
 use Rattle.std.proofs.lemmas.List.Elements.{Contains-push_cases}
@@ -11,13 +11,13 @@ use Rattle.state_file.specs.Laws.{bottom_of}
 use Rattle.state_file.specs.declared.record.Bound.{Bound}
 use Rattle.state_file.specs.declared.record.Key.{Key}
 use Rattle.state_file.specs.declared.record.Record.{Record}
-use Rattle.state_file.specs.declared.record.Record.TheVariants.{Bound as BoundRecord, Retire}
+use Rattle.state_file.specs.declared.record.Record.TheVariants.{Bound as BoundRecord, Retire, Moved as MovedRecord}
 use Rattle.sign_core.specs.declared.key.AnyPublic.{AnyPublic}
 use Rattle.sign_core.specs.declared.fault.SignFault.{SignFault}
-use Rattle.sign_core.specs.declared.fault.SignFault.TheVariants.{Changed, Damaged, Exhausted, KeyThere, LedgerFull, MessageRead, OutOfMemory, RandomFailed}
+use Rattle.sign_core.specs.declared.fault.SignFault.TheVariants.{Changed, Damaged, Exhausted, KeyThere, LedgerFull, MessageRead, OutOfMemory, RandomFailed, LongName}
 use Rattle.sign_core.specs.declared.fault.SignFault.TheVariants.{RandomRepeated, Stopped}
 use Rattle.sign_core.specs.declared.fault.SignFault.TheVariants.{Moved as MovedAway}
-use Rattle.sign_core.specs.Records.{are_same, binding_in, deepest, first_illegal, free_at, has_identifier, has_moved, has_randomizer, key_in}
+use Rattle.sign_core.specs.Records.{are_same, binding_in, deepest, first_illegal, free_at, has_identifier, has_moved, has_randomizer, key_in, is_long, can_move}
 use Rattle.sign_core.specs.Records.{leaves_of_current, next_at, wanted_count}
 use Rattle.sign_core.specs.Once.{AllEvents, AreDraws, AreFields, IsBoundTo, IsEvent, IsTreeDraw, IsValidUnder, Reopens, public_of_key, tree_sizes}
 use Rattle.sign_core.specs.Opened.{AreWellFormed, IsValidOver, OpenedLaw}
@@ -25,7 +25,7 @@ use Rattle.sign_core.specs.World.{Chance, Creation, Draw, Event, Fate, Handed, O
 use Rattle.sign_core.specs.World.{begun, bound_anew, bound_sound, bound_with, create, created_after, cut_new, cut_old, drawing, extended, extended_by, extended_with}
 use Rattle.sign_core.specs.World.{first_draw, fulfilled, handed_with, later_draws, new_bound, no_memory, open_on, opened_by, opened_on, published}
 use Rattle.sign_core.specs.World.{randomizer_from, refused, reopen, repeated, repeated_sound, request, requested, requested_of, requested_under, retire}
-use Rattle.sign_core.specs.World.{retired_under, run, secret_from, stop}
+use Rattle.sign_core.specs.World.{retired_under, run, secret_from, stop, migrate}
 use Rattle.sign_core.specs.Textbook.{Trees, damaged_in, digest_at, public_in, signature_at, tree_before, trees_of}
 use Rattle.sign_core.proofs.Damage.{names_damaged}
 use Rattle.sign_core.proofs.Events.{retire_can}
@@ -33,6 +33,11 @@ use Rattle.sign_core.proofs.DrawnAgain.{signed_read}
 use Rattle.sign_core.proofs.Follow.{key_first}
 use Rattle.sign_core.proofs.Illegal.{none_from_legal}
 use Rattle.sign_core.proofs.Leaves.{deepest_is}
+use Rattle.sign_core.proofs.Migrating.{is_carried, key_carried, key_in_version, legal_carried, migrated_has, moved_can, sizes_carried}
+use Rattle.sign_core.specs.World.{Migration, carried_over, left_alone, migrated, migrated_to, sealed}
+use Rattle.state_file.specs.Carried.{with_moved}
+use Rattle.state_file.specs.declared.record.Version.TheVariants.{Two}
+use Rattle.std.proofs.lemmas.Option.{same_Some}
 use Rattle.sign_core.proofs.OnceKept.{kept_choice}
 use Rattle.sign_core.proofs.Requests.{first_drawn, later_drawn, not_false}
 use Rattle.sign_core.proofs.Sizes.{key_has_sizes, public_made, randomizer_size}
@@ -187,7 +192,9 @@ module _ (key : Key) (public : AnyPublic) (is_public : public_in key ≡ Some pu
   fits_of : (limit : ℕ) (state : State) (name : List ℕ) (chance : Chance) (found : Option (ℕ × Bound)) → AreDraws chance → AreOf key state.records
       → has_moved state.records ≡ false → binding_in state.records name ≡ found → Fits chance.given (requested_of limit state key name chance found)
   fits_of limit state name chance (Some (k, bound)) drawn are stays is = fits_repeated state name k bound chance chance.given are is
-  fits_of limit state name chance None drawn are stays is = fits_anew limit state name chance (deepest key.secret state.records) drawn are stays is refl
+  fits_of limit state name chance None drawn are stays is =
+      kept_choice (Fits chance.given) (is_long key name) _ _ (λ long. fits_refused chance.given state LongName are)
+      (λ short. fits_anew limit state name chance (deepest key.secret state.records) drawn are stays is refl)
 
   fits_under : (limit : ℕ) (state : State) (name : List ℕ) (chance : Chance) → AreDraws chance → AreOf key state.records
       → Fits chance.given (requested_under limit state name chance (Some key))
@@ -269,8 +276,10 @@ stays_retired key limit state upto fate are =
 
 -- ---- runs
 
--- What is kept: the records are legal and of the key, and what was handed out is valid.
-record IsRight (key : Key) (public : AnyPublic) (world : World) : Type 0 where
+-- What is kept: the records are legal and of a key with this public one, and what was handed out is valid.
+record IsRight (public : AnyPublic) (world : World) : Type 0 where
+  key : Key
+  is_public : public_in key ≡ Some public
   are : AreOf key world.state.records
   valid : (x : Handed) → Contains world.handed x → IsValidUnder public x.message x.signature
 
@@ -287,28 +296,76 @@ handed_right public handed name None (Ok signature) fits old x there = old x (su
 handed_right public handed name (Some message) (Err fault) fits old x there = old x (subst (λ l. Contains l x) (append-nil handed) there)
 handed_right public handed name None (Err fault) fits old x there = old x (subst (λ l. Contains l x) (append-nil handed) there)
 
-right_after : (key : Key) (public : AnyPublic) → public_in key ≡ Some public → (limit : ℕ) (world : World) (event : Event) → IsEvent event
-    → IsRight key public world → IsRight key public (after limit world event)
-right_after key public is limit world (create spec chance) can right =
-    let same = created_there chance.failed_load world.state spec chance (some_keyed world.state.records key right.are.keyed) in
-    record { are = subst (λ (s : State). AreOf key s.records) (sym same) right.are; valid = right.valid }
-right_after key public is limit world (reopen chance) can right =
-    let same = opened_same world.state chance (first_illegal world.state.records) in
-    record { are = subst (AreOf key) (sym same) right.are; valid = right.valid }
-right_after key public is limit world (request name chance) can right =
-    let (are, fits) = fits_request key public is limit world.state name chance can.1 right.are in
-    record { are = are; valid = handed_right public world.handed name chance.given _ fits right.valid }
-right_after key public is limit world (retire upto fate) can right =
-    let are = subst (λ found. Stays key (retired_under limit world.state upto fate found)) (sym right.are.keyed)
-    (stays_retired key limit world.state upto fate right.are) in
-    record { are = are; valid = right.valid }
-right_after key public is limit world stop can right = record { are = right.are; valid = right.valid }
+-- the records after a migration, and their key
+record IsMoved (public : AnyPublic) (records : List Record) : Type 0 where
+  key : Key
+  is_public : public_in key ≡ Some public
+  are : AreOf key records
 
-right_along : (key : Key) (public : AnyPublic) → public_in key ≡ Some public → (limit : ℕ) (world : World) (events : List Event) → AllEvents events
-    → IsRight key public world → IsRight key public (run limit world events)
-right_along key public is limit world [] all right = right
-right_along key public is limit world (event ∷ events) all right =
-    right_along key public is limit (after limit world event) events all.1 (right_after key public is limit world event all.0 right)
+moved_to : (public : AnyPublic) (key : Key) (records : List Record) (fate : Migration) → public_in key ≡ Some public → AreOf key records
+    → can_move key.version ≡ true → IsMoved public (migrated_to records fate)
+moved_to public key records left_alone is are moves = record { key = key; is_public = is; are = are }
+moved_to public key records sealed is are moves = elim (cases_Bool (has_moved records)) as (λ u. IsMoved public (with_moved records)) [
+  | inl moved ↦
+      subst (IsMoved public) (sym (ap (λ test. if test then records else records ++ MovedRecord ∷ []) moved))
+      (record { key = key; is_public = is; are = are })
+  | inr stays ↦
+      subst (IsMoved public) (sym (ap (λ test. if test then records else records ++ MovedRecord ∷ []) stays))
+      (record { key = key; is_public = is; are = of_grown key records MovedRecord are (moved_can key records stays moves) tt })
+]
+moved_to public key records carried_over is are moves =
+    let over = is_carried records key are.legal are.keyed in
+    record {
+      key = key_in_version Two key;
+      is_public = is;
+      are = record {
+        legal = legal_carried records key over;
+        sizes = sizes_carried records key over are.sizes;
+        keyed = key_carried records key over;
+      };
+    }
+
+right_after : (public : AnyPublic) (limit : ℕ) (world : World) (event : Event) → IsEvent event
+    → IsRight public world → IsRight public (after limit world event)
+right_after public limit world (create spec chance) can right =
+    let same = created_there chance.failed_load world.state spec chance (some_keyed world.state.records right.key right.are.keyed) in
+    record {
+      key = right.key;
+      is_public = right.is_public;
+      are = subst (λ (s : State). AreOf right.key s.records) (sym same) right.are;
+      valid = right.valid;
+    }
+right_after public limit world (reopen chance) can right =
+    let same = opened_same world.state chance (first_illegal world.state.records) in
+    record { key = right.key; is_public = right.is_public; are = subst (AreOf right.key) (sym same) right.are; valid = right.valid }
+right_after public limit world (request name chance) can right =
+    let (are, fits) = fits_request right.key public right.is_public limit world.state name chance can.1 right.are in
+    record {
+      key = right.key;
+      is_public = right.is_public;
+      are = are;
+      valid = handed_right public world.handed name chance.given _ fits right.valid;
+    }
+right_after public limit world (retire upto fate) can right =
+    let are = subst (λ found. Stays right.key (retired_under limit world.state upto fate found)) (sym right.are.keyed)
+    (stays_retired right.key limit world.state upto fate right.are) in
+    record { key = right.key; is_public = right.is_public; are = are; valid = right.valid }
+right_after public limit world (migrate fate) can right =
+    let moved : IsMoved public (migrated world.state fate).records =
+    migrated_has (IsMoved public) world.state fate (record { key = right.key; is_public = right.is_public; are = right.are })
+    (λ key keyed moves.
+    let same : right.key ≡ key = same_Some right.key key (sym right.are.keyed ∙ keyed) in
+    moved_to public key world.state.records fate (subst (λ k. public_in k ≡ Some public) same right.is_public)
+    (subst (λ k. AreOf k world.state.records) same right.are) moves) in
+    record { key = moved.key; is_public = moved.is_public; are = moved.are; valid = right.valid }
+right_after public limit world stop can right =
+    record { key = right.key; is_public = right.is_public; are = right.are; valid = right.valid }
+
+right_along : (public : AnyPublic) (limit : ℕ) (world : World) (events : List Event) → AllEvents events
+    → IsRight public world → IsRight public (run limit world events)
+right_along public limit world [] all right = right
+right_along public limit world (event ∷ events) all right =
+    right_along public limit (after limit world event) events all.1 (right_after public limit world event all.0 right)
 
 -- ---- the law
 
@@ -326,6 +383,7 @@ after_state limit world (create spec chance) = refl
 after_state limit world (reopen chance) = refl
 after_state limit world (request name chance) = refl
 after_state limit world (retire upto fate) = refl
+after_state limit world (migrate fate) = refl
 after_state limit world stop = refl
 
 stays_legal : (limit : ℕ) (world : World) (event : Event) → IsEvent event → AreWellFormed world.state.records → AreWellFormed (after limit world event).state.records
@@ -333,7 +391,8 @@ unfolding silent
 stays_legal limit world event can sized =
     let (key, are) = of_key world.state.records sized in
     let (public, is) = public_made key.secret key.root (key_has_sizes world.state.records key are.sizes are.keyed) in
-    let right = right_after key public is limit (silent world.state) event can (record { are = are; valid = none_handed public [] refl }) in
+    let right = right_after public limit (silent world.state) event can
+    (record { key = key; is_public = is; are = are; valid = none_handed public [] refl }) in
     subst (λ (s : State). AreWellFormed s.records) (after_state limit world event) (record { legal = right.are.legal; sizes = right.are.sizes })
 
 request_valid : (limit : ℕ) (state : State) (name message signature : List ℕ) (chance : Chance) → AreWellFormed state.records → AreDraws chance
@@ -349,7 +408,8 @@ run_valid : (limit : ℕ) (world : World) (events : List Event) (x : Handed) →
 run_valid limit world events x sized empty all there =
     let (key, are) = of_key world.state.records sized in
     let (public, is) = public_made key.secret key.root (key_has_sizes world.state.records key are.sizes are.keyed) in
-    let right = right_along key public is limit world events all (record { are = are; valid = none_handed public world.handed empty }) in
+    let right = right_along public limit world events all
+    (record { key = key; is_public = is; are = are; valid = none_handed public world.handed empty }) in
     record { public = public; keyed = ap public_of_key are.keyed ∙ is; verifies = right.valid x there }
 
 pub opened_law : OpenedLaw

@@ -15,7 +15,7 @@ use Rattle.state_file.specs.Store.{IsRecordAt, is_key}
 use Rattle.state_file.proofs.Moments.{combined, started, weaker}
 use Rattle.sign_core.specs.declared.key.AnyPublic.{AnyPublic}
 use Rattle.sign_core.specs.declared.fault.SignFault.{SignFault}
-use Rattle.sign_core.specs.declared.fault.SignFault.TheVariants.{RandomRepeated, MessageRead, Moved, RetireRange, NoKey, Illegal, DeviceFailed, NoMemoryToOpen}
+use Rattle.sign_core.specs.declared.fault.SignFault.TheVariants.{RandomRepeated, MessageRead, Moved, RetireRange, LongName, NoKey, Illegal, DeviceFailed, NoMemoryToOpen}
 use Rattle.sign_core.specs.declared.fault.SignFault.TheVariants.{Changed, Exhausted, RandomFailed, StoreFailed, Stopped, Damaged, OutOfMemory, LedgerFull}
 use Rattle.sign_core.specs.declared.fault.SignFault.TheVariants.{Unreadable, KeyThere}
 use Rattle.sign_core.specs.Records.{can_follow, first_illegal, illegal_from, key_in}
@@ -242,6 +242,7 @@ unloaded g old now next records k RandomRepeated has loads = absurd loads.loads
 unloaded g old now next records k MessageRead has loads = absurd loads.loads
 unloaded g old now next records k Moved has loads = absurd loads.loads
 unloaded g old now next records k RetireRange has loads = absurd loads.loads
+unloaded g old now next records k LongName has loads = absurd loads.loads
 unloaded g old now next records k NoKey has loads = absurd loads.loads
 unloaded g old now next records k (Damaged slot) has loads = absurd loads.loads
 unloaded g old now next records k (Illegal slot) has loads = absurd loads.loads
@@ -361,6 +362,7 @@ untaken g old now next table left k entry RandomRepeated is loads takes = absurd
 untaken g old now next table left k entry MessageRead is loads takes = absurd takes
 untaken g old now next table left k entry Moved is loads takes = absurd takes
 untaken g old now next table left k entry RetireRange is loads takes = absurd takes
+untaken g old now next table left k entry LongName is loads takes = absurd takes
 untaken g old now next table left k entry NoKey is loads takes = absurd takes
 untaken g old now next table left k entry (Damaged slot) is loads takes = absurd takes
 untaken g old now next table left k entry (Unreadable slot) is loads takes = absurd takes

@@ -18,9 +18,9 @@ use Rattle.state_file.specs.declared.record.Secret.{Secret}
 use Rattle.state_file.specs.declared.record.Secret.TheVariants.{Lms, Hss, Xmss}
 use Rattle.sign_core.specs.declared.key.AnyPublic.{AnyPublic}
 use Rattle.sign_core.specs.declared.fault.SignFault.{SignFault}
-use Rattle.sign_core.specs.declared.fault.SignFault.TheVariants.{Changed, Damaged, Exhausted, Illegal, KeyThere, LedgerFull, MessageRead, Moved, NoKey}
+use Rattle.sign_core.specs.declared.fault.SignFault.TheVariants.{Changed, Damaged, Exhausted, Illegal, KeyThere, LedgerFull, MessageRead, Moved, NoKey, LongName}
 use Rattle.sign_core.specs.declared.fault.SignFault.TheVariants.{OutOfMemory, RandomFailed, RandomRepeated, RetireRange, Stopped, StoreFailed}
-use Rattle.sign_core.specs.Records.{are_same, binding_in, deepest, first_illegal, has_identifier, has_moved, is_of, key_in, leaves_of_current, next_at}
+use Rattle.sign_core.specs.Records.{are_same, binding_in, deepest, first_illegal, has_identifier, has_moved, is_of, key_in, leaves_of_current, next_at, is_long}
 use Rattle.sign_core.specs.Records.{wanted_count}
 use Rattle.sign_core.specs.Textbook.{AllHaveSizes, Trees, damaged_in, digest_at, lms_secret, public_in, signature_at, tree_before, trees_of}
 use Rattle.sign_core.specs.Once.{AreDrawsOf, AreFields, IsTreeDraw, key_sizes, randomizer_sizes, tree_sizes}
@@ -39,6 +39,7 @@ use Rattle.sign_core.proofs.Requests.{first_drawn, later_drawn}
 use Rattle.sign_core.proofs.Sizes.{key_has_sizes, public_made, secret_sizes}
 use Rattle.sign_core.proofs.Lists.{slice_get_new}
 use Rattle.sign_core.proofs.Stays.{old_or_new}
+use Rattle.state_file.specs.Slot.{name_most}
 
 some_not_none : {A : Type 0} (x : A) → Some x ≡ None → ⊥
 some_not_none x is = absurd (cc)
@@ -281,9 +282,10 @@ module _ (limit : ℕ) (state : State) (key : Key) (name : List ℕ) (chance : C
       × RefusesAt limit state key chance l (bound_anew limit state key name chance (Some level)).answer = (level, free, by_level level) in
       is_absent Exhausted (λ none. omega (arith, some, none level within)) rest
 
-  by_name : (found : Option (ℕ × Bound)) → RefusesName limit state key chance found (requested_of limit state key name chance found).answer
+  by_name : (found : Option (ℕ × Bound)) → RefusesName limit state key name chance found (requested_of limit state key name chance found).answer
   by_name (Some (k, bound)) = by_repeat state key k bound chance chance.given refl
-  by_name None = by_new (deepest key.secret state.records) refl
+  by_name None = by_test LongName (is_long key name) state (bound_anew limit state key name chance (deepest key.secret state.records))
+      (ltb-true (name_most key.version) (length name)) (lt-ltb (name_most key.version) (length name)) (λ short. by_new (deepest key.secret state.records) refl)
 
   by_request : key_in state.records ≡ Some key → RefusesRequest limit state key name chance (requested limit state name chance).answer
   by_request keyed =
@@ -368,7 +370,7 @@ module _ (state : State) (spec : Spec) (chance : Creation) (can : IsSpec spec) (
   by_secret : (found : Option Secret) → secret_from spec chance.fields ≡ found → Begins (begun state chance found).answer
   by_secret None is = is_there RandomFailed (few_drawn spec chance.fields are is) refl
   by_secret (Some secret) is =
-      let key = new_key secret in
+      let key = new_key chance.version secret in
       let (public, has) = public_made secret key.root (secret_sizes spec chance.fields secret can are is) in
       let next = λ (all : List Record). published all (public_in key) in
       is_absent RandomFailed (all_drawn spec chance.fields secret is)
@@ -494,10 +496,11 @@ module _ (limit : ℕ) (state : State) (key : Key) (chance : Chance) (one other 
       let damaged = damaged_in key bottom state.records (tree_before bottom state.records k) in
       alike_of (λ a b. alike_of (λ c d. alike_of (λ e f. alike_unless (one_unsound damaged) alike_ok e f) c d) a b) first second
 
-  alike_name : (found : Option (ℕ × Bound)) → RefusesName limit state key chance found one → RefusesName limit state key chance found other
+  alike_name : (name : List ℕ) (found : Option (ℕ × Bound)) → RefusesName limit state key name chance found one
+      → RefusesName limit state key name chance found other
       → RefuseAlike one other
-  alike_name (Some (k, bound)) first second = alike_repeat k bound first second
-  alike_name None first second = alike_new first second
+  alike_name name (Some (k, bound)) first second = alike_repeat k bound first second
+  alike_name name None first second = alike_of alike_new first second
 
 alike_record : (limit : ℕ) (state : State) (next upto : ℕ) (fate : Fate) (one other : Result (Unit {0}) SignFault)
     → RefusesRecord limit state next upto fate one → RefusesRecord limit state next upto fate other → RefuseAlike one other
@@ -522,7 +525,7 @@ refusal_law = record {
   create = λ state spec chance can are. by_load state spec chance can are chance.failed_load refl;
   opening = λ state chance sizes. by_chance state chance (first_illegal state.records) refl sizes;
   one_request = λ limit state key name chance one other first second.
-      alike_open state (λ a b. alike_name limit state key chance one other (binding_in state.records name) a b) first second;
+      alike_open state (λ a b. alike_name limit state key chance one other name (binding_in state.records name) a b) first second;
   one_retire = λ limit state key upto fate one other first second.
       alike_open state (λ a b. alike_of (λ c d. alike_record limit state (next_at key.secret state.records (bottom_of key.secret)) upto fate one other c d) a b) first second;
   one_create = λ state spec chance one other first second.

@@ -5,7 +5,7 @@ use Rattle.state_file.specs.declared.store.Store as store
 use Rattle.state_file.specs.Disk.{Counts}
 use Rattle.sign_core.specs.declared.fault.SignFault.{SignFault}
 use Rattle.sign_core.specs.declared.fault.SignFault.TheVariants.{Changed, Damaged, DeviceFailed, Exhausted, Illegal, KeyThere, LedgerFull, MessageRead, Moved, NoKey}
-use Rattle.sign_core.specs.declared.fault.SignFault.TheVariants.{NoMemoryToOpen, OutOfMemory, RandomFailed, RandomRepeated, RetireRange, Stopped, StoreFailed, Unreadable}
+use Rattle.sign_core.specs.declared.fault.SignFault.TheVariants.{NoMemoryToOpen, OutOfMemory, RandomFailed, RandomRepeated, RetireRange, LongName, Stopped, StoreFailed, Unreadable}
 use Rattle.sign_core.specs.declared.source.Source as source
 use Rattle.sign_core.specs.Signer.{KeepsAll, KeepsAtRefusal, LacksTree, View, is_before_caches, is_before_draws, is_before_repeat, is_fault, is_out_of_memory}
 use Rattle.sign_core.specs.Signing.{Does, answered_with}
@@ -35,6 +35,7 @@ is_after KeyThere not_before = refl
 is_after RandomRepeated not_before = refl
 is_after MessageRead not_before = refl
 is_after RetireRange not_before = refl
+is_after LongName not_before = absurd (true≢false not_before)
 is_after NoKey not_before = refl
 is_after DeviceFailed not_before = refl
 is_after NoMemoryToOpen not_before = refl
@@ -60,6 +61,7 @@ is_bound_early OutOfMemory early = early
 is_bound_early KeyThere early = early
 is_bound_early RandomRepeated early = early
 is_bound_early RetireRange early = early
+is_bound_early LongName early = refl
 is_bound_early NoKey early = early
 is_bound_early DeviceFailed early = early
 is_bound_early NoMemoryToOpen early = early

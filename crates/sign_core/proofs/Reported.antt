@@ -6,9 +6,9 @@ use Rattle.state_file.specs.declared.record.Bound.{Bound}
 use Rattle.state_file.specs.declared.record.Key.{Key}
 use Rattle.state_file.specs.declared.record.Record.{Record}
 use Rattle.sign_core.specs.declared.fault.SignFault.{SignFault}
-use Rattle.sign_core.specs.declared.fault.SignFault.TheVariants.{Changed, Damaged, Exhausted, LedgerFull, MessageRead, Moved, OutOfMemory}
+use Rattle.sign_core.specs.declared.fault.SignFault.TheVariants.{Changed, Damaged, Exhausted, LedgerFull, MessageRead, Moved, OutOfMemory, LongName}
 use Rattle.sign_core.specs.declared.fault.SignFault.TheVariants.{RandomFailed, RandomRepeated, Stopped}
-use Rattle.sign_core.specs.Records.{are_same, binding_in, deepest, has_identifier, has_moved, key_in, next_at, wanted_count}
+use Rattle.sign_core.specs.Records.{are_same, binding_in, deepest, has_identifier, has_moved, key_in, next_at, wanted_count, is_long}
 use Rattle.sign_core.specs.Textbook.{Trees, damaged_in, digest_at, tree_before, trees_of}
 use Rattle.sign_core.specs.World.{Chance, Draw, Fate, Outcome, State, acked, answered, appended, bound_anew, bound_sound, bound_with, cut_new, cut_old}
 use Rattle.sign_core.specs.World.{extended, extended_by, extended_with, first_draw, fulfilled, later_draws, no_memory, open_on, randomizer_from, reading}
@@ -126,7 +126,9 @@ reported_anew limit state key name chance (Some level) =
 reported_of : (limit : ℕ) (state : State) (key : Key) (name : List ℕ) (chance : Chance) (found : Option (ℕ × Bound))
     → IsReported chance.given (requested_of limit state key name chance found)
 reported_of limit state key name chance (Some (k, bound)) = reported_repeated state key k bound chance chance.given
-reported_of limit state key name chance None = reported_anew limit state key name chance (deepest key.secret state.records)
+reported_of limit state key name chance None =
+    kept_choice (IsReported chance.given) (is_long key name) _ _ (λ long. reported_refused chance.given state LongName (λ is. cc))
+    (λ short. reported_anew limit state key name chance (deepest key.secret state.records))
 
 reported_under : (limit : ℕ) (state : State) (name : List ℕ) (chance : Chance) (key : Option Key)
     → IsReported chance.given (requested_under limit state name chance key)

@@ -17,10 +17,10 @@ use Rattle.state_file.specs.declared.record.Key.{Key}
 use Rattle.state_file.specs.declared.record.Record.{Record}
 use Rattle.state_file.specs.declared.record.Record.TheVariants.{Extend as ExtendRecord, Bound as BoundRecord}
 use Rattle.state_file.specs.declared.record.Secret.{Secret}
-use Rattle.sign_core.specs.declared.fault.SignFault.TheVariants.{Changed, Damaged, Exhausted, LedgerFull, MessageRead, OutOfMemory, RandomFailed}
+use Rattle.sign_core.specs.declared.fault.SignFault.TheVariants.{Changed, Damaged, Exhausted, LedgerFull, MessageRead, OutOfMemory, RandomFailed, LongName}
 use Rattle.sign_core.specs.declared.fault.SignFault.TheVariants.{RandomRepeated, Stopped}
 use Rattle.sign_core.specs.declared.fault.SignFault.TheVariants.{Moved as MovedAway}
-use Rattle.sign_core.specs.Records.{are_same, binding_in, can_follow, current, deepest, free_at, has_identifier, has_moved, has_randomizer}
+use Rattle.sign_core.specs.Records.{are_same, binding_in, can_follow, current, deepest, free_at, has_identifier, has_moved, has_randomizer, is_long}
 use Rattle.sign_core.specs.Records.{is_free, key_in, next_at, next_in, next_of}
 use Rattle.sign_core.specs.Records.{wanted_count}
 use Rattle.sign_core.specs.Once.{AreDraws, AreFields, IsBoundTo, IsRecorded, IsTreeDraw, tree_sizes}
@@ -315,7 +315,8 @@ kept_of : (limit : ℕ) (state : State) (handed : List Handed) (key : Key) (name
 kept_of limit state handed key name chance (Some (k, bound)) drawn kept keyed stays is = kept_repeated state handed key name k bound chance chance.given
     kept keyed is
 kept_of limit state handed key name chance None drawn kept keyed stays is =
-    kept_anew limit state handed key name chance (deepest key.secret state.records) drawn kept keyed stays is refl
+    kept_choice (Keeps handed name chance.given) (is_long key name) _ _ (λ long. kept_refused state handed name chance.given LongName kept)
+    (λ short. kept_anew limit state handed key name chance (deepest key.secret state.records) drawn kept keyed stays is refl)
 
 kept_under : (limit : ℕ) (state : State) (handed : List Handed) (name : List ℕ) (chance : Chance) (found : Option Key) → AreDraws chance
     → IsKept state.records handed

@@ -12,7 +12,7 @@ use Rattle.state_file.specs.Disk.{Counts}
 use Rattle.state_file.specs.Laws.{bottom_of}
 use Rattle.state_file.proofs.Moments.{started}
 use Rattle.sign_core.specs.declared.fault.SignFault.{SignFault}
-use Rattle.sign_core.specs.declared.fault.SignFault.TheVariants.{RandomRepeated, MessageRead, Moved, RetireRange, NoKey, Illegal, DeviceFailed, NoMemoryToOpen}
+use Rattle.sign_core.specs.declared.fault.SignFault.TheVariants.{RandomRepeated, MessageRead, Moved, RetireRange, LongName, NoKey, Illegal, DeviceFailed, NoMemoryToOpen}
 use Rattle.sign_core.specs.declared.fault.SignFault.TheVariants.{Changed, Exhausted, RandomFailed, StoreFailed, Stopped, Damaged, OutOfMemory, LedgerFull}
 use Rattle.sign_core.specs.declared.fault.SignFault.TheVariants.{Unreadable, KeyThere}
 use Rattle.sign_core.specs.Records.{has_moved, key_in, leaves_of_current, next_at}
@@ -130,6 +130,7 @@ hindered_retires g v upto key KeyThere signer only keyed why = absurd why
 hindered_retires g v upto key RandomRepeated signer only keyed why = absurd why
 hindered_retires g v upto key MessageRead signer only keyed why = absurd why
 hindered_retires g v upto key RetireRange signer only keyed why = absurd why
+hindered_retires g v upto key LongName signer only keyed why = absurd why
 hindered_retires g v upto key NoKey signer only keyed why = absurd why
 hindered_retires g v upto key DeviceFailed signer only keyed why = absurd why
 hindered_retires g v upto key NoMemoryToOpen signer only keyed why = absurd why

@@ -20,7 +20,7 @@ use Rattle.state_file.proofs.Moments.{weaker}
 use Rattle.sign_core.specs.declared.key.AnyPublic.{AnyPublic}
 use Rattle.sign_core.specs.declared.fault.SignFault.{SignFault}
 use Rattle.sign_core.specs.declared.fault.SignFault.TheVariants.{Changed, Damaged, DeviceFailed, Exhausted, Illegal, KeyThere, LedgerFull, MessageRead}
-use Rattle.sign_core.specs.declared.fault.SignFault.TheVariants.{NoKey, NoMemoryToOpen, OutOfMemory, RandomFailed, RandomRepeated, RetireRange}
+use Rattle.sign_core.specs.declared.fault.SignFault.TheVariants.{NoKey, NoMemoryToOpen, OutOfMemory, RandomFailed, RandomRepeated, RetireRange, LongName}
 use Rattle.sign_core.specs.declared.fault.SignFault.TheVariants.{Stopped, StoreFailed, Unreadable}
 use Rattle.sign_core.specs.declared.fault.SignFault.TheVariants.{Moved as MovedAway}
 use Rattle.sign_core.specs.declared.source.Source as source
@@ -39,6 +39,7 @@ use Rattle.sign_core.proofs.Adding.{LeavesItsList}
 use Rattle.sign_core.proofs.Calls.{draws_of, opened_reaches}
 use Rattle.sign_core.proofs.DrawnAgain.{signed_read}
 use Rattle.sign_core.proofs.OnceParts.{closed_retires, closed_under}
+use Rattle.state_file.specs.declared.record.Version.{Version}
 
 -- a state is its parts
 state_is : {S R : Type 0} (new : View S R) (state : State) → state.records ≡ new.records → state.is_open ≡ new.is_open → state ≡ state_of new
@@ -216,7 +217,7 @@ open_append records entry no_memory next later = open_refused records OutOfMemor
 open_begun : (records : List Record) (chance : Creation) (secret : Option Secret) → OpenBy (begun (closed_on records) chance secret)
 open_begun records chance None = open_refused records RandomFailed
 open_begun records chance (Some secret) = open_choice chance.has_room _ _
-    (open_append records (KeyRecord (new_key secret)) chance.fate _ (λ all. open_published all (public_in (new_key secret))))
+    (open_append records (KeyRecord (new_key chance.version secret)) chance.fate _ (λ all. open_published all (public_in (new_key chance.version secret))))
     (open_refused records OutOfMemory)
 
 open_created : (failed : Option SignFault) (records : List Record) (spec : Spec) (chance : Creation) → OpenBy (created_after failed (closed_on records) spec chance)
@@ -277,6 +278,7 @@ can_fail (Some (Damaged k)) list stopped honest fails = absurd fails
 can_fail (Some LedgerFull) list stopped honest fails = absurd fails
 can_fail (Some MovedAway) list stopped honest fails = absurd fails
 can_fail (Some RetireRange) list stopped honest fails = absurd fails
+can_fail (Some LongName) list stopped honest fails = absurd fails
 can_fail (Some NoKey) list stopped honest fails = absurd fails
 can_fail (Some (Illegal k)) list stopped honest fails = absurd fails
 can_fail (Some DeviceFailed) list stopped honest fails = absurd fails
@@ -298,16 +300,17 @@ can_stop (Some (slot, Damaged k)) list stopped honest stops = absurd stops
 can_stop (Some (slot, LedgerFull)) list stopped honest stops = absurd stops
 can_stop (Some (slot, MovedAway)) list stopped honest stops = absurd stops
 can_stop (Some (slot, RetireRange)) list stopped honest stops = absurd stops
+can_stop (Some (slot, LongName)) list stopped honest stops = absurd stops
 can_stop (Some (slot, NoKey)) list stopped honest stops = absurd stops
 can_stop (Some (slot, Illegal k)) list stopped honest stops = absurd stops
 can_stop (Some (slot, StoreFailed)) list stopped honest stops = absurd stops
 can_stop (Some (slot, OutOfMemory)) list stopped honest stops = absurd stops
 can_stop (Some (slot, KeyThere)) list stopped honest stops = absurd stops
 
-creates_in : {S R : Type 0} (g : store.Ghosts S) (r : source.Ghosts R) (spec : Spec) (kept_in : S) (random : R)
+creates_in : {S R : Type 0} (g : store.Ghosts S) (r : source.Ghosts R) (version : Version) (spec : Spec) (kept_in : S) (random : R)
     (result : Result (View S R) (Refused (S × R) SignFault)) (handed : List Handed) → IsRunning g kept_in → IsSpec spec
-    → (creates : Creates g r spec kept_in random result) → OpensInWorld g (g.list kept_in) handed (create spec creates.chance) kept_in result
-creates_in g r spec kept_in random result handed is can creates =
+    → (creates : Creates g r version spec kept_in random result) → OpensInWorld g (g.list kept_in) handed (create spec creates.chance) kept_in result
+creates_in g r version spec kept_in random result handed is can creates =
     let limit = g.most kept_in in
     let list = g.list kept_in in
     let world = world_of (closed_on list) handed in
@@ -376,6 +379,7 @@ stopped_load (Some (Damaged k)) list stopped honest is fails = absurd fails
 stopped_load (Some LedgerFull) list stopped honest is fails = absurd fails
 stopped_load (Some MovedAway) list stopped honest is fails = absurd fails
 stopped_load (Some RetireRange) list stopped honest is fails = absurd fails
+stopped_load (Some LongName) list stopped honest is fails = absurd fails
 stopped_load (Some NoKey) list stopped honest is fails = absurd fails
 stopped_load (Some (Illegal k)) list stopped honest is fails = absurd fails
 stopped_load (Some DeviceFailed) list stopped honest is fails = absurd fails
@@ -398,6 +402,7 @@ stopped_opening (Some (slot, Damaged k)) list stopped honest is stops = absurd s
 stopped_opening (Some (slot, LedgerFull)) list stopped honest is stops = absurd stops
 stopped_opening (Some (slot, MovedAway)) list stopped honest is stops = absurd stops
 stopped_opening (Some (slot, RetireRange)) list stopped honest is stops = absurd stops
+stopped_opening (Some (slot, LongName)) list stopped honest is stops = absurd stops
 stopped_opening (Some (slot, NoKey)) list stopped honest is stops = absurd stops
 stopped_opening (Some (slot, Illegal k)) list stopped honest is stops = absurd stops
 stopped_opening (Some (slot, StoreFailed)) list stopped honest is stops = absurd stops
@@ -432,10 +437,10 @@ refused_opening g world event kept_in result outcome can is answer same stays =
       stays = stays;
     }
 
-refuses_to_create : {S R : Type 0} (g : store.Ghosts S) (r : source.Ghosts R) (spec : Spec) (kept_in : S) (random : R)
+refuses_to_create : {S R : Type 0} (g : store.Ghosts S) (r : source.Ghosts R) (version : Version) (spec : Spec) (kept_in : S) (random : R)
     (result : Result (View S R) (Refused (S × R) SignFault)) (world : World) → g.stopped kept_in ≡ true → IsSpec spec
-    → (creates : Creates g r spec kept_in random result) → IsRefusedOpening g world (create spec creates.chance) kept_in result
-refuses_to_create g r spec kept_in random result world stopped can creates =
+    → (creates : Creates g r version spec kept_in random result) → IsRefusedOpening g world (create spec creates.chance) kept_in result
+refuses_to_create g r version spec kept_in random result world stopped can creates =
     let chance = creates.chance in
     let failed = stopped_load chance.failed_load (g.list kept_in) (g.stopped kept_in) (g.honest kept_in) stopped creates.load in
     let at = λ (state : State). ap (λ f. created_after f state spec chance) failed in

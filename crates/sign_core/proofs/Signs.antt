@@ -15,13 +15,13 @@ use Rattle.state_file.specs.Disk.{Counts}
 use Rattle.state_file.specs.Laws.{bottom_of, levels_of}
 use Rattle.state_file.proofs.Moments.{started}
 use Rattle.sign_core.specs.declared.fault.SignFault.{SignFault}
-use Rattle.sign_core.specs.declared.fault.SignFault.TheVariants.{RandomRepeated, MessageRead, Moved, RetireRange, NoKey, Illegal, DeviceFailed, NoMemoryToOpen}
+use Rattle.sign_core.specs.declared.fault.SignFault.TheVariants.{RandomRepeated, MessageRead, Moved, RetireRange, LongName, NoKey, Illegal, DeviceFailed, NoMemoryToOpen}
 use Rattle.sign_core.specs.declared.fault.SignFault.TheVariants.{Changed, Exhausted, RandomFailed, StoreFailed, Stopped, Damaged, OutOfMemory, LedgerFull}
 use Rattle.sign_core.specs.declared.fault.SignFault.TheVariants.{Unreadable, KeyThere}
 use Rattle.sign_core.specs.declared.source.Source as source
 use Rattle.sign_core.specs.declared.ledger.Binding.{Binding}
 use Rattle.sign_core.specs.Source.{Provides}
-use Rattle.sign_core.specs.Records.{are_same, binding_in, deepest, has_moved, key_in, wanted_count}
+use Rattle.sign_core.specs.Records.{are_same, binding_in, deepest, has_moved, key_in, wanted_count, is_long}
 use Rattle.sign_core.specs.Once.{IsBeginning}
 use Rattle.sign_core.specs.Request.{HasPrepared}
 use Rattle.sign_core.specs.Caches.{Cached}
@@ -57,12 +57,13 @@ anew state key name chance level full lacking =
 
 -- a name that isn't bound, of which this level is the deepest with a free leaf
 anew_is : (limit : ℕ) (state : State) (key : Key) (name : List ℕ) (chance : Chance) (level : ℕ) (full lacking : Bool) → key_in state.records ≡ Some key
-    → state.is_open ≡ true → has_moved state.records ≡ false → binding_in state.records name ≡ None → deepest key.secret state.records ≡ Some level
-    → nat_lt limit (length state.records + wanted_count key.secret level) ≡ full → not chance.has_room ≡ lacking
+    → state.is_open ≡ true → has_moved state.records ≡ false → binding_in state.records name ≡ None → is_long key name ≡ false
+    → deepest key.secret state.records ≡ Some level → nat_lt limit (length state.records + wanted_count key.secret level) ≡ full → not chance.has_room ≡ lacking
     → requested limit state name chance ≡ anew state key name chance level full lacking
 unfolding request_by anew
-anew_is limit state key name chance level full lacking keyed opened stays unbound at is_full is_lacking =
+anew_is limit state key name chance level full lacking keyed opened stays unbound short at is_full is_lacking =
     request_by_is limit state key name chance false false None keyed (ap not opened) stays unbound
+    ∙ ap (λ long. if long then refused state LongName else bound_anew limit state key name chance (deepest key.secret state.records)) short
     ∙ ap (bound_anew limit state key name chance) at
     ∙ (λ i. anew state key name chance level (is_full i) (is_lacking i))
 
@@ -156,6 +157,10 @@ some_mapped : {A B : Type 0} (f : A → B) (found : Option A) (b : B) → option
 some_mapped f None b is = absurd (none-some _ is)
 some_mapped f (Some a) b is = (a, refl)
 
+pub none_mapped : {A B : Type 0} (f : A → B) (found : Option A) → option_map f found ≡ None → found ≡ None
+none_mapped f None is = refl
+none_mapped f (Some a) is = absurd (cc)
+
 module _ {S R M : Type 0} (g : store.Ghosts S) (r : source.Ghosts R) (m : message.Ghosts M) where
   -- a call that leaves all but how much memory there is
   pub left_signs : (old new : View S R) (name : List ℕ) (before after : M) (capacity : ℕ) (key : Key) (answer : Result (List ℕ) SignFault)
@@ -217,6 +222,7 @@ module _ {S R M : Type 0} (g : store.Ghosts S) (r : source.Ghosts R) (m : messag
   hindered_signs v name before capacity key RandomRepeated signer only keyed why = absurd why
   hindered_signs v name before capacity key MessageRead signer only keyed why = absurd why
   hindered_signs v name before capacity key RetireRange signer only keyed why = absurd why
+  hindered_signs v name before capacity key LongName signer only keyed why = absurd why
   hindered_signs v name before capacity key NoKey signer only keyed why = absurd why
   hindered_signs v name before capacity key DeviceFailed signer only keyed why = absurd why
   hindered_signs v name before capacity key NoMemoryToOpen signer only keyed why = absurd why
@@ -224,54 +230,70 @@ module _ {S R M : Type 0} (g : store.Ghosts S) (r : source.Ghosts R) (m : messag
   hindered_signs v name before capacity key (Unreadable k) signer only keyed why = absurd why
   hindered_signs v name before capacity key (Illegal k) signer only keyed why = absurd why
 
+  -- the name is too long
+  pub long_signs : (v : View S R) (name : List ℕ) (before : M) (capacity : ℕ) (key : Key) → IsSigner g v → LeavesItsList g v.store
+      → key_in v.records ≡ Some key → v.is_open ≡ true → has_moved v.records ≡ false → binding_in v.records name ≡ None → is_long key name ≡ true
+      → Signs g r m v v name before before capacity (Err LongName)
+  unfolding request_by
+  long_signs v name before capacity key signer only keyed opened stays unbound long =
+      left_signs v v name before before capacity key (Err LongName) true false None (same_view v) (λ _. refl) (omega arith) signer only keyed
+      (request_by_is (g.most v.store) (state_of v) key name (repeat_chance true None) false false None keyed (ap not opened) stays unbound
+      ∙ ap (λ test. if test then refused (state_of v) LongName
+      else bound_anew (g.most v.store) (state_of v) key name (repeat_chance true None) (deepest key.secret v.records)) long)
+      refl (λ lacking. absurd (true≢false lacking)) (record { store = λ n. refl; random = λ n. refl; memory = λ n. refl })
+
   -- no leaf is free
   pub exhausted_signs : (v : View S R) (name : List ℕ) (before : M) (capacity : ℕ) (key : Key) → IsSigner g v → LeavesItsList g v.store
-      → key_in v.records ≡ Some key → v.is_open ≡ true → has_moved v.records ≡ false → binding_in v.records name ≡ None → deepest key.secret v.records ≡ None
+      → key_in v.records ≡ Some key → v.is_open ≡ true → has_moved v.records ≡ false → binding_in v.records name ≡ None → is_long key name ≡ false
+      → deepest key.secret v.records ≡ None
       → Signs g r m v v name before before capacity (Err Exhausted)
   unfolding request_by
-  exhausted_signs v name before capacity key signer only keyed opened stays unbound none =
+  exhausted_signs v name before capacity key signer only keyed opened stays unbound short none =
       left_signs v v name before before capacity key (Err Exhausted) true false None (same_view v) (λ _. refl) (omega arith) signer only keyed
       (request_by_is (g.most v.store) (state_of v) key name (repeat_chance true None) false false None keyed (ap not opened) stays unbound
+      ∙ ap (λ long. if long then refused (state_of v) LongName
+      else bound_anew (g.most v.store) (state_of v) key name (repeat_chance true None) (deepest key.secret v.records)) short
       ∙ ap (bound_anew (g.most v.store) (state_of v) key name (repeat_chance true None)) none)
       refl (λ lacking. absurd (true≢false lacking)) (record { store = λ n. refl; random = λ n. refl; memory = λ n. refl })
 
   -- the store or memory has no room
   pub unprepared_signs : (old new : View S R) (name : List ℕ) (before : M) (capacity room level : ℕ) (key : Key) (fault : SignFault) → IsSigner g old
       → LeavesItsList g old.store → key_in old.records ≡ Some key → old.is_open ≡ true → has_moved old.records ≡ false → binding_in old.records name ≡ None
-      → deepest key.secret old.records ≡ Some level → KeepsAll old new → (is_before_caches fault ≡ true → new.cached ≡ old.cached) → old.spare ≤ new.spare
+      → is_long key name ≡ false → deepest key.secret old.records ≡ Some level → KeepsAll old new → (is_before_caches fault ≡ true → new.cached ≡ old.cached) → old.spare ≤ new.spare
       → HasPrepared {A = Unit {0}} (g.most old.store) level key old new capacity room (Err fault)
       → Signs g r m old new name before before capacity (Err fault)
   unfolding anew
-  unprepared_signs old new name before capacity room level key LedgerFull signer only keyed opened stays unbound at keeps caches spare why =
+  unprepared_signs old new name before capacity room level key LedgerFull signer only keyed opened stays unbound short at keeps caches spare why =
       let full : nat_lt (g.most old.store) (length old.records + wanted_count key.secret level) ≡ true = grind (arith, nat_tests) in
       left_signs old new name before before capacity key (Err LedgerFull) true false None keeps caches spare signer only keyed
-      (anew_is (g.most old.store) (state_of old) key name (repeat_chance true None) level true false keyed opened stays unbound at full refl)
+      (anew_is (g.most old.store) (state_of old) key name (repeat_chance true None) level true false keyed opened stays unbound short at full refl)
       refl (λ lacking. absurd (true≢false lacking)) (record { store = λ n. refl; random = λ n. refl; memory = λ n. refl })
-  unprepared_signs old new name before capacity room level key OutOfMemory signer only keyed opened stays unbound at keeps caches spare why =
+  unprepared_signs old new name before capacity room level key OutOfMemory signer only keyed opened stays unbound short at keeps caches spare why =
       let fits : length old.records + wanted_count key.secret level ≤ g.most old.store = why.0 in
       let full : nat_lt (g.most old.store) (length old.records + wanted_count key.secret level) ≡ false = grind (arith, nat_tests) in
       left_signs old new name before before capacity key (Err OutOfMemory) false false None keeps caches spare signer only keyed
-      (anew_is (g.most old.store) (state_of old) key name (repeat_chance false None) level false true keyed opened stays unbound at full refl)
+      (anew_is (g.most old.store) (state_of old) key name (repeat_chance false None) level false true keyed opened stays unbound short at full refl)
       refl
       (λ _. subst (λ found. LacksMemory key old (deepest key.secret old.records) found capacity) (sym unbound)
       (subst (λ l. LacksMemory key old l None capacity) (sym at) why.1))
       (record { store = λ n. refl; random = λ n. refl; memory = λ n. refl })
-  unprepared_signs old new name before capacity room level key Changed signer only keyed opened stays unbound at keeps caches spare why = absurd why
-  unprepared_signs old new name before capacity room level key Exhausted signer only keyed opened stays unbound at keeps caches spare why = absurd why
-  unprepared_signs old new name before capacity room level key RandomFailed signer only keyed opened stays unbound at keeps caches spare why = absurd why
-  unprepared_signs old new name before capacity room level key StoreFailed signer only keyed opened stays unbound at keeps caches spare why = absurd why
-  unprepared_signs old new name before capacity room level key Stopped signer only keyed opened stays unbound at keeps caches spare why = absurd why
-  unprepared_signs old new name before capacity room level key Moved signer only keyed opened stays unbound at keeps caches spare why = absurd why
-  unprepared_signs old new name before capacity room level key KeyThere signer only keyed opened stays unbound at keeps caches spare why = absurd why
-  unprepared_signs old new name before capacity room level key RandomRepeated signer only keyed opened stays unbound at keeps caches spare why = absurd why
-  unprepared_signs old new name before capacity room level key MessageRead signer only keyed opened stays unbound at keeps caches spare why = absurd why
-  unprepared_signs old new name before capacity room level key RetireRange signer only keyed opened stays unbound at keeps caches spare why = absurd why
-  unprepared_signs old new name before capacity room level key NoKey signer only keyed opened stays unbound at keeps caches spare why = absurd why
-  unprepared_signs old new name before capacity room level key DeviceFailed signer only keyed opened stays unbound at keeps caches spare why = absurd why
-  unprepared_signs old new name before capacity room level key NoMemoryToOpen signer only keyed opened stays unbound at keeps caches spare why = absurd why
-  unprepared_signs old new name before capacity room level key (Damaged k) signer only keyed opened stays unbound at keeps caches spare why = absurd why
-  unprepared_signs old new name before capacity room level key (Unreadable k) signer only keyed opened stays unbound at keeps caches spare why = absurd why
-  unprepared_signs old new name before capacity room level key (Illegal k) signer only keyed opened stays unbound at keeps caches spare why = absurd why
+  unprepared_signs old new name before capacity room level key Changed signer only keyed opened stays unbound short at keeps caches spare why = absurd why
+  unprepared_signs old new name before capacity room level key Exhausted signer only keyed opened stays unbound short at keeps caches spare why = absurd why
+  unprepared_signs old new name before capacity room level key RandomFailed signer only keyed opened stays unbound short at keeps caches spare why = absurd why
+  unprepared_signs old new name before capacity room level key StoreFailed signer only keyed opened stays unbound short at keeps caches spare why = absurd why
+  unprepared_signs old new name before capacity room level key Stopped signer only keyed opened stays unbound short at keeps caches spare why = absurd why
+  unprepared_signs old new name before capacity room level key Moved signer only keyed opened stays unbound short at keeps caches spare why = absurd why
+  unprepared_signs old new name before capacity room level key KeyThere signer only keyed opened stays unbound short at keeps caches spare why = absurd why
+  unprepared_signs old new name before capacity room level key RandomRepeated signer only keyed opened stays unbound short at keeps caches spare why = absurd why
+  unprepared_signs old new name before capacity room level key MessageRead signer only keyed opened stays unbound short at keeps caches spare why = absurd why
+  unprepared_signs old new name before capacity room level key RetireRange signer only keyed opened stays unbound short at keeps caches spare why = absurd why
+  unprepared_signs old new name before capacity room level key LongName signer only keyed opened stays unbound short at keeps caches spare why = absurd why
+  unprepared_signs old new name before capacity room level key NoKey signer only keyed opened stays unbound short at keeps caches spare why = absurd why
+  unprepared_signs old new name before capacity room level key DeviceFailed signer only keyed opened stays unbound short at keeps caches spare why = absurd why
+  unprepared_signs old new name before capacity room level key NoMemoryToOpen signer only keyed opened stays unbound short at keeps caches spare why = absurd why
+  unprepared_signs old new name before capacity room level key (Damaged k) signer only keyed opened stays unbound short at keeps caches spare why = absurd why
+  unprepared_signs old new name before capacity room level key (Unreadable k) signer only keyed opened stays unbound short at keeps caches spare why = absurd why
+  unprepared_signs old new name before capacity room level key (Illegal k) signer only keyed opened stays unbound short at keeps caches spare why = absurd why
 
   -- ---- a name that is bound
 
@@ -324,10 +346,10 @@ module _ {S R M : Type 0} (g : store.Ghosts S) (r : source.Ghosts R) (m : messag
 
   pub binds_signs : (old mid new : View S R) (name : List ℕ) (before after : M) (capacity level : ℕ) (key : Key) (answer : Result (List ℕ) SignFault)
       → key_in old.records ≡ Some key → old.is_open ≡ true → has_moved old.records ≡ false → binding_in old.records name ≡ None
-      → deepest key.secret old.records ≡ Some level → KeepsAll old mid → old.spare ≤ mid.spare → IsReady (g.most old.store) (levels_of key.secret - level) mid
+      → is_long key name ≡ false → deepest key.secret old.records ≡ Some level → KeepsAll old mid → old.spare ≤ mid.spare → IsReady (g.most old.store) (levels_of key.secret - level) mid
       → Binds g r m name level mid new before after answer key → Signs g r m old new name before after capacity answer
   unfolding anew
-  binds_signs old mid new name before after capacity level key answer keyed opened stays unbound at keeps spare ready mid_binds =
+  binds_signs old mid new name before after capacity level key answer keyed opened stays unbound short at keeps spare ready mid_binds =
       let is = same_but old mid keeps in
       let b = subst (λ v. Binds g r m name level v new before after answer key) is mid_binds in
       let fits = (subst (IsReady (g.most old.store) (levels_of key.secret - level)) is ready).few in
@@ -338,7 +360,7 @@ module _ {S R M : Type 0} (g : store.Ghosts S) (r : source.Ghosts R) (m : messag
           keyed = keyed;
           chance = b.chance;
           outcome = b.outcome;
-          step = anew_is (g.most old.store) (state_of old) key name b.chance level false false keyed opened stays unbound
+          step = anew_is (g.most old.store) (state_of old) key name b.chance level false false keyed opened stays unbound short
               at full (ap not b.room) ∙ b.step;
           ends = record {
             answer_is = b.does.ends.answer_is;

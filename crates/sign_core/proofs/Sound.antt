@@ -1,14 +1,15 @@
 -- Each event leaves sound records.
-use Rattle.std.proofs.Common.{◌≡◌, sym, subst, ℕ, ◌⊎◌, inl, inr, List, [], ◌∷◌, ◌++◌, Some, arith}
+use Rattle.std.proofs.Common.{◌≡◌, ◌∙◌, ap, sym, subst, ℕ, ◌⊎◌, inl, inr, List, [], ◌∷◌, ◌++◌, Some, arith}
 use Rattle.typecodes.specs.declared.spec.Spec.{Spec}
 use Rattle.state_file.specs.declared.record.Key.{Key}
 use Rattle.state_file.specs.declared.record.Record.{Record}
 use Rattle.sign_core.specs.Records.{key_in}
-use Rattle.sign_core.specs.Once.{AreWhole, IsEvent, SoundLaw}
+use Rattle.sign_core.specs.Once.{AreWhole, IsEvent, SoundLaw, lasting}
 use Rattle.sign_core.specs.Textbook.{AllHaveSizes, AreSound}
 use Rattle.sign_core.specs.World.{Creation, Event, State, World, after, create, created}
 use Rattle.sign_core.proofs.Events.{kept_after}
-use Rattle.sign_core.proofs.Lasting.{extends_along}
+use Rattle.sign_core.proofs.Lasting.{carries_along}
+use Rattle.state_file.specs.declared.record.Record.TheVariants.{Key as KeyRecord, Extend as ExtendRecord, Bound as BoundRecord, Retire, Moved}
 use Rattle.sign_core.proofs.OnceKept.{IsKept, kept_empty}
 use Rattle.sign_core.proofs.Opened.{after_state, silent}
 
@@ -20,9 +21,13 @@ none_handed records whole = record {
 }
 
 -- records that grew from those of a key are some
-some_left : (records more left : List Record) (key : Key) → key_in records ≡ Some key → left ≡ records ++ more → left ≡ [] → ⊥
+some_left : (records more left : List Record) (key : Key) → key_in records ≡ Some key → lasting left ≡ lasting records ++ more → left ≡ [] → ⊥
 some_left [] more left key keyed grown empty = cc
-some_left (entry ∷ records) more left key keyed grown empty = cc
+some_left (KeyRecord own ∷ records) more left key keyed grown empty = let none = sym (ap lasting empty) ∙ grown in cc
+some_left (ExtendRecord extend ∷ records) more left key keyed grown empty = cc
+some_left (BoundRecord bound ∷ records) more left key keyed grown empty = cc
+some_left (Retire upto ∷ records) more left key keyed grown empty = cc
+some_left (Moved ∷ records) more left key keyed grown empty = cc
 
 stays : (limit : ℕ) (world : World) (event : Event) → IsEvent event → AreWhole world.state.records → AreWhole (after limit world event).state.records
 unfolding silent
@@ -30,7 +35,7 @@ stays limit world event can whole =
     let kept = kept_after limit (silent world.state) event can (none_handed world.state.records whole) in
     let same = after_state limit world event in
     let left = (after limit world event).state.records in
-    let extends = extends_along limit world (event ∷ []) in
+    let extends = carries_along limit world (event ∷ []) in
     let ground = subst (λ (s : State). (s.records ≡ []) ⊎ AreSound s.records) same kept.ground in
     record {
       sound = elim ground as (λ u. AreSound left) [

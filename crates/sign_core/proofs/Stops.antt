@@ -13,7 +13,7 @@ use Rattle.state_file.specs.declared.record.Secret.{Secret}
 use Rattle.sign_core.specs.declared.fault.SignFault.{SignFault}
 use Rattle.sign_core.specs.declared.fault.SignFault.TheVariants.{StoreFailed}
 use Rattle.sign_core.specs.declared.key.AnyPublic.{AnyPublic}
-use Rattle.sign_core.specs.Records.{are_same, binding_in, deepest, has_identifier, has_moved, key_in, leaves_of_current, next_at, wanted_count}
+use Rattle.sign_core.specs.Records.{are_same, binding_in, deepest, has_identifier, has_moved, key_in, leaves_of_current, next_at, wanted_count, is_long}
 use Rattle.sign_core.specs.Textbook.{Trees, damaged_in, digest_at, public_in, tree_before, trees_of}
 use Rattle.sign_core.specs.World.{Chance, Creation, Draw, Fate, Outcome, State, acked, answered, appended, begun, bound_anew, bound_sound}
 use Rattle.sign_core.specs.World.{bound_with, closed_on, created, created_after, drawing, later_draws, reading}
@@ -130,7 +130,7 @@ stops_choice records false x y xs ys first second = second
 -- ---- create
 
 abbrev fated : Creation → Fate → Creation
-fated chance fate = record { failed_load = chance.failed_load; fields = chance.fields; has_room = chance.has_room; fate = fate }
+fated chance fate = record { version = chance.version; failed_load = chance.failed_load; fields = chance.fields; has_room = chance.has_room; fate = fate }
 
 stops_published : (records : List Record) (public : Option AnyPublic) (ways : List Record → Type 0) → Stops records (published records public) ways
 stops_published records (Some public) ways = answers (open_on records) public ways
@@ -140,8 +140,8 @@ stops_begun : (state : State) (chance : Creation) (secret : Option Secret)
     → Stops state.records (begun state chance secret) (OneCut {I = Fate × Unit {0}} (λ i unused. begun state (fated chance i.0) secret))
 stops_begun state chance None = refuses state _ _
 stops_begun state chance (Some secret) = stops_choice {I = Fate × Unit {0}} state.records chance.has_room _ _ _ _
-    (stops_append tt state (KeyRecord (new_key secret)) chance.fate _ (λ i unused records. published records (public_in (new_key secret)))
-    (λ records. stops_published records (public_in (new_key secret)) _))
+    (stops_append tt state (KeyRecord (new_key chance.version secret)) chance.fate _ (λ i unused records. published records (public_in (new_key chance.version secret)))
+    (λ records. stops_published records (public_in (new_key chance.version secret)) _))
     (refuses state _ _)
 
 stops_after : (failed : Option SignFault) (state : State) (spec : Spec) (chance : Creation)
@@ -291,7 +291,8 @@ stops_of : (limit : ℕ) (state : State) (key : Key) (name : List ℕ) (chance :
     → Stops state.records (requested_of limit state key name chance found)
     (OneCut {I = Others} (λ o unused. requested_of limit state key name (other_chance chance o.fate o.trees) found))
 stops_of limit state key name chance all (Some (k, bound)) = stops_repeated state key k bound chance chance.given
-stops_of limit state key name chance all None = stops_anew limit state key name chance all (deepest key.secret state.records)
+stops_of limit state key name chance all None = stops_choice {I = Others} state.records (is_long key name) _ _ _ _ (refuses state _ _)
+    (stops_anew limit state key name chance all (deepest key.secret state.records))
 
 stops_under : (limit : ℕ) (state : State) (name : List ℕ) (chance : Chance) → AllByRecursion IsTreeDraw chance.trees → (found : Option Key)
     → Stops state.records (requested_under limit state name chance found)

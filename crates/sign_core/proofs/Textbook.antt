@@ -64,7 +64,7 @@ pub record HasTrees (key : Key) (trees : Trees) (records : List Record) : Type 0
   pub identifier : length trees.top.identifier ≡ 16
   pub pairs : trees.top.pair ≡ slice_index_or trees.pairs 0 trees.top.pair
   pub leaves : (level n : ℕ) → n < leaves_at key.secret level → n < 2 ^ height_of (slice_index_or trees.pairs level trees.top.pair).tree
-  pub fits : (k : ℕ) (entry : Record) → slice_get records k ≡ Some entry → Fits key.secret records k entry
+  pub fits : (k : ℕ) (entry : Record) → slice_get records k ≡ Some entry → Fits key records k entry
   pub sizes : AllHaveSizes records
 
 module _ (key : Key) (trees : Trees) (records : List Record) (has : HasTrees key trees records) where

@@ -63,7 +63,7 @@ top_sound key records (suc level) k tree is sound =
 pub record IsSoundlyBound (records : List Record) (key : Key) (message : List ℕ) (k : ℕ) (bound : Bound) : Type 0 where
   pub first : slice_get records 0 ≡ Some (KeyRecord key)
   pub stands : slice_get records k ≡ Some (BoundRecord bound)
-  pub fits : (j : ℕ) (entry : Record) → slice_get records j ≡ Some entry → Fits key.secret records j entry
+  pub fits : (j : ℕ) (entry : Record) → slice_get records j ≡ Some entry → Fits key records j entry
   pub sizes : AllHaveSizes records
   pub current : current (bottom_of key.secret) (take k records) ≡ Some (tree_before (bottom_of key.secret) records k)
   pub sound : damaged_in key (bottom_of key.secret) records (tree_before (bottom_of key.secret) records k) ≡ None
@@ -77,8 +77,8 @@ soundly_bound records key name message k bound legal sizes is sound =
     let bottom = bottom_of key.secret in
     let first = key_stands records key is.keyed in
     let stands = (binding_stands records name k bound is.named).0 in
-    let fits : (j : ℕ) (entry : Record) → slice_get records j ≡ Some entry → Fits key.secret records j entry =
-    λ j entry at. subst (λ own. Fits own.secret records j entry) (legal_key records key legal is.keyed) (legal.fits j entry at) in
+    let fits : (j : ℕ) (entry : Record) → slice_get records j ≡ Some entry → Fits key records j entry =
+    λ j entry at. subst (λ own. Fits own records j entry) (legal_key records key legal is.keyed) (legal.fits j entry at) in
     let (has_tree, inside, randomizer) = fits k (BoundRecord bound) stands in
     let found = before_current records k bottom has_tree.0 (omega (arith, slice_get_within records k (BoundRecord bound) stands)) has_tree.1 in
     let here : current bottom (take k records) ≡ Some (tree_before bottom records k) = found ∙ ap (λ found. Some (unwrap_or found 0)) (sym found) in

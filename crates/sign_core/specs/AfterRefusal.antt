@@ -11,6 +11,7 @@ use Rattle.state_file.specs.declared.record.Key.{Key}
 use Rattle.state_file.specs.declared.record.Record.{Record}
 use Rattle.state_file.specs.declared.record.Record.TheVariants.{Bound as BoundRecord, Key as KeyRecord, Retire}
 use Rattle.state_file.specs.declared.record.Secret.{Secret}
+use Rattle.state_file.specs.declared.record.Version.{Version}
 use Rattle.sign_core.specs.declared.fault.SignFault.{SignFault}
 use Rattle.sign_core.specs.declared.fault.SignFault.TheVariants.{RandomRepeated, StoreFailed}
 use Rattle.sign_core.specs.Once.{AreFields, BeginsTree, BindsName, IsActive, bytes_drawn, key_sizes}
@@ -93,10 +94,10 @@ LeavesRequested state name chance outcome =
 
 -- ---- the other events
 
--- the Key of the secret that was drawn
-abbrev pub IsDrawnKey : Spec → (fields : List (List ℕ)) → (drawn : List ℕ) → Record → Type 0
-IsDrawnKey spec fields drawn entry = (secret : Secret) × (secret_from spec fields ≡ Some secret)
-    × (drawn ≡ concat fields) × (entry ≡ KeyRecord (new_key secret))
+-- the Key of a version, of the secret that was drawn
+abbrev pub IsDrawnKey : Version → Spec → (fields : List (List ℕ)) → (drawn : List ℕ) → Record → Type 0
+IsDrawnKey version spec fields drawn entry = (secret : Secret) × (secret_from spec fields ≡ Some secret)
+    × (drawn ≡ concat fields) × (entry ≡ KeyRecord (new_key version secret))
 
 -- ---- the law
 
@@ -114,7 +115,7 @@ pub record AfterRefusalLaw : Type 0 where
       → Leaves state.records (λ entry. entry ≡ Retire upto) (retired limit state upto fate)
   pub create : (state : State) (spec : Spec) (chance : Creation) → IsSpec spec
       → AreFields (key_sizes spec) chance.fields → IsRefusal (created state spec chance)
-      → Leaves state.records (IsDrawnKey spec chance.fields (created state spec chance).drawn)
+      → Leaves state.records (IsDrawnKey chance.version spec chance.fields (created state spec chance).drawn)
       (created state spec chance)
   pub opening : (state : State) (chance : Opening) → IsRefusal (opened state chance)
       → Leaves state.records (λ entry. ⊥) (opened state chance)

@@ -6,7 +6,7 @@ use Rattle.state_file.specs.declared.store.Store as store
 use Rattle.state_file.specs.Disk.{LeavesOnly}
 use Rattle.sign_core.specs.Once.{AllEvents, AreDraws, AreDrawsOf, IsBeginning, IsEvent, IsLeftBy, IsOnce, reached}
 use Rattle.sign_core.specs.World.{Chance, Event, World, after, beginning, closed_on, create, created, opened, reopen}
-use Rattle.sign_core.specs.World.{request, requested, retire, retired, run, stop}
+use Rattle.sign_core.specs.World.{migrate, migrated, request, requested, retire, retired, run, stop}
 
 -- An event comes to its end; or the power goes at a moment of it, or after its append failed and before the next
 -- opening, and leaves these records.
@@ -14,12 +14,13 @@ pub data Step : Type 0 where
   ends : Event → Step
   stops : Event → (left : List Record) → Step
 
--- the records that an event reaches
+-- The records that an event reaches. What a stop in a migration leaves, a migration leaves that ends so.
 abbrev pub reached_by : (limit : ℕ) → World → Event → List Record
 reached_by limit world (create spec chance) = reached (created world.state spec chance)
 reached_by limit world (reopen chance) = reached (opened world.state chance)
 reached_by limit world (request name chance) = reached (requested limit world.state name chance)
 reached_by limit world (retire upto fate) = reached (retired limit world.state upto fate)
+reached_by limit world (migrate fate) = world.state.records
 reached_by limit world stop = world.state.records
 
 -- the records that it acknowledges
@@ -28,6 +29,7 @@ acknowledged_by limit world (create spec chance) = (created world.state spec cha
 acknowledged_by limit world (reopen chance) = (opened world.state chance).acknowledged
 acknowledged_by limit world (request name chance) = (requested limit world.state name chance).acknowledged
 acknowledged_by limit world (retire upto fate) = (retired limit world.state upto fate).acknowledged
+acknowledged_by limit world (migrate fate) = (migrated world.state fate).records
 acknowledged_by limit world stop = world.state.records
 
 abbrev pub IsOpenAfter : (limit : ℕ) → World → Event → Type 0

@@ -4,7 +4,7 @@ use Rattle.sign_core.specs.declared.fault.ServeFault.{ServeFault}
 use Rattle.sign_core.specs.declared.fault.ServeFault.TheVariants as serving
 use Rattle.sign_core.specs.declared.fault.SignFault.{SignFault}
 use Rattle.sign_core.specs.declared.fault.SignFault.TheVariants.{Changed, Damaged, DeviceFailed, Exhausted, Illegal}
-use Rattle.sign_core.specs.declared.fault.SignFault.TheVariants.{KeyThere, LedgerFull, MessageRead, Moved}
+use Rattle.sign_core.specs.declared.fault.SignFault.TheVariants.{KeyThere, LedgerFull, LongName, MessageRead, Moved}
 use Rattle.sign_core.specs.declared.fault.SignFault.TheVariants.{NoKey, NoMemoryToOpen, OutOfMemory, RandomFailed}
 use Rattle.sign_core.specs.declared.fault.SignFault.TheVariants.{RandomRepeated, RetireRange, Stopped, StoreFailed}
 use Rattle.sign_core.specs.declared.fault.SignFault.TheVariants.{Unreadable}
@@ -33,6 +33,7 @@ number_of OutOfMemory = 29
 number_of LedgerFull = 30
 number_of Moved = 31
 number_of RetireRange = 32
+number_of LongName = 33
 number_of NoKey = 40
 number_of (Unreadable slot) = 43
 number_of (Illegal slot) = 44

@@ -23,3 +23,6 @@ pub mod Lives
 pub mod RefusalOrder
 pub mod AfterRefusal
 pub mod Caches
+pub mod OldFile
+pub mod Migration
+pub mod Moves

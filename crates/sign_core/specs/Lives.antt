@@ -1,7 +1,10 @@
 -- The lives of one disk that keeps what was synced. In each a store is opened on the disk, or prepared; calls on the
 -- store come to their end; and the power goes, at any moment. The next life begins with what that left.
-use Rattle.std.specs.Prelude.{◌≡◌, ◌⊎◌, ℕ, IsTrue, List, [], ◌∷◌, false}
+use Rattle.std.specs.Prelude.{◌≡◌, ◌⊎◌, ℕ, IsTrue, List, [], ◌∷◌, Some, false}
+use Rattle.state_file.specs.Carried.{carried, with_moved}
 use Rattle.state_file.specs.declared.disk.Disk as disk
+use Rattle.state_file.specs.declared.record.Key.{Key}
+use Rattle.state_file.specs.declared.record.Version.TheVariants.{One}
 use Rattle.state_file.specs.declared.record.Record.{Record}
 use Rattle.state_file.specs.declared.store.Store as store
 use Rattle.state_file.specs.declared.store.file_store.FileStore.{FileStore}
@@ -11,6 +14,7 @@ use Rattle.state_file.specs.FileStore.{disk_of, has_stopped, records_of}
 use Rattle.state_file.specs.Format.{LeftByFormat, PreparesPlace}
 use Rattle.sign_core.specs.Calls.{AreLastingCalls, Call, IsCall, IsRun, events_of, store_after_calls}
 use Rattle.sign_core.specs.Once.{IsOnce}
+use Rattle.sign_core.specs.Records.{key_in}
 use Rattle.sign_core.specs.SignerCalls.{world_of}
 use Rattle.sign_core.specs.World.{Handed, World, beginning, closed_on, run}
 
@@ -119,29 +123,52 @@ pub record IsLeftByRun (limit : ℕ) (first : World) (handed : List Handed) (con
   pub stands : StandsFor records content
   pub runs : IsRun limit first (world_of (closed_on records) handed)
 
--- What holds of all lives of a disk that has no key as the first one begins.
+-- the contents to which runs of the world lead, in which this was handed out
+abbrev pub LedTo : (limit : ℕ) → List Handed → List ℕ → Type 0
+LedTo limit handed content = IsLeftByRun limit beginning handed content
+
+-- the records of a key of version 1
+abbrev pub CanMigrate : List Record → Type 0
+CanMigrate records = (key : Key) × (key_in records ≡ Some key) × (key.version ≡ One)
+
+-- What holds of all lives of a disk, where runs of the world lead to what may be left as the first one begins.
 pub record LivesLaw {D : Type 0} (d : disk.Ghosts D) (g : store.Ghosts (FileStore D d)) : Type 0 where
+  -- So it is of a disk without a key, with nothing handed out: its lives are such lives, and leave what these leave.
+  pub without_key : (limit : ℕ) (lives : List (Life D d)) → AreLives d g limit HasNoKey [] lives
+      → AreLives d g limit (LedTo limit []) [] lives
+  pub left_without_key : (limit : ℕ) (lives : List (Life D d)) (content : List ℕ) → left_by_all d HasNoKey lives content
+      → left_by_all d (LedTo limit []) lives content
+  -- So it is of the new place of a migration: where a content to which runs lead stands for records of version 1, they
+  -- lead, with the same handed out, to one that stands for what a migration carries over, and to one with a Moved.
+  pub migrates : (limit : ℕ) (handed : List Handed) (records : List Record) (content moved : List ℕ)
+      → LedTo limit handed content → StandsFor records content → CanMigrate records
+      → StandsFor (carried records) moved ⊎ StandsFor (with_moved records) moved → LedTo limit handed moved
   -- where the power went, the next life may begin with the content that this left, all of it synced
-  pub after_power : (lives : List (Life D d)) (on : D) (content : List ℕ) → IsTrue (d.honest on)
-      → d.state on ≡ settled content → left_by_all d HasNoKey lives content
-      → IsAtStart d (left_by_all d HasNoKey lives) on
+  pub after_power : (limit : ℕ) (handed : List Handed) (lives : List (Life D d)) (on : D) (content : List ℕ)
+      → IsTrue (d.honest on) → d.state on ≡ settled content → left_by_all d (LedTo limit handed) lives content
+      → IsAtStart d (left_by_all d (LedTo limit handed) lives) on
   -- where it didn't, with the disk that the life hands back
-  pub goes_on : (limit : ℕ) (lives : List (Life D d)) (life : Life D d) → IsTrue (d.honest (disk_at_end life))
-      → IsLife d g limit (left_by_all d HasNoKey lives) (handed_by_all limit [] lives) life
+  pub goes_on : (limit : ℕ) (handed : List Handed) (lives : List (Life D d)) (life : Life D d)
+      → IsTrue (d.honest (disk_at_end life))
+      → IsLife d g limit (left_by_all d (LedTo limit handed) lives) (handed_by_all limit handed lives) life
       → IsAtStart d (left_by d life) (disk_at_end life)
   -- a store has the records that the disk's content stands for, and so those that the life before left
   pub finds : (on : D) (store : FileStore D d) (records : List Record) → IsStoreOn d on store
       → StandsFor records (d.state on).content → records_of store ≡ records
   -- whatever content the last life leaves, a run of the world leads there, which hands out what the calls that came to
   -- their end handed out
-  pub leaves : (limit : ℕ) (lives : List (Life D d)) (content : List ℕ) → AreLives d g limit HasNoKey [] lives
-      → left_by_all d HasNoKey lives content → IsLeftByRun limit beginning (handed_by_all limit [] lives) content
+  pub leaves : (limit : ℕ) (handed : List Handed) (lives : List (Life D d)) (content : List ℕ)
+      → AreLives d g limit (LedTo limit handed) handed lives → left_by_all d (LedTo limit handed) lives content
+      → LedTo limit (handed_by_all limit handed lives) content
   -- so the law over all runs holds there
-  pub once : (limit : ℕ) (lives : List (Life D d)) (content : List ℕ) (records : List Record)
-      → AreLives d g limit HasNoKey [] lives → left_by_all d HasNoKey lives content → StandsFor records content
-      → IsOnce limit (world_of (closed_on records) (handed_by_all limit [] lives))
+  pub once : (limit : ℕ) (handed : List Handed) (lives : List (Life D d)) (content : List ℕ) (records : List Record)
+      → AreLives d g limit (LedTo limit handed) handed lives → left_by_all d (LedTo limit handed) lives content
+      → StandsFor records content
+      → IsOnce limit (world_of (closed_on records) (handed_by_all limit handed lives))
   -- and after each call of a life that goes on
-  pub once_after : (limit : ℕ) (lives : List (Life D d)) (on : D) (store : FileStore D d)
-      (calls : List (Call (FileStore D d))) (last : Call (FileStore D d)) → AreLives d g limit HasNoKey [] lives
-      → IsLife d g limit (left_by_all d HasNoKey lives) (handed_by_all limit [] lives) (serves on store calls last)
-      → IsOnce limit (world_after limit store calls (handed_by_all limit [] lives))
+  pub once_after : (limit : ℕ) (handed : List Handed) (lives : List (Life D d)) (on : D) (store : FileStore D d)
+      (calls : List (Call (FileStore D d))) (last : Call (FileStore D d))
+      → AreLives d g limit (LedTo limit handed) handed lives
+      → IsLife d g limit (left_by_all d (LedTo limit handed) lives) (handed_by_all limit handed lives)
+      (serves on store calls last)
+      → IsOnce limit (world_after limit store calls (handed_by_all limit handed lives))

@@ -9,19 +9,22 @@ use Rattle.typecodes.specs.declared.spec.Spec.TheVariants.{Lms, Hss, Xmss}
 use Rattle.typecodes.specs.Spec.{IsSpec}
 use Rattle.typecodes.specs.Name.{IsName}
 use Rattle.typecodes.specs.Layout.{AreBytes}
+use Rattle.state_file.specs.Carried.{in_version}
 use Rattle.state_file.specs.Laws.{bottom_of}
+use Rattle.state_file.specs.Slot.{name_most}
 use Rattle.state_file.specs.declared.record.Bound.{Bound}
 use Rattle.state_file.specs.declared.record.Extend.{Extend}
 use Rattle.state_file.specs.declared.record.Key.{Key}
 use Rattle.state_file.specs.declared.record.Record.{Record}
 use Rattle.state_file.specs.declared.record.Record.TheVariants.{Bound as BoundRecord, Extend as ExtendRecord}
-use Rattle.state_file.specs.declared.record.Record.TheVariants.{Key as KeyRecord, Retire}
+use Rattle.state_file.specs.declared.record.Record.TheVariants.{Key as KeyRecord, Retire, Moved as MovedRecord}
+use Rattle.state_file.specs.declared.record.Version.TheVariants.{One}
 use Rattle.state_file.specs.declared.record.Secret.{Secret}
 use Rattle.state_file.specs.declared.record.Secret.TheVariants.{Lms as LmsSecret, Hss as HssSecret, Xmss as XmssSecret}
 use Rattle.sign_core.specs.declared.key.AnyPublic.{AnyPublic}
 use Rattle.sign_core.specs.declared.fault.SignFault.{SignFault}
 use Rattle.sign_core.specs.declared.fault.SignFault.TheVariants.{Changed, Damaged, Exhausted, Illegal, MessageRead}
-use Rattle.sign_core.specs.declared.fault.SignFault.TheVariants.{LedgerFull, Moved, OutOfMemory, RetireRange}
+use Rattle.sign_core.specs.declared.fault.SignFault.TheVariants.{LedgerFull, LongName, Moved, OutOfMemory, RetireRange}
 use Rattle.sign_core.specs.declared.fault.SignFault.TheVariants.{Stopped, StoreFailed, Unreadable}
 use Rattle.sign_core.specs.declared.fault.SignFault.TheVariants.{DeviceFailed, NoMemoryToOpen, RandomRepeated}
 use Rattle.sign_core.specs.Key.{KeyVerdict}
@@ -29,7 +32,7 @@ use Rattle.sign_core.specs.Records.{binding_in, deepest, has_identifier, has_mov
 use Rattle.sign_core.specs.Records.{wanted_count}
 use Rattle.sign_core.specs.Uses.{LeafUse, MakesUses}
 use Rattle.sign_core.specs.World.{Chance, Creation, Draw, Event, Fate, Handed, Opening, Outcome, State, World}
-use Rattle.sign_core.specs.World.{acked, cut_new, cut_old, no_memory, create, reopen, request, retire, stop}
+use Rattle.sign_core.specs.World.{acked, cut_new, cut_old, no_memory, create, reopen, request, retire, migrate, stop}
 use Rattle.sign_core.specs.World.{after, answered, beginning, closed_on, created, drawing, new_key, open_on}
 use Rattle.sign_core.specs.World.{opened, reading, refused}
 use Rattle.sign_core.specs.World.{randomizer_from, requested, retired, run, secret_from}
@@ -89,6 +92,7 @@ IsEvent (create spec chance) =
 IsEvent (reopen chance) = CanStopOpening chance
 IsEvent (request name chance) = IsName name × AreDraws chance
 IsEvent (retire upto fate) = Unit {0}
+IsEvent (migrate fate) = Unit {0}
 IsEvent stop = Unit {0}
 
 -- each event is one that can come
@@ -298,12 +302,18 @@ pub record IsOnce (limit : ℕ) (world : World) : Type 0 where
   pub begins : (spec : Spec) (secret : Secret) (chance : Creation) → IsSpec spec → world.state.records ≡ []
       → chance.failed_load ≡ None → secret_from spec chance.fields ≡ Some secret → chance.has_room ≡ true
       → chance.fate ≡ acked
-      → BeginsKey world.state spec chance (new_key secret)
-  -- a new name is signed where a leaf is free, the store takes the records that are wanted and nothing fails, but for
-  -- an I that was drawn before
+      → BeginsKey world.state spec chance (new_key chance.version secret)
+  -- a new name that is longer than a file of the key's version can hold is refused, and changes nothing
+  pub long : (key : Key) (name : List ℕ) (chance : Chance) → world.state.is_open ≡ true
+      → has_moved world.state.records ≡ false → key_in world.state.records ≡ Some key
+      → binding_in world.state.records name ≡ None → name_most key.version < length name
+      → requested limit world.state name chance ≡ refused world.state LongName
+  -- any other new name is signed where a leaf is free, the store takes the records that are wanted and nothing fails,
+  -- but for an I that was drawn before
   pub fresh : (key : Key) (level : ℕ) (name message : List ℕ) (chance : Chance) → world.state.is_open ≡ true
       → has_moved world.state.records ≡ false → key_in world.state.records ≡ Some key
-      → binding_in world.state.records name ≡ None → deepest key.secret world.state.records ≡ Some level
+      → binding_in world.state.records name ≡ None → length name ≤ name_most key.version
+      → deepest key.secret world.state.records ≡ Some level
       → length world.state.records + wanted_count key.secret level ≤ limit → chance.given ≡ Some message
       → AreComplete key.secret (bottom_of key.secret - level) chance
       → ((requested limit world.state name chance).answer ≡ Err RandomRepeated)
@@ -350,10 +360,10 @@ pub record IsOnce (limit : ℕ) (world : World) : Type 0 where
       → (requested limit world.state name chance).answer ≡ Err fault → fault ≢ StoreFailed
       → binding_in (requested limit world.state name chance).state.records other
       ≡ binding_in world.state.records other
-  -- 22 comes exactly where no leaf is free at any level
+  -- for a name that isn't too long, 22 comes exactly where no leaf is free at any level
   pub exhausted : (key : Key) (name : List ℕ) (chance : Chance) → world.state.is_open ≡ true
       → has_moved world.state.records ≡ false → key_in world.state.records ≡ Some key
-      → binding_in world.state.records name ≡ None
+      → binding_in world.state.records name ≡ None → length name ≤ name_most key.version
       → ((requested limit world.state name chance).answer ≡ Err Exhausted)
       ↔ (deepest key.secret world.state.records ≡ None)
   -- there are no records, or they are sound: their roots and digests are those of the recorded secrets
@@ -421,6 +431,7 @@ turned_chance chance = record {
 
 abbrev pub turned_creation : Creation → Creation
 turned_creation chance = record {
+  version = chance.version;
   failed_load = chance.failed_load;
   fields = chance.fields;
   has_room = chance.has_room;
@@ -493,6 +504,33 @@ pub record LastsInto (earlier later : World) : Type 0 where
   pub records_are : later.state.records ≡ earlier.state.records ++ records
   pub handed_are : later.handed ≡ earlier.handed ++ handed
 
--- no event takes a record or a signature away, or puts another in its place
-abbrev pub LastingLaw : Type 0
-LastingLaw = (limit : ℕ) (world : World) (events : List Event) → LastsInto world (run limit world events)
+-- what records say that a migration carries over: all but Moved, whatever the version
+abbrev pub lasting : List Record → List Record
+lasting [] = []
+lasting (KeyRecord key ∷ rest) = in_version One (KeyRecord key) ∷ lasting rest
+lasting (ExtendRecord extend ∷ rest) = ExtendRecord extend ∷ lasting rest
+lasting (BoundRecord bound ∷ rest) = BoundRecord bound ∷ lasting rest
+lasting (Retire upto ∷ rest) = Retire upto ∷ lasting rest
+lasting (MovedRecord ∷ rest) = lasting rest
+
+-- .. the same of what lasts
+pub record IsCarriedInto (earlier later : World) : Type 0 where
+  pub records : List Record
+  pub handed : List Handed
+  pub records_are : lasting later.state.records ≡ lasting earlier.state.records ++ records
+  pub handed_are : later.handed ≡ earlier.handed ++ handed
+
+abbrev pub IsNoMigration : Event → Type 0
+IsNoMigration (create spec chance) = Unit {0}
+IsNoMigration (reopen chance) = Unit {0}
+IsNoMigration (request name chance) = Unit {0}
+IsNoMigration (retire upto fate) = Unit {0}
+IsNoMigration (migrate fate) = ⊥
+IsNoMigration stop = Unit {0}
+
+-- No event takes a record or a signature away, or puts another in its place. A migration alone changes the version, and
+-- drops a Moved.
+pub record LastingLaw : Type 0 where
+  pub lasts : (limit : ℕ) (world : World) (events : List Event) → AllByRecursion IsNoMigration events
+      → LastsInto world (run limit world events)
+  pub carries : (limit : ℕ) (world : World) (events : List Event) → IsCarriedInto world (run limit world events)

@@ -5,7 +5,9 @@ use Rattle.std.specs.Prelude.{length, take, map, reverse, fold, max, nat_eq, nat
 use Rattle.std.specs.Prelude.{Option, Some, None, if◌then◌else◌, ◌&&◌, replicate}
 use Rattle.std.specs.Cmp.Lexicographic.{pointwise}
 use Rattle.std.specs.List.{range_with_len}
-use Rattle.state_file.specs.Laws.{bottom_of, identifier_of, leaves_at, levels_of}
+use Rattle.state_file.specs.Laws.{bottom_of, has_moved, identifier_of, leaves_at, levels_of}
+pub use Rattle.state_file.specs.Laws.{has_moved, is_moved}
+use Rattle.state_file.specs.Slot.{name_most}
 use Rattle.state_file.specs.declared.record.Bound.{Bound}
 use Rattle.state_file.specs.declared.record.Key.{Key}
 use Rattle.state_file.specs.declared.record.Record.{Record}
@@ -13,6 +15,8 @@ use Rattle.state_file.specs.declared.record.Record.TheVariants.{Key as KeyRecord
 use Rattle.state_file.specs.declared.record.Record.TheVariants.{Bound as BoundRecord, Retire, Moved}
 use Rattle.state_file.specs.declared.record.Secret.{Secret}
 use Rattle.state_file.specs.declared.record.Secret.TheVariants.{Lms, Hss, Xmss}
+use Rattle.state_file.specs.declared.record.Version.{Version}
+use Rattle.state_file.specs.declared.record.Version.TheVariants.{One, Two}
 
 -- ---- the key
 
@@ -24,15 +28,6 @@ key_in (ExtendRecord extend ∷ rest) = None
 key_in (BoundRecord bound ∷ rest) = None
 key_in (Retire upto ∷ rest) = None
 key_in (Moved ∷ rest) = None
-
--- whether the record is a Moved, after which none follows
-abbrev pub is_moved : Option Record → Bool
-is_moved (Some Moved) = true
-is_moved _ = false
-
--- whether the last record is one
-abbrev pub has_moved : List Record → Bool
-has_moved records = is_moved (slice_get records (length records - 1))
 
 -- ---- trees
 
@@ -157,6 +152,10 @@ bound_from name k (entry ∷ rest) = or_later k (binds name entry) (bound_from n
 abbrev pub binding_in : List Record → (name : List ℕ) → Option (ℕ × Bound)
 binding_in records name = bound_from name 0 records
 
+-- whether a name is longer than a file of the key's version can hold
+abbrev pub is_long : Key → (name : List ℕ) → Bool
+is_long key name = nat_lt (name_most key.version) (length name)
+
 -- whether a record makes a tree of this I
 abbrev pub is_of : (identifier : List ℕ) → Option (List ℕ) → Bool
 is_of identifier None = false
@@ -184,21 +183,26 @@ has_randomizer (Xmss tree secret_seed prf_key public_seed) randomizer = are_same
 abbrev pub leaves_of_current : Secret → List Record → (level : ℕ) → ℕ
 leaves_of_current secret records level = if is_some (current level records) then leaves_at secret level else 0
 
+-- whether records of this version may go on in another file: those of version 1 may, and go on in version 2
+abbrev pub can_move : Version → Bool
+can_move One = true
+can_move Two = false
+
 -- whether a record can stand after these, which are some and legal
-abbrev pub can_follow_legal : Secret → (before : List Record) → Record → Bool
-can_follow_legal secret before (KeyRecord key) = false
-can_follow_legal secret before (ExtendRecord extend) =
-    nat_le 1 extend.level && nat_lt extend.level (levels_of secret)
-    && is_free secret before (extend.level - 1) extend.parent_leaf && not (has_identifier before extend.identifier)
-can_follow_legal secret before (BoundRecord bound) =
-    is_free secret before (bottom_of secret) bound.leaf && not (is_some (binding_in before bound.name))
-    && has_randomizer secret bound.randomizer
-can_follow_legal secret before (Retire upto) =
-    is_some (current (bottom_of secret) before) && nat_le upto (leaves_at secret (bottom_of secret))
-can_follow_legal secret before Moved = true
+abbrev pub can_follow_legal : Key → (before : List Record) → Record → Bool
+can_follow_legal key before (KeyRecord other) = false
+can_follow_legal key before (ExtendRecord extend) =
+    nat_le 1 extend.level && nat_lt extend.level (levels_of key.secret)
+    && is_free key.secret before (extend.level - 1) extend.parent_leaf && not (has_identifier before extend.identifier)
+can_follow_legal key before (BoundRecord bound) =
+    is_free key.secret before (bottom_of key.secret) bound.leaf && not (is_some (binding_in before bound.name))
+    && has_randomizer key.secret bound.randomizer
+can_follow_legal key before (Retire upto) =
+    is_some (current (bottom_of key.secret) before) && nat_le upto (leaves_at key.secret (bottom_of key.secret))
+can_follow_legal key before Moved = can_move key.version
 
 abbrev pub can_follow : Option Key → (before : List Record) → Record → Bool
-can_follow (Some key) before entry = not (has_moved before) && can_follow_legal key.secret before entry
+can_follow (Some key) before entry = not (has_moved before) && can_follow_legal key before entry
 can_follow None [] (KeyRecord key) = true
 can_follow None before entry = false
 

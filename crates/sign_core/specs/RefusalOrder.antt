@@ -4,6 +4,7 @@ use Rattle.std.specs.Prelude.{length, IsOk, Option, Some, None, Result, Err}
 use Rattle.typecodes.specs.declared.spec.Spec.{Spec}
 use Rattle.typecodes.specs.Spec.{IsSpec}
 use Rattle.state_file.specs.Laws.{bottom_of, levels_of}
+use Rattle.state_file.specs.Slot.{name_most}
 use Rattle.state_file.specs.declared.record.Bound.{Bound}
 use Rattle.state_file.specs.declared.record.Key.{Key}
 use Rattle.state_file.specs.declared.record.Record.{Record}
@@ -11,7 +12,8 @@ use Rattle.state_file.specs.declared.record.Secret.{Secret}
 use Rattle.sign_core.specs.declared.key.AnyPublic.{AnyPublic}
 use Rattle.sign_core.specs.declared.fault.SignFault.{SignFault}
 use Rattle.sign_core.specs.declared.fault.SignFault.TheVariants.{Changed, Damaged, Exhausted, Illegal, KeyThere}
-use Rattle.sign_core.specs.declared.fault.SignFault.TheVariants.{LedgerFull, MessageRead, Moved, NoKey, OutOfMemory}
+use Rattle.sign_core.specs.declared.fault.SignFault.TheVariants.{LedgerFull, LongName, MessageRead, Moved, NoKey}
+use Rattle.sign_core.specs.declared.fault.SignFault.TheVariants.{OutOfMemory}
 use Rattle.sign_core.specs.declared.fault.SignFault.TheVariants.{RandomFailed, RandomRepeated, RetireRange, Stopped}
 use Rattle.sign_core.specs.declared.fault.SignFault.TheVariants.{StoreFailed}
 use Rattle.sign_core.specs.Records.{binding_in, deepest, first_illegal, free_at, has_identifier, has_moved, key_in}
@@ -105,21 +107,25 @@ RefusesAt limit state key chance level =
     (RefusesWanted key chance (bottom_of key.secret - level) chance.trees
     (λ identifier. has_identifier records identifier ≡ true))))
 
--- Under a new name: 22, and then those.
+-- Under a new name that a file of the key's version can hold: 22, and then those.
 abbrev pub RefusesNew : (limit : ℕ) → State → Key → Chance → Result (List ℕ) SignFault → Type 0
 RefusesNew limit state key chance =
     Unless (Of Exhausted (HasNoLeaf key.secret state.records))
     (λ answer. (level : ℕ) × (deepest key.secret state.records ≡ Some level)
     × RefusesAt limit state key chance level answer)
 
-abbrev pub RefusesName : (limit : ℕ) → State → Key → Chance → Option (ℕ × Bound) → Result (List ℕ) SignFault → Type 0
-RefusesName limit state key chance (Some (k, bound)) = RefusesRepeat state key k bound chance
-RefusesName limit state key chance None = RefusesNew limit state key chance
+-- Under a name, by the binding that it has; where it has none, 33 if it is longer than such a file can hold, and then
+-- those.
+abbrev pub RefusesName : (limit : ℕ) → State → Key → (name : List ℕ) → Chance → Option (ℕ × Bound)
+    → Result (List ℕ) SignFault → Type 0
+RefusesName limit state key name chance (Some (k, bound)) = RefusesRepeat state key k bound chance
+RefusesName limit state key name chance None =
+    Unless (Of LongName (name_most key.version < length name)) (RefusesNew limit state key chance)
 
 -- A request: 26, 31, and those of its name, by the binding that this has.
 abbrev pub RefusesRequest : (limit : ℕ) → State → Key → (name : List ℕ) → Chance → Result (List ℕ) SignFault → Type 0
 RefusesRequest limit state key name chance =
-    WhereOpen state (RefusesName limit state key chance (binding_in state.records name))
+    WhereOpen state (RefusesName limit state key name chance (binding_in state.records name))
 
 -- ---- the other events
 

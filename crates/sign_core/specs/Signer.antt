@@ -15,6 +15,7 @@ use Rattle.state_file.specs.declared.record.Record.{Record}
 use Rattle.state_file.specs.declared.record.Record.TheVariants.{Key as KeyRecord}
 use Rattle.state_file.specs.declared.record.Secret.{Secret}
 use Rattle.state_file.specs.declared.record.Secret.TheVariants.{Lms, Hss, Xmss}
+use Rattle.state_file.specs.declared.record.Version.{Version}
 use Rattle.state_file.specs.declared.store.Store as store
 use Rattle.state_file.specs.Disk.{Counts, LeavesOnly}
 use Rattle.state_file.specs.Laws.{IsLegal, bottom_of}
@@ -25,7 +26,7 @@ use Rattle.sign_core.specs.declared.fault.SignFault.{SignFault}
 use Rattle.sign_core.specs.declared.fault.SignFault.TheVariants.{DeviceFailed, NoMemoryToOpen, OutOfMemory}
 use Rattle.sign_core.specs.declared.fault.SignFault.TheVariants.{KeyThere, RandomFailed, StoreFailed}
 use Rattle.sign_core.specs.declared.fault.SignFault.TheVariants.{Changed, Damaged, Exhausted, Illegal, LedgerFull}
-use Rattle.sign_core.specs.declared.fault.SignFault.TheVariants.{MessageRead, Moved, Stopped, Unreadable}
+use Rattle.sign_core.specs.declared.fault.SignFault.TheVariants.{LongName, MessageRead, Moved, Stopped, Unreadable}
 use Rattle.sign_core.specs.declared.source.Source as source
 use Rattle.sign_core.specs.Source.{Provides}
 use Rattle.sign_core.specs.Records.{binding_in, can_follow, deepest, key_in, leaves_of_current, next_at}
@@ -261,21 +262,23 @@ abbrev pub LacksTree : {S R A : Type 0} → store.Ghosts S → (wanted : ℕ) �
 LacksTree g wanted old new answer = answer ≡ Err OutOfMemory → g.refusals new.store ≡ g.refusals old.store
     → length new.records + 1 < length old.records + wanted
 
--- 22, 26, 28, 30 and 31 come to a new name before anything is drawn.
+-- 22, 26, 28, 30, 31 and 33 come to a new name before anything is drawn.
 abbrev pub is_before_draws : SignFault → Bool
 is_before_draws Exhausted = true
 is_before_draws Stopped = true
 is_before_draws (Damaged k) = true
 is_before_draws LedgerFull = true
 is_before_draws Moved = true
+is_before_draws LongName = true
 is_before_draws _ = false
 
--- 22, 26, 30 and 31 come before any cache is made, ..
+-- 22, 26, 30, 31 and 33 come before any cache is made, ..
 abbrev pub is_before_caches : SignFault → Bool
 is_before_caches Exhausted = true
 is_before_caches Stopped = true
 is_before_caches LedgerFull = true
 is_before_caches Moved = true
+is_before_caches LongName = true
 is_before_caches _ = false
 
 -- .. and so do 21 and 27 under a name that is bound, whose message is read and compared first.
@@ -284,9 +287,9 @@ is_before_repeat Changed = true
 is_before_repeat MessageRead = true
 is_before_repeat fault = is_before_caches fault
 
--- What an answer keeps as it was, where so many records are wanted: 22, 26, 28, 30 and 31 keep all but the memory, and
--- so does 29 before anything is drawn; later it comes of the store, or of a new tree; 22, 26, 30 and 31 keep the
--- caches; and each answer keeps the store, unless a record was added or its append failed.
+-- What an answer keeps as it was, where so many records are wanted: 22, 26, 28, 30, 31 and 33 keep all but the memory,
+-- and so does 29 before anything is drawn; later it comes of the store, or of a new tree; 22, 26, 30, 31 and 33 keep
+-- the caches; and each answer keeps the store, unless a record was added or its append failed.
 pub record KeepsAtRefusal {S R A : Type 0} (g : store.Ghosts S) (has_room : Bool) (wanted : ℕ) (old new : View S R)
     (answer : Result A SignFault) : Type 0 where
   pub at_once : is_fault is_before_draws answer ≡ true → KeepsAll old new
@@ -427,12 +430,13 @@ LeavesSource (Some fault) list old new = new ≡ old
 LeavesSource None [] old new = Unit {0}
 LeavesSource None (entry ∷ entries) old new = new ≡ old
 
--- To make a key in a store is a step of the world, by some chance, with an outcome that is the answer: it takes no
--- memory of its own. The store has stopped where it had before, or the answer is 25; one that had is as it was; and the
--- store has reported one slot more as unreadable, k, where the answer is 43 of k.
-pub record MakesKey {S R : Type 0} (g : store.Ghosts S) (r : source.Ghosts R) (spec : Spec) (old new : S)
-    (before after : R) (IsAnswer : Outcome AnyPublic → Type 0) : Type 0 where
+-- To make a key of a version in a store is a step of the world, by some chance, with an outcome that is the answer: it
+-- takes no memory of its own. The store has stopped where it had before, or the answer is 25; one that had is as it
+-- was; and the store has reported one slot more as unreadable, k, where the answer is 43 of k.
+pub record MakesKey {S R : Type 0} (g : store.Ghosts S) (r : source.Ghosts R) (version : Version) (spec : Spec)
+    (old new : S) (before after : R) (IsAnswer : Outcome AnyPublic → Type 0) : Type 0 where
   pub chance : Creation
+  pub of_version : chance.version ≡ version
   pub outcome : Outcome AnyPublic
   pub step : created (closed_on (g.list old)) spec chance ≡ outcome
   pub answer : IsAnswer outcome
@@ -454,11 +458,11 @@ IsAnsweredByKey (Ok key) outcome = (public : AnyPublic) × (outcome.answer ≡ O
     × (outcome.acknowledged ≡ KeyRecord key ∷ [])
 IsAnsweredByKey (Err fault) outcome = outcome.answer ≡ Err fault
 
--- A call of create makes a key.
-abbrev pub Creates : {S R : Type 0} → store.Ghosts S → source.Ghosts R → Spec → (kept_in : S) → (random : R)
+-- A call of create makes a key of a version.
+abbrev pub Creates : {S R : Type 0} → store.Ghosts S → source.Ghosts R → Version → Spec → (kept_in : S) → (random : R)
     → Result (View S R) (Refused (S × R) SignFault) → Type 0
-Creates g r spec kept_in random result =
-    MakesKey g r spec kept_in (store_after result) random (random_after result) (IsAnswered result)
+Creates g r version spec kept_in random result =
+    MakesKey g r version spec kept_in (store_after result) random (random_after result) (IsAnswered result)
 
 -- the record that couldn't be loaded, and why
 abbrev pub StopsOpening : Opening → List Record → (stopped honest : Bool) → Type 0

@@ -15,6 +15,7 @@ use Rattle.sign_core.specs.declared.source.Source as source
 use Rattle.sign_core.specs.Calls.{IsCall, IsLastingCall}
 use Rattle.sign_core.specs.Signer.{Creates, IsSigner, Opens, Retires, Signs, View, state_of, store_after}
 use Rattle.sign_core.specs.World.{Event, Handed, State, World, after, closed_on, create, reopen, request, retire}
+use Rattle.state_file.specs.declared.record.Version.{Version}
 
 -- a state of the world in which this was handed out
 abbrev pub world_of : State → List Handed → World
@@ -127,17 +128,18 @@ pub record SignerLaw {S R M : Type 0} (g : store.Ghosts S) (r : source.Ghosts R)
   pub refuses_retiring : (old new : View S R) (upto : ℕ) (answer : Result (Unit {0}) SignFault) (world : World)
       → AreClosed old world → (retires : Retires g old new upto answer)
       → IsRefusedCall g world (retire upto retires.fate) old new answer
-  pub creates : (spec : Spec) (kept_in : S) (random : R) (result : Result (View S R) (Refused (S × R) SignFault))
+  pub creates : (version : Version) (spec : Spec) (kept_in : S) (random : R)
+      (result : Result (View S R) (Refused (S × R) SignFault))
       (handed : List Handed) → IsRunning g kept_in → IsSpec spec
-      → (creates : Creates g r spec kept_in random result)
+      → (creates : Creates g r version spec kept_in random result)
       → OpensInWorld g (g.list kept_in) handed (create spec creates.chance) kept_in result
   pub opens : (kept_in : S) (random : R) (result : Result (View S R) (Refused (S × R) SignFault))
       (handed : List Handed) → IsRunning g kept_in → (opens : Opens g kept_in random result)
       → OpensInWorld g (g.list kept_in) handed (reopen opens.loads.chance) kept_in result
   -- of a store that has stopped, whatever records the world has
-  pub refuses_creating : (spec : Spec) (kept_in : S) (random : R)
+  pub refuses_creating : (version : Version) (spec : Spec) (kept_in : S) (random : R)
       (result : Result (View S R) (Refused (S × R) SignFault)) (world : World) → g.stopped kept_in ≡ true → IsSpec spec
-      → (creates : Creates g r spec kept_in random result)
+      → (creates : Creates g r version spec kept_in random result)
       → IsRefusedOpening g world (create spec creates.chance) kept_in result
   pub refuses_opening : (kept_in : S) (random : R) (result : Result (View S R) (Refused (S × R) SignFault))
       (world : World) → g.stopped kept_in ≡ true → (opens : Opens g kept_in random result)

@@ -18,7 +18,7 @@ use Rattle.sign_core.specs.declared.source.Source as source
 use Rattle.sign_core.specs.declared.links.Link.{Link}
 use Rattle.sign_core.specs.declared.signer.signing.TreeSeeds.{TreeSeeds}
 use Rattle.sign_core.specs.Source.{Provides}
-use Rattle.sign_core.specs.Records.{binding_in, current, has_identifier, has_moved, key_in, next_at}
+use Rattle.sign_core.specs.Records.{binding_in, current, has_identifier, has_moved, is_long, key_in, next_at}
 use Rattle.sign_core.specs.Links.{AreMade, IsMade, signings_of}
 use Rattle.sign_core.specs.Once.{AreDrawsOf, AreFields, IsTreeDraw, randomizer_sizes, tree_sizes}
 use Rattle.sign_core.specs.Signer.{Ends, IsRead, KeepsAtRefusal, LacksTree, RefusesAfterDraws}
@@ -90,11 +90,12 @@ pub record IsReady {S R : Type 0} (most wanted : ℕ) (view : View S R) : Type 0
   pub counted : length view.records + wanted < 2 ^ 32
   pub room : wanted ≤ view.spare
 
--- A name can be bound: the signer is ready for as many records as that wants, the name isn't bound, and an output of
--- this size is that of a signature.
+-- A name can be bound: the signer is ready for as many records as that wants, the name isn't bound, the key's file can
+-- hold it, and an output of this size is that of a signature.
 pub record CanBind {S R : Type 0} (most wanted : ℕ) (name : List ℕ) (size : ℕ) (view : View S R) : Type 0 where
   pub ready : IsReady most wanted view
   pub unbound : binding_in view.records name ≡ None
+  pub fits : UnderKey view.records (λ key. is_long key name ≡ false)
   pub room : UnderKey view.records (λ key. size ≡ signature_size key.secret)
 
 -- ---- draws

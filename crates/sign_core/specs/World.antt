@@ -1,6 +1,6 @@
 -- The world of one key, and what each event does to it: its records, whether a signer is open on them, and what was
 -- handed out.
-use Rattle.std.specs.Prelude.{ℕ, zero, suc, ◌+◌, ◌-◌, Bool, true, false, not, List, [], ◌∷◌, ◌++◌, length}
+use Rattle.std.specs.Prelude.{ℕ, zero, suc, ◌+◌, ◌-◌, Bool, true, false, not, ◌&&◌, List, [], ◌∷◌, ◌++◌, length}
 use Rattle.std.specs.Prelude.{replicate, slice_index_or}
 use Rattle.std.specs.Prelude.{Option, Some, None, Result, Ok, Err, nat_le, nat_lt, if◌then◌else◌}
 use Rattle.std.specs.List.{concat}
@@ -10,6 +10,7 @@ use Rattle.lmots.specs.Key.{message_digest_of}
 use Rattle.lms.specs.declared.secret.LmsSecret.{LmsSecret}
 use Rattle.lms.specs.Secret.{public_of}
 use Rattle.lms.specs.Writing.{public_bytes}
+use Rattle.state_file.specs.Carried.{carried, with_moved}
 use Rattle.state_file.specs.Laws.{bottom_of}
 use Rattle.state_file.specs.declared.record.Bound.{Bound}
 use Rattle.state_file.specs.declared.record.Key.{Key}
@@ -18,16 +19,16 @@ use Rattle.state_file.specs.declared.record.Record.TheVariants.{Key as KeyRecord
 use Rattle.state_file.specs.declared.record.Record.TheVariants.{Bound as BoundRecord, Retire}
 use Rattle.state_file.specs.declared.record.Secret.{Secret}
 use Rattle.state_file.specs.declared.record.Secret.TheVariants.{Lms, Hss, Xmss}
-use Rattle.state_file.specs.declared.record.Version.TheVariants.{One}
+use Rattle.state_file.specs.declared.record.Version.{Version}
 use Rattle.sign_core.specs.declared.key.AnyPublic.{AnyPublic}
 use Rattle.sign_core.specs.declared.fault.SignFault.{SignFault}
 use Rattle.sign_core.specs.declared.fault.SignFault.TheVariants.{Changed, Exhausted, RandomFailed, RandomRepeated}
 use Rattle.sign_core.specs.declared.fault.SignFault.TheVariants.{StoreFailed}
 use Rattle.sign_core.specs.declared.fault.SignFault.TheVariants.{Stopped, MessageRead, Damaged, OutOfMemory, LedgerFull}
-use Rattle.sign_core.specs.declared.fault.SignFault.TheVariants.{Moved, RetireRange, NoKey, Illegal, KeyThere}
-use Rattle.sign_core.specs.Records.{are_same, binding_in, deepest, first_illegal, has_identifier}
+use Rattle.sign_core.specs.declared.fault.SignFault.TheVariants.{Moved, RetireRange, LongName, NoKey, Illegal, KeyThere}
+use Rattle.sign_core.specs.Records.{are_same, binding_in, can_move, deepest, first_illegal, has_identifier}
 use Rattle.sign_core.specs.Records.{has_moved}
-use Rattle.sign_core.specs.Records.{key_in, leaves_of_current, next_at, wanted_count}
+use Rattle.sign_core.specs.Records.{is_long, key_in, leaves_of_current, next_at, wanted_count}
 use Rattle.sign_core.specs.Textbook.{Trees, damaged_in, digest_at, lms_secret, public_in, root_by, secret_at}
 use Rattle.sign_core.specs.Textbook.{signature_at, tree_before, trees_of}
 
@@ -106,10 +107,10 @@ appended state entry no_memory next = refused state OutOfMemory
 
 -- ---- create
 
--- What chance decides in a create: what the load of record 0 failed with, if it failed; the fields that the source
--- gave,
--- fewer where it failed; whether memory was granted; and what became of the append.
+-- A create's version, and what chance decides in it: what the load of record 0 failed with, if it failed; the fields
+-- that the source gave, fewer where it failed; whether memory was granted; and what became of the append.
 pub record Creation : Type 0 where
+  pub version : Version
   pub failed_load : Option SignFault
   pub fields : List (List ℕ)
   pub has_room : Bool
@@ -125,9 +126,9 @@ secret_from (XmssSpec tree) (secret_seed ∷ prf_key ∷ public_seed ∷ []) =
     Some (Xmss tree secret_seed prf_key public_seed)
 secret_from (XmssSpec tree) fields = None
 
--- the key that is made from it
-abbrev pub new_key : Secret → Key
-new_key secret = record { version = One; secret = secret; root = root_by secret }
+-- the key that is made from it, in a file of a version
+abbrev pub new_key : Version → Secret → Key
+new_key version secret = record { version = version; secret = secret; root = root_by secret }
 
 -- the public key of record 0, where it is one
 abbrev pub published : List Record → Option AnyPublic → Outcome AnyPublic
@@ -138,7 +139,7 @@ abbrev pub begun : State → Creation → Option Secret → Outcome AnyPublic
 begun state chance None = refused state RandomFailed
 begun state chance (Some secret) =
     if chance.has_room
-    then (let key = new_key secret in
+    then (let key = new_key chance.version secret in
     appended state (KeyRecord key) chance.fate (λ records. published records (public_in key)))
     else refused state OutOfMemory
 
@@ -304,7 +305,8 @@ bound_anew limit state key name chance (Some level) =
 abbrev pub requested_of : (limit : ℕ) → State → Key → (name : List ℕ) → Chance → Option (ℕ × Bound) → Outcome (List ℕ)
 requested_of limit state key name chance (Some (k, bound)) = repeated state key k bound chance chance.given
 requested_of limit state key name chance None =
-    bound_anew limit state key name chance (deepest key.secret state.records)
+    if is_long key name then refused state LongName
+    else bound_anew limit state key name chance (deepest key.secret state.records)
 
 abbrev pub requested_under : (limit : ℕ) → State → (name : List ℕ) → Chance → Option Key → Outcome (List ℕ)
 requested_under limit state name chance None = refused state Stopped
@@ -350,11 +352,33 @@ pub record World : Type 0 where
 abbrev pub beginning : World
 beginning = record { state = closed_on []; handed = [] }
 
+-- What becomes of a migration: the records stay; a Moved stands after them; or they are carried over without it, in
+-- version 2, which is what an Ok says.
+pub data Migration : Type 0 where
+  left_alone : Migration
+  sealed : Migration
+  carried_over : Migration
+
+abbrev pub migrated_to : List Record → Migration → List Record
+migrated_to records left_alone = records
+migrated_to records sealed = with_moved records
+migrated_to records carried_over = carried records
+
+abbrev pub migrated_under : State → Migration → Option Key → State
+migrated_under state fate None = state
+migrated_under state fate (Some key) =
+    if not state.is_open && can_move key.version then closed_on (migrated_to state.records fate) else state
+
+-- A migration of records of version 1, while no signer is open. Of others it changes nothing.
+abbrev pub migrated : State → Migration → State
+migrated state fate = migrated_under state fate (key_in state.records)
+
 pub data Event : Type 0 where
   create : Spec → Creation → Event
   reopen : Opening → Event
   request : (name : List ℕ) → Chance → Event
   retire : (upto : ℕ) → Fate → Event
+  migrate : Migration → Event
   stop : Event
 
 -- what is handed out with an answer
@@ -375,6 +399,7 @@ after limit world (request name chance) =
     record { state = outcome.state; handed = world.handed ++ handed_with name chance.given outcome.answer }
 after limit world (retire upto fate) =
     record { state = (retired limit world.state upto fate).state; handed = world.handed }
+after limit world (migrate fate) = record { state = migrated world.state fate; handed = world.handed }
 after limit world stop = record { state = closed_on world.state.records; handed = world.handed }
 
 -- all events, one after the other

@@ -43,6 +43,9 @@ pub enum SignFault {
     /// 32: no such leaves to retire; nothing changed.
     #[error("the tree has no such leaves to retire")]
     RetireRange,
+    /// 33: the name is longer than a file of the key's version can hold; nothing changed.
+    #[error("the name is longer than the key's file can hold")]
+    LongName,
     /// 40: the store has no key.
     #[error("the store has no key")]
     NoKey,
@@ -112,6 +115,7 @@ impl SignFault {
             SignFault::LedgerFull => 30,
             SignFault::Moved => 31,
             SignFault::RetireRange => 32,
+            SignFault::LongName => 33,
             SignFault::NoKey => 40,
             SignFault::Unreadable(_) => 43,
             SignFault::Illegal(_) => 44,

@@ -17,6 +17,7 @@ ghost use Rattle.sign_core.specs.Once.{CutLaw, IsBoundTo, IsValidUnder, LastingL
 ghost use Rattle.sign_core.specs.AfterRefusal.{AfterRefusalLaw};
 ghost use Rattle.sign_core.specs.Calls.{CallsLaw, StoppedLaw};
 ghost use Rattle.sign_core.specs.Lives.{LivesLaw};
+ghost use Rattle.sign_core.specs.Moves.{MovesLaw};
 ghost use Rattle.sign_core.specs.Opened.{OpenedLaw};
 ghost use Rattle.sign_core.specs.RefusalOrder.{RefusalLaw};
 ghost use Rattle.sign_core.specs.SignerCalls.{SignerLaw};
@@ -78,11 +79,11 @@ pub fn textbook_laws()
 
 /// No leaf of a key signs twice.
 ///
-/// The law is about every run that begins with no records: any creates, openings, requests, retirings and stops, as
-/// many as there are and in any order. A request may come again, as after an answer that was lost, or come with another
-/// message under the same name. In each event a load, the random source, memory, the message or the store may fail. An
-/// append that is cut leaves the old records, or the new one as well, and closes the signer until it is opened again.
-/// After each such run these hold:
+/// The law is about every run that begins with no records: any creates, openings, requests, retirings, migrations and
+/// stops, as many as there are and in any order. A request may come again, as after an answer that was lost, or come
+/// with another message under the same name. In each event a load, the random source, memory, the message or the store
+/// may fail. An append that is cut leaves the old records, or the new one as well, and closes the signer until it is
+/// opened again. After each such run these hold:
 ///
 /// - No leaf at any level signs two digests, and none of the bottom level signs under two names. Which leaves a
 ///   signature uses, and for which digests, is read off the bytes that were handed out, the message and the public key.
@@ -92,7 +93,8 @@ pub fn textbook_laws()
 /// - Of an open signer, a request for a bound name and another digest is refused as changed, and one for the bound
 ///   digest gets the recorded signature, unless memory is refused or the message can't be read. Neither changes
 ///   anything.
-/// - A request for a new name gets the next leaf, if one is left, the store isn't full and nothing fails.
+/// - A request for a new name gets the next leaf, if a file of the key's version can hold the name, a leaf is left, the
+///   store isn't full and nothing fails.
 /// - No refusal of a request binds a name, unless the store's device failed (25).
 /// - A retiring beyond the next leaf is recorded, if the tree has these leaves, the store isn't full and nothing fails.
 ///   Any other changes nothing, unless the device failed, and the law says what it answers.
@@ -132,8 +134,9 @@ pub fn opened_law()
 /// Which refusal an event answers: of the causes that are there the first in the event's order decides, and where none
 /// is there the answer is Ok.
 ///
-/// - A request: 26, 31; under a bound name 27, 21, 29, 28; under a new one 22, 30, 29, 28, then for each new tree 23
-///   where I isn't drawn, 24, 23 where SEED or C isn't, 25 or 29 of its append, and for the binding 23, 27, 25 or 29.
+/// - A request: 26, 31; under a bound name 27, 21, 29, 28; under a new one 33, 22, 30, 29, 28, then for each new tree
+///   23 where I isn't drawn, 24, 23 where SEED or C isn't, 25 or 29 of its append, and for the binding 23, 27, 25 or
+///   29.
 /// - A retiring: 26, 31, 32; then Ok where it retires nothing; else 30, 25 or 29.
 /// - A create: what record 0 couldn't be loaded for, 50, 23, 29, 25 or 29 of its append.
 /// - An opening: 44 of the first record that isn't legal, if each one up to it was loaded; what one couldn't be loaded
@@ -160,7 +163,8 @@ pub fn after_refusal_law()
     ensures refused { AfterRefusalLaw }
 {}
 
-/// No event takes a record or a signature away, or puts another in its place.
+/// No event takes a record or a signature away, or puts another in its place. A migration alone drops a Moved and makes
+/// version 1 version 2.
 pub fn lasting_law()
     ensures lasting { LastingLaw }
 {}
@@ -202,10 +206,22 @@ pub fn stopped_law<S: Store>()
 /// stands for one list of records; a run of the world leads to this list, in which just those signatures were handed
 /// out that the calls gave which came to their end.
 ///
-/// The disk keeps what was synced, and has no key as the first life begins. Which calls of a signer are such calls,
-/// `signer_law` says (`lasts`).
+/// The disk keeps what was synced, and has no key as the first life begins; or a run of the world leads to what it then
+/// has. So it is of the new place of a migration, with all that was handed out before (`migrates`). Which calls of a
+/// signer are such calls, `signer_law` says (`lasts`).
 pub fn lives_law<D: Disk + Drop>()
     ensures lives { LivesLaw D.Disk ⟦<FileStore<D> as Store>⟧ }
+{}
+
+/// A migration goes on with the lives of one key: the law over all runs holds across it.
+///
+/// The old disk has a content to which a run of the world leads, as it has after any of its lives (`lives_law`). Then a
+/// run with the same signatures handed out leads to whatever a stop at any moment of the migration leaves there; and to
+/// whatever it leaves at the new place, but for what a stop just before could leave, and a place without a key. After
+/// Ok that is the only content at the new place. So lives of the new disk may begin there, and of all signatures, those
+/// from before the migration and those from after it, no leaf signs two digests.
+pub fn moves_law<D: Disk + Drop, E: Disk + Drop>()
+    ensures moves { MovesLaw D.Disk E.Disk }
 {}
 
 /// Over an honest store each call of an open signer, each create and each opening is an event of the world that

@@ -3,7 +3,7 @@
 
 ghost use Rattle.std.specs.Prelude.{◌≡◌, ◌<◌, ◌≤◌, ◌+◌, ◌-◌, ◌^◌, ◌∷◌, ◌++◌, [], ℕ, Some, None, true, length};
 ghost use Rattle.std.specs.Prelude.{option_map, slice_get, MatchOption, OnOk, OnErr, IfOk, IfErr, ◌↔◌};
-ghost use Rattle.sign_core.specs.Records.{binding_in, can_follow, can_follow_legal, deepest, free_at};
+ghost use Rattle.sign_core.specs.Records.{binding_in, can_follow, can_follow_legal, can_move, deepest, free_at};
 ghost use Rattle.sign_core.specs.Records.{has_identifier, has_moved, is_free, key_in};
 ghost use Rattle.sign_core.specs.Ledger.{TakesMemory};
 ghost use Rattle.sign_core.specs.Textbook.{public_in};
@@ -13,7 +13,7 @@ use crate::trees::{CurrentTrees, Tree};
 use arrayvec::ArrayVec;
 use hss::HssPublic;
 use lms::LmsPublic;
-use state_file::{Bound, Extend, Key, Record, RecordList, Secret};
+use state_file::{Bound, Extend, Key, Record, RecordList, Secret, Version};
 use std::alloc::{AllocError, Global};
 use std::collections::HashMap;
 use std::marker::Model;
@@ -65,6 +65,13 @@ pub(crate) struct Binding {
     pub(crate) randomizer: [u8; 32],
     pub(crate) digest: [u8; 32],
     pub(crate) tree: u32,
+}
+
+// Whether records of this version may go on in another file.
+fn can_move(version: Version) -> bool
+    ensures { result ≡ can_move version }
+{
+    matches!(version, Version::One)
 }
 
 // Whether a record takes memory in a ledger.
@@ -332,7 +339,7 @@ impl Ledger {
                 Record::Extend(extend) => self.takes_extend(extend),
                 Record::Bound(bound) => self.takes_bound(bound),
                 Record::Retire { upto } => self.takes_retire(*upto),
-                Record::Moved => true,
+                Record::Moved => can_move(self.key.version),
             }
     }
 
@@ -350,7 +357,7 @@ impl Ledger {
 
     // Whether an Extend can stand after these records, of which the last one isn't a Moved.
     fn takes_extend(&self, extend: &Extend) -> bool
-        ensures { result ≡ can_follow_legal self.now.key.secret self.now.records (ExtendRecord extend.now) }
+        ensures { result ≡ can_follow_legal self.now.key self.now.records (ExtendRecord extend.now) }
     {
         1 <= extend.level
             && extend.level < self.key.secret.levels()
@@ -360,7 +367,7 @@ impl Ledger {
 
     // Whether a Bound can.
     fn takes_bound(&self, bound: &Bound) -> bool
-        ensures { result ≡ can_follow_legal self.now.key.secret self.now.records (BoundRecord bound.now) }
+        ensures { result ≡ can_follow_legal self.now.key self.now.records (BoundRecord bound.now) }
     {
         let has_randomizer = match self.key.secret {
             Secret::Lms { .. } | Secret::Hss { .. } => true,
@@ -373,7 +380,7 @@ impl Ledger {
 
     // Whether a Retire can.
     fn takes_retire(&self, upto: u32) -> bool
-        ensures { result ≡ can_follow_legal self.now.key.secret self.now.records (RetireRecord upto) }
+        ensures { result ≡ can_follow_legal self.now.key self.now.records (RetireRecord upto) }
     {
         let bottom = self.key.secret.levels() - 1;
         self.current(bottom).is_some() && upto <= self.key.secret.leaves(bottom)

@@ -26,8 +26,9 @@
 //! The contract for the crates above: each call of `create`, `open`, `sign` and `retire` is a step of the world of one
 //! key, by a chance that the store, the source and the message decide (`specs/Signer.antt`, `specs/World.antt`). Over
 //! every list of such steps, and of stops at any moment, no leaf signs two digests, a name has one signature, and each
-//! signature that was handed out is valid (`once_law`, `specs/Once.antt`). `AnyPublic` and `verify_any` are the keys of
-//! the three schemes by their lengths (`specs/Key.antt`).
+//! signature that was handed out is valid (`once_law`, `specs/Once.antt`). `migrate_key` moves a key to one new state
+//! file, and no stop leaves two files that can sign (`specs/Migration.antt`); across it the runs of the old file go on
+//! (`moves_law`). `AnyPublic` and `verify_any` are the keys of the three schemes by their lengths (`specs/Key.antt`).
 #![tactic(auto)]
 
 mod caches;
@@ -37,6 +38,7 @@ mod key;
 mod laws;
 mod ledger;
 mod links;
+mod migration;
 mod rng_source;
 mod roots;
 mod serving;
@@ -51,10 +53,11 @@ mod writing;
 pub use crate::fault::{ServeFault, SignFault};
 pub use crate::key::{AnyPublic, KeyFault, verify_any};
 pub use crate::laws::{
-    after_refusal_law, calls_law, cut_law, lasting_law, ledger_laws, lives_law, once_law,
-    opened_law, refusal_law, signer_law, sound_law, stop_law, stopped_law, textbook_laws,
+    after_refusal_law, calls_law, cut_law, lasting_law, ledger_laws, lives_law, moves_law,
+    once_law, opened_law, refusal_law, signer_law, sound_law, stop_law, stopped_law, textbook_laws,
 };
 pub use crate::ledger::{Ledger, LedgerFault};
+pub use crate::migration::migrate_key;
 pub use crate::rng_source::RngSource;
 pub use crate::serving::serve;
 pub use crate::signer::Signer;

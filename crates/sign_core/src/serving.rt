@@ -45,7 +45,7 @@ impl Reply {
 /// is signed as it is read. A reply is its number in one byte, the size of its body in four, and the body: 0 has the
 /// signature, 28 the slot in four bytes, and any other number nothing. It takes no memory but what the signer takes.
 ///
-/// A name that isn't 1 to 64 visible characters of ASCII is answered 34. After a refusal the rest of the message is
+/// A name that isn't 1 to 128 visible characters of ASCII is answered 34. After a refusal the rest of the message is
 /// read first, and kept nowhere.
 ///
 /// It ends with the number of replies where the input ends between two frames, and after 2^32 replies. It ends with 35

@@ -1,7 +1,7 @@
 //! The signer over a store of records.
 
 ghost use Rattle.std.specs.Prelude.{◌≡◌, ◌<◌, ◌≤◌, ◌-◌, ◌^◌, ◌∷◌, [], true, false, Some, Ok, Err, length, IfErr, IfOk};
-ghost use Rattle.std.specs.Prelude.{IfSome, None, OnOk};
+ghost use Rattle.std.specs.Prelude.{IfSome, IsTrue, None, OnOk};
 ghost use Rattle.state_file.specs.Store.{CanFollow, is_key};
 ghost use Rattle.sign_core.specs.Source.{DrawsBytes};
 ghost use Rattle.sign_core.specs.Once.{AreFields};
@@ -56,11 +56,11 @@ impl<S: Store, R: Source> Model for Signer<S, R> {
         × (key_in s.ledger.records ≡ Some s.ledger.key) };
 }
 
-// Appends a record to a store that runs and has room; only a Key comes first.
+// Appends a record to a store that runs and has room; only a Key comes first, and after it what its file can hold.
 fn append<S: Store>(store: &mut S, entry: &Record) -> Result<(), SignFault>
     requires running { S.stopped store.old ≡ false }
     requires room { length (S.list store.old) < S.most store.old }
-    requires key_first { CanFollow (S.list store.old) entry.now }
+    requires follows { IsTrue (S.honest store.old) → CanFollow (S.list store.old) entry.now }
     ensures { IsAppended S.Store store.old store.new entry.now result }
 {
     store.append(entry).map_err(|fault| match fault {
@@ -181,14 +181,15 @@ fn level_count(spec: &Spec) -> usize
     }
 }
 
-// Makes a key where no record stands, and appends its record.
+// Makes a key of a version where no record stands, and appends its record.
 fn create_key<S: Store, R: Source>(
+    version: Version,
     spec: &Spec,
     store: &mut S,
     random: &mut R,
 ) -> Result<Key, SignFault>
     requires room { 1 ≤ S.most store.old }
-    ensures makes { MakesKey S.Store R.Source spec.now store.old store.new random.old random.new
+    ensures makes { MakesKey S.Store R.Source version spec.now store.old store.new random.old random.new
         (IsAnsweredByKey result) }
     ensures sizes { IfOk result (λ key. HasSizes (KeyRecord key)) }
     ensures list { IfOk result (λ key. S.list store.new ≡ KeyRecord key ∷ []) }
@@ -199,7 +200,7 @@ fn create_key<S: Store, R: Source>(
     // Its levels are 1 to 8.
     prove!(level_count(spec) <= 8);
     let key = Key {
-        version: Version::One,
+        version,
         root: root_of(&secret),
         secret,
     };
@@ -275,10 +276,10 @@ impl<S: Store, R: Source> Signer<S, R> {
     ghost use Rattle.sign_core.specs.Once.{public_of_key};
     ghost use Rattle.sign_core.specs.Signer.{Adds, Creates, IsBottom, Opens, Retires};
     ghost use Rattle.sign_core.specs.Ledger.{TakesMemory};
+    ghost use Rattle.state_file.specs.Slot.{FitsVersion, version_in};
+    ghost use Rattle.state_file.specs.declared.record.Version.TheVariants.{One};
 
-    /// Makes a key in a store that has none, and the signer of it: draws what the key is made from, makes the top
-    /// tree's root, and appends the key's record. It takes no memory of its own. A refusal gives back the store and
-    /// the source.
+    /// Makes a key of version 1 in a store that has none, and the signer of it, as `create_in` does.
     ///
     /// The caller gives a store that takes at least one record.
     pub fn create(
@@ -288,11 +289,29 @@ impl<S: Store, R: Source> Signer<S, R> {
         random: R,
     ) -> Result<Self, Refused<(S, R), SignFault>>
         requires room { 1 ≤ S.most store }
-        ensures { Creates S.Store R.Source spec store random result }
+        ensures { Creates S.Store R.Source One spec store random result }
+    {
+        Signer::create_in(alloc, Version::One, spec, store, random)
+    }
+
+    /// Makes a key of a version in a store that has none, and the signer of it: draws what the key is made from, makes
+    /// the top tree's root, and appends the key's record. It takes no memory of its own. A refusal gives back the store
+    /// and the source.
+    ///
+    /// The caller gives a store that takes at least one record.
+    pub fn create_in(
+        alloc: Global,
+        version: Version,
+        spec: Spec,
+        store: S,
+        random: R,
+    ) -> Result<Self, Refused<(S, R), SignFault>>
+        requires room { 1 ≤ S.most store }
+        ensures { Creates S.Store R.Source version spec store random result }
     {
         let mut store = store;
         let mut random = random;
-        match create_key(&spec, &mut store, &mut random) {
+        match create_key(version, &spec, &mut store, &mut random) {
             Ok(key) => Ok(Signer {
                 store,
                 random,
@@ -362,6 +381,7 @@ impl<S: Store, R: Source> Signer<S, R> {
     fn add(&mut self, entry: Record) -> Result<(), SignFault>
         requires open { self.old.is_open ≡ true }
         requires follows { can_follow (key_in self.old.records) self.old.records entry ≡ true }
+        requires fits { FitsVersion (version_in self.old.records) entry }
         requires sizes { HasSizes entry }
         requires few { length self.old.records < S.most self.old.store }
         requires counted { length self.old.records < 2 ^ 32 - 1 }

@@ -9,7 +9,7 @@ use Rattle.typecodes.specs.Layout.{Spells}
 use Rattle.typecodes.specs.Cursor.{read}
 use Rattle.state_file.specs.File.{Holds, fields_at, tag_at, previous_tag, tag_of, most_records, open_value, StandsFor, IsFileOf, IsSyncedFile}
 use Rattle.state_file.specs.FileStore.{fields_length, file_stands, open_byte, open_by_byte}
-use Rattle.state_file.specs.Store.{begins_with_key, is_key}
+use Rattle.state_file.specs.Store.{CanFollow, begins_with_key}
 use Rattle.state_file.specs.Disk.{DiskState, LeavesOnly}
 use Rattle.state_file.specs.Gates.{IsClosedAfter, IsAtRest}
 use Rattle.state_file.specs.Slot.{slot_record, version_in}
@@ -203,8 +203,8 @@ module _ (records : List Record) (content c : List ℕ) (entry : Record) (fields
   file_last = ap (λ m. previous_tag c m) (count ∙ add-one (length records)) ∙ last_tag
 
 -- a list that begins with a Key goes on so
-pub follows_key : (records : List Record) (entry : Record) → begins_with_key records ≡ true → (length records ≡ 0 → is_key entry ≡ true) → begins_with_key (records ++ entry ∷ []) ≡ true
-follows_key [] entry keyed first = first refl
+pub follows_key : (records : List Record) (entry : Record) → begins_with_key records ≡ true → CanFollow records entry → begins_with_key (records ++ entry ∷ []) ≡ true
+follows_key [] entry keyed first = first
 follows_key (one ∷ rest) entry keyed first = keyed
 
 -- a record's bytes are read as it

@@ -3,6 +3,7 @@ use Rattle.std.proofs.Common.{◌≡◌, inl, inr, ℕ, zero, suc, ◌<◌, ◌�
 use Rattle.std.specs.Prelude.{slice_get}
 use Rattle.std.proofs.lemmas.Bool.{cases_order}
 use Rattle.std.proofs.lemmas.Option.{slice_get_within}
+use Rattle.state_file.specs.declared.record.Key.{Key}
 use Rattle.state_file.specs.declared.record.Record.{Record}
 use Rattle.state_file.specs.declared.record.Record.TheVariants.{Key as KeyRecord, Extend as ExtendRecord, Bound as BoundRecord, Retire, Moved}
 use Rattle.state_file.specs.declared.record.Secret.{Secret}
@@ -71,15 +72,15 @@ names-all secret xs ys k (BoundRecord bound) tree leaf within (current, same) = 
 names-all secret xs ys k (Retire upto) tree leaf within is = is
 names-all secret xs ys k Moved tree leaf within is = is
 
-fits-front : (secret : Secret) (xs ys : List Record) (k : ℕ) (entry : Record) → k < length xs → Fits secret (xs ++ ys) k entry → Fits secret xs k entry
-fits-front secret xs ys k (KeyRecord key) within is = is
-fits-front secret xs ys k (ExtendRecord extend) within (level, is, low, (tree, current), inside) =
+fits-front : (key : Key) (xs ys : List Record) (k : ℕ) (entry : Record) → k < length xs → Fits key (xs ++ ys) k entry → Fits key xs k entry
+fits-front key xs ys k (KeyRecord other) within is = is
+fits-front key xs ys k (ExtendRecord extend) within (level, is, low, (tree, current), inside) =
     (level, is, low, (tree, current-front xs ys k level tree (omega (arith, within)) current), inside)
-fits-front secret xs ys k (BoundRecord bound) within ((tree, current), inside, drawn) =
-    ((tree, current-front xs ys k (bottom_of secret) tree (omega (arith, within)) current), inside, drawn)
-fits-front secret xs ys k (Retire upto) within ((tree, current), inside) =
-    ((tree, current-front xs ys k (bottom_of secret) tree (omega (arith, within)) current), inside)
-fits-front secret xs ys k Moved within is = omega (arith, within, is, length-append xs ys)
+fits-front key xs ys k (BoundRecord bound) within ((tree, current), inside, drawn) =
+    ((tree, current-front xs ys k (bottom_of key.secret) tree (omega (arith, within)) current), inside, drawn)
+fits-front key xs ys k (Retire upto) within ((tree, current), inside) =
+    ((tree, current-front xs ys k (bottom_of key.secret) tree (omega (arith, within)) current), inside)
+fits-front key xs ys k Moved within (one, is) = (one, omega (arith, within, is, length-append xs ys))
 
 -- a beginning of a legal list is legal
 pub legal_beginning : (xs ys : List Record) → 0 < length xs → IsLegal (xs ++ ys) → IsLegal xs
@@ -87,7 +88,7 @@ legal_beginning xs ys some legal =
     let inside : (k : ℕ) (entry : Record) → slice_get xs k ≡ Some entry → k ≤ length xs = λ k entry is. omega (arith, slice_get_within xs k entry is) in record {
       key = legal.key;
       first = sym (get-front xs ys 0 some) ∙ legal.first;
-      fits = λ k entry is. fits-front legal.key.secret xs ys k entry (slice_get_within xs k entry is) (legal.fits k entry (got xs ys k entry is));
+      fits = λ k entry is. fits-front legal.key xs ys k entry (slice_get_within xs k entry is) (legal.fits k entry (got xs ys k entry is));
       identifiers = λ j k a b identifier before is_a is_b. legal.identifiers j k a b identifier before (got xs ys j a is_a) (got xs ys k b is_b);
       names = λ j k a b before is_a is_b. legal.names j k a b before (got xs ys j (BoundRecord a) is_a) (got xs ys k (BoundRecord b) is_b);
       rising = λ j k a b tree leaf later before is_a is_b names_a names_b.

@@ -1,6 +1,10 @@
 pub mod Adding
 pub mod Blocks
+pub mod Carried
 pub mod Contents
+pub mod Filled
+pub mod Filling
+pub mod Copied
 pub mod Finding
 pub mod Kept
 pub mod Levels
@@ -8,11 +12,13 @@ pub mod Legal
 pub mod Lists
 pub mod Log
 pub mod Moments
+pub mod Moved
 pub mod OneWay
 pub mod Pairs
 pub mod PastEnd
 pub mod Ranges
 pub mod SlotWrites
+pub mod StoreReads
 pub mod Versions
 pub mod Visible
 pub mod Written

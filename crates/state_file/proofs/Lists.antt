@@ -1,8 +1,11 @@
 -- From the contents that a stop leaves of a disk to the lists that it leaves of a store over it.
-use Rattle.std.proofs.Common.{◌≡◌, ◌⊎◌, inl, inr, ⊎_elim, ℕ, Bool, true, false, List, Some, refl, sym, subst, slice_get}
+use Rattle.std.proofs.Common.{◌≡◌, ◌⊎◌, inl, inr, ⊎_elim, ℕ, ◌+◌, ◌-◌, Bool, true, false, List, [], ◌∷◌, ◌++◌, length, Some, refl, sym, ap, ◌∙◌, subst, arith, slice_get}
+use Rattle.std.proofs.lemmas.List.{length_push, get_or_push}
+use Rattle.std.proofs.lemmas.Option.{slice_get-get_or}
 use Rattle.state_file.specs.Disk.{LeavesOnly, ChangesOnly, Range, DiskState, MayLeave}
 use Rattle.state_file.specs.File.{StandsFor, LeftLists, IsSyncedFile}
 use Rattle.state_file.specs.FileStore.{one_of_two, kept_leaves}
+use Rattle.state_file.specs.Laws.{has_moved, is_moved}
 use Rattle.state_file.specs.Store.{IsRecordAt}
 use Rattle.state_file.specs.declared.record.Record.{Record}
 use Rattle.state_file.proofs.Moments.{weaker}
@@ -46,6 +49,18 @@ kept_alone records tag state c ranges kept left =
 pub record_at : (honest : Bool) (list : List Record) (k : ℕ) (entry : Record) → (honest ≡ true → slice_get list k ≡ Some entry) → IsRecordAt honest list k entry
 record_at true list k entry is = is refl
 record_at false list k entry is = tt
+
+-- a list that was pushed to ends with what was pushed
+pub pushed_last : (records after : List Record) (entry : Record) → after ≡ records ++ entry ∷ [] → slice_get after (length after - 1) ≡ Some entry
+pushed_last records after entry is =
+    let count : length after ≡ length records + 1 = ap length is ∙ length_push records entry in
+    let place : length after - 1 ≡ length records = omega (arith, count) in
+    ap (λ n. slice_get after n) place ∙ ap (λ (l : List Record). slice_get l (length records)) is
+    ∙ slice_get-get_or (records ++ entry ∷ []) (length records) entry (omega (arith, length_push records entry))
+    ∙ ap Some (get_or_push records entry entry (length records) refl)
+
+pub pushed_moved : (records after : List Record) (entry : Record) → after ≡ records ++ entry ∷ [] → is_moved (Some entry) ≡ has_moved after
+pushed_moved records after entry is = sym (ap is_moved (pushed_last records after entry is))
 
 pub not_honest : (honest : Bool) → (honest ≡ true → ⊥) → honest ≡ false
 not_honest true never = absurd (never refl)

@@ -9,13 +9,13 @@ use Rattle.state_file.specs.File.{open_value}
 use Rattle.state_file.specs.Gates.{IsClosedAfter}
 
 -- a content that is closed after front, in its parts
-record Splits (front content : List ℕ) : Type 0 where
-  gate : ℕ
-  rest : List ℕ
-  whole : content ≡ front ++ gate ∷ rest
-  closed : gate ≢ open_value
+pub record Splits (front content : List ℕ) : Type 0 where
+  pub gate : ℕ
+  pub rest : List ℕ
+  pub whole : content ≡ front ++ gate ∷ rest
+  pub closed : gate ≢ open_value
 
-split : (front content : List ℕ) → IsClosedAfter front content → Splits front content
+pub split : (front content : List ℕ) → IsClosedAfter front content → Splits front content
 split front content holds =
     let n = length front in
     record {
@@ -25,7 +25,7 @@ split front content holds =
       closed = holds.closed.1;
     }
 
-join : (front content : List ℕ) → Splits front content → IsClosedAfter front content
+pub join : (front content : List ℕ) → Splits front content → IsClosedAfter front content
 join front content parts =
     let n = length front in
     let long = ap length parts.whole ∙ length-append front (parts.gate ∷ parts.rest) in

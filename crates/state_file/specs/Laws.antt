@@ -1,7 +1,7 @@
 -- Which lists of records a signer may stand on. A tree goes by the place of the record that makes it: the
 -- Key makes tree 0, an Extend at place k makes tree k.
 use Rattle.std.specs.Prelude.{◌≡◌, ◌≢◌, ℕ, zero, suc, ◌+◌, ◌-◌, ◌^◌, ◌<◌, ◌≤◌, List, [], ◌∷◌, length, replicate}
-use Rattle.std.specs.Prelude.{slice_get, Option, Some, None}
+use Rattle.std.specs.Prelude.{slice_get, Bool, true, false, Option, Some, None}
 use Rattle.typecodes.specs.declared.types.LmsPair.{LmsPair}
 use Rattle.typecodes.specs.Types.{height_of, xmss_height_of}
 use Rattle.state_file.specs.File.{SpellsRecords}
@@ -13,6 +13,7 @@ use Rattle.state_file.specs.declared.record.Record.TheVariants.{Key as KeyRecord
 use Rattle.state_file.specs.declared.record.Record.TheVariants.{Bound as BoundRecord, Retire, Moved}
 use Rattle.state_file.specs.declared.record.Secret.{Secret}
 use Rattle.state_file.specs.declared.record.Secret.TheVariants.{Lms, Hss, Xmss}
+use Rattle.state_file.specs.declared.record.Version.TheVariants.{One}
 
 -- ---- keys
 
@@ -90,19 +91,20 @@ Names secret records k Moved tree leaf = ⊥
 
 -- ---- legal lists
 
--- What a record at place k needs for itself: the trees that it speaks of are current, and its numbers are in
--- range.
-abbrev pub Fits : Secret → List Record → ℕ → Record → Type 0
-Fits secret records k (KeyRecord key) = k ≡ 0
-Fits secret records k (ExtendRecord extend) =
-    (level : ℕ) × (extend.level ≡ level + 1) × (extend.level < levels_of secret)
-    × ((tree : ℕ) × IsCurrent records k level tree) × (extend.parent_leaf < leaves_at secret level)
-Fits secret records k (BoundRecord bound) =
-    ((tree : ℕ) × IsCurrent records k (bottom_of secret) tree) × (bound.leaf < leaves_at secret (bottom_of secret))
-    × HasRandomizer secret bound.randomizer
-Fits secret records k (Retire upto) =
-    ((tree : ℕ) × IsCurrent records k (bottom_of secret) tree) × (upto ≤ leaves_at secret (bottom_of secret))
-Fits secret records k Moved = k + 1 ≡ length records
+-- What a record at place k needs for itself: the trees that it speaks of are current, and its numbers are in range. A
+-- Moved stands last, under a Key of version 1.
+abbrev pub Fits : Key → List Record → ℕ → Record → Type 0
+Fits key records k (KeyRecord other) = k ≡ 0
+Fits key records k (ExtendRecord extend) =
+    (level : ℕ) × (extend.level ≡ level + 1) × (extend.level < levels_of key.secret)
+    × ((tree : ℕ) × IsCurrent records k level tree) × (extend.parent_leaf < leaves_at key.secret level)
+Fits key records k (BoundRecord bound) =
+    ((tree : ℕ) × IsCurrent records k (bottom_of key.secret) tree)
+    × (bound.leaf < leaves_at key.secret (bottom_of key.secret)) × HasRandomizer key.secret bound.randomizer
+Fits key records k (Retire upto) =
+    ((tree : ℕ) × IsCurrent records k (bottom_of key.secret) tree)
+    × (upto ≤ leaves_at key.secret (bottom_of key.secret))
+Fits key records k Moved = (key.version ≡ One) × (k + 1 ≡ length records)
 
 -- A list is legal.
 pub record IsLegal (records : List Record) : Type 0 where
@@ -110,7 +112,7 @@ pub record IsLegal (records : List Record) : Type 0 where
   pub key : Key
   pub first : slice_get records 0 ≡ Some (KeyRecord key)
   -- each record fits; so there is no other Key, and nothing follows a Moved
-  pub fits : (k : ℕ) (entry : Record) → slice_get records k ≡ Some entry → Fits key.secret records k entry
+  pub fits : (k : ℕ) (entry : Record) → slice_get records k ≡ Some entry → Fits key records k entry
   -- no two trees have one I
   pub identifiers : (j k : ℕ) (a b : Record) (identifier : List ℕ) → j < k → slice_get records j ≡ Some a
       → slice_get records k ≡ Some b
@@ -126,6 +128,17 @@ pub record IsLegal (records : List Record) : Type 0 where
   pub retired : (j k : ℕ) (upto : ℕ) (b : Record) (tree leaf : ℕ) → j < k → slice_get records j ≡ Some (Retire upto)
       → slice_get records k ≡ Some b
       → IsCurrent records j (bottom_of key.secret) tree → Names key.secret records k b tree leaf → upto ≤ leaf
+
+-- ---- files that were moved
+
+-- whether the record is a Moved, after which none follows
+abbrev pub is_moved : Option Record → Bool
+is_moved (Some Moved) = true
+is_moved _ = false
+
+-- whether the last record is one
+abbrev pub has_moved : List Record → Bool
+has_moved records = is_moved (slice_get records (length records - 1))
 
 -- ---- signing
 

@@ -1,5 +1,5 @@
 -- What the bytes of a slot show of the record that they spell: its kind, what a Key begins with, and the version.
-use Rattle.std.proofs.Common.{◌≡◌, ℕ, Bool, true, false, cond, List, [], ◌∷◌, ◌++◌, length, take, Option, Some, None}
+use Rattle.std.proofs.Common.{◌≡◌, ℕ, Bool, true, false, cond, List, [], ◌∷◌, ◌++◌, take, Some}
 use Rattle.std.proofs.Common.{refl, sym, ap, ◌∙◌, subst, arith, eqb-true, append-nil}
 use Rattle.std.specs.Prelude.{◌-◌, ◌==◌, ◌&&◌, if◌then◌else◌, slice_get}
 use Rattle.std.specs.Cmp.Lexicographic.{bytes_decides, pointwise}
@@ -17,7 +17,7 @@ use Rattle.state_file.specs.declared.record.Record.TheVariants.{Key as KeyRecord
 use Rattle.state_file.specs.declared.record.Record.TheVariants.{Bound as BoundRecord, Retire, Moved}
 use Rattle.state_file.specs.declared.record.Version.{Version}
 use Rattle.state_file.specs.File.{SpellsRecords, begins_key, fields_at, version_of}
-use Rattle.state_file.specs.declared.record.Version.TheVariants.{One}
+use Rattle.state_file.specs.declared.record.Version.TheVariants.{One, Two}
 use Rattle.state_file.specs.Slot.{hss_fields, levels_field, lms_fields, pair_field, xmss_fields, bound_fields, byte}
 use Rattle.state_file.specs.Slot.{exactly, extend_fields, fields_of, key_fields, magic, moved_fields, name_field}
 use Rattle.state_file.specs.Slot.{name_most, only_if, retire_fields, secret_fields, slot_record, version_begun}
@@ -158,6 +158,7 @@ version-is version bytes u spelled = exactly-is 2 (big_bytes 2 (version_code ver
 version_known : (version : Version) (rest : List ℕ)
     → named version_code versions (big_number 2 (big_bytes 2 (version_code version) ++ rest)) ≡ Some version
 version_known One rest = refl
+version_known Two rest = refl
 
 -- ---- Keys
 

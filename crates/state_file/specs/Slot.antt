@@ -14,7 +14,7 @@ use Rattle.state_file.specs.declared.record.Record.TheVariants.{Bound as BoundRe
 use Rattle.state_file.specs.declared.record.Secret.{Secret}
 use Rattle.state_file.specs.declared.record.Secret.TheVariants.{Lms, Hss, Xmss}
 use Rattle.state_file.specs.declared.record.Version.{Version}
-use Rattle.state_file.specs.declared.record.Version.TheVariants.{One}
+use Rattle.state_file.specs.declared.record.Version.TheVariants.{One, Two}
 
 -- ---- fields
 
@@ -50,10 +50,11 @@ magic = 0x48 ∷ 0x42 ∷ 0x53 ∷ 0x53 ∷ 0x54 ∷ 0x41 ∷ 0x54 ∷ 0x45 ∷ 
 
 abbrev pub version_code : Version → ℕ
 version_code One = 1
+version_code Two = 2
 
 -- the versions that are known
 abbrev pub versions : List Version
-versions = One ∷ []
+versions = One ∷ Two ∷ []
 
 -- a version, by its code in 2 bytes
 unfoldable pub version_field : Version → Layout (Unit {0})
@@ -169,6 +170,7 @@ are_visible bytes = list_all (λ b. nat_le 0x21 b && nat_le b 0x7e) bytes
 -- how many bytes a name has at most in a file of a version
 abbrev pub name_most : Version → ℕ
 name_most One = 64
+name_most Two = 128
 
 -- a name of visible characters, 1 to the most: its length, and its bytes with zeros up to the last
 unfoldable pub name_field : ℕ → Layout (List ℕ)

@@ -3,6 +3,7 @@ use Rattle.std.specs.Prelude.{◌≡◌, ◌⊎◌, ℕ, ◌+◌, ◌<◌, ◌�
 use Rattle.std.specs.Prelude.{slice_get, Option, Some, None, Result, Ok, Err}
 use Rattle.state_file.specs.declared.record.Record.{Record}
 use Rattle.state_file.specs.declared.record.Record.TheVariants.{Key as KeyRecord, Extend, Bound, Retire, Moved}
+use Rattle.state_file.specs.Slot.{FitsVersion, version_in}
 use Rattle.state_file.specs.declared.store.StoreFault.{StoreFault}
 use Rattle.state_file.specs.declared.store.StoreFault.TheVariants.{Stopped, Damaged, DeviceFailed, OutOfMemory, Full}
 
@@ -19,9 +20,11 @@ abbrev pub begins_with_key : List Record → Bool
 begins_with_key [] = true
 begins_with_key (entry ∷ entries) = is_key entry
 
--- The record can be written after this list: the first one is a Key.
+-- The record can be written after this list: the first one is a Key, and a file of the version that it begins can hold
+-- the others.
 abbrev pub CanFollow : List Record → Record → Type 0
-CanFollow list entry = length list ≡ 0 → is_key entry ≡ true
+CanFollow [] entry = is_key entry ≡ true
+CanFollow (first ∷ rest) entry = FitsVersion (version_in (first ∷ rest)) entry
 
 -- What is promised only while a store runs: its device is honest, and hasn't failed in a call of the store since that
 -- was opened.

@@ -5,9 +5,11 @@ mod gates;
 mod opening;
 #[cfg(test)]
 mod tests;
+mod unfinished;
 
 pub use format::FormatFault;
 pub(crate) use format::format;
-pub(crate) use gates::add_slot;
+pub(crate) use gates::{SLOT, add_slot, read_within, settle, write_synced};
 pub use opening::OpenFault;
 pub(crate) use opening::{MOST, find_records, read_entry, read_tag};
+pub(crate) use unfinished::{finish, prepare, write_slot};

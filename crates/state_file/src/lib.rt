@@ -3,7 +3,8 @@
 //! Its models are `specs/Store.antt`, what each call of a store does to its list of records; `specs/Slot.antt`, how a
 //! slot spells a record; `specs/File.antt`, what a content of a disk is as a file of records; and `specs/Disk.antt`,
 //! what a stop may leave of a disk. Its contract for the crates above: after every call, and after a stop at any
-//! moment in it, a store has the old records, or the old and the new one.
+//! moment in it, a store has the old records, or the old and the new one. What moving records to a file of version 2
+//! does is `specs/Migration.antt`: of the old file and the new one no stop leaves both able to sign.
 //!
 //! ```rust
 //! use state_file::{FileStore, MemoryDisk, Store};
@@ -21,16 +22,20 @@
 mod disk;
 mod file;
 mod laws;
+mod migration;
 mod record;
 mod refused;
 #[cfg(test)]
 mod samples;
 mod slot;
 mod store;
+#[cfg(test)]
+mod turning_disk;
 
 pub use crate::disk::{Disk, DiskFault, MemoryDisk, Pick};
 pub use crate::file::{FormatFault, OpenFault};
-pub use crate::laws::{content_laws, legal_laws, slot_laws};
+pub use crate::laws::{content_laws, legal_laws, migration_laws, slot_laws};
+pub use crate::migration::{MigrateFault, Place, Sealed, fill, seal};
 pub use crate::record::{Bound, Extend, Key, Record, RecordList, Secret, Version};
 pub use crate::refused::Refused;
 pub use crate::store::{Cut, FileStore, MemoryStore, Store, StoreFault};

@@ -1,7 +1,9 @@
 //! The records of a key. None that holds a secret can be printed.
 
-ghost use Rattle.std.specs.Prelude.{◌≡◌, ◌<◌, ◌≤◌, ◌^◌};
+ghost use Rattle.std.specs.Prelude.{◌≡◌, ◌<◌, ◌≤◌, ◌^◌, Some, true, false};
 ghost use Rattle.typecodes.specs.Types.{named};
+ghost use Rattle.state_file.specs.Carried.{in_version};
+ghost use Rattle.state_file.specs.Laws.{is_moved};
 ghost use Rattle.state_file.specs.Slot.{FitsVersion, name_most, version_code, versions};
 ghost use Rattle.state_file.specs.declared.record.Version.{Version as V};
 
@@ -39,6 +41,44 @@ impl Record {
         }
     }
 
+    /// Whether a file of a version can hold the record: of a Key only one of its own, of a Bound one whose names are
+    /// long enough, and of any other record each.
+    pub fn fits(&self, version: Version) -> bool
+        ensures fits { result ≡ true → FitsVersion version self.now }
+        ensures not { result ≡ false → FitsVersion version self.now → ⊥ }
+    {
+        match self {
+            Record::Key(key) => key.version == version,
+            Record::Bound(bound) => {
+                bound.name.as_bytes().len() <= usize::from(version.name_most())
+            }
+            Record::Extend(_) | Record::Retire { .. } | Record::Moved => true,
+        }
+    }
+
+    // The record as it stands in a file of version 2.
+    pub(crate) fn carried(&self) -> Self
+        ensures value { result ≡ in_version Version.Two self.now }
+        ensures fits { FitsVersion Version.Two result }
+    {
+        match self {
+            Record::Key(key) => Record::Key(Key {
+                version: Version::Two,
+                secret: key.secret.copied(),
+                root: key.root,
+            }),
+            Record::Bound(bound) => Record::Bound(bound.copied()),
+            Record::Extend(_) | Record::Retire { .. } | Record::Moved => self.copied(),
+        }
+    }
+
+    // Whether it is a Moved.
+    pub(crate) fn is_moved(&self) -> bool
+        ensures { result ≡ is_moved (Some self.now) }
+    {
+        matches!(self, Record::Moved)
+    }
+
     // The version in which a file of that one goes on with the record: its own, if it can hold the record.
     pub(crate) fn version_after(&self, file: Version) -> Version
         ensures fits { FitsVersion result self.now }
@@ -47,8 +87,11 @@ impl Record {
         match self {
             Record::Key(key) => key.version,
             Record::Bound(bound) => {
-                prove!(bound.name.as_bytes().len() <= usize::from(file.name_most()));
-                file
+                if bound.name.as_bytes().len() <= usize::from(file.name_most()) {
+                    file
+                } else {
+                    Version::Two
+                }
             }
             Record::Extend(_) | Record::Retire { .. } | Record::Moved => file,
         }
@@ -58,8 +101,10 @@ impl Record {
 /// A version of the state file.
 #[derive(Clone, Copy, Debug, PartialEq, Eq)]
 pub enum Version {
-    /// Version 1.
+    /// Version 1: names have at most 64 bytes.
     One,
+    /// Version 2: names have at most 128 bytes.
+    Two,
 }
 
 impl Version {
@@ -69,17 +114,19 @@ impl Version {
     {
         match code {
             1 => Some(Version::One),
+            2 => Some(Version::Two),
             _ => None,
         }
     }
 
-    /// The code of the version: 1.
+    /// The code of the version: 1 or 2.
     pub fn code(self) -> u16
         ensures value { result ≡ version_code self }
         ensures alone { (other : V) → version_code other ≡ result → other ≡ self }
     {
         match self {
             Version::One => 1,
+            Version::Two => 2,
         }
     }
 
@@ -87,10 +134,11 @@ impl Version {
     pub fn name_most(self) -> u8
         ensures value { result ≡ name_most self }
         ensures least { 64 ≤ result }
-        ensures few { result ≤ 64 }
+        ensures few { result ≤ 128 }
     {
         match self {
             Version::One => 64,
+            Version::Two => 128,
         }
     }
 }

@@ -1,7 +1,7 @@
 //! What a store of records is.
 
 ghost use Rattle.std.specs.Prelude.{◌≡◌, ◌≢◌, ◌⊎◌, ◌≤◌, ◌∷◌, [], ◌++◌, ℕ, List, Bool, true, length};
-ghost use Rattle.std.specs.Prelude.{IfErr};
+ghost use Rattle.std.specs.Prelude.{IfErr, IsTrue};
 ghost use Rattle.state_file.specs.Disk.{Counts, LeavesOnly};
 
 mod file_store;
@@ -84,10 +84,11 @@ pub trait Store {
         ensures honest { honest self.new ≡ honest self.old }
         ensures most { most self.new ≡ most self.old };
 
-    /// Adds a record at the end; the caller gives a Key where there is none yet. A stop at any moment of it leaves
-    /// the old records, or these and the new one; of one that is refused with another answer than 45, the old ones.
+    /// Adds a record at the end; the caller gives a Key where there is none yet, and after it a record that a file of
+    /// the Key's version can hold. A stop at any moment of it leaves the old records, or these and the new one; of one
+    /// that is refused with another answer than 45, the old ones.
     fn append(&mut self, new: &Record) -> Result<(), StoreFault>
-        requires { CanFollow (list self.old) new.now }
+        requires { IsTrue (honest self.old) → CanFollow (list self.old) new.now }
         ensures any_moment { WhileRunning (honest self.old) (stopped self.old)
             (LeavesOnly moment left_since self.old self.new
             (λ left. (left ≡ list self.old) ⊎ (left ≡ list self.old ++ new.now ∷ []))) }

@@ -1,8 +1,8 @@
 -- Names under which messages are signed.
 use Rattle.std.specs.Prelude.{ℕ, ◌≤◌, List, length, All}
 
--- 1 to 64 bytes, each a visible character of ASCII
+-- 1 to 128 bytes, each a visible character of ASCII
 pub record IsName (bytes : List ℕ) : Type 0 where
   pub some : 1 ≤ length bytes
-  pub few : length bytes ≤ 64
+  pub few : length bytes ≤ 128
   pub visible : All (λ b. (0x21 ≤ b) × (b ≤ 0x7e)) bytes

@@ -8,10 +8,10 @@ use std::hash::{Hash, Hasher};
 use std::marker::Model;
 use thiserror::Error;
 
-/// A name: 1 to 64 bytes, each a visible character of ASCII, 0x21 to 0x7E.
+/// A name: 1 to 128 bytes, each a visible character of ASCII, 0x21 to 0x7E.
 #[derive(Debug, Drop)]
 pub struct Name {
-    bytes: ArrayVec<u8, 64>,
+    bytes: ArrayVec<u8, 128>,
 }
 
 impl Model for Name {
@@ -24,7 +24,7 @@ impl Model for Name {
 
 /// 34: the bytes are no name.
 #[derive(Clone, Copy, Debug, PartialEq, Eq, Error)]
-#[error("a name is 1 to 64 visible characters of ASCII")]
+#[error("a name is 1 to 128 visible characters of ASCII")]
 pub struct BadName;
 
 impl Name {

@@ -5,6 +5,7 @@ ghost use Rattle.std.specs.Io.{ReadsAtMost};
 
 use super::place::Place;
 use crate::file_disk::{FileDisk, OffsetFile};
+use crate::files::NewContent;
 use crate::standard::Standard;
 use crate::state::StateFile;
 use crate::trace::{Event, Trace};
@@ -242,7 +243,8 @@ fn a_file_of_the_machine_is_read_and_written(rt: HostRuntime) -> Result<(), Fail
     let folder = Place::new(&rt, "disk").ok_or("no folder")?;
     let path = folder.path.join(rt.alloc(), "state")?;
     let standard = Standard::take(&rt)?;
-    let Ok(file) = StateFile::open_or_make(&rt, &standard, path.as_str()) else {
+    let opened = StateFile::open_or_make(&rt, &standard, path.as_str(), NewContent::Key);
+    let Ok(file) = opened else {
         return Err(Fail::from("no state file"));
     };
     let mut disk = FileDisk::new(file);

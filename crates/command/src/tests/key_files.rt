@@ -3,7 +3,7 @@
 use crate::key_file::{make, sign};
 use crate::refusal::Refusal;
 use sign_core::{SignFault, TapeSource};
-use state_file::{Disk, FormatFault, MemoryDisk};
+use state_file::{Disk, FormatFault, MemoryDisk, Version};
 use typecodes::{Name, Spec};
 
 // The bytes 00 to 2f.
@@ -30,15 +30,17 @@ enum Step {
     Signature(&'static [u8], &'static [u8], Result<usize, Refusal>),
 }
 
-// Makes a key on this disk, and gives the disk back, with the refusal if there is one.
+// Makes a key of a version on this disk, and gives the disk back, with the refusal if there is one.
 fn made(
     rt: &HostRuntime,
     disk: MemoryDisk,
+    version: Version,
     spec: &str,
     random: &[u8],
 ) -> Option<(MemoryDisk, Option<Refusal>)> {
     let spec = Spec::parse(spec).ok()?;
-    match make(rt.alloc(), disk, spec, TapeSource::new(random)) {
+    let random = TapeSource::new(random);
+    match make(rt.alloc(), disk, version, spec, random) {
         Ok(signer) => Some((signer.into_store().into_disk(), None)),
         Err(refused) => Some((refused.given, Some(refused.fault))),
     }
@@ -71,13 +73,13 @@ fn signed(
     Some((disk, size))
 }
 
-// Whether these requests in turn come to what they say, on a disk without bytes.
-fn are_answered(rt: &HostRuntime, requests: &[Request]) -> Option<bool> {
+// Whether these requests in turn come to what they say, on a disk without bytes, with a key of a version.
+fn are_answered(rt: &HostRuntime, version: Version, requests: &[Request]) -> Option<bool> {
     let mut disk = MemoryDisk::of(rt.alloc(), b"").ok()?;
     for request in requests {
         let is_right = match &request.step {
             Step::Key(spec, refusal) => {
-                let (after, found) = made(rt, disk, spec, request.random)?;
+                let (after, found) = made(rt, disk, version, spec, request.random)?;
                 disk = after;
                 found == *refusal
             }
@@ -169,9 +171,60 @@ const MADE_ONCE: &[Request] = &[
     },
 ];
 
+// Names of 65 and 128 bytes, for which files of version 1 have no room.
+const REFUSED_NAMES: &[Request] = &[
+    Request {
+        random: TAPE,
+        step: Step::Key("lms:H5/W8", None),
+        size: 257,
+    },
+    Request {
+        random: TAPE,
+        step: Step::Signature(
+            &[b'n'; 65],
+            b"\x01",
+            Err(Refusal::Signer(SignFault::LongName)),
+        ),
+        size: 257,
+    },
+    Request {
+        random: TAPE,
+        step: Step::Signature(
+            &[b'n'; 128],
+            b"\x01",
+            Err(Refusal::Signer(SignFault::LongName)),
+        ),
+        size: 257,
+    },
+];
+
+// The same names in files of version 2.
+const LONG_NAMES: &[Request] = &[
+    Request {
+        random: TAPE,
+        step: Step::Key("lms:H5/W8", None),
+        size: 257,
+    },
+    Request {
+        random: TAPE,
+        step: Step::Signature(&[b'n'; 65], b"\x01", Ok(1292)),
+        size: 513,
+    },
+    Request {
+        random: TAPE,
+        step: Step::Signature(&[b'n'; 128], b"\x01", Ok(1292)),
+        size: 769,
+    },
+];
+
 #[test]
 fn a_key_on_a_disk_is_made_once_and_signs(rt: HostRuntime) {
-    for requests in [OF_ONE_TREE, OF_TWO_LEVELS, MADE_ONCE] {
-        assert_eq!(rt; are_answered(&rt, requests), Some(true));
+    for version in [Version::One, Version::Two] {
+        for requests in [OF_ONE_TREE, OF_TWO_LEVELS, MADE_ONCE] {
+            assert_eq!(rt; are_answered(&rt, version, requests), Some(true));
+        }
+    }
+    for (version, requests) in [(Version::One, REFUSED_NAMES), (Version::Two, LONG_NAMES)] {
+        assert_eq!(rt; are_answered(&rt, version, requests), Some(true));
     }
 }

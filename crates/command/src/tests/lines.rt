@@ -28,6 +28,7 @@ const WRONG: &[Step] = &[
     Step::Prints("make", "..Usage: hbsign", 2, None),
     Step::Prints("make k p", "..Usage: hbsign", 2, None),
     Step::Prints("make k p lms:H5/W8 more", "..Usage: hbsign", 2, None),
+    Step::Prints("make k p x --format 3", "..Usage: hbsign", 2, None),
     Step::Prints("sign", "..Usage: hbsign", 2, None),
     Step::Prints("sign k n m", "..Usage: hbsign", 2, None),
     Step::Prints("sign k n m s more", "..Usage: hbsign", 2, None),
@@ -39,8 +40,8 @@ const WRONG: &[Step] = &[
 ];
 
 const VERSION: &[Step] = &[
-    Step::Prints("--version", "hbsign 0.1.0", 0, None),
-    Step::Prints("-V", "hbsign 0.1.0", 0, None),
+    Step::Prints("--version", "hbsign 0.2.0", 0, None),
+    Step::Prints("-V", "hbsign 0.2.0", 0, None),
 ];
 
 #[test]

@@ -1,7 +1,7 @@
 //! Requests that are served, on files of the machine: the replies, what is on the output for errors, and the status.
 
 use super::place::WIDE;
-use super::steps::{Step, first_wrong_step};
+use super::steps::{Step, first_wrong_step, first_wrong_step_with};
 
 // A frame that is cut inside its message, under the name fw-1.
 const CUT_MESSAGE: &[u8] = b"\x04fw-1\0\0\0\x02\x01";
@@ -116,6 +116,52 @@ const LOCKED: &[Step] = &[
     Step::Same("{replies}", ""),
     Step::Frees,
 ];
+
+// A name of 65 bytes, with the message of one byte, and after it a request with another name.
+const LONG_NAME: &[u8] =
+    b"\x41nnnnnnnnnnnnnnnnnnnnnnnnnnnnnnnnnnnnnnnnnnnnnnnnnnnnnnnnnnnnnnnnn\0\0\0\x01\x01\
+    \x04fw-1\0\0\0\x01\x01";
+
+// A key of format 1 refuses it, and the next request is served; one of format 2 signs under it.
+const LONG_NAMES: &[Step] = &[
+    Step::Prints(
+        "make @k @p lms:H5/W8 --random @r --format 1",
+        "public {p}",
+        0,
+        Some(257),
+    ),
+    Step::Serves("serve @k", LONG_NAME, WIDE, b"", 0, Some(513)),
+    Step::Prints("sign @k fw-1 @m @s", "signed fw-1 1292 bytes", 0, Some(513)),
+    Step::Same("{replies}", "2100000000000000050c{s}"),
+    Step::Prints(
+        "make @k2 @p lms:H5/W8 --random @r --format 2",
+        "public {p}",
+        0,
+        Some(513),
+    ),
+    Step::Serves("serve @k2", LONG_NAME, WIDE, b"", 0, Some(513)),
+    Step::Prints(
+        "sign @k2 nnnnnnnnnnnnnnnnnnnnnnnnnnnnnnnnnnnnnnnnnnnnnnnnnnnnnnnnnnnnnnnnn @m @s1",
+        "signed nnnnnnnnnnnnnnnnnnnnnnnnnnnnnnnnnnnnnnnnnnnnnnnnnnnnnnnnnnnnnnnnn 1292 bytes",
+        0,
+        Some(513),
+    ),
+    Step::Prints(
+        "sign @k2 fw-1 @m @s2",
+        "signed fw-1 1292 bytes",
+        0,
+        Some(513),
+    ),
+    Step::Same("{replies}", "000000050c{s1}000000050c{s2}"),
+];
+
+#[test]
+fn long_names_are_served_by_format_2(rt: HostRuntime) {
+    assert_eq!(rt;
+        first_wrong_step_with(&rt, "serve-long", &[], LONG_NAMES),
+        None
+    );
+}
 
 #[test]
 fn requests_are_served(rt: HostRuntime) {

@@ -2,7 +2,7 @@
 ghost use Rattle.std.specs.Prelude.{◌≡◌, None, ⊤};
 
 use super::place::{Outcome, Room, WIDE, run_on};
-use crate::files::{Folder, LineFiles, OpenFile, Outlet, SignerFolder};
+use crate::files::{Folder, LineFiles, NewContent, OpenFile, Outlet, SignerFolder};
 use crate::random_file::RandomFile;
 use crate::refusal::Refusal;
 use crate::trace::{Event, Role, Trace, Traced};
@@ -175,7 +175,7 @@ impl<'a, 'w> SignerFolder<'w> for Shelf<'a> {
 
     type Random = RngSource<RandomFile<Content<'a>>>;
 
-    ghost is_opened = { λ _. ⊤ };
+    ghost is_opened = { λ _ _. ⊤ };
 
     ghost is_closed = { λ _ _. ⊤ };
 
@@ -206,7 +206,11 @@ impl<'a, 'w> SignerFolder<'w> for Shelf<'a> {
     }
 
     // None is made here.
-    fn open_or_make_state(&mut self, path: &'w str) -> Result<MemoryDisk, Refusal> {
+    fn open_or_make_state(
+        &mut self,
+        path: &'w str,
+        _content: NewContent,
+    ) -> Result<MemoryDisk, Refusal> {
         self.trace.note(&Event::NotMade(path));
         Err(Refusal::FileFailed)
     }

@@ -1,6 +1,7 @@
 //! State files of the machine: which are opened, made and locked, and which mode they have.
 
 use super::place::Place;
+use crate::files::NewContent;
 use crate::refusal::Refusal;
 use crate::standard::Standard;
 use crate::state::{Access, StateFile};
@@ -13,7 +14,7 @@ fn refusals(rt: &HostRuntime, standard: &Standard, path: &str) -> [Option<Refusa
     [
         StateFile::open(rt, standard, path, Access::Read).err(),
         StateFile::open(rt, standard, path, Access::ReadAndWrite).err(),
-        StateFile::open_or_make(rt, standard, path).err(),
+        StateFile::open_or_make(rt, standard, path, NewContent::Key).err(),
     ]
 }
 
@@ -23,7 +24,7 @@ fn refusals_while_open<'a>(
     standard: &'a Standard,
     path: &'a str,
 ) -> Option<[Option<Refusal>; 3]> {
-    let open = StateFile::open_or_make(rt, standard, path).ok()?;
+    let open = StateFile::open_or_make(rt, standard, path, NewContent::Key).ok()?;
     let refused = refusals(rt, standard, path);
     drop(open);
     Some(refused)
@@ -58,24 +59,33 @@ fn state_files_are_opened_made_and_locked(rt: HostRuntime) -> Result<(), Fail> {
     Ok(folder.remove(&rt)?)
 }
 
-// Files that are there: their bytes, the number of these and the first, and their mode after they were opened to make
-// a key in them.
-const FOUND: &[(usize, u8, u32)] = &[
-    (0, 0, 0o600),
-    (1, 0xA5, 0o600),
-    (256, 0xA5, 0o600),
-    (257, 0, 0o600),
-    (257, 0xA5, 0o644),
-    (258, 0, 0o644),
-    (513, 0xA5, 0o644),
+// Files that are there: their bytes, the number of these and the first, what they are opened for, and their mode
+// afterwards.
+const FOUND: &[(usize, u8, NewContent, u32)] = &[
+    (0, 0, NewContent::Key, 0o600),
+    (1, 0xA5, NewContent::Key, 0o600),
+    (256, 0xA5, NewContent::Key, 0o600),
+    (257, 0, NewContent::Key, 0o600),
+    (257, 0xA5, NewContent::Key, 0o644),
+    (258, 0, NewContent::Key, 0o644),
+    (513, 0xA5, NewContent::Key, 0o644),
+    (0, 0, NewContent::Records, 0o600),
+    (256, 0xA5, NewContent::Records, 0o600),
+    (257, 0, NewContent::Records, 0o600),
+    (257, 0xA5, NewContent::Records, 0o644),
+    (258, 0, NewContent::Records, 0o600),
+    (258, 0xA5, NewContent::Records, 0o644),
+    (513, 0, NewContent::Records, 0o600),
+    (513, 0xA5, NewContent::Records, 0o644),
 ];
 
-// Where a key may be made in a file, its owner alone may read and write it; any other file keeps its mode.
+// Where a file may take a key, or the records of another file, its owner alone may read and write it; any other file
+// keeps its mode.
 #[test]
-fn a_file_that_may_take_a_key_becomes_its_owners(rt: HostRuntime) -> Result<(), Fail> {
+fn a_file_that_may_take_what_comes_becomes_its_owners(rt: HostRuntime) -> Result<(), Fail> {
     let folder = Place::new(&rt, "mode").ok_or("no folder")?;
     let standard = Standard::take(&rt)?;
-    for (size, first, mode) in FOUND {
+    for (size, first, content, mode) in FOUND {
         let mut bytes = vec![in rt.alloc(); 0; *size]?;
         if let Some(gate) = bytes.first_mut() {
             *gate = *first;
@@ -83,12 +93,12 @@ fn a_file_that_may_take_a_key_becomes_its_owners(rt: HostRuntime) -> Result<(), 
         folder.write(&rt, "k", &bytes).ok_or("not written")?;
         let path = folder.path.join(rt.alloc(), "k")?;
         fs::set_permissions(&rt, path.as_path(), fs::Permissions::from_mode(0o644))?;
-        assert!(rt; StateFile::open_or_make(&rt, &standard, path.as_str()).is_ok());
+        assert!(rt; StateFile::open_or_make(&rt, &standard, path.as_str(), *content).is_ok());
         let found = fs::metadata(&rt, path.as_path())?;
         assert_eq!(rt;
             (found.len(), found.permissions().mode() & 0o777),
             (*size as u64, *mode),
-            "{size} {first}"
+            "{size} {first} {content:?}"
         );
     }
     Ok(folder.remove(&rt)?)

@@ -1,6 +1,6 @@
 //! Scripts on files of the machine: steps, and what has to come of each.
 
-use super::place::{Outcome, Place, Room, WIDE, run_on_machine};
+use super::place::{Place, Room, WIDE, run_on_machine};
 use super::sample::Sample;
 use crate::number::read_number;
 use std::fs;
@@ -31,8 +31,31 @@ pub enum Step {
     Absent(&'static str),
 }
 
-// The number of the first of these steps that doesn't come to what it has to, in a new folder of this name.
+// The number of the first of these steps that doesn't come to what it has to: with keys as their lines make them, and
+// then, if any does, with each key made in format 1.
 pub fn first_wrong_step(rt: &HostRuntime, name: &str, steps: &[Step]) -> Option<usize> {
+    let wrong = first_wrong_step_with(rt, name, &[], steps);
+    if wrong.is_none() && steps.iter().any(makes_a_key) {
+        return first_wrong_step_with(rt, name, &["--format", "1"], steps);
+    }
+    wrong
+}
+
+// Whether a step is a line that makes a key.
+fn makes_a_key(step: &Step) -> bool {
+    match step {
+        Step::Prints(line, _, _, _) => line.starts_with("make "),
+        _ => false,
+    }
+}
+
+// The same, in a new folder of this name, with these words behind each line that makes a key.
+pub fn first_wrong_step_with(
+    rt: &HostRuntime,
+    name: &str,
+    format: &[&str],
+    steps: &[Step],
+) -> Option<usize> {
     let Some(folder) = folder_with_files(rt, name) else {
         return Some(0);
     };
@@ -47,7 +70,7 @@ pub fn first_wrong_step(rt: &HostRuntime, name: &str, steps: &[Step]) -> Option<
                 locked = None;
                 true
             }
-            _ => is_right(rt, &folder, step) == Some(true),
+            _ => is_right(rt, &folder, format, step) == Some(true),
         };
         if !is_right {
             return Some(i);
@@ -87,15 +110,21 @@ fn lock(rt: &HostRuntime, folder: &Place) -> Option<fs::File> {
 }
 
 // Whether a step comes to what it has to.
-fn is_right(rt: &HostRuntime, folder: &Place, step: &Step) -> Option<bool> {
+fn is_right(rt: &HostRuntime, folder: &Place, format: &[&str], step: &Step) -> Option<bool> {
     match step {
         Step::Prints(line, printed, status, size) => {
-            let outcome = run_line(rt, folder, line, &[], WIDE)?;
+            let words = if makes_a_key(step) {
+                words_in(rt, folder, line, format)?
+            } else {
+                words_in(rt, folder, line, &[])?
+            };
+            let outcome = run_on_machine(rt, &words, &[], WIDE);
             let printed = expanded(rt, folder, printed)?;
             Some(outcome.is(printed.as_str(), *status) && size_of_key(rt, folder) == *size)
         }
         Step::Serves(line, input, room, errors, status, size) => {
-            let outcome = run_line(rt, folder, line, input, room)?;
+            let words = words_in(rt, folder, line, &[])?;
+            let outcome = run_on_machine(rt, &words, input, room);
             folder.write(rt, "replies", &outcome.output)?;
             let has_errors = outcome.errors.as_slice() == *errors;
             Some(has_errors && outcome.status == *status && size_of_key(rt, folder) == *size)
@@ -134,14 +163,8 @@ fn size_of_key(rt: &HostRuntime, folder: &Place) -> Option<usize> {
     Some(folder.content(rt, "k")?.len())
 }
 
-// Runs a line in a folder.
-fn run_line(
-    rt: &HostRuntime,
-    folder: &Place,
-    line: &str,
-    input: &[u8],
-    room: &Room,
-) -> Option<Outcome> {
+// The words of a line in a folder, and these behind them.
+fn words_in(rt: &HostRuntime, folder: &Place, line: &str, more: &[&str]) -> Option<Vec<String>> {
     let line = expanded(rt, folder, line)?;
     let mut words = Vec::new(rt.alloc());
     for word in line.as_str().split(' ') {
@@ -166,7 +189,12 @@ fn run_line(
         given.push_str(end).ok()?;
         words.push(given).ok()?;
     }
-    Some(run_on_machine(rt, &words, input, room))
+    for word in more {
+        let mut given = String::new(rt.alloc());
+        given.push_str(word).ok()?;
+        words.push(given).ok()?;
+    }
+    Some(words)
 }
 
 // A text with the bytes of files that it names.

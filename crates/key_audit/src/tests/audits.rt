@@ -61,17 +61,18 @@ fn with_anchors<D: Disk + Drop>(
     all
 }
 
-// What audits of these records answer: without an anchor, and with each. The gate of a slot may be closed, and then the
-// file is opened again.
+// What audits of these records of a version answer: without an anchor, and with each. The gate of a slot may be closed,
+// and then the file is opened again.
 fn answers(
     alloc: Global,
+    version: Version,
     entries: &[Entry<'_>],
     closed: Option<usize>,
 ) -> Option<(Audited, [[Audited; 3]; 6])> {
-    let file = file_of(alloc, entries, closed)?;
+    let file = file_of(alloc, version, entries, closed)?;
     let mut store = match closed {
         Some(_) => store_in(alloc, &file)?,
-        None => stored(alloc, entries)?,
+        None => stored(alloc, version, entries)?,
     };
     let without = audited(alloc, &mut store, None);
     Some((without, with_anchors(alloc, &mut store, &file)))
@@ -85,9 +86,12 @@ const FOUR: &[Entry<'static>] = &[
     Entry::Retire(9),
 ];
 
-// Lists of records of a key of one tree of 32 leaves, the gate that is closed, if any, and what an audit answers to
-// them. Where there is no record the place was prepared for a key.
-const LISTS: &[(&[Entry<'static>], Option<usize>, Audited)] = &[
+// Records of a key of one tree of 32 leaves, the gate that is closed, if any, and what an audit answers to them. Where
+// there is no record the place was prepared for a key.
+type Listed = (&'static [Entry<'static>], Option<usize>, Audited);
+
+// Lists to which that is answered in files of both versions.
+const LISTS: &[Listed] = &[
     (&[], None, Err(AuditFault::NoKey)),
     (&[KEY], None, Ok((1, Some(32), None))),
     (
@@ -99,11 +103,6 @@ const LISTS: &[(&[Entry<'static>], Option<usize>, Audited)] = &[
         &[KEY, Entry::Bound(3, b"a"), Entry::Retire(10)],
         None,
         Ok((3, Some(22), None)),
-    ),
-    (
-        &[KEY, Entry::Retire(32), Entry::Moved],
-        None,
-        Ok((3, Some(0), Some(2))),
     ),
     (
         &[KEY, Entry::Bound(3, b"a"), Entry::Bound(3, b"b")],
@@ -127,6 +126,18 @@ const LISTS: &[(&[Entry<'static>], Option<usize>, Audited)] = &[
         Err(AuditFault::Illegal(1)),
     ),
     (&[KEY, Entry::Retire(33)], None, Err(AuditFault::Illegal(1))),
+    (FOUR, Some(2), Ok((2, Some(31), None))),
+    (FOUR, Some(3), Ok((3, Some(30), None))),
+    (FOUR, Some(4), Ok((4, Some(23), None))),
+];
+
+// Lists of version 1: the records go on in another file, and none follows.
+const OF_VERSION_ONE: &[Listed] = &[
+    (
+        &[KEY, Entry::Retire(32), Entry::Moved],
+        None,
+        Ok((3, Some(0), Some(2))),
+    ),
     (
         &[KEY, Entry::Moved, Entry::Moved],
         None,
@@ -137,35 +148,88 @@ const LISTS: &[(&[Entry<'static>], Option<usize>, Audited)] = &[
         None,
         Err(AuditFault::Illegal(2)),
     ),
-    (FOUR, Some(2), Ok((2, Some(31), None))),
-    (FOUR, Some(3), Ok((3, Some(30), None))),
-    (FOUR, Some(4), Ok((4, Some(23), None))),
+    (
+        &[KEY, Entry::Bound(3, &[b'n'; 64]), Entry::Moved],
+        None,
+        Ok((3, Some(28), Some(2))),
+    ),
 ];
 
-// That records are legal comes before an anchor. Where they are, an anchor of the file fits it and each later one; one
-// of more records doesn't, nor one of none, nor one with another tag.
+// Lists of version 2: the records go on in no other file, and names are longer.
+const OF_VERSION_TWO: &[Listed] = &[
+    (
+        &[KEY, Entry::Retire(32), Entry::Moved],
+        None,
+        Err(AuditFault::Illegal(2)),
+    ),
+    (
+        &[KEY, Entry::Moved, Entry::Moved],
+        None,
+        Err(AuditFault::Illegal(1)),
+    ),
+    (
+        &[
+            KEY,
+            Entry::Bound(3, &[b'n'; 64]),
+            Entry::Bound(7, &[b'n'; 65]),
+            Entry::Bound(9, &[b'n'; 128]),
+        ],
+        None,
+        Ok((4, Some(22), None)),
+    ),
+    (
+        &[
+            KEY,
+            Entry::Bound(3, &[b'n'; 128]),
+            Entry::Bound(7, &[b'n'; 128]),
+        ],
+        None,
+        Err(AuditFault::Illegal(2)),
+    ),
+];
+
+// What an audit answers to all of these.
+const ALL_LISTS: [(Version, &[Listed]); 4] = [
+    (Version::One, LISTS),
+    (Version::Two, LISTS),
+    (Version::One, OF_VERSION_ONE),
+    (Version::Two, OF_VERSION_TWO),
+];
+
+// What audits of records answer for which this is answered without an anchor: an anchor of the file fits it and each
+// later one; one of more records doesn't, nor one of none, nor one with another tag.
+fn wanted_with_anchors(wanted: Audited) -> [[Audited; 3]; 6] {
+    let (records, beyond) = match wanted {
+        Ok((records, _, _)) => (records as usize, Err(AuditFault::AnchorCount)),
+        Err(_) => (0, wanted),
+    };
+    let mut with_anchors = [[beyond; 3]; 6];
+    for (i, answers) in with_anchors.iter_mut().enumerate() {
+        if i > 0 && i <= records {
+            let other_tag = Err(AuditFault::AnchorTag);
+            *answers = [wanted, other_tag, other_tag];
+        }
+    }
+    with_anchors
+}
+
+// That records are legal comes before an anchor.
 #[test]
 fn lists_are_judged_before_anchors(rt: HostRuntime) {
-    for (entries, closed, wanted) in LISTS {
-        let (records, beyond) = match wanted {
-            Ok((records, _, _)) => (*records as usize, Err(AuditFault::AnchorCount)),
-            Err(_) => (0, *wanted),
-        };
-        let mut with_anchors = [[beyond; 3]; 6];
-        for (i, answers) in with_anchors.iter_mut().enumerate() {
-            if i > 0 && i <= records {
-                let other_tag = Err(AuditFault::AnchorTag);
-                *answers = [*wanted, other_tag, other_tag];
-            }
+    for (version, lists) in ALL_LISTS {
+        for (entries, closed, wanted) in lists {
+            let with_anchors = wanted_with_anchors(*wanted);
+            assert!(rt;
+                answers(rt.alloc(), version, entries, *closed) == Some((*wanted, with_anchors))
+            );
         }
-        assert!(rt; answers(rt.alloc(), entries, *closed) == Some((*wanted, with_anchors)));
     }
 }
 
 // How many of the first calls of a disk an opening makes, and an audit after it, where each is refused in turn: it is
 // answered so, and all that follows is refused.
 fn calls_of_audit(alloc: Global) -> Option<(u32, u32)> {
-    let file = file_of(alloc, FOUR, Some(3))?;
+    let file = file_of(alloc, Version::One, FOUR, Some(3))?;
     let anchor = Some(anchor_in(&file, 2)?);
     let mut opening: u32 = 0;
     let mut auditing: u32 = 0;
@@ -224,14 +288,15 @@ fn reported_tag<D: Disk + Drop>(
     }
 }
 
-// Whether such a key is reported so with its public key and the tag of the file's last slot, and once more when its
-// file is opened again.
-fn is_reported(alloc: Global, key: &Reported) -> Option<bool> {
+// Whether such a key of a version is reported so with its public key and the tag of the file's last slot, and once more
+// when its file is opened again.
+fn is_reported(alloc: Global, version: Version, key: &Reported) -> Option<bool> {
     let (spec, names, _, _) = *key;
     let mut given = Vec::new(alloc);
     let random = Numbers { next: 0 };
     let signing = (spec, names, Some(1));
-    let (public, mut store) = sign(alloc, signing, stored(alloc, &[])?, random, &mut given)?;
+    let store = stored(alloc, version, &[])?;
+    let (public, mut store) = sign(alloc, version, signing, store, random, &mut given)?;
     let first = reported_tag(alloc, &mut store, &public, key);
     let file = file_in(store)?;
     let again = reported_tag(alloc, &mut store_in(alloc, &file)?, &public, key);
@@ -241,7 +306,9 @@ fn is_reported(alloc: Global, key: &Reported) -> Option<bool> {
 
 #[test]
 fn keys_of_each_scheme_are_reported(rt: HostRuntime) {
-    for key in KEYS {
-        assert!(rt; is_reported(rt.alloc(), key) == Some(true));
+    for version in [Version::One, Version::Two] {
+        for key in KEYS {
+            assert!(rt; is_reported(rt.alloc(), version, key) == Some(true));
+        }
     }
 }

@@ -1,11 +1,14 @@
 //! State files of any records, whose tags are right.
 
+ghost use Rattle.std.specs.Prelude.{◌≡◌, true};
+ghost use Rattle.state_file.specs.Slot.{FitsVersion, version_begun};
+
 use super::*;
-use state_file::{Bound, Extend, Key, OpenFault, Pick, Record, Secret, Version};
+use state_file::{Bound, Extend, Key, OpenFault, Pick, Record, Secret};
 use typecodes::{LmsPair, LmsType, OtsType};
 
-// A record: a key of one tree, whose root isn't that of its tree; a leaf with a name, leaves that are retired, a tree
-// of a level under a leaf of the level above, and a Moved.
+// A record: a key of one tree, whose root isn't that of its tree, of the file's version; a leaf with a name, leaves
+// that are retired, a tree of a level under a leaf of the level above, and a Moved.
 #[derive(Clone, Copy)]
 pub(super) enum Entry<'a> {
     Key(LmsType),
@@ -18,57 +21,87 @@ pub(super) enum Entry<'a> {
 // A key of 32 leaves.
 pub(super) const KEY: Entry<'static> = Entry::Key(LmsType::H5);
 
-// A store after these records were added, the first of which is a key where none stands.
-pub(super) fn add_all<S: Store + Drop>(store: S, entries: &[Entry<'_>]) -> Option<S> {
+// The record of an entry, in a file of a version.
+fn record_of(version: Version, entry: &Entry<'_>) -> Option<Record> {
+    Some(match entry {
+        Entry::Key(tree) => Record::Key(Key {
+            version,
+            secret: Secret::Lms {
+                pair: LmsPair {
+                    tree: *tree,
+                    ots: OtsType::W8,
+                },
+                identifier: [1; 16],
+                seed: [2; 32],
+            },
+            root: [3; 32],
+        }),
+        Entry::Bound(leaf, name) => Record::Bound(Bound {
+            name: Name::new(name).ok()?,
+            leaf: *leaf,
+            randomizer: [4; 32],
+            digest: [5; 32],
+        }),
+        Entry::Retire(upto) => Record::Retire { upto: *upto },
+        Entry::Extend(level, parent_leaf) => Record::Extend(Extend {
+            level: *level,
+            parent_leaf: *parent_leaf,
+            identifier: [6; 16],
+            seed: [7; 32],
+            randomizer: [8; 32],
+            digest: [9; 32],
+            root: [10; 32],
+        }),
+        Entry::Moved => Record::Moved,
+    })
+}
+
+// Whether the file that the first of two records begins can hold the other one.
+fn can_hold(first: &Record, entry: &Record) -> bool
+    ensures { result ≡ true → FitsVersion (version_begun first.now) entry.now }
+{
+    let version = match first {
+        Record::Key(key) => key.version,
+        Record::Extend(_) | Record::Bound(_) | Record::Retire { .. } | Record::Moved =>
+            Version::One,
+    };
+    entry.fits(version)
+}
+
+// Adds a record to a store: a key where none stands, and after it what its file can hold.
+fn add<S: Store>(store: &mut S, entry: &Record) -> Option<()> {
+    let can_follow = match store.load(0).ok()? {
+        None => matches!(entry, Record::Key(_)),
+        Some(first) => can_hold(&first, entry),
+    };
+    if !can_follow {
+        return None;
+    }
+    store.append(entry).ok()
+}
+
+// A store after these records of a version were added, the first of which is a key where none stands.
+pub(super) fn add_all<S: Store + Drop>(
+    store: S,
+    version: Version,
+    entries: &[Entry<'_>],
+) -> Option<S> {
     let mut store = store;
     for entry in entries {
-        let added = match entry {
-            Entry::Key(tree) => Record::Key(Key {
-                version: Version::One,
-                secret: Secret::Lms {
-                    pair: LmsPair {
-                        tree: *tree,
-                        ots: OtsType::W8,
-                    },
-                    identifier: [1; 16],
-                    seed: [2; 32],
-                },
-                root: [3; 32],
-            }),
-            Entry::Bound(leaf, name) => Record::Bound(Bound {
-                name: Name::new(name).ok()?,
-                leaf: *leaf,
-                randomizer: [4; 32],
-                digest: [5; 32],
-            }),
-            Entry::Retire(upto) => Record::Retire { upto: *upto },
-            Entry::Extend(level, parent_leaf) => Record::Extend(Extend {
-                level: *level,
-                parent_leaf: *parent_leaf,
-                identifier: [6; 16],
-                seed: [7; 32],
-                randomizer: [8; 32],
-                digest: [9; 32],
-                root: [10; 32],
-            }),
-            Entry::Moved => Record::Moved,
-        };
-        match store.load(0) {
-            Ok(Some(_)) => store.append(&added).ok()?,
-            Ok(None) => match &added {
-                Record::Key(_) => store.append(&added).ok()?,
-                _ => return None,
-            },
-            Err(_) => return None,
-        }
+        add(&mut store, &record_of(version, entry)?)?;
     }
     Some(store)
 }
 
-// A store of these records in a new file.
-pub(super) fn stored(alloc: Global, entries: &[Entry<'_>]) -> Option<FileStore<MemoryDisk>> {
+// A store of these records in a new file of a version.
+pub(super) fn stored(
+    alloc: Global,
+    version: Version,
+    entries: &[Entry<'_>],
+) -> Option<FileStore<MemoryDisk>> {
     add_all(
         FileStore::format(MemoryDisk::of(alloc, &[]).ok()?).ok()?,
+        version,
         entries,
     )
 }
@@ -81,10 +114,11 @@ pub(super) fn file_in(store: FileStore<MemoryDisk>) -> Option<Vec<u8>> {
 // A file of these records, where that is wanted with the gate of a slot closed, so that it opens with fewer.
 pub(super) fn file_of(
     alloc: Global,
+    version: Version,
     entries: &[Entry<'_>],
     closed: Option<usize>,
 ) -> Option<Vec<u8>> {
-    let mut file = file_in(stored(alloc, entries)?)?;
+    let mut file = file_in(stored(alloc, version, entries)?)?;
     if let Some(slot) = closed {
         *file.get_mut(slot.checked_mul(256)?)? = 0;
     }

@@ -115,7 +115,7 @@ fn has<S: Store, R: Source>(signer: &Signer<S, R>, left: &[u32], caches: [bool; 
 fn retired<S: Store + Drop>(alloc: Global, store: S) -> Option<(S, bool)> {
     let name = Name::new(b"fw-1").ok()?;
     let mut out = Vec::new(alloc);
-    let mut signer = created(alloc, ONE_TREE, store, Numbers { next: 0 })?;
+    let mut signer = created(alloc, Version::One, ONE_TREE, store, Numbers { next: 0 })?;
     let is_new = has(&signer, &[32], [false; 3]);
     let beyond = signer.retire(33) == Err(SignFault::RetireRange);
     let is_retired = signer.retire(32) == Ok(()) && signer.retire(5) == Ok(());
@@ -225,31 +225,31 @@ fn signs_in<S: Store + Drop>(
     replaces: bool,
     is_tried: bool,
 ) -> Option<bool> {
-    let mut signer = created(alloc, TWO_LEVELS, store?, Numbers { next: 0 })?;
+    let mut signer = created(alloc, Version::One, TWO_LEVELS, store?, Numbers { next: 0 })?;
     signs(alloc, &mut signer, replaces, is_tried)
 }
 
 #[test]
 fn a_name_is_signed(rt: HostRuntime) {
-    let store = stored(rt.alloc(), &[]);
+    let store = stored(rt.alloc(), Version::One, &[]);
     assert!(rt; signs_in(rt.alloc(), store, false, false) == Some(true));
 }
 
 #[test]
 fn other_requests_are_refused(rt: HostRuntime) {
-    let store = stored(rt.alloc(), &[]);
+    let store = stored(rt.alloc(), Version::One, &[]);
     assert!(rt; signs_in(rt.alloc(), store, false, true) == Some(true));
 }
 
 #[test]
 fn a_tree_is_replaced(rt: HostRuntime) {
-    let store = stored(rt.alloc(), &[]);
+    let store = stored(rt.alloc(), Version::One, &[]);
     assert!(rt; signs_in(rt.alloc(), store, true, false) == Some(true));
 }
 
 #[test]
 fn a_name_of_an_old_tree_is_repeated(rt: HostRuntime) {
-    let store = stored(rt.alloc(), &[]);
+    let store = stored(rt.alloc(), Version::One, &[]);
     assert!(rt; signs_in(rt.alloc(), store, true, true) == Some(true));
 }
 

@@ -9,7 +9,7 @@ use typecodes::LmsType;
 // number, in three characters. A disk in memory keeps the content of each sync, so that a new one is taken now and
 // then.
 fn long_file(alloc: Global, count: u32) -> Option<FileStore<MemoryDisk>> {
-    let mut store = stored(alloc, &[Entry::Key(LmsType::H20)])?;
+    let mut store = stored(alloc, Version::One, &[Entry::Key(LmsType::H20)])?;
     for leaf in 0..count.saturating_sub(1) {
         if leaf % 128 == 127 {
             store = store_in(alloc, &file_in(store)?)?;
@@ -18,7 +18,7 @@ fn long_file(alloc: Global, count: u32) -> Option<FileStore<MemoryDisk>> {
         let middle = (leaf / 64 % 64) as u8;
         let high = (leaf / 4096 % 64) as u8;
         let name = [0x30 + high, 0x30 + middle, 0x30 + low];
-        store = add_all(store, &[Entry::Bound(leaf, &name)])?;
+        store = add_all(store, Version::One, &[Entry::Bound(leaf, &name)])?;
     }
     Some(store)
 }

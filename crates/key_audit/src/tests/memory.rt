@@ -28,9 +28,9 @@ fn audited_on<D: Disk + Drop>(alloc: Global, disk: D, at_first: bool) -> Option<
 
 // The same of the file of these records, which is made at the second try where memory is refused at the first.
 fn audited_file(alloc: Global, entries: &[Entry<'_>], at_first: bool) -> Option<[Audited; 2]> {
-    let made = match stored(alloc, entries) {
+    let made = match stored(alloc, Version::One, entries) {
         Some(store) => Some(store),
-        None => stored(alloc, entries),
+        None => stored(alloc, Version::One, entries),
     };
     audited_on(alloc, made?.into_disk(), at_first)
 }

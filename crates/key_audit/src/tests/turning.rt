@@ -8,7 +8,7 @@ use super::*;
 // What is answered to a file, twice, where a read from this offset on gives other bytes as soon as its store can be
 // opened all the same.
 fn audited_turned(alloc: Global, entries: &[Entry<'_>], offset: u64) -> Option<[Audited; 2]> {
-    let file = file_of(alloc, entries, None)?;
+    let file = file_of(alloc, Version::One, entries, None)?;
     for reads in 0..40u32 {
         if let Ok(answers) = audited_twice(alloc, Room::of(alloc, &file, reads, offset)?, None) {
             return Some(answers);

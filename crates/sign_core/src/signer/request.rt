@@ -6,7 +6,7 @@ ghost use Rattle.xmss.specs.declared.secret.XmssSecret.{XmssSecret as X};
 ghost use Rattle.sign_core.specs.Caches.{HasCurrent, LacksCache};
 ghost use Rattle.sign_core.specs.Textbook.{Trees, trees_of};
 ghost use Rattle.state_file.specs.Laws.{levels_of};
-ghost use Rattle.sign_core.specs.Records.{binding_in, deepest, has_moved};
+ghost use Rattle.sign_core.specs.Records.{binding_in, deepest, has_moved, is_long};
 ghost use Rattle.sign_core.specs.Request.{IsScheme, Prepares};
 ghost use Rattle.sign_core.specs.Signer.{KeepsAll, KeepsForRepeat, Signs, is_before_repeat, is_fault, state_of};
 ghost use Rattle.sign_core.specs.Signing.{Binds, CanBind, IsSomeBinding, IsXmssKey, KeepsCapacity, RepeatsBinding};
@@ -99,9 +99,9 @@ impl<S: Store, R: Source> Signer<S, R> {
     /// one signature (21 for another message); a new one takes the next leaf, and is bound in the store before it
     /// signs.
     ///
-    /// Refusals in their order: 26, 31; under a bound name 27, 21, 29, 28; under a new one 22, 30, 29, 28, then 23, 24,
-    /// 29 for its cache and 25 for each tree that is wanted, 23 for C, 27, 25; 29 also where the store answers 46 to an
-    /// append. After a refusal `out` is empty.
+    /// Refusals in their order: 26, 31; under a bound name 27, 21, 29, 28; under a new one 33, 22, 30, 29, 28, then 23,
+    /// 24, 29 for its cache and 25 for each tree that is wanted, 23 for C, 27, 25; 29 also where the store answers 46 to
+    /// an append. After a refusal `out` is empty.
     pub fn sign<M: Message>(
         &mut self,
         name: &Name,
@@ -139,8 +139,20 @@ impl<S: Store, R: Source> Signer<S, R> {
         self.check_open()?;
         match self.ledger.find(name) {
             Some(binding) => self.repeat(&binding, message, out),
-            None => self.bind(name, message, out),
+            None => {
+                if self.is_long(name) {
+                    return Err(SignFault::LongName);
+                }
+                self.bind(name, message, out)
+            }
         }
+    }
+
+    // Whether a name is longer than a file of the key's version can hold.
+    fn is_long(&self, name: &Name) -> bool
+        ensures { UnderKey self.now.records (λ key. result ≡ is_long key name.now) }
+    {
+        name.as_bytes().len() > usize::from(self.ledger.key().version.name_most())
     }
 
     // The signature of a name that is bound, where the message has the recorded digest. Nothing changes but caches.
@@ -180,7 +192,7 @@ impl<S: Store, R: Source> Signer<S, R> {
         }
     }
 
-    // Binds a new name, and signs under it.
+    // Binds a new name that a file of the key's version can hold, and signs under it.
     fn bind<M: Message>(
         &mut self,
         name: &Name,
@@ -190,6 +202,7 @@ impl<S: Store, R: Source> Signer<S, R> {
         requires open { self.old.is_open ≡ true }
         requires goes_on { has_moved self.old.records ≡ false }
         requires unbound { binding_in self.old.records name.now ≡ None }
+        requires fits { UnderKey self.old.records (λ key. is_long key name.now ≡ false) }
         ensures step { Signs S.Store R.Source M.Message self.old self.new name.now message.old message.new
             (vec_capacity out.old) (answered_with result out.new.items) }
         ensures capacity { KeepsCapacity self.old.records (vec_capacity out.old) (vec_capacity out.new) }

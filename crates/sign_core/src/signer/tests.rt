@@ -20,7 +20,7 @@ mod sources;
 mod turning;
 
 pub(crate) use calls::{Call, Input, answer, begins_with, created, input_of, opened};
-use calls::{first_other_call, goes_on_with, name_of};
+use calls::{created_in, first_other_call, goes_on_with, name_of};
 pub(crate) use lists::{Entry, with_records};
 use scripts::{
     BLOCKS, COUNTED, Life, Said, Script, Tape, are_said, file_after, first_other_script,
@@ -305,7 +305,116 @@ const KEYS: [Script; 14] = [
 
 #[test]
 fn keys_keep_what_is_done_with_them(rt: HostRuntime) {
-    assert!(rt; first_other_script(rt.alloc(), &KEYS) == KEYS.len());
+    for version in [Version::One, Version::Two] {
+        assert!(rt; first_other_script(rt.alloc(), version, &KEYS) == KEYS.len());
+    }
+}
+
+const LONG: Option<SignFault> = Some(SignFault::LongName);
+
+// A file of version 1 takes no name of more than 64 bytes, whether a leaf is free or not. It changes nothing.
+const SHORT_NAMES: [Script; 1] = [Script {
+    text: LMS,
+    tape: COUNTED,
+    room: None,
+    lives: &[
+        Life {
+            drawn: (0, 80),
+            calls: &[
+                Call::SignLong(65, 1, LONG),
+                Call::SignLong(128, 1, LONG),
+                Call::Left(&[32]),
+                Call::SignLong(64, 1, None),
+                Call::SignLong(64, 1, None),
+                Call::SignLong(64, 2, Some(SignFault::Changed)),
+                Call::SignLong(65, 1, LONG),
+            ],
+            from: 2,
+            said: &[],
+            len: 513,
+        },
+        Life {
+            drawn: (80, 1072),
+            calls: &[
+                Call::SignLong(64, 1, None),
+                Call::SignAll(0, 31),
+                Call::SignLong(65, 1, LONG),
+                Call::SignLong(63, 1, Some(SignFault::Exhausted)),
+                Call::Left(&[0]),
+            ],
+            from: 32,
+            said: &[Said::Bound(30, 31, Some(1040))],
+            len: 8449,
+        },
+    ],
+}];
+
+// One of version 2 takes names of up to 128 bytes, which last.
+const LONG_NAMES: [Script; 3] = [
+    Script {
+        text: LMS,
+        tape: COUNTED,
+        room: None,
+        lives: &[
+            Life {
+                drawn: (0, 112),
+                calls: &[
+                    Call::SignLong(65, 1, None),
+                    Call::SignLong(128, 1, None),
+                    Call::SignLong(128, 2, Some(SignFault::Changed)),
+                    Call::Left(&[30]),
+                ],
+                from: 3,
+                said: &[],
+                len: 769,
+            },
+            Life {
+                drawn: (112, 1072),
+                calls: &[
+                    Call::SignLong(128, 1, None),
+                    Call::SignLong(65, 2, Some(SignFault::Changed)),
+                    Call::SignAll(0, 30),
+                    Call::SignLong(127, 1, Some(SignFault::Exhausted)),
+                    Call::SignLong(128, 1, None),
+                ],
+                from: 32,
+                said: &[Said::Bound(29, 31, Some(1040))],
+                len: 8449,
+            },
+        ],
+    },
+    Script {
+        text: TWO,
+        tape: COUNTED,
+        room: None,
+        lives: &[Life {
+            drawn: (0, 160),
+            calls: &[Call::SignLong(100, 1, None), Call::Left(&[31, 31])],
+            from: 3,
+            said: &[],
+            len: 769,
+        }],
+    },
+    Script {
+        text: XMSS,
+        tape: COUNTED,
+        room: None,
+        lives: &[Life {
+            drawn: (0, 96),
+            calls: &[Call::SignLong(128, 1, None), Call::Left(&[1023])],
+            from: 2,
+            said: &[],
+            len: 513,
+        }],
+    },
+];
+
+#[test]
+fn long_names_are_taken_by_version_2_alone(rt: HostRuntime) {
+    let short = first_other_script(rt.alloc(), Version::One, &SHORT_NAMES);
+    assert!(rt; short == SHORT_NAMES.len());
+    let long = first_other_script(rt.alloc(), Version::Two, &LONG_NAMES);
+    assert!(rt; long == LONG_NAMES.len());
 }
 
 // One request, and the same with its repeat and a changed message after it.
@@ -342,8 +451,10 @@ const REPEATED: Script = Script {
 // A repeat writes nothing, and a changed message neither.
 #[test]
 fn repeats_leave_the_file(rt: HostRuntime) {
-    let once = file_after(rt.alloc(), &ONCE);
-    assert!(rt; once.is_some() && file_after(rt.alloc(), &REPEATED) == once);
+    for version in [Version::One, Version::Two] {
+        let once = file_after(rt.alloc(), version, &ONCE);
+        assert!(rt; once.is_some() && file_after(rt.alloc(), version, &REPEATED) == once);
+    }
 }
 
 // A create or an opening, and its fault, if any.

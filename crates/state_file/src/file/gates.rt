@@ -72,7 +72,7 @@ pub(crate) fn add_slot<D: Disk>(
 }
 
 // The fields of a slot, its tag, and a closed gate after them.
-fn block(fields: &[u8; 223], tag: &[u8; 32]) -> [u8; 256]
+pub(crate) fn block(fields: &[u8; 223], tag: &[u8; 32]) -> [u8; 256]
     ensures bytes { result ≡ (fields.now ++ tag.now) ++ 0 ∷ [] }
     ensures body { length (fields.now ++ tag.now) ≡ 255 }
 {

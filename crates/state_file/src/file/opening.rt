@@ -1,10 +1,11 @@
 //! What stands in a file: its slots are read one after the other, up to the first whose gate is closed.
 
 ghost use Rattle.std.specs.Prelude.{◌≡◌, ◌+◌, ◌*◌, ◌-◌, ◌<◌, ◌≤◌, ◌==◌, ◌∷◌, [], ◌++◌, IsTrue, IfOk, IfErr};
-ghost use Rattle.std.specs.Prelude.{OnOk, MatchOption, length, slice_index};
+ghost use Rattle.std.specs.Prelude.{OnOk, MatchOption, Some, length, slice_index};
 ghost use Rattle.typecodes.specs.Layout.{Spells};
 ghost use Rattle.state_file.specs.File.{MayHaveKey, fields_at, first_tag, most_records, open_value, previous_tag};
 ghost use Rattle.state_file.specs.File.{tag_at, tag_of};
+ghost use Rattle.state_file.specs.Laws.{has_moved, is_moved};
 ghost use Rattle.state_file.specs.Slot.{slot_record};
 ghost use Rattle.state_file.specs.declared.record.Record.{Record as Entry};
 ghost use Rattle.state_file.specs.Disk.{settled, MayLeave, LeavesOnly, is_failure};
@@ -52,11 +53,12 @@ impl From<DiskFault> for OpenFault {
     }
 }
 
-/// The version of a file, the records that stand in it, and the tag of the last.
+/// The version of a file, the records that stand in it, whether the last one is a Moved, and its tag.
 #[derive(Drop)]
 pub(crate) struct Found {
     pub(crate) version: Version,
     pub(crate) count: u32,
+    pub(crate) moved: bool,
     pub(crate) tag: [u8; 32],
     pub(crate) records: RecordList,
 }
@@ -231,11 +233,13 @@ impl Found {
     // No record yet.
     fn none(version: Version) -> Self
         ensures none { (result.count ≡ 0) × (result.tag ≡ first_tag) × (result.records ≡ []) }
+        ensures moved { result.moved ≡ has_moved result.records }
         ensures version { result.version ≡ version }
     {
         Found {
             version,
             count: 0,
+            moved: false,
             tag: FIRST_TAG,
             records: RecordList::new(),
         }
@@ -247,9 +251,11 @@ impl Found {
         ensures count { self.new.count ≡ self.old.count + 1 }
         ensures tag { self.new.tag ≡ slot.now.tag }
         ensures records { self.new.records ≡ self.old.records ++ slot.now.entry ∷ [] }
+        ensures moved { self.new.moved ≡ is_moved (Some slot.now.entry) }
         ensures version { self.new.version ≡ self.old.version }
     {
         self.count += 1;
+        self.moved = slot.entry.is_moved();
         self.tag = slot.tag;
         self.records.push(&slot.entry);
     }
@@ -261,6 +267,7 @@ fn read_slots<D: Disk>(disk: &mut D, len: u64, version: Version) -> Result<Found
     requires key { IsTrue (D.honest disk.old) → StartsWithKey version (D.state disk.old).content }
     ensures counted { IfOk result (λ found. found.count ≡ length found.records) }
     ensures few { IfOk result (λ found. found.count ≤ most_records) }
+    ensures moved { IfOk result (λ found. found.moved ≡ has_moved found.records) }
     ensures found { IsTrue (D.honest disk.old) →
         IfOk result (λ found. IsFound found.version (D.state disk.old).content found.records found.tag) }
     ensures fault { ReportsDisk D.Disk disk.old result }
@@ -279,6 +286,7 @@ fn read_slots<D: Disk>(disk: &mut D, len: u64, version: Version) -> Result<Found
 pub(crate) fn find_records<D: Disk>(disk: &mut D) -> Result<Found, OpenFault>
     ensures counted { IfOk result (λ found. found.count ≡ length found.records) }
     ensures few { IfOk result (λ found. found.count ≤ most_records) }
+    ensures moved { IfOk result (λ found. found.moved ≡ has_moved found.records) }
     ensures found { IsTrue (D.honest disk.old) →
         IfOk result (λ found. IsFound found.version (D.state disk.old).content found.records found.tag) }
     ensures fault { ReportsDisk D.Disk disk.old result }

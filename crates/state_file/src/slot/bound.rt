@@ -16,7 +16,7 @@ use typecodes::{Cursor, Name, ReadFault};
 // The name of these bytes, if each is a visible character.
 fn visible_name(bytes: &[u8]) -> Option<Name>
     requires some { 1 ≤ length bytes.now }
-    requires few { length bytes.now ≤ 64 }
+    requires few { length bytes.now ≤ 128 }
     ensures { MatchOption result (are_visible bytes.now ≡ false) (λ name. (are_visible bytes.now ≡ true) ×
         (name ≡ bytes.now)) }
 {
@@ -26,7 +26,7 @@ fn visible_name(bytes: &[u8]) -> Option<Name>
 // The name of a Bound: its length, and so many bytes as a name has at most.
 #[tactic(auto, using(typecodes::proofs::Steps::reading), unfolding(crate::specs::Slot::name_field))]
 fn read_name(cursor: &mut Cursor<'_>, most: u8) -> Result<Name, ReadFault>
-    requires few { most ≤ 64 }
+    requires few { most ≤ 128 }
     requires room { cursor.old.place + most + 1 < 2 ^ 32 }
     ensures read { Gives (λ name. (name, cursor.new.place)) result
         (read (name_field most) cursor.old.bytes.now cursor.old.place) }

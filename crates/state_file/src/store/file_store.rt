@@ -8,6 +8,7 @@ ghost use Rattle.state_file.specs.File.{IsSyncedFile, IsSyncedFile-prop, LeftLis
 ghost use Rattle.state_file.specs.Gates.{AddsSlot, slot_and_gate};
 ghost use Rattle.std.proofs.Common.{inl};
 ghost use Rattle.state_file.specs.Store.{Appends, CanFollow, Collects, Loads, ReadsTag, WhileRunning};
+ghost use Rattle.state_file.specs.Laws.{has_moved};
 ghost use Rattle.state_file.specs.Slot.{version_code, version_in};
 ghost use Rattle.state_file.specs.Store.{is_device_failed, is_out_of_memory, unreadable_slot};
 
@@ -33,11 +34,14 @@ pub struct FileStore<D: Disk> {
     // the tag of the last slot
     tag: [u8; 32],
     stopped: bool,
+    // whether the last record is a Moved
+    moved: bool,
     records: RecordList,
     // the slots that load has reported as unreadable
     unreadable: SlotList,
     ghost counted: { count ≡ length records },
     ghost few: { length records ≤ most_records },
+    ghost moved_is: { moved ≡ has_moved records },
     ghost of_version: { WhileRunning (D.honest disk) stopped
         (version_code version ≡ version_code (version_in records)) },
     ghost kept: { WhileRunning (D.honest disk) stopped
@@ -45,13 +49,27 @@ pub struct FileStore<D: Disk> {
 }
 
 impl<D: Disk + Drop> FileStore<D> {
-    ghost use Rattle.state_file.specs.FileStore.{FindsRecords, PreparesDisk, disk_of, records_of};
+    ghost use Rattle.state_file.specs.FileStore.{FindsRecords, PreparesDisk, disk_of, has_stopped, records_of};
 
     /// How many records there are.
     pub fn count(&self) -> u32
         ensures { result ≡ length (records_of self.now) }
     {
         self.count
+    }
+
+    // Whether the last record is a Moved.
+    pub(crate) fn has_moved(&self) -> bool
+        ensures { result ≡ has_moved (records_of self.now) }
+    {
+        self.moved
+    }
+
+    // Whether a call has failed, so that it answers no more.
+    pub(crate) fn has_stopped(&self) -> bool
+        ensures { result ≡ has_stopped self.now }
+    {
+        self.stopped
     }
 
     /// Gives the disk back.
@@ -75,6 +93,7 @@ impl<D: Disk + Drop> FileStore<D> {
                 count: 0,
                 tag: FIRST_TAG,
                 stopped: false,
+                moved: false,
                 records: RecordList::new(),
                 unreadable: SlotList::new(),
             }),
@@ -98,6 +117,7 @@ impl<D: Disk + Drop> FileStore<D> {
                     count: found.count,
                     tag,
                     stopped: false,
+                    moved: found.moved,
                     records: found.records,
                     unreadable: SlotList::new(),
                 })
@@ -217,7 +237,7 @@ impl<D: Disk + Drop> Store for FileStore<D> {
     /// a stop at any moment leaves a content that spells the old records, or these and the new one (`contents`), and
     /// that differs from the old content at most in the new slot and the gate after it (`bytes`).
     fn append(&mut self, new: &Record) -> Result<(), StoreFault>
-        requires { CanFollow (records_of self.old) new.now }
+        requires { IsTrue (D.honest (disk_of self.old)) → CanFollow (records_of self.old) new.now }
         ensures any_moment { WhileStoreRuns D.Disk self.old
             (LeavesLists D.Disk self.old self.new
             (λ left. (left ≡ records_of self.old) ⊎ (left ≡ records_of self.old ++ new.now ∷ []))) }
@@ -257,6 +277,7 @@ impl<D: Disk + Drop> Store for FileStore<D> {
                 self.count += 1;
                 self.version = version;
                 self.tag = next_tag;
+                self.moved = new.is_moved();
                 self.records.push(new);
                 Ok(())
             }

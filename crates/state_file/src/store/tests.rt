@@ -74,11 +74,11 @@ const NEVER_CUT: &[Call] = &[
 // Makes a call, and says whether the answer is this.
 fn answers(store: &mut MemoryStore, call: &Call) -> bool {
     match call {
-        Call::Append(k, wanted) => match record(*k) {
+        Call::Append(k, wanted) => match record(Version::One, *k) {
             Some(entry) => store.append(&entry) == *wanted,
             None => false,
         },
-        Call::Load(k, wanted) => is_loaded(&store.load(*k), *wanted),
+        Call::Load(k, wanted) => is_loaded(&store.load(*k), Version::One, *wanted),
         Call::CutAt(n, cut) => {
             store.cut_at(*n, *cut);
             true

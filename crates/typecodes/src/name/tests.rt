@@ -9,10 +9,17 @@ fn expect_name(rt: &impl Abort, bytes: &[u8]) {
     assert_eq!(rt; name.as_bytes(), bytes);
 }
 
-// 1 to 64 bytes, each from 0x21 to 0x7E.
+// 1 to 128 bytes, each from 0x21 to 0x7E.
 #[test]
 fn takes_visible_ascii(rt: HostRuntime) {
-    for bytes in [b"!".as_slice(), b"~", b"release-1.2", &[b'x'; 64]] {
+    for bytes in [
+        b"!".as_slice(),
+        b"~",
+        b"release-1.2",
+        &[b'x'; 64],
+        &[b'x'; 65],
+        &[b'x'; 128],
+    ] {
         expect_name(&rt, bytes);
     }
 }
@@ -21,7 +28,7 @@ fn takes_visible_ascii(rt: HostRuntime) {
 fn refuses_other_bytes(rt: HostRuntime) {
     for bytes in [
         b"".as_slice(),
-        &[b'x'; 65],
+        &[b'x'; 129],
         b" ",
         b"two words",
         b"\x7f",
@@ -49,6 +56,6 @@ fn compares_by_bytes(rt: HostRuntime) {
 fn says_what_a_name_is(rt: HostRuntime) {
     assert_eq!(rt;
         format!(in rt.alloc(); "{BadName}").as_deref(),
-        Ok("a name is 1 to 64 visible characters of ASCII")
+        Ok("a name is 1 to 128 visible characters of ASCII")
     );
 }

@@ -4,6 +4,7 @@ use Rattle.clap.specs.Words.{with_subcommand}
 use Rattle.command.specs.Audit.{audit_app}
 use Rattle.command.specs.AuditGiven.{audit_given_app}
 use Rattle.command.specs.Make.{make_app}
+use Rattle.command.specs.Migrate.{migrate_app}
 use Rattle.command.specs.Retire.{retire_app}
 use Rattle.command.specs.Serve.{serve_app}
 use Rattle.command.specs.Sign.{sign_app}
@@ -24,5 +25,7 @@ returns c =
     ∙ ap (λ a. with_subcommand a audit_app.top) retire_is in
     let given_is = c.in_ok-command-6.ensures c.in_ok-subcommand-5.field-0 c.in_ok-subcommand-6.field-0 c.in_ok-subcommand-6.ensures
     ∙ ap (λ a. with_subcommand a audit_given_app.top) audit_is in
-    IfOk-weaker c.subcommand-7.result _ _ (λ command adds.
-    c.in_ok-command-7.ensures c.in_ok-subcommand-6.field-0 command adds ∙ ap (λ a. with_subcommand a serve_app.top) given_is) c.subcommand-7.ensures
+    let serve_is = c.in_ok-command-7.ensures c.in_ok-subcommand-6.field-0 c.in_ok-subcommand-7.field-0 c.in_ok-subcommand-7.ensures
+    ∙ ap (λ a. with_subcommand a serve_app.top) given_is in
+    IfOk-weaker c.subcommand-8.result _ _ (λ command adds.
+    c.in_ok-command-8.ensures c.in_ok-subcommand-7.field-0 command adds ∙ ap (λ a. with_subcommand a migrate_app.top) serve_is) c.subcommand-8.ensures

@@ -3,7 +3,7 @@
 use super::*;
 
 // An input for a new key of which so many leaves were retired, what is written, and what the exchange ends with.
-const INPUTS: [(u32, &[u8], &[u8], Result<u64, ServeFault>); 12] = [
+const INPUTS: [(u32, &[u8], &[u8], Result<u64, ServeFault>); 13] = [
     (0, b"", b"", Ok(0)),
     (0, b"\0\0\0\0\0", b"\x22\0\0\0\0", Ok(1)),
     (0, b"\x04f", b"\x23\0\0\0\0", Err(ServeFault::FrameCut)),
@@ -54,6 +54,16 @@ const INPUTS: [(u32, &[u8], &[u8], Result<u64, ServeFault>); 12] = [
     ),
     (0, b"\x01", b"\x23\0\0\0\0", Err(ServeFault::FrameCut)),
     (0, b"\xff", b"\x23\0\0\0\0", Err(ServeFault::FrameCut)),
+    // a name that is longer than the file can hold, and one that isn't, where no leaf is free; and one that is none
+    (
+        32,
+        b"\x41nnnnnnnnnnnnnnnnnnnnnnnnnnnnnnnnnnnnnnnnnnnnnnnnnnnnnnnnnnnnnnnnn\0\0\0\x01\x01\
+          \x40nnnnnnnnnnnnnnnnnnnnnnnnnnnnnnnnnnnnnnnnnnnnnnnnnnnnnnnnnnnnnnnn\0\0\0\x01\x01\
+          \x81nnnnnnnnnnnnnnnnnnnnnnnnnnnnnnnnnnnnnnnnnnnnnnnnnnnnnnnnnnnnnnnnn\
+          nnnnnnnnnnnnnnnnnnnnnnnnnnnnnnnnnnnnnnnnnnnnnnnnnnnnnnnnnnnnnnnn\0\0\0\x01\x01",
+        b"\x21\0\0\0\0\x16\0\0\0\0\x22\0\0\0\0",
+        Ok(3),
+    ),
 ];
 
 // Whether an input leads to these bytes and this end, and leaves the file as it was.

@@ -145,7 +145,7 @@ const KEPT: [Script; 6] = [
 
 #[test]
 fn caches_make_each_block_once(rt: HostRuntime) {
-    assert!(rt; first_other_script(rt.alloc(), &KEPT) == KEPT.len());
+    assert!(rt; first_other_script(rt.alloc(), Version::One, &KEPT) == KEPT.len());
 }
 
 // What is done with a new key, and then with the key that its file opens. A request that is signed makes the cache of
@@ -598,5 +598,5 @@ const REOPENED: [Script; 17] = [
 
 #[test]
 fn a_key_that_is_opened_makes_the_caches_that_it_needs(rt: HostRuntime) {
-    assert!(rt; first_other_script(rt.alloc(), &REOPENED) == REOPENED.len());
+    assert!(rt; first_other_script(rt.alloc(), Version::One, &REOPENED) == REOPENED.len());
 }

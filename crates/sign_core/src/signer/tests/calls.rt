@@ -46,6 +46,8 @@ pub(crate) fn answer<S: Store, R: Source>(
 pub(crate) enum Call<'a> {
     // a request with a message of one byte, and its fault, if any
     Sign(u32, u8, Option<SignFault>),
+    // the same under a name of so many letters
+    SignLong(usize, u8, Option<SignFault>),
     // requests with the message m, of the names from one number up to another, all of which are signed
     SignAll(u32, u32),
     // the same, after each of which all leaves of the lowest tree are retired
@@ -258,6 +260,11 @@ fn is_answered<S: Store, R: Source>(
             let answered = request(alloc, signer, &name_of(*number), &[*message], first)?;
             Some(answered.0 == *fault)
         }
+        Call::SignLong(len, message, fault) => {
+            let letters = [b'n'; 128];
+            let answered = request(alloc, signer, letters.get(..*len)?, &[*message], first)?;
+            Some(answered.0 == *fault)
+        }
         Call::SignFirst(number, message) => {
             let answered = request(alloc, signer, &name_of(*number), message, first)?;
             Some(answered.0.is_none() && answered.1)
@@ -315,6 +322,19 @@ pub(crate) fn created<S: Store + Drop, R: Source + Drop>(
         return None;
     }
     Signer::create(alloc, Spec::parse(text).ok()?, store, random).ok()
+}
+
+// The same of a key in a file of this version.
+pub(super) fn created_in<S: Store + Drop, R: Source + Drop>(
+    alloc: Global,
+    (version, text): (Version, &str),
+    store: S,
+    random: R,
+) -> Option<Signer<S, R>> {
+    if store.limit() == 0 {
+        return None;
+    }
+    Signer::create_in(alloc, version, Spec::parse(text).ok()?, store, random).ok()
 }
 
 // The store of a new key after these calls, all of which are answered so.

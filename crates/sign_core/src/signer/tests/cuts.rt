@@ -141,5 +141,5 @@ fn first_other_cut(alloc: Global) -> Option<usize> {
 #[test]
 fn each_cut_of_an_append_leaves_a_file_that_goes_on(rt: HostRuntime) {
     assert!(rt; first_other_cut(rt.alloc()) == Some(CUTS.len()));
-    assert!(rt; first_other_script(rt.alloc(), &ENDS) == ENDS.len());
+    assert!(rt; first_other_script(rt.alloc(), Version::One, &ENDS) == ENDS.len());
 }

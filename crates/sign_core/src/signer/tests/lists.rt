@@ -1,17 +1,23 @@
 //! Lists of records that aren't legal, or whose key isn't sound, in memory and in files whose tags are right.
 
+ghost use Rattle.std.specs.Prelude.{◌≡◌, true};
+ghost use Rattle.state_file.specs.Slot.{FitsVersion, version_begun};
+
 use super::*;
 use crate::ledger::LedgerFault;
 use lmots::LmOts;
 
-// A record of a list: a key, whose root isn't that of its tree; a tree of a level under a leaf of the level above, with
-// this I; a leaf with the name of a number, and the same with the digest of the byte 1 under the I that has this number
-// in each byte; leaves that are retired, and a Moved.
+// A record of a list: a key of version 1, or of another one, whose root isn't that of its tree; a tree of a level under
+// a leaf of the level above, with this I; a leaf with the name of a number, or with one of so many letters, and the
+// first with the digest of the byte 1 under the I that has this number in each byte; leaves that are retired, and a
+// Moved.
 #[derive(Clone, Copy)]
 pub(crate) enum Entry<'a> {
     Key(&'a str),
+    KeyOf(Version, &'a str),
     Extend(u8, u32, [u8; 16]),
     Bound(u32, u32),
+    BoundLong(u32, usize),
     BoundByte(u32, u32, u8),
     Retire(u32),
     Moved,
@@ -34,6 +40,15 @@ fn secret_of(text: &str) -> Option<Secret> {
     }
 }
 
+// The key of a version.
+fn key_of(version: Version, text: &str) -> Option<Key> {
+    Some(Key {
+        version,
+        secret: secret_of(text)?,
+        root: [3; 32],
+    })
+}
+
 pub(super) fn record_of(entry: &Entry<'_>) -> Option<Record> {
     let digest = match entry {
         Entry::BoundByte(leaf, _, byte) => {
@@ -46,11 +61,8 @@ pub(super) fn record_of(entry: &Entry<'_>) -> Option<Record> {
         _ => [5; 32],
     };
     Some(match entry {
-        Entry::Key(text) => Record::Key(Key {
-            version: Version::One,
-            secret: secret_of(text)?,
-            root: [3; 32],
-        }),
+        Entry::Key(text) => Record::Key(key_of(Version::One, text)?),
+        Entry::KeyOf(version, text) => Record::Key(key_of(*version, text)?),
         Entry::Extend(level, parent_leaf, identifier) => Record::Extend(Extend {
             level: *level,
             parent_leaf: *parent_leaf,
@@ -66,17 +78,39 @@ pub(super) fn record_of(entry: &Entry<'_>) -> Option<Record> {
             randomizer: [4; 32],
             digest,
         }),
+        Entry::BoundLong(leaf, len) => Record::Bound(Bound {
+            name: Name::new([b'n'; 128].get(..*len)?).ok()?,
+            leaf: *leaf,
+            randomizer: [4; 32],
+            digest,
+        }),
         Entry::Retire(upto) => Record::Retire { upto: *upto },
         Entry::Moved => Record::Moved,
     })
 }
 
-// Adds a record to a store, where it is a Key or one comes before it.
+// Whether the file that the first of two records begins can hold the other one.
+fn can_hold(first: &Record, entry: &Record) -> bool
+    ensures { result ≡ true → FitsVersion (version_begun first.now) entry.now }
+{
+    let version = match first {
+        Record::Key(key) => key.version,
+        Record::Extend(_) | Record::Bound(_) | Record::Retire { .. } | Record::Moved =>
+            Version::One,
+    };
+    entry.fits(version)
+}
+
+// Adds a record to a store, where it is a Key and the first, or the file can hold it.
 pub(super) fn add<S: Store>(store: &mut S, entry: &Record) -> Option<()> {
-    match (entry, store.load(0)) {
-        (Record::Key(_), Ok(None)) | (_, Ok(Some(_))) => store.append(entry).ok(),
-        _ => None,
+    let can_follow = match store.load(0).ok()? {
+        None => matches!(entry, Record::Key(_)),
+        Some(first) => can_hold(&first, entry),
+    };
+    if !can_follow {
+        return None;
     }
+    store.append(entry).ok()
 }
 
 // A store with these records after those that it has.
@@ -94,10 +128,15 @@ pub(super) fn listed(alloc: Global, entries: &[Entry<'_>]) -> Option<MemoryStore
     with_records(store, entries)
 }
 
-// A disk with a file of them.
-pub(super) fn filed(alloc: Global, entries: &[Entry<'_>]) -> Option<MemoryDisk> {
+// A disk with a file of these records.
+fn file_of(alloc: Global, entries: &[Entry<'_>]) -> Option<MemoryDisk> {
     let store = FileStore::format(MemoryDisk::of(alloc, &[]).ok()?).ok()?;
-    let store = with_records(store, &[Entry::Key(LMS)])?;
+    Some(with_records(store, entries)?.into_disk())
+}
+
+// A disk with a file of a key of one tree and these records after it.
+pub(super) fn filed(alloc: Global, entries: &[Entry<'_>]) -> Option<MemoryDisk> {
+    let store = FileStore::open(file_of(alloc, &[Entry::Key(LMS)])?).ok()?;
     Some(with_records(store, entries)?.into_disk())
 }
 
@@ -175,8 +214,59 @@ fn lists_that_are_not_legal_do_not_open(rt: HostRuntime) {
     }
 }
 
-// Lists, and their faults as those of a ledger.
-const LEDGERS: [(&[Entry<'_>], Option<LedgerFault>); 13] = [
+const KEY_TWO: Entry<'static> = Entry::KeyOf(Version::Two, LMS);
+
+// Lists of version 2, and what they open with: a Moved isn't legal there.
+const LISTS_TWO: [(&[Entry<'_>], Result<u32, SignFault>); 9] = [
+    (&[KEY_TWO], Ok(32)),
+    (&[KEY_TWO, Entry::Bound(3, 0), Entry::Bound(7, 1)], Ok(24)),
+    (
+        &[
+            KEY_TWO,
+            Entry::BoundLong(3, 128),
+            Entry::Retire(5),
+            Entry::BoundLong(7, 65),
+        ],
+        Ok(24),
+    ),
+    (&[KEY_TWO, Entry::Moved], Err(SignFault::Illegal(1))),
+    (
+        &[KEY_TWO, Entry::Bound(3, 0), Entry::Moved],
+        Err(SignFault::Illegal(2)),
+    ),
+    (
+        &[KEY_TWO, Entry::Moved, Entry::Retire(5)],
+        Err(SignFault::Illegal(1)),
+    ),
+    (&[KEY_TWO, KEY_TWO], Err(SignFault::Illegal(1))),
+    (
+        &[KEY_TWO, Entry::BoundLong(3, 128), Entry::BoundLong(7, 128)],
+        Err(SignFault::Illegal(2)),
+    ),
+    (
+        &[KEY_TWO, Entry::BoundLong(3, 128), Entry::BoundLong(3, 127)],
+        Err(SignFault::Illegal(2)),
+    ),
+];
+
+#[test]
+fn lists_of_version_2(rt: HostRuntime) {
+    for (entries, wanted) in &LISTS_TWO {
+        let store = MemoryStore::with_limit(rt.alloc(), 100);
+        assert!(rt; opens_with(rt.alloc(), with_records(store, entries), *wanted));
+        let disk = file_of(rt.alloc(), entries);
+        assert!(rt;
+            disk.is_some_and(|disk| opens_with(rt.alloc(), FileStore::open(disk).ok(), *wanted))
+        );
+    }
+}
+
+// Lists, and their faults as those of a ledger. How long a name is has no part in it.
+const LEDGERS: [(&[Entry<'_>], Option<LedgerFault>); 17] = [
+    (&[KEY_TWO], None),
+    (&[KEY_TWO, Entry::Moved], Some(LedgerFault::Illegal(1))),
+    (&[KEY_TWO, Entry::Key(LMS)], Some(LedgerFault::Illegal(1))),
+    (&[Entry::Key(LMS), Entry::BoundLong(3, 65)], None),
     (&[], Some(LedgerFault::Empty)),
     (&[Entry::Bound(0, 0)], Some(LedgerFault::Illegal(0))),
     (

@@ -182,5 +182,5 @@ const MESSAGES: [Script; 9] = [
 
 #[test]
 fn messages_fail_or_come_in_pieces(rt: HostRuntime) {
-    assert!(rt; first_other_script(rt.alloc(), &MESSAGES) == MESSAGES.len());
+    assert!(rt; first_other_script(rt.alloc(), Version::Two, &MESSAGES) == MESSAGES.len());
 }

@@ -6,8 +6,9 @@ use super::*;
 const REFUSED: Option<SignFault> = Some(SignFault::Moved);
 
 // What requests and retires answer where the records have moved. That comes before a message that fails.
-const MOVED: [Call; 7] = [
+const MOVED: [Call; 8] = [
     Call::Sign(0, b'm', REFUSED),
+    Call::SignLong(65, 1, REFUSED),
     Call::Sign(1, 1, REFUSED),
     Call::Fail(0, &[0], SignFault::Moved, &[28]),
     Call::Retire(0, REFUSED),
@@ -19,8 +20,9 @@ const MOVED: [Call; 7] = [
 const STOPPED: Option<SignFault> = Some(SignFault::Stopped);
 
 // The same where the store has stopped, too, which comes first.
-const CLOSED: [Call; 4] = [
+const CLOSED: [Call; 5] = [
     Call::Sign(0, b'm', STOPPED),
+    Call::SignLong(65, 1, STOPPED),
     Call::Sign(1, 1, STOPPED),
     Call::Retire(0, STOPPED),
     Call::Retire(33, STOPPED),

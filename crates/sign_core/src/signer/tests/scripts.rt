@@ -141,17 +141,17 @@ pub(super) struct Script<'a> {
     pub(super) lives: &'a [Life<'a>],
 }
 
-// A store after a life of its signer, with the key and how many leaves are left: a new key of this spec, or where none
-// is given, the one that is opened. None where a call is answered otherwise, or the records are others.
+// A store after a life of its signer, with the key and how many leaves are left: a new key of this version and spec, or
+// where none is given, the one that is opened. None where a call is answered otherwise, or the records are others.
 fn lived<S: Store + Drop, R: Source + Drop>(
     alloc: Global,
-    spec: Option<&str>,
+    spec: Option<(Version, &str)>,
     (store, random): (S, R),
     life: &Life<'_>,
     tape: &[u8],
 ) -> Option<(S, AnyPublic, ArrayVec<u32, 8>)> {
     let mut signer = match spec {
-        Some(text) => created(alloc, text, store, random)?,
+        Some(spec) => created_in(alloc, spec, store, random)?,
         None => Signer::open(alloc, store, random).ok()?,
     };
     let count = first_other_call(alloc, &mut signer, life.calls);
@@ -181,6 +181,7 @@ fn lasting<S: Store + Drop, R: Source + Drop>(
 // The disk after a key's lives in a file, which opens again after each of them.
 fn disk_after<D: Disk + Drop>(
     alloc: Global,
+    version: Version,
     disk: D,
     script: &Script<'_>,
     tape: &[u8],
@@ -188,7 +189,7 @@ fn disk_after<D: Disk + Drop>(
     let mut disk = disk;
     for (i, life) in script.lives.iter().enumerate() {
         let (store, spec) = if i == 0 {
-            (FileStore::format(disk).ok()?, Some(script.text))
+            (FileStore::format(disk).ok()?, Some((version, script.text)))
         } else {
             (FileStore::open(disk).ok()?, None)
         };
@@ -204,20 +205,33 @@ fn disk_after<D: Disk + Drop>(
     Some(disk)
 }
 
-// The file after a key's lives, or no byte where it is in memory. None where something comes out otherwise.
-pub(super) fn file_after(alloc: Global, script: &Script<'_>) -> Option<Vec<u8>> {
+// The file of a version after a key's lives, or no byte where it is in memory. None where something comes out
+// otherwise.
+pub(super) fn file_after(alloc: Global, version: Version, script: &Script<'_>) -> Option<Vec<u8>> {
     let mut tape = tape_of::<TAPE_LEN>(script.tape.first, script.tape.block);
     let (begin, end, byte) = script.tape.other;
     tape.get_mut(begin..end)?.fill(byte);
     match script.room {
-        None => disk_after(alloc, MemoryDisk::of(alloc, &[]).ok()?, script, &tape)?
-            .stop(Pick::New)
-            .ok(),
+        None => disk_after(
+            alloc,
+            version,
+            MemoryDisk::of(alloc, &[]).ok()?,
+            script,
+            &tape,
+        )?
+        .stop(Pick::New)
+        .ok(),
         Some(limit) => {
             let life = script.lives.first()?;
             let random = TapeSource::new(tape.get(life.drawn.0..life.drawn.1)?);
             let given = (MemoryStore::with_limit(alloc, limit), random);
-            let (store, public, left) = lived(alloc, Some(script.text), given, life, &tape)?;
+            let (store, public, left) = lived(
+                alloc,
+                Some((version, script.text)),
+                given,
+                life,
+                &tape,
+            )?;
             let none = TapeSource::new(&[]);
             lasting(alloc, store, none, &public, left.as_slice())?;
             Some(Vec::new(alloc))
@@ -225,10 +239,10 @@ pub(super) fn file_after(alloc: Global, script: &Script<'_>) -> Option<Vec<u8>> 
     }
 }
 
-// The first of these scripts in which something comes out otherwise, and their count if none.
-pub(super) fn first_other_script(alloc: Global, scripts: &[Script<'_>]) -> usize {
+// The first of these scripts in which something comes out otherwise in a file of this version, and their count if none.
+pub(super) fn first_other_script(alloc: Global, version: Version, scripts: &[Script<'_>]) -> usize {
     for (i, script) in scripts.iter().enumerate() {
-        if file_after(alloc, script).is_none() {
+        if file_after(alloc, version, script).is_none() {
             return i;
         }
     }

@@ -259,5 +259,5 @@ const REPEATED: [Script; 4] = [
 
 #[test]
 fn a_repeated_identifier_is_drawn_alone(rt: HostRuntime) {
-    assert!(rt; first_other_script(rt.alloc(), &REPEATED) == REPEATED.len());
+    assert!(rt; first_other_script(rt.alloc(), Version::One, &REPEATED) == REPEATED.len());
 }

@@ -1,13 +1,13 @@
 //! Stores over a disk that fails or stops, and what their files then open with.
 
-mod turning_disk;
+ghost use Rattle.std.specs.Prelude.{◌≡◌, true, IsTrue};
+ghost use Rattle.state_file.specs.FileStore.{disk_of, records_of};
+ghost use Rattle.state_file.specs.Store.{CanFollow};
 
-use crate::samples::{is_loaded, record};
-use crate::slot::record_bytes;
+use crate::samples::{is_loaded, push_slot, record, tagged, written_out};
+use crate::turning_disk::TurningDisk;
 use crate::*;
-use sha2::{Digest, Sha256};
 use std::alloc::Global;
-use turning_disk::TurningDisk;
 
 const PICKS: [Pick; 5] = [
     Pick::Old,
@@ -17,20 +17,33 @@ const PICKS: [Pick; 5] = [
     Pick::Fill(0xFF),
 ];
 
-// Appends the next records of samples until there are so many, or one is refused. The first of a store is a Key, and
-// else it isn't tried.
-fn append_up_to<D: Disk + Drop>(store: &mut FileStore<D>, count: u32) -> Result<(), StoreFault> {
+// Whether the record can be appended, as far as a store tells that: the first one is a Key, and a file of its version
+// can hold the others, of which a store that has stopped takes none.
+#[tactic(auto, using(crate::proofs::Versions::one_code))]
+fn can_follow<D: Disk + Drop>(store: &FileStore<D>, entry: &Record) -> bool
+    ensures { result ≡ true → IsTrue (D.honest (disk_of store.now)) → CanFollow (records_of store.now) entry.now }
+{
+    if store.count == 0 {
+        matches!(entry, Record::Key(_))
+    } else {
+        !store.stopped && entry.fits(store.version)
+    }
+}
+
+// Appends the next records of a file of this version until there are so many, or one is refused.
+fn append_up_to<D: Disk + Drop>(
+    store: &mut FileStore<D>,
+    version: Version,
+    count: u32,
+) -> Result<(), StoreFault> {
     for k in store.count()..count {
-        match record(k) {
-            Some(entry) => match &entry {
-                Record::Key(_) => store.append(&entry)?,
-                _ => {
-                    if store.count() == 0 {
-                        return Err(StoreFault::Damaged(0));
-                    }
-                    store.append(&entry)?
+        match record(version, k) {
+            Some(entry) => {
+                if !can_follow(store, &entry) {
+                    return Err(StoreFault::Damaged(k));
                 }
-            },
+                store.append(&entry)?
+            }
             None => return Err(StoreFault::Full),
         }
     }
@@ -38,29 +51,57 @@ fn append_up_to<D: Disk + Drop>(store: &mut FileStore<D>, count: u32) -> Result<
 }
 
 // A store of so many records over a disk that has no key. Preparing it takes four calls, and each append four.
-fn store_of(disk: MemoryDisk, count: u32) -> Option<FileStore<MemoryDisk>> {
+fn store_of(disk: MemoryDisk, version: Version, count: u32) -> Option<FileStore<MemoryDisk>> {
     let mut store = FileStore::format(disk).ok()?;
-    append_up_to(&mut store, count).ok()?;
+    append_up_to(&mut store, version, count).ok()?;
     Some(store)
 }
 
-// The file of the first records: one byte, and 256 for each.
-fn file_of(alloc: Global, count: u32) -> Option<Vec<u8>> {
-    let disk = MemoryDisk::of(alloc, &[]).ok()?;
-    store_of(disk, count)?.into_disk().stop(Pick::Old).ok()
+// By hand: the file of the first records, 256 bytes for each, and one byte. Its Key is of one version, and the others
+// are as in a file of another one.
+fn mixed_file(alloc: Global, version: Version, other: Version, count: u32) -> Option<Vec<u8>> {
+    let mut content = Vec::new(alloc);
+    let mut tag = [0; 32];
+    for k in 0..count {
+        let of_slot = if k == 0 { version } else { other };
+        tag = push_slot(&mut content, &tag, of_slot, k)?;
+    }
+    content.push(0).ok()?;
+    Some(content)
 }
 
-// What a disk opens with: how many records, if they are those of samples and no other comes after them, or the fault.
-fn opened(disk: MemoryDisk) -> Option<Result<u32, OpenFault>> {
+// By hand, too: the file of the first records in one version.
+fn file_of(alloc: Global, version: Version, count: u32) -> Option<Vec<u8>> {
+    mixed_file(alloc, version, version, count)
+}
+
+// Whether a store writes this file.
+fn writes_file(alloc: Global, version: Version, count: u32) -> Option<bool> {
+    let disk = store_of(MemoryDisk::of(alloc, &[]).ok()?, version, count)?.into_disk();
+    Some(disk.stop(Pick::Fill(0x11)).ok()? == file_of(alloc, version, count)?)
+}
+
+#[test]
+fn files_are_written_as_by_hand(rt: HostRuntime) {
+    for version in [Version::One, Version::Two] {
+        for count in 0..=5 {
+            assert_eq!(rt; writes_file(rt.alloc(), version, count), Some(true));
+        }
+    }
+}
+
+// What a disk opens with: how many records, if they are those of a file of this version and no other comes after them,
+// or the fault.
+fn opened(disk: MemoryDisk, version: Version) -> Option<Result<u32, OpenFault>> {
     match FileStore::open(disk) {
         Ok(mut store) => {
             let count = store.count();
             for k in 0..count {
-                if !is_loaded(&store.load(k), Ok(Some(k))) {
+                if !is_loaded(&store.load(k), version, Ok(Some(k))) {
                     return None;
                 }
             }
-            if !is_loaded(&store.load(count), Ok(None)) {
+            if !is_loaded(&store.load(count), version, Ok(None)) {
                 return None;
             }
             Some(Ok(count))
@@ -74,11 +115,12 @@ fn leaves(
     alloc: Global,
     disk: &MemoryDisk,
     picks: &[Pick],
+    version: Version,
     wanted: Result<u32, OpenFault>,
 ) -> Option<bool> {
     for pick in picks {
         let left = disk.stop(*pick).ok()?;
-        if opened(MemoryDisk::of(alloc, &left).ok()?)? != wanted {
+        if opened(MemoryDisk::of(alloc, &left).ok()?, version)? != wanted {
             return Some(false);
         }
     }
@@ -88,20 +130,20 @@ fn leaves(
 // A call of a store over a disk, and what it answers.
 #[derive(Drop)]
 enum Call {
-    // appends the next records of samples, up to so many
+    // appends the next records, up to so many
     Append(u32, Result<(), StoreFault>),
     Load(u32, Result<Option<u32>, StoreFault>),
     Tag(u32, Result<[u8; 32], StoreFault>),
     Count(u32),
 }
 
-// The disk of a store, after calls that it answered so.
-fn disk_after<D: Disk + Drop>(store: FileStore<D>, calls: &[Call]) -> Option<D> {
+// The disk of a store of records of this version, after calls that it answered so.
+fn disk_after<D: Disk + Drop>(store: FileStore<D>, version: Version, calls: &[Call]) -> Option<D> {
     let mut store = store;
     for call in calls {
         let is_so = match call {
-            Call::Append(count, wanted) => append_up_to(&mut store, *count) == *wanted,
-            Call::Load(k, wanted) => is_loaded(&store.load(*k), *wanted),
+            Call::Append(count, wanted) => append_up_to(&mut store, version, *count) == *wanted,
+            Call::Load(k, wanted) => is_loaded(&store.load(*k), version, *wanted),
             Call::Tag(k, wanted) => *k < store.count() && store.tag_at(*k) == *wanted,
             Call::Count(count) => store.count() == *count,
         };
@@ -133,7 +175,8 @@ const STOPS: &[Call] = &[
 fn bytes_after(alloc: Global, n: u32, calls: &[Call]) -> Option<u64> {
     let mut disk = MemoryDisk::of(alloc, &[]).ok()?;
     disk.fail_at(n);
-    disk_after(store_of(disk, 0)?, calls)?.len().ok()
+    let store = store_of(disk, Version::One, 0)?;
+    disk_after(store, Version::One, calls)?.len().ok()
 }
 
 #[test]
@@ -144,17 +187,9 @@ fn calls_are_answered(rt: HostRuntime) {
     }
 }
 
-// The tag of these fields after a slot of that tag.
-fn tagged(previous: &[u8; 32], fields: &[u8]) -> [u8; 32] {
-    let mut hasher = Sha256::new();
-    hasher.update(previous);
-    hasher.update(fields);
-    hasher.finalize()
-}
-
 // Whether a store over the file of three records gives its tags, each after the one before, until its disk fails.
 fn gives_tags(alloc: Global) -> Option<bool> {
-    let file = file_of(alloc, 3)?;
+    let file = file_of(alloc, Version::One, 3)?;
     let first = tagged(&[0; 32], file.get(1..224)?);
     let second = tagged(&first, file.get(257..480)?);
     let third = tagged(&second, file.get(513..736)?);
@@ -169,7 +204,7 @@ fn gives_tags(alloc: Global) -> Option<bool> {
         Call::Tag(1, Err(StoreFault::DeviceFailed)),
         Call::Tag(1, Err(StoreFault::Stopped)),
     ];
-    let disk = disk_after(FileStore::open(disk).ok()?, &calls)?;
+    let disk = disk_after(FileStore::open(disk).ok()?, Version::One, &calls)?;
     Some(disk.stop(Pick::Fill(7)).ok()? == file)
 }
 
@@ -178,18 +213,22 @@ fn tags_of_slots(rt: HostRuntime) {
     assert_eq!(rt; gives_tags(rt.alloc()), Some(true));
 }
 
-// A store of three records that is opened, and of one more that is opened again.
-fn goes_on_after_opening(alloc: Global) -> Option<bool> {
-    let disk = MemoryDisk::of(alloc, &file_of(alloc, 3)?).ok()?;
-    let disk = disk_after(FileStore::open(disk).ok()?, &[Call::Append(4, Ok(()))])?;
+// Whether a file of three records is opened and gets one more, and is opened again and gets one more, as by hand.
+fn goes_on_after_opening(alloc: Global, version: Version) -> Option<bool> {
+    let disk = MemoryDisk::of(alloc, &file_of(alloc, version, 3)?).ok()?;
+    let calls = [Call::Append(4, Ok(()))];
+    let disk = disk_after(FileStore::open(disk).ok()?, version, &calls)?;
     let calls = [Call::Count(4), Call::Append(5, Ok(()))];
-    let disk = disk_after(FileStore::open(disk).ok()?, &calls)?;
-    Some(opened(disk)? == Ok(5))
+    let disk = disk_after(FileStore::open(disk).ok()?, version, &calls)?;
+    let left = disk.stop(Pick::Fill(7)).ok()?;
+    Some(opened(disk, version)? == Ok(5) && left == file_of(alloc, version, 5)?)
 }
 
 #[test]
 fn records_are_added_to_what_was_opened(rt: HostRuntime) {
-    assert_eq!(rt; goes_on_after_opening(rt.alloc()), Some(true));
+    for version in [Version::One, Version::Two] {
+        assert_eq!(rt; goes_on_after_opening(rt.alloc(), version), Some(true));
+    }
 }
 
 // Whether the first bytes of the file of three records, with this first byte, are prepared so: of fewer than 257 bytes
@@ -200,12 +239,12 @@ fn is_prepared(
     first: u8,
     wanted: Result<(), FormatFault>,
 ) -> Option<bool> {
-    let mut content = file_of(alloc, 3)?;
+    let mut content = file_of(alloc, Version::One, 3)?;
     content.truncate(len);
     *content.get_mut(0)? = first;
     let (disk, answer) = match FileStore::format(MemoryDisk::of(alloc, &content).ok()?) {
         Ok(store) => {
-            let disk = disk_after(store, &[Call::Count(0)])?;
+            let disk = disk_after(store, Version::One, &[Call::Count(0)])?;
             (disk, Ok(()))
         }
         Err(refused) => (refused.given, Err(refused.fault)),
@@ -230,9 +269,10 @@ fn a_place_with_a_key_is_not_prepared(rt: HostRuntime) {
     }
 }
 
-// What a file opens with, cut to a length or with zeros up to it, and with another byte at an offset.
+// What a file of this version opens with, cut to a length or with zeros up to it, and with another byte at an offset.
 fn opened_with(
     alloc: Global,
+    version: Version,
     file: &[u8],
     len: usize,
     change: Option<(usize, u8)>,
@@ -242,52 +282,52 @@ fn opened_with(
     if let Some((offset, byte)) = change {
         *content.get_mut(offset)? = byte;
     }
-    opened(MemoryDisk::of(alloc, &content).ok()?)
+    opened(MemoryDisk::of(alloc, &content).ok()?, version)
 }
 
-// The length of the file of so many records, and what it opens with once it is changed so.
+// What the file of so many records opens with once it is changed so.
 fn file_with(
     alloc: Global,
     count: u32,
     len: usize,
     change: Option<(usize, u8)>,
-) -> Option<(usize, Result<u32, OpenFault>)> {
-    let file = file_of(alloc, count)?;
-    Some((file.len(), opened_with(alloc, &file, len, change)?))
+) -> Option<Result<u32, OpenFault>> {
+    let file = file_of(alloc, Version::One, count)?;
+    opened_with(alloc, Version::One, &file, len, change)
 }
 
 // A file has its slots and one byte; one of a single byte has no key, whatever this is; and a fourth slot of zeros, or
 // of less, is damaged where its gate is open and the one after it closed.
 #[test]
 fn files_of_each_length(rt: HostRuntime) {
-    for (count, size, len, change, wanted) in [
-        (0, 1, 1, None, Err(OpenFault::NoKey)),
-        (1, 257, 257, None, Ok(1)),
-        (3, 769, 769, None, Ok(3)),
-        (5, 1281, 1281, None, Ok(5)),
-        (0, 1, 1, Some((0, 0x37)), Err(OpenFault::NoKey)),
-        (0, 1, 1, Some((0, 0xA5)), Err(OpenFault::NoKey)),
-        (3, 769, 769, Some((768, 0xA5)), Err(OpenFault::Damaged(3))),
-        (3, 769, 800, Some((768, 0xA5)), Err(OpenFault::Damaged(3))),
-        (3, 769, 1025, Some((768, 0xA5)), Err(OpenFault::Damaged(3))),
+    for (count, len, change, wanted) in [
+        (0, 1, None, Err(OpenFault::NoKey)),
+        (1, 257, None, Ok(1)),
+        (3, 769, None, Ok(3)),
+        (5, 1281, None, Ok(5)),
+        (0, 1, Some((0, 0x37)), Err(OpenFault::NoKey)),
+        (0, 1, Some((0, 0xA5)), Err(OpenFault::NoKey)),
+        (3, 769, Some((768, 0xA5)), Err(OpenFault::Damaged(3))),
+        (3, 800, Some((768, 0xA5)), Err(OpenFault::Damaged(3))),
+        (3, 1025, Some((768, 0xA5)), Err(OpenFault::Damaged(3))),
     ] {
-        assert_eq!(rt;
-            file_with(rt.alloc(), count, len, change),
-            Some((size, wanted))
-        );
+        assert_eq!(rt; file_with(rt.alloc(), count, len, change), Some(wanted));
     }
 }
 
 // The first byte of the file of three records which, set to one of these values or with bits turned, opens otherwise
 // than it has to.
-fn first_that_opens_otherwise(alloc: Global) -> Option<Option<usize>> {
-    let file = file_of(alloc, 3)?;
+fn first_that_opens_otherwise(alloc: Global, version: Version) -> Option<Option<usize>> {
+    let file = file_of(alloc, version, 3)?;
     for (offset, byte) in file.iter().enumerate() {
-        for value in [0x00, 0x37, 0xA4, 0xA5, 0xFF, *byte ^ 0x01, *byte ^ 0x5A] {
-            let wanted = match (offset, value) {
-                _ if value == *byte => Ok(3),
+        let turned = [*byte ^ 0x01, *byte ^ 0x03, *byte ^ 0x5A];
+        for value in [0x00, 0x37, 0xA4, 0xA5, 0xFF].iter().chain(&turned) {
+            let wanted = match (offset, *value) {
+                (_, value) if value == *byte => Ok(3),
                 (0, _) => Err(OpenFault::NoKey),
                 (1..=9, _) => Err(OpenFault::NotKeyFile),
+                // the other version, whose Key has another tag
+                (11, 1 | 2) => Err(OpenFault::Damaged(0)),
                 (10 | 11, _) => Err(OpenFault::Version),
                 (256, _) => Ok(1),
                 (512, _) => Ok(2),
@@ -295,7 +335,7 @@ fn first_that_opens_otherwise(alloc: Global) -> Option<Option<usize>> {
                 (768, _) => Ok(3),
                 _ => Err(OpenFault::Damaged(u32::try_from(offset / 256).ok()?)),
             };
-            if opened_with(alloc, &file, 769, Some((offset, value)))? != wanted {
+            if opened_with(alloc, version, &file, 769, Some((offset, *value)))? != wanted {
                 return Some(Some(offset));
             }
         }
@@ -305,42 +345,71 @@ fn first_that_opens_otherwise(alloc: Global) -> Option<Option<usize>> {
 
 #[test]
 fn each_byte_of_a_file_changed(rt: HostRuntime) {
-    assert_eq!(rt; first_that_opens_otherwise(rt.alloc()), Some(None));
+    for version in [Version::One, Version::Two] {
+        assert_eq!(rt; first_that_opens_otherwise(rt.alloc(), version), Some(None));
+    }
 }
 
-// What a file of one slot opens with, which has the fields of the record of this number and their tag, with another
-// value in byte 10 of the fields, which is the version's second.
-fn opened_with_record(alloc: Global, k: u32, value: u8) -> Option<Result<u32, OpenFault>> {
-    let entry = record(k)?;
-    let mut fields = record_bytes(entry.version_after(Version::One), &entry);
-    fields[10] = value;
+// What a file of one slot opens with, which has the fields of this record with another version, and their tag.
+fn opened_with_record(
+    alloc: Global,
+    version: Version,
+    k: u32,
+    code: [u8; 2],
+) -> Option<Result<u32, OpenFault>> {
+    let mut fields = written_out(version, k)?;
+    [fields[9], fields[10]] = code;
     let mut content = Vec::new(alloc);
     content.push(0xA5).ok()?;
     content.extend_from_slice(&fields).ok()?;
     content.extend_from_slice(&tagged(&[0; 32], &fields)).ok()?;
     content.push(0).ok()?;
-    opened(MemoryDisk::of(alloc, &content).ok()?)
+    opened(MemoryDisk::of(alloc, &content).ok()?, version)
 }
 
 // A file begins with a Key of a known version, whatever its tags.
 #[test]
 fn a_first_slot_of_another_kind(rt: HostRuntime) {
-    for (k, version, wanted) in [
-        (0, 1, Ok(1)),
-        (0, 0, Err(OpenFault::Version)),
-        (0, 2, Err(OpenFault::Version)),
-        (1, 1, Err(OpenFault::NotKeyFile)),
-        (2, 1, Err(OpenFault::NotKeyFile)),
-        (3, 0, Err(OpenFault::NotKeyFile)),
-        (4, 0, Err(OpenFault::NotKeyFile)),
+    for (version, k, code, wanted) in [
+        (Version::One, 0, [0, 1], Ok(1)),
+        (Version::Two, 0, [0, 2], Ok(1)),
+        (Version::One, 0, [0, 0], Err(OpenFault::Version)),
+        (Version::One, 0, [0, 3], Err(OpenFault::Version)),
+        (Version::One, 0, [1, 0], Err(OpenFault::Version)),
+        (Version::Two, 0, [1, 2], Err(OpenFault::Version)),
+        (Version::Two, 0, [2, 0], Err(OpenFault::Version)),
+        (Version::One, 1, [0, 1], Err(OpenFault::NotKeyFile)),
+        (Version::One, 2, [0, 1], Err(OpenFault::NotKeyFile)),
+        (Version::Two, 2, [0, 2], Err(OpenFault::NotKeyFile)),
+        (Version::One, 3, [0, 0], Err(OpenFault::NotKeyFile)),
+        (Version::Two, 4, [0, 0], Err(OpenFault::NotKeyFile)),
     ] {
-        assert_eq!(rt; opened_with_record(rt.alloc(), k, version), Some(wanted));
+        assert_eq!(rt;
+            opened_with_record(rt.alloc(), version, k, code),
+            Some(wanted)
+        );
+    }
+}
+
+// What a file of three records opens with whose Bound is as in a file of another version than that of its Key.
+fn opened_mixed(alloc: Global, version: Version, other: Version) -> Option<Result<u32, OpenFault>> {
+    let file = mixed_file(alloc, version, other, 3)?;
+    opened(MemoryDisk::of(alloc, &file).ok()?, version)
+}
+
+#[test]
+fn the_key_says_the_version_of_all_slots(rt: HostRuntime) {
+    for (version, other) in [(Version::One, Version::Two), (Version::Two, Version::One)] {
+        assert_eq!(rt;
+            opened_mixed(rt.alloc(), version, other),
+            Some(Err(OpenFault::Damaged(2)))
+        );
     }
 }
 
 // The first length at which the file of three records, cut short, opens otherwise than it has to.
 fn first_length_wrong(alloc: Global) -> Option<Option<usize>> {
-    let file = file_of(alloc, 3)?;
+    let file = file_of(alloc, Version::One, 3)?;
     for len in 0..=file.len() {
         let wanted = match len {
             0..=256 => Err(OpenFault::NoKey),
@@ -348,7 +417,7 @@ fn first_length_wrong(alloc: Global) -> Option<Option<usize>> {
             513..=768 => Err(OpenFault::Damaged(2)),
             _ => Ok(3),
         };
-        if opened_with(alloc, &file, len, None)? != wanted {
+        if opened_with(alloc, Version::One, &file, len, None)? != wanted {
             return Some(Some(len));
         }
     }
@@ -373,7 +442,7 @@ fn stop_leaves_no_key(alloc: Global, content: &[u8], call: u32) -> Option<bool> 
     } else {
         Ok(())
     };
-    Some(answer == wanted && leaves(alloc, &disk, &PICKS, Err(OpenFault::NoKey))?)
+    Some(answer == wanted && leaves(alloc, &disk, &PICKS, Version::One, Err(OpenFault::NoKey))?)
 }
 
 #[test]
@@ -386,16 +455,16 @@ fn a_stop_in_format_leaves_no_key(rt: HostRuntime) {
 }
 
 // Whether each pick leaves so many records where the disk stops before this call of a third append.
-fn stop_leaves(alloc: Global, call: u32, counts: [u32; 5]) -> Option<bool> {
+fn stop_leaves(alloc: Global, version: Version, call: u32, counts: [u32; 5]) -> Option<bool> {
     let mut disk = MemoryDisk::of(alloc, &[]).ok()?;
     disk.stop_at(call.saturating_add(12));
-    let mut store = store_of(disk, 2)?;
-    if append_up_to(&mut store, 3).is_ok() != (call == 5) {
+    let mut store = store_of(disk, version, 2)?;
+    if append_up_to(&mut store, version, 3).is_ok() != (call == 5) {
         return Some(false);
     }
     let disk = store.into_disk();
     for (pick, count) in PICKS.into_iter().zip(counts) {
-        if !leaves(alloc, &disk, &[pick], Ok(count))? {
+        if !leaves(alloc, &disk, &[pick], version, Ok(count))? {
             return Some(false);
         }
     }
@@ -413,7 +482,9 @@ fn a_stop_in_an_append_leaves_the_old_records_or_the_new(rt: HostRuntime) {
         (4, [2, 3, 3, 2, 2]),
         (5, [3, 3, 3, 3, 3]),
     ] {
-        assert_eq!(rt; stop_leaves(rt.alloc(), call, counts), Some(true));
+        for version in [Version::One, Version::Two] {
+            assert_eq!(rt; stop_leaves(rt.alloc(), version, call, counts), Some(true));
+        }
     }
 }
 
@@ -429,14 +500,16 @@ const LAST_SYNC_REFUSED: &[Call] = &[
 fn opening_keeps(alloc: Global, refused: bool) -> Option<bool> {
     let mut disk = MemoryDisk::of(alloc, &[]).ok()?;
     disk.fail_at(16);
-    let mut disk = disk_after(store_of(disk, 2)?, LAST_SYNC_REFUSED)?;
-    let before = leaves(alloc, &disk, &[Pick::Old], Ok(2))?;
+    let store = store_of(disk, Version::One, 2)?;
+    let mut disk = disk_after(store, Version::One, LAST_SYNC_REFUSED)?;
+    let before = leaves(alloc, &disk, &[Pick::Old], Version::One, Ok(2))?;
     if refused {
         disk.fail_at(1);
-        return Some(before && opened(disk)? == Err(OpenFault::DeviceFailed));
+        return Some(before && opened(disk, Version::One)? == Err(OpenFault::DeviceFailed));
     }
-    let disk = disk_after(FileStore::open(disk).ok()?, &[Call::Count(3)])?;
-    Some(before && leaves(alloc, &disk, &PICKS, Ok(3))?)
+    let store = FileStore::open(disk).ok()?;
+    let disk = disk_after(store, Version::One, &[Call::Count(3)])?;
+    Some(before && leaves(alloc, &disk, &PICKS, Version::One, Ok(3))?)
 }
 
 #[test]
@@ -448,12 +521,12 @@ fn opening_syncs_what_it_shows(rt: HostRuntime) {
 
 // Prepares a place, appends five records, opens it and loads the last, until a call is refused. Gives the disk, how
 // many appends were acknowledged, and whether no call was refused.
-fn script(disk: MemoryDisk) -> (MemoryDisk, u32, bool) {
+fn script(disk: MemoryDisk, version: Version) -> (MemoryDisk, u32, bool) {
     let mut store = match FileStore::format(disk) {
         Ok(store) => store,
         Err(refused) => return (refused.given, 0, false),
     };
-    let is_appended = append_up_to(&mut store, 5).is_ok();
+    let is_appended = append_up_to(&mut store, version, 5).is_ok();
     let acknowledged = store.count();
     let disk = store.into_disk();
     if !is_appended {
@@ -461,7 +534,7 @@ fn script(disk: MemoryDisk) -> (MemoryDisk, u32, bool) {
     }
     match FileStore::open(disk) {
         Ok(mut store) => {
-            let is_whole = is_loaded(&store.load(4), Ok(Some(4)));
+            let is_whole = is_loaded(&store.load(4), version, Ok(Some(4)));
             (store.into_disk(), acknowledged, is_whole)
         }
         Err(refused) => (refused.given, acknowledged, false),
@@ -480,22 +553,23 @@ fn stands_for(opened: Option<Result<u32, OpenFault>>, acknowledged: u32) -> bool
 
 // Runs the script on a disk that fails at the n-th call or stops before it, and opens what each pick leaves. Gives
 // whether no call was refused.
-fn run_to_the_nth_call(alloc: Global, n: u32, stops: bool) -> Option<bool> {
+fn run_to_the_nth_call(alloc: Global, version: Version, n: u32, stops: bool) -> Option<bool> {
     let mut disk = MemoryDisk::of(alloc, &[]).ok()?;
     if stops {
         disk.stop_at(n);
     } else {
         disk.fail_at(n);
     }
-    let (mut disk, acknowledged, is_whole) = script(disk);
+    let (mut disk, acknowledged, is_whole) = script(disk, version);
     for pick in PICKS {
         let left = disk.stop(pick).ok()?;
-        if !stands_for(opened(MemoryDisk::of(alloc, &left).ok()?), acknowledged) {
+        let left = MemoryDisk::of(alloc, &left).ok()?;
+        if !stands_for(opened(left, version), acknowledged) {
             return None;
         }
     }
     disk.fail_at(0);
-    if stops || stands_for(opened(disk), acknowledged) {
+    if stops || stands_for(opened(disk, version), acknowledged) {
         Some(is_whole)
     } else {
         None
@@ -506,8 +580,16 @@ fn run_to_the_nth_call(alloc: Global, n: u32, stops: bool) -> Option<bool> {
 #[test]
 fn each_call_fails_or_the_disk_stops_before_it(rt: HostRuntime) {
     for n in 1..=48 {
-        for stops in [false, true] {
-            assert_eq!(rt; run_to_the_nth_call(rt.alloc(), n, stops), Some(n == 48));
+        for (version, stops) in [
+            (Version::One, false),
+            (Version::One, true),
+            (Version::Two, false),
+            (Version::Two, true),
+        ] {
+            assert_eq!(rt;
+                run_to_the_nth_call(rt.alloc(), version, n, stops),
+                Some(n == 48)
+            );
         }
     }
 }
@@ -521,7 +603,7 @@ fn loads_so(
 ) -> Option<bool> {
     // an opening reads two times for the Key, and ten times for three slots and the gate after them
     let disk = TurningDisk {
-        disk: MemoryDisk::of(alloc, &file_of(alloc, 3)?).ok()?,
+        disk: MemoryDisk::of(alloc, &file_of(alloc, Version::One, 3)?).ok()?,
         reads: 12,
         offset,
     };
@@ -531,7 +613,7 @@ fn loads_so(
         Call::Load(1, second),
         Call::Load(2, third),
     ];
-    Some(disk_after(FileStore::open(disk).ok()?, &calls).is_some())
+    Some(disk_after(FileStore::open(disk).ok()?, Version::One, &calls).is_some())
 }
 
 // A load compares the tag of its slot with that of its fields after the slot before, and doesn't read the gate.

@@ -4,7 +4,7 @@ use Rattle.state_file.specs.Laws.{bottom_of, levels_of}
 use Rattle.state_file.specs.declared.record.Key.{Key}
 use Rattle.sign_core.specs.declared.fault.SignFault.{SignFault}
 use Rattle.sign_core.specs.Signing.{answered_with}
-use Rattle.sign_core.specs.Records.{key_in}
+use Rattle.sign_core.specs.Records.{key_in, is_long}
 use Rattle.sign_core.specs.Links.{trees_in}
 use Rattle.sign_core.specs.Signer.{signature_size}
 use Rattle.sign_core.specs.Signing.{CanBind, Extends, Fulfils}
@@ -84,6 +84,7 @@ fulfil-requires g t c κs within =
     (length a.out.now) c.extend.new.self = record {
       ready = ready_after g.S.Store a.self.now c.extend.new.self _ after can.ready;
       unbound = unbound_after g.S.Store a.self.now c.extend.new.self a.name.now after can.unbound;
+      fits = λ key keyed. subst (λ (k : Key). is_long k a.name.now ≡ false) (same_Some _ _ (sym next ∙ keyed)) (can.fits c.key.result.now own);
       room = λ key keyed. subst (λ (k : Key). length a.out.now ≡ signature_size k.secret) (same_Some _ _ (sym next ∙ keyed)) room;
     } in (
       omega (arith, c.decreases, few, low, count, c.levels.ensures),

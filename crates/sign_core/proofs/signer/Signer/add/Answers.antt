@@ -1,6 +1,7 @@
-use Rattle.std.proofs.Common.{ap}
+use Rattle.std.proofs.Common.{◌≡◌, ◌∙◌, true, ap, subst, sym}
 use Rattle.std.specs.Prelude.{not}
-use Rattle.sign_core.proofs.Adding.{adds_in_err, adds_in_ok, signer_grown}
+use Rattle.state_file.specs.Slot.{FitsVersion, version_in}
+use Rattle.sign_core.proofs.Adding.{adds_in_err, adds_in_ok, follows_tied, signer_grown}
 use Rattle.sign_core.proofs.signer.Signer.add.Goals as goal
 
 pub invariant_of-self : goal.invariant_of-self
@@ -30,3 +31,10 @@ returns-in-Err-clause-adds g c =
     c.self.view_is c.self.invariant.0 c.requires.open
     (ap not c.closes.ensures)
     e
+
+pub append-requires-clause-follows : goal.append-requires-clause-follows
+append-requires-clause-follows g c honest =
+    let i = c.self.inside in
+    let was : i.is_open ≡ true = ap (λ w. w.is_open) c.self.view_is ∙ c.requires.open in
+    let fits = subst (λ w. FitsVersion (version_in w.records) c.args.entry) (sym c.self.view_is) c.requires.fits in
+    follows_tied g.S.Store i.store i.ledger.records c.args.entry i.ledger.key c.self.invariant.1 (c.self.invariant.0.tied was) fits honest

@@ -23,6 +23,7 @@ returns-in_err-level-clause-step g c =
     (subst (IsSigner g.S.Store) c.self.view_is c.self.invariant.0)
     (λ left honest running since. g.met.S.Store.leaves_nothing_else v.store left honest running since)
     (ap (λ w. key_in w.records) (sym c.self.view_is) ∙ c.self.invariant.1) c.requires.open c.requires.goes_on c.requires.unbound
+    (c.requires.fits key (ap (λ w. key_in w.records) (sym c.self.view_is) ∙ c.self.invariant.1))
     (ap (λ w. deepest key.secret w.records) (sym c.self.view_is) ∙ sym c.deepest.ensures ∙ none))
 
 pub prepare-requires-clause-level : goal.prepare-requires-clause-level
@@ -48,7 +49,7 @@ returns-in_err-prepare-clause-step g c =
     (length c.prepare.new.out.items) c.in_ok-level.level key c.in_err-prepare.field-0.0
     (subst (IsSigner g.S.Store) c.self.view_is c.self.invariant.0)
     (λ left honest running since. g.met.S.Store.leaves_nothing_else v.store left honest running since)
-    keyed c.requires.open c.requires.goes_on c.requires.unbound
+    keyed c.requires.open c.requires.goes_on c.requires.unbound (c.requires.fits key keyed)
     (ap (λ w. deepest key.secret w.records) (sym c.self.view_is) ∙ sym c.deepest.ensures ∙ some) made.keeps
     made.caches made.spare made.does)
 
@@ -65,7 +66,7 @@ returns-in-Chain-clause-step g c =
     (vec_capacity c.args.out.now) (answered_with c.bind_chain.result xs)) (sym (take_at c.bind_chain.new.out _ c.prepare.new.out.len fits))
     (binds_signs g.S.Store g.R.Source g.M.Message v mid c.bind_chain.new.self c.args.name.now c.args.message.now c.bind_chain.new.message
     (vec_capacity c.args.out.now) c.in_ok-level.level key (answered_with c.bind_chain.result c.bind_chain.new.out) keyed c.requires.open c.requires.goes_on
-    c.requires.unbound (ap (λ w. deepest key.secret w.records) (sym c.self.view_is) ∙ sym c.deepest.ensures ∙ some) made.keeps made.spare made.does.0
+    c.requires.unbound (c.requires.fits key keyed) (ap (λ w. deepest key.secret w.records) (sym c.self.view_is) ∙ sym c.deepest.ensures ∙ some) made.keeps made.spare made.does.0
     (c.bind_chain.ensures key (ap key_in made.keeps.records ∙ keyed)))
 
 pub returns-in-Xmss-clause-step : goal.returns-in-Xmss-clause-step
@@ -88,6 +89,6 @@ returns-in-Xmss-clause-step g c =
     (vec_capacity c.args.out.now) (answered_with c.bind_xmss.result xs)) (sym (take_at c.bind_xmss.new.out _ c.prepare.new.out.len fits))
     (binds_signs g.S.Store g.R.Source g.M.Message v mid c.bind_xmss.new.self c.args.name.now c.args.message.now c.bind_xmss.new.message
     (vec_capacity c.args.out.now) c.in_ok-level.level key (answered_with c.bind_xmss.result c.bind_xmss.new.out) keyed c.requires.open c.requires.goes_on
-    c.requires.unbound (ap (λ w. deepest key.secret w.records) (sym c.self.view_is) ∙ sym c.deepest.ensures ∙ some) made.keeps made.spare made.does.0
+    c.requires.unbound (c.requires.fits key keyed) (ap (λ w. deepest key.secret w.records) (sym c.self.view_is) ∙ sym c.deepest.ensures ∙ some) made.keeps made.spare made.does.0
     (subst (λ n. Binds g.S.Store g.R.Source g.M.Message c.args.name.now n mid c.bind_xmss.new.self c.args.message.now c.bind_xmss.new.message
     (answered_with c.bind_xmss.result c.bind_xmss.new.out) key) top (c.bind_xmss.ensures key still)))

@@ -2,6 +2,7 @@ use Rattle.std.proofs.Common.{[], ◌∷◌, length, length-append, ◌∙◌, a
 use Rattle.state_file.specs.Disk.{DiskState}
 use Rattle.state_file.specs.Opening.{HasSlot, ReportsContent, ReportsSlot}
 use Rattle.state_file.proofs.Finding.{fault_reported, found_all, found_damaged, found_more, gate_within, found_open, reads_on, found_closed}
+use Rattle.state_file.proofs.Lists.{pushed_moved}
 use Rattle.state_file.proofs.file.opening.read_slots.Goals as goal
 
 pub returns-in_err-slot-clause-fault : goal.returns-in_err-slot-clause-fault
@@ -26,6 +27,7 @@ loop-disk-preserved g c =
     let slot = c.in_ok-slot.slot in record {
       counted = omega (arith, c.push.ensures.count, before.counted, ap length c.push.ensures.records, length-append found.records (slot.entry ∷ []));
       few = omega (arith, c.push.ensures.count, c.in_ok-slot.ensures.few);
+      moved = c.push.ensures.moved ∙ pushed_moved found.records c.push.new.self.records slot.entry c.push.ensures.records;
       version = c.push.ensures.version ∙ before.version;
       honest = c.read_slot.ensures.reads.counts.honest ∙ c.read_gate.ensures.reads.counts.honest ∙ before.honest;
       failures = c.in_ok-slot.ensures.reads.counts.failures ∙ c.in_ok-read_gate.ensures.reads.counts.failures ∙ before.failures;

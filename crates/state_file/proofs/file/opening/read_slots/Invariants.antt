@@ -3,6 +3,7 @@ use Rattle.std.proofs.Common.{◌≡◌, ◌-◌, ◌≤◌, length}
 use Rattle.std.specs.Prelude.{IsTrue}
 use Rattle.state_file.specs.File.{most_records}
 use Rattle.state_file.specs.DiskCalls.{OnlyReads}
+use Rattle.state_file.specs.Laws.{has_moved}
 use Rattle.state_file.proofs.Finding.{BeginsFound}
 use Rattle.state_file.proofs.file.opening.read_slots.Given as goal
 
@@ -10,6 +11,7 @@ abbrev pub invariant-loop-disk : goal.invariant-loop-disk
 invariant-loop-disk g l = record {
   counted : l.found.count ≡ length l.found.records;
   few : l.found.count ≤ most_records;
+  moved : l.found.moved ≡ has_moved l.found.records;
   version : l.found.version ≡ l.version;
   honest : g.D.Disk.honest l.disk ≡ g.D.Disk.honest l.initial.disk;
   failures : g.D.Disk.failures l.disk ≡ g.D.Disk.failures l.initial.disk;

@@ -7,6 +7,7 @@ pub invariant_of-result : goal.invariant_of-result
 invariant_of-result g c = record {
   counted = c.in-Ok.ensures.counted;
   few = omega (arith, c.in-Ok.ensures.counted, c.in-Ok.ensures.few);
+  moved_is = c.in-Ok.ensures.moved;
   of_version = λ honest running.
       let before = sym c.in-Ok.ensures.counts.honest ∙ honest in
       ap version_code (c.in-Ok.ensures.found before).of_version;

@@ -6,11 +6,11 @@ use crate::*;
 
 /// A disk that isn't honest: it shows what another has, and after so many reads the byte at an offset otherwise.
 #[derive(Drop)]
-pub(super) struct TurningDisk {
-    pub(super) disk: MemoryDisk,
+pub(crate) struct TurningDisk {
+    pub(crate) disk: MemoryDisk,
     // how many reads come before
-    pub(super) reads: u32,
-    pub(super) offset: u64,
+    pub(crate) reads: u32,
+    pub(crate) offset: u64,
 }
 
 impl Disk for TurningDisk {

@@ -1,6 +1,6 @@
 use Rattle.std.proofs.Common.{◌∙◌, ap, inr}
 use Rattle.state_file.specs.FileStore.{disk_of}
-use Rattle.command.proofs.make.make_key.Goals as goal
+use Rattle.command.proofs.make.Make.make_key.Goals as goal
 
 pub returns-in-Ok : goal.returns-in-Ok
 returns-in-Ok g c =

@@ -1,0 +1,51 @@
+-- `migrate OLD NEW`: its words, and what it does.
+use Rattle.std.specs.Prelude.{◌≡◌, ◌⊎◌, ◌++◌, ◌∷◌, [], ℕ, List, codes, Option, Some, None, Result, Ok, Err}
+use Rattle.clap.specs.Words.{App, Text, new_app, with_rule}
+use Rattle.state_file.specs.declared.disk.Disk as disk
+use Rattle.command.specs.declared.answer.Done.{Done}
+use Rattle.command.specs.declared.answer.Done.TheVariants.{Migrated}
+use Rattle.command.specs.declared.migrate.Migrate.{Migrate}
+use Rattle.command.specs.declared.refusal.Refusal.{Refusal}
+use Rattle.command.specs.declared.trace.Role.TheVariants as role
+use Rattle.command.specs.Argument.{required_rule}
+use Rattle.command.specs.FileDisk.{IsStateRefusal}
+use Rattle.command.specs.Files.{FilesSeen}
+use Rattle.command.specs.KeyFile.{MigratesOn}
+use Rattle.command.specs.Trace.{Happening, made, making, opened, opening_state}
+
+-- the command
+abbrev pub migrate_app : App
+migrate_app = with_rule (with_rule (new_app (codes "migrate")) (required_rule (codes "OLD")))
+    (required_rule (codes "NEW"))
+
+-- What the values of the words say: two files; or one isn't given.
+abbrev pub IsMigrate : (old new : Option Text) → Option Migrate → Type 0
+IsMigrate old new (Some words) = (old ≡ Some words.old.now) × (new ≡ Some words.new.now)
+IsMigrate old new None = (old ≡ None) ⊎ (new ≡ None)
+
+-- the answer, for what came of the migration
+abbrev pub migrate_answer : Result ℕ Refusal → Result Done Refusal
+migrate_answer (Ok count) = Ok (Migrated count)
+migrate_answer (Err refusal) = Err refusal
+
+-- With this disk of the old file: the new one couldn't be opened or made, or is locked, which is reported, and the old
+-- one was closed as it was. Or it was opened, and made where there was none; on the two disks that this gave the
+-- records were migrated, once, and both were closed; what came of it is the answer.
+abbrev pub MigratesFrom : {K : Type 0} → disk.Ghosts K → FilesSeen K → (from : K) → (new : List ℕ)
+    → Result Done Refusal → (before after : List Happening) → Type 0
+MigratesFrom {K} d files from new answer before after =
+    ((refusal : Refusal) × IsStateRefusal refusal × (answer ≡ Err refusal) × files.IsClosedDisk from
+    × (after ≡ before ++ making {A = K} new (Err refusal) ∷ []))
+    ⊎ ((to left filled : K) × (migrated : Result ℕ Refusal) × files.IsOpenedDisk new to
+    × MigratesOn d from to left filled migrated × files.IsClosedDisk left × files.IsClosedDisk filled
+    × (answer ≡ migrate_answer migrated) × (after ≡ before ++ made new ∷ []))
+
+-- The old state file couldn't be opened, or is locked, which is reported, and the new one wasn't opened or made. Or the
+-- old one was opened, and then the new one. No other file was.
+abbrev pub MigratesIn : {K : Type 0} → disk.Ghosts K → FilesSeen K → (old new : List ℕ) → Result Done Refusal
+    → (before after : List Happening) → Type 0
+MigratesIn {K} d files old new answer before after =
+    ((refusal : Refusal) × IsStateRefusal refusal × (answer ≡ Err refusal)
+    × (after ≡ before ++ opening_state {A = K} old (Err refusal) ∷ []))
+    ⊎ ((from : K) × files.IsOpenedDisk old from
+    × MigratesFrom d files from new answer (before ++ opened role.State old ∷ []) after)

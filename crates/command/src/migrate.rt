@@ -1,0 +1,108 @@
+//! `migrate OLD NEW`.
+
+ghost use Rattle.std.specs.Prelude.{◌≡◌, IfOk, codes};
+ghost use Rattle.clap.specs.declared.builder.command.Command.{Command as ClapCommand};
+ghost use Rattle.clap.specs.Words.{AddsSubcommand, app_of, first_value, found_of, with_subcommand};
+ghost use Rattle.command.specs.Files.{files_seen};
+ghost use Rattle.command.specs.Migrate.{IsMigrate, MigratesFrom, MigratesIn, migrate_answer, migrate_app};
+
+use crate::answer::{Answer, Done};
+use crate::argument::required;
+use crate::files::{NewContent, SignerFolder};
+use crate::key_file;
+use crate::refusal::Refusal;
+use clap::{ArgMatches, Command};
+use state_file::Disk;
+use std::alloc::{AllocError, Global};
+
+/// The words of the line.
+#[derive(Clone, Copy, Debug)]
+pub struct Migrate<'a> {
+    /// The path of the old state file, of version 1.
+    pub old: &'a str,
+    /// The path of the new one, of version 2, which is made where there is none.
+    pub new: &'a str,
+}
+
+impl<'a> Migrate<'a> {
+    /// The command's name on the line.
+    pub const NAME: &'static str = "migrate";
+
+    /// The command, for `clap`.
+    pub fn command(alloc: Global) -> Result<Command<'a>, AllocError>
+        ensures { IfOk result (λ command. (old new : ClapCommand) → AddsSubcommand old command new
+            → app_of new ≡ with_subcommand (app_of old) migrate_app.top) }
+    {
+        Command::new(alloc, Migrate::NAME)
+            .about("Moves a key to a new state file of format 2; the old file signs no more")
+            .after_help(
+                "Example:\n  $ hbsign migrate firmware.key firmware.key2\n  migrated 3 records",
+            )
+            .arg(required(
+                alloc,
+                "OLD",
+                "State file of format 1, which has the secret of the key and what it signed",
+            ))?
+            .arg(required(
+                alloc,
+                "NEW",
+                "State file that takes its place, which is made where there is none. After a stop or a failure run the \
+                         same line again: one OLD goes to one NEW",
+            ))
+    }
+
+    /// What the words say.
+    pub fn of(matches: &ArgMatches<'a>) -> Option<Self>
+        ensures { IsMigrate (first_value (found_of matches.now) (codes "OLD"))
+            (first_value (found_of matches.now) (codes "NEW")) result }
+    {
+        Some(Migrate {
+            old: matches.get_str("OLD")?,
+            new: matches.get_str("NEW")?,
+        })
+    }
+
+    /// Opens the old state file, then the new one, which is made where there is none, and migrates the records.
+    pub fn answer<D: SignerFolder<'a>>(&self, alloc: Global, folder: &mut D) -> Answer
+        ensures { MigratesIn D.Disk.Disk (files_seen (D.content folder.old) D.is_opened (D.is_closed folder.new))
+            self.now.old.now self.now.new.now result (D.trace folder.old) (D.trace folder.new) }
+    {
+        let old = folder.open_state(self.old)?;
+        self.migrate_from(alloc, folder, old)
+    }
+
+    // Opens or makes the new state file, migrates the records of the old disk, and closes both.
+    fn migrate_from<D: SignerFolder<'a>>(
+        &self,
+        alloc: Global,
+        folder: &mut D,
+        old: D::Disk,
+    ) -> Answer
+        ensures { MigratesFrom D.Disk.Disk
+            (files_seen (D.content folder.old) D.is_opened (D.is_closed folder.new)) old self.now.new.now result
+            (D.trace folder.old) (D.trace folder.new) }
+    {
+        match folder.open_or_make_state(self.new, NewContent::Records) {
+            Ok(new) => {
+                let (old, new, migrated) = key_file::migrate(alloc, old, new);
+                folder.close_state(new);
+                folder.close_state(old);
+                answer_to(migrated)
+            }
+            Err(refusal) => {
+                folder.close_state(old);
+                Err(refusal)
+            }
+        }
+    }
+}
+
+// What came of a migration, as an answer.
+fn answer_to(migrated: Result<u32, Refusal>) -> Answer
+    ensures { result ≡ migrate_answer migrated }
+{
+    match migrated {
+        Ok(count) => Ok(Done::Migrated(count)),
+        Err(refusal) => Err(refusal),
+    }
+}

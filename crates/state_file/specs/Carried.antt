@@ -1,0 +1,28 @@
+-- What a migration carries from a file of version 1 to one of version 2.
+use Rattle.std.specs.Prelude.{◌-◌, List, [], ◌∷◌, ◌++◌, length, map, take, if◌then◌else◌}
+use Rattle.state_file.specs.Laws.{has_moved}
+use Rattle.state_file.specs.declared.record.Record.{Record}
+use Rattle.state_file.specs.declared.record.Record.TheVariants.{Key as KeyRecord, Extend as ExtendRecord}
+use Rattle.state_file.specs.declared.record.Record.TheVariants.{Bound as BoundRecord, Retire, Moved}
+use Rattle.state_file.specs.declared.record.Version.{Version}
+use Rattle.state_file.specs.declared.record.Version.TheVariants.{Two}
+
+-- the record as it stands in a file of this version: a Key says the version, and no other does
+abbrev pub in_version : Version → Record → Record
+in_version version (KeyRecord key) = KeyRecord (record { version = version; secret = key.secret; root = key.root })
+in_version version (ExtendRecord extend) = ExtendRecord extend
+in_version version (BoundRecord bound) = BoundRecord bound
+in_version version (Retire upto) = Retire upto
+in_version version Moved = Moved
+
+-- the records with a Moved at their end
+abbrev pub with_moved : List Record → List Record
+with_moved records = if has_moved records then records else records ++ Moved ∷ []
+
+-- the records without a Moved at their end
+abbrev pub unmoved : List Record → List Record
+unmoved records = if has_moved records then take (length records - 1) records else records
+
+-- these, in version 2
+unfoldable pub carried : List Record → List Record
+carried records = map (in_version Two) (unmoved records)

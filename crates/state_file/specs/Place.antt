@@ -1,0 +1,31 @@
+-- A place for a file that holds no key yet.
+use Rattle.std.specs.Prelude.{◌≡◌, ◌<◌, ◌≤◌, ℕ, Bool, true, false, List, length, Result, Ok, Err}
+use Rattle.std.proofs.Props.{props}
+use Rattle.state_file.specs.Disk.{DiskState, IsSynced, settled}
+use Rattle.state_file.specs.File.{HasNoKey, IsClosed, MayHaveKey}
+use Rattle.state_file.specs.declared.migration.MigrateFault.{MigrateFault}
+use Rattle.state_file.specs.declared.migration.MigrateFault.TheVariants.{DeviceFailed, KeyThere}
+
+-- All of it is synced, and it has no key: it is short, of under 257 bytes, or its first gate is closed.
+pub record IsFreePlace (short : Bool) (state : DiskState) : Type 0 where
+  pub synced : IsSynced state
+  pub shorter : short ≡ true → length state.content < 257
+  pub longer : short ≡ false → 257 ≤ length state.content
+  pub closed : short ≡ false → IsClosed state.content 0
+
+pub IsFreePlace-prop : (short : Bool) (state : DiskState) → IsProp (IsFreePlace short state)
+IsFreePlace-prop short state = hlevel props
+
+-- What looking at a place answers of a content, and what it leaves: it has no key, or may have one. No other refusal
+-- comes but that of the device.
+abbrev pub FindsPlace : {A : Type 0} (content : List ℕ) (new : DiskState) → Result A MigrateFault → Type 0
+FindsPlace content new (Ok _) = HasNoKey content × (new ≡ settled content)
+FindsPlace content new (Err KeyThere) = MayHaveKey content × (new ≡ settled content)
+FindsPlace content new (Err DeviceFailed) = Unit {0}
+FindsPlace content new (Err _) = ⊥
+
+-- The refusals of a place, over any disk.
+abbrev pub RefusesPlace : MigrateFault → Type 0
+RefusesPlace KeyThere = Unit {0}
+RefusesPlace DeviceFailed = Unit {0}
+RefusesPlace _ = ⊥

@@ -1,0 +1,85 @@
+//! How the records of a key move from a file of version 1 to one of version 2: the new place is looked at, the old file
+//! is sealed, and the place is filled. So of the two files no stop leaves both able to sign.
+
+ghost use Rattle.std.specs.Prelude.{◌≡◌};
+
+mod filling;
+mod place;
+mod sealed;
+mod sealing;
+#[cfg(test)]
+mod tests;
+
+use crate::disk::DiskFault;
+pub use filling::fill;
+pub use place::Place;
+pub use sealed::Sealed;
+pub use sealing::seal;
+use thiserror::Error;
+
+/// Why records aren't migrated.
+#[derive(Clone, Copy, Debug, PartialEq, Eq, Error)]
+pub enum MigrateFault {
+    /// 26: a call of the old store failed, and its place wasn't opened again since.
+    #[error("a call failed, and the place was not opened again since")]
+    Stopped,
+    /// 40: the old place has no key.
+    #[error("there is no key")]
+    NoKey,
+    /// 41: the old file's first slot holds no Key.
+    #[error("the file is no key file")]
+    NotKeyFile,
+    /// 42: the old file is of another version than 1.
+    #[error("the key file is not of version 1")]
+    Version,
+    /// 43: this slot of the old file, and none before it, is damaged.
+    #[error("slot {0} is damaged")]
+    Damaged(u32),
+    /// 44: the old records aren't legal, and this one is the first that isn't.
+    #[error("record {0} is not legal")]
+    Illegal(u32),
+    /// 45: a device failed.
+    #[error("the device failed")]
+    DeviceFailed,
+    /// 46: memory was refused.
+    #[error("out of memory")]
+    OutOfMemory,
+    /// 50: there is a key at the new place.
+    #[error("there is a key")]
+    KeyThere,
+    /// 52: the old store is full, and its last record is no Moved.
+    #[error("the store is full")]
+    Full,
+}
+
+impl MigrateFault {
+    ghost use Rattle.state_file.specs.MigrateFault.{number_of};
+
+    /// The number by which the fault is reported.
+    pub fn number(self) -> u8
+        ensures { result ≡ number_of self }
+    {
+        match self {
+            MigrateFault::Stopped => 26,
+            MigrateFault::NoKey => 40,
+            MigrateFault::NotKeyFile => 41,
+            MigrateFault::Version => 42,
+            MigrateFault::Damaged(_) => 43,
+            MigrateFault::Illegal(_) => 44,
+            MigrateFault::DeviceFailed => 45,
+            MigrateFault::OutOfMemory => 46,
+            MigrateFault::KeyThere => 50,
+            MigrateFault::Full => 52,
+        }
+    }
+}
+
+impl From<DiskFault> for MigrateFault {
+    ghost use Rattle.state_file.specs.declared.migration.MigrateFault.TheVariants.{DeviceFailed};
+
+    ghost from_gives = { λ _ e. e ≡ DeviceFailed };
+
+    fn from(_: DiskFault) -> Self {
+        MigrateFault::DeviceFailed
+    }
+}

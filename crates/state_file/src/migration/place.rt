@@ -1,0 +1,67 @@
+//! Looking at the place that records are to move to.
+
+ghost use Rattle.std.specs.Prelude.{◌≡◌, IsTrue, IfErr, IfOk};
+ghost use Rattle.state_file.specs.Disk.{LeavesOnly, MayLeave};
+ghost use Rattle.state_file.specs.DiskCalls.{CountsFailures};
+ghost use Rattle.state_file.specs.MigrateFault.{is_failed_migration};
+ghost use Rattle.state_file.specs.Place.{FindsPlace, IsFreePlace, IsFreePlace-prop, RefusesPlace};
+
+use crate::disk::Disk;
+use crate::file::{SLOT, read_within, settle};
+use crate::migration::MigrateFault;
+use crate::refused::Refused;
+use crate::slot::is_open;
+
+/// A disk without a key, all of it synced. So a stop leaves nothing there that can sign.
+#[derive(Drop)]
+pub struct Place<E: Disk> {
+    pub(super) disk: E,
+    // whether it has under 257 bytes
+    pub(super) short: bool,
+    ghost free: { IsTrue (E.honest disk) → IsFreePlace short (E.state disk) } by { Prim.hlevel IsFreePlace-prop },
+}
+
+impl<E: Disk + Drop> Place<E> {
+    ghost use Rattle.state_file.specs.Migration.{ChecksPlace, place_disk};
+
+    /// Syncs a disk, and looks whether it has no key: it has under 257 bytes, or its first gate is closed. Else it is
+    /// refused (50), and so is one that fails (45). Nothing is written, and a refusal hands the disk back.
+    pub fn check(new: E) -> Result<Self, Refused<E, MigrateFault>>
+        ensures { ChecksPlace E.Disk new result }
+    {
+        let mut disk = new;
+        match find_place(&mut disk) {
+            Ok(short) => Ok(Place { disk, short }),
+            Err(fault) => Err(Refused { fault, given: disk }),
+        }
+    }
+
+    /// Gives the disk back.
+    pub fn into_disk(self) -> E
+        ensures { result ≡ place_disk self }
+    {
+        self.disk
+    }
+}
+
+// Syncs, and says of a place without a key whether it has under 257 bytes.
+fn find_place<E: Disk>(disk: &mut E) -> Result<bool, MigrateFault>
+    ensures free { IsTrue (E.honest disk.old) → IfOk result (λ short. IsFreePlace short (E.state disk.new)) }
+    ensures answer { IsTrue (E.honest disk.old) → FindsPlace (E.state disk.old).content (E.state disk.new) result }
+    ensures refuses { IfErr result RefusesPlace }
+    ensures any_moment { IsTrue (E.honest disk.old) →
+        LeavesOnly E.moment E.left_since disk.old disk.new (MayLeave (E.state disk.old)) }
+    ensures counts { CountsFailures E.Disk is_failed_migration disk.old disk.new result }
+{
+    let len = settle(disk)?;
+    if len < SLOT + 1 {
+        return Ok(true);
+    }
+    let mut gate = [0];
+    read_within(disk, 0, &mut gate)?;
+    if is_open(gate[0]) {
+        Err(MigrateFault::KeyThere)
+    } else {
+        Ok(false)
+    }
+}
