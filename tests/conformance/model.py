@@ -11,6 +11,9 @@ WIDTHS = {1: (1, 265, 7), 2: (2, 133, 6), 3: (4, 67, 4), 4: (8, 34, 0)}
 HEIGHTS = {5: 5, 6: 10, 7: 15, 8: 20, 9: 25}
 XMSS_HEIGHTS = {1: 10, 2: 16, 3: 20}
 LMS, HSS, XMSS = 1, 2, 3
+# the versions of the state file, with the most bytes that a name has in a file of it
+LONGEST_NAME = {1: 64, 2: 128}
+NEWEST = 2
 # the nodes of the trees that were made, by their secrets
 MADE = {}
 
@@ -209,7 +212,7 @@ def body(kind, *fields):
     return content + bytes(223 - len(content))
 
 
-def key_body(scheme, pairs, identifier, seed, prf_key, public_seed, root, version=1, levels=None):
+def key_body(scheme, pairs, identifier, seed, prf_key, public_seed, root, version=NEWEST, levels=None):
     codes = b"".join(u32(tree) + u32(ots) for tree, ots in pairs)
     levels = len(pairs) if levels is None else levels
     return body(1, b"HBSSTATE", u16(version), u8(scheme), u8(levels), codes + bytes(64 - len(codes)),
@@ -220,8 +223,9 @@ def extend_body(level, parent_leaf, identifier, seed, randomizer, digest, root):
     return body(2, u8(level), u32(parent_leaf), identifier, seed, randomizer, digest, root)
 
 
-def bound_body(name, leaf, randomizer, digest):
-    return body(3, u8(len(name)), name + bytes(64 - len(name)), u32(leaf), randomizer, digest)
+def bound_body(name, leaf, randomizer, digest, version=NEWEST):
+    """A name's record in a file of a version, in which the fields after the name stand behind the longest name."""
+    return body(3, u8(len(name)), name + bytes(LONGEST_NAME[version] - len(name)), u32(leaf), randomizer, digest)
 
 
 def retire_body(upto):
@@ -260,15 +264,23 @@ def number(record, first, last):
     return int.from_bytes(part(record, first, last), "big")
 
 
+def bound_fields(record, version):
+    """The name, the leaf, C and Q of a Bound in a file of a version."""
+    at = 3 + LONGEST_NAME[version]
+    return (part(record, 3, 2 + record[1]), number(record, at, at + 3), part(record, at + 4, at + 35),
+            part(record, at + 36, at + 67))
+
+
 def pairs_of(record):
     """The eight pairs of codes of a Key."""
     return [(number(record, at, at + 3), number(record, at + 4, at + 7)) for at in range(14, 78, 8)]
 
 
-def is_key(record):
-    """Whether bytes of kind 1 spell a Key: known types for its levels, and zeros where its scheme has no field."""
+def is_key(record, version):
+    """Whether bytes of kind 1 spell a Key of a version: known types for its levels, and zeros where its scheme has no
+    field."""
     scheme, levels, pairs = record[11], record[12], pairs_of(record)
-    if part(record, 2, 11) != b"HBSSTATE" + u16(1) or any(part(record, 222, 223)):
+    if part(record, 2, 11) != b"HBSSTATE" + u16(version) or any(part(record, 222, 223)):
         return False
     if not 1 <= levels <= (8 if scheme == HSS else 1) or any(pair != (0, 0) for pair in pairs[levels:]):
         return False
@@ -278,16 +290,16 @@ def is_key(record):
             and not any(part(record, 126, 189)))
 
 
-def is_record(record):
-    """Whether the bytes 1 to 223 of a slot spell a record."""
-    kind, size = record[0], record[1]
+def is_record(record, version):
+    """Whether the bytes 1 to 223 of a slot spell a record of a version."""
+    kind, size, longest = record[0], record[1], LONGEST_NAME[version]
     if kind == 1:
-        return is_key(record)
+        return is_key(record, version)
     if kind == 2:
         return not any(part(record, 151, 223))
     if kind == 3:
-        return (size <= 64 and is_name(part(record, 3, 2 + size)) and not any(part(record, 3 + size, 66))
-                and not any(part(record, 135, 223)))
+        return (size <= longest and is_name(part(record, 3, 2 + size))
+                and not any(part(record, 3 + size, 2 + longest)) and not any(part(record, 71 + longest, 223)))
     if kind == 4:
         return not any(part(record, 6, 223))
     return kind == 5 and number(record, 2, 3) == 2 and not any(part(record, 4, 223))
@@ -299,19 +311,21 @@ def holds_key(content):
 
 
 def records_of(content):
-    """The records of a state file up to its first closed gate, or the first fault that an opening finds (40 to 43)."""
+    """The records of a state file up to its first closed gate, or the first fault that an opening finds (40 to 43). All
+    are of the version that the first says."""
     if len(content) < 257 or content[0] != 0xA5:
         raise Refused(40)
     if not holds_key(content):
         raise Refused(41)
-    if content[10:12] != u16(1):
+    version = int.from_bytes(content[10:12], "big")
+    if version not in LONGEST_NAME:
         raise Refused(42)
     bodies, tag, start = [], bytes(32), 0
     while content[start] == 0xA5:
         record, found = content[start + 1:start + 224], content[start + 224:start + 256]
         tag = sha256(tag, record)
         start += 256
-        if len(content) <= start or found != tag or not is_record(record):
+        if len(content) <= start or found != tag or not is_record(record, version):
             raise Refused(43, len(bodies))
         bodies.append(record)
     return bodies
@@ -343,8 +357,9 @@ class Current:
 
 
 class Signer:
-    """A key with its records (docs/FORMATS.md), in the scheme of its spec. `limit` is how many records it takes."""
-    def __init__(self, spec, tape, limit=2**31):
+    """A key with its records (docs/FORMATS.md), in the scheme of its spec, for a file of a version. `limit` is how many
+    records it takes."""
+    def __init__(self, spec, tape, version=NEWEST, limit=2**31):
         kind, text = spec.split(":")
         self.scheme = {"lms": LMS, "hss": HSS, "xmss": XMSS}[kind]
         if self.scheme == XMSS:
@@ -352,17 +367,18 @@ class Signer:
             self.pairs = [(code, 0)]
             secrets = tape.draw(32), tape.draw(32), tape.draw(32)
             tree = XmssTree(code, *secrets)
-            record = key_body(XMSS, self.pairs, bytes(16), *secrets, tree.root())
+            record = key_body(XMSS, self.pairs, bytes(16), *secrets, tree.root(), version)
         else:
             self.pairs = [pair_of(pair) for pair in text.split(",")]
             identifier, seed = tape.draw(16), tape.draw(32)
             tree = LmsTree(self.pairs[0], identifier, seed)
-            record = key_body(self.scheme, self.pairs, identifier, seed, bytes(32), bytes(32), tree.root())
+            record = key_body(self.scheme, self.pairs, identifier, seed, bytes(32), bytes(32), tree.root(), version)
         self.begin(record, tree, tree.root(), limit)
 
     def begin(self, record, tree, root, limit=2**31):
         """A key of one record, whose root may be another than its tree's."""
         self.limit = limit
+        self.version = number(record, 10, 11)
         self.bodies = [record]
         self.current = [Current(0, tree, root)] + [None] * (len(self.pairs) - 1)
         self.bound = {}
@@ -396,12 +412,12 @@ class Signer:
         if kind == 2:
             return self.takes_extend(record)
         if kind == 3:
-            name, leaf, randomizer = part(record, 3, 2 + record[1]), number(record, 67, 70), part(record, 71, 102)
+            name, leaf, randomizer, digest = bound_fields(record, self.version)
             if name in self.bound or not bottom or not bottom.has_free(leaf):
                 return False
             if self.scheme == XMSS and any(randomizer):
                 return False
-            self.add_bound(name, leaf, randomizer, part(record, 103, 134))
+            self.add_bound(name, leaf, randomizer, digest)
         elif kind == 4:
             upto = number(record, 2, 5)
             if not bottom or upto > bottom.tree.leaf_count():
@@ -409,7 +425,7 @@ class Signer:
             self.bodies.append(record)
             bottom.next = max(bottom.next, upto)
         else:
-            self.move()
+            return self.move()
         return True
 
     def takes_extend(self, record):
@@ -502,6 +518,8 @@ class Signer:
                 raise Refused(21)
             self.check(self.chain_of(at))
             return self.signature(name)
+        if len(name) > LONGEST_NAME[self.version]:
+            raise Refused(33)
         free = [level for level, at in enumerate(self.current) if at and at.is_free()]
         if not free:
             raise Refused(22)
@@ -519,7 +537,7 @@ class Signer:
 
     def add_bound(self, name, leaf, randomizer, digest):
         bottom = self.current[-1]
-        self.bodies.append(bound_body(name, leaf, randomizer, digest))
+        self.bodies.append(bound_body(name, leaf, randomizer, digest, self.version))
         self.bound[name] = bottom, leaf, randomizer, digest
         bottom.next = leaf + 1
 
@@ -535,9 +553,51 @@ class Signer:
             bottom.next = upto
 
     def move(self):
-        """The record that says that the records go on in another file."""
+        """The record that says that the records go on in another file, where its version has one."""
+        if self.version != 1:
+            return False
         self.bodies.append(moved_body())
         self.has_moved = True
+        return True
+
+
+# ---- migrations: the records of a file of version 1 go on in one of version 2
+
+
+def written_over(content, data):
+    """A file whose first bytes were written over. What stands behind them stays."""
+    return data + content[len(data):]
+
+
+def carried(record):
+    """A record of version 1 as a file of version 2 has it."""
+    if record[0] == 1:
+        return record[:9] + u16(2) + record[11:]
+    return bound_body(*bound_fields(record, 1), 2) if record[0] == 3 else record
+
+
+def sealed(old):
+    """What an old file has from then on that it signs no more: its records, and a Moved as the last."""
+    key = Signer.of(records_of(old))
+    if key.has_moved:
+        return old
+    key.move()
+    return written_over(old, key.content())
+
+
+def filled(old, new):
+    """What a new file has in the end: the records of an old one but its Moved, and what stood behind their place."""
+    return written_over(new, state_file([carried(record) for record in records_of(old) if record[0] != 5]))
+
+
+def migrated(old, new):
+    """What an old and a new file have after a migration, and how many records the new one has."""
+    if Signer.of(records_of(old)).version != 1:
+        raise Refused(42)
+    if len(new) >= 257 and new[0] == 0xA5:
+        raise Refused(50)
+    made = filled(old, new)
+    return sealed(old), made, len(records_of(made))
 
 
 # ---- the frames of `serve`
@@ -548,7 +608,7 @@ def frame(name, message):
 
 
 def is_name(name):
-    return 1 <= len(name) <= 64 and all(0x21 <= byte <= 0x7E for byte in name)
+    return 1 <= len(name) <= max(LONGEST_NAME.values()) and all(0x21 <= byte <= 0x7E for byte in name)
 
 
 def reply(number, content=b""):
