@@ -70,11 +70,11 @@ pub(crate) fn node_over<T: NodeHash>(
     if height == 0 {
         return leaves[0];
     }
-    let below = height - 1;
+    let lower = height - 1;
     let half = leaves.len() / 2;
-    let left = node_over(tree, below, 2 * index, &leaves[..half]);
-    let right = node_over(tree, below, 2 * index + 1, &leaves[half..]);
-    tree.join(below, index, &left, &right)
+    let left = node_over(tree, lower, 2 * index, &leaves[..half]);
+    let right = node_over(tree, lower, 2 * index + 1, &leaves[half..]);
+    tree.join(lower, index, &left, &right)
 }
 
 /// Node `index` of a height, from the leaves below it, made in lanes where there are enough for all lanes.

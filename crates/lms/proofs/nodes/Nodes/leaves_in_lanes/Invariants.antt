@@ -2,7 +2,7 @@
 use Rattle.std.proofs.Common.{◌≡◌, ℕ, ◌<◌, [], length, slice_index, slice_index_or}
 use Rattle.lms.specs.Nodes.{leaf_of}
 use Rattle.winternitz.specs.Lanes.{lanes}
-use Rattle.lms.proofs.nodes.Nodes.four_leaves.Given as goal
+use Rattle.lms.proofs.nodes.Nodes.leaves_in_lanes.Given as goal
 
 abbrev pub invariant-loop-lane : goal.invariant-loop-lane
 invariant-loop-lane l = record {
