@@ -17,7 +17,7 @@ step_hashed identifier q chain at first value before digest hashed begins same =
     let step : sha256 ((identifier ++ u32str q) ++ step_bytes chain at value) ≡ step_of identifier q chain at value = ap sha256 whole in
     hashed ∙ ap (λ f. sha256 (f ++ step_bytes chain at value)) begins ∙ step ∙ ap (step_of identifier q chain at) same
 
--- the same in a lane, where the four chains have one number and their steps another
+-- the same in a lane, where the chains of all lanes have one number and their steps another
 pub step_hashed_in : (identifier : List ℕ) (q chain at j : ℕ) (first value before digest : List ℕ) → j < lanes
     → digest ≡ sha256 (first ++ step_bytes (slice_index (replicate lanes chain) j) (slice_index (replicate lanes at) j) value)
     → first ≡ identifier ++ u32str q → value ≡ before

@@ -28,7 +28,7 @@ impl Step for Chains {
         self.key.step(chain, at, value)
     }
 
-    fn step_four(
+    fn step_in_lanes(
         &self,
         chains: &[u16; LANES],
         at: &[u8; LANES],
@@ -37,7 +37,7 @@ impl Step for Chains {
         digests(&self.beginning.hash(chains, at, &in_words(values)))
     }
 
-    fn steps_four(
+    fn steps_in_lanes(
         &self,
         chains: &[u16; LANES],
         from: &[u8; LANES],
@@ -63,7 +63,7 @@ impl Chains {
         }
     }
 
-    // The private values of the first chains, four at a time.
+    // The private values of the first chains, made in lanes.
     pub(crate) fn private_values(&self, seed: &[u8; 32], count: usize) -> Values
         requires { count ≤ 265 }
         ensures { (i : ℕ) → i < count
@@ -72,7 +72,7 @@ impl Chains {
         let mut values = [[0; 32]; MOST_CHAINS];
         let groups = count / LANES;
         for group in 0..groups {
-            self.four_private_values(seed, LANES * group, &mut values);
+            self.private_values_in_lanes(seed, LANES * group, &mut values);
         }
         for chain in LANES * groups..count {
             values[chain] = self.key.private_value(seed, chain as u16);
@@ -80,15 +80,15 @@ impl Chains {
         values
     }
 
-    // Four private values, from that of a chain on: a private value is made as step 0xff of its chain would be.
-    fn four_private_values(&self, seed: &[u8; 32], chain: usize, values: &mut Values)
+    // A private value in each lane, from that of a chain on: it is made as step 0xff of its chain would be.
+    fn private_values_in_lanes(&self, seed: &[u8; 32], chain: usize, values: &mut Values)
         requires { chain + lanes ≤ 265 }
         ensures before { (i : ℕ) → i < chain → slice_index_or values.new i [] ≡ slice_index_or values.old i [] }
         ensures made { (j : ℕ) → j < lanes → slice_index_or values.new (chain + j) []
             ≡ spec.private_value self.now.key.identifier self.now.key.leaf seed.now (chain + j) }
     {
         let chains = numbers_from(chain as u16);
-        let made = self.step_four(&chains, &[0xff; LANES], &[*seed; LANES]);
+        let made = self.step_in_lanes(&chains, &[0xff; LANES], &[*seed; LANES]);
         for lane in 0..LANES {
             values[chain + lane] = made[lane];
         }
@@ -105,7 +105,7 @@ pub(crate) fn first_bytes(identifier: &[u8; 16], leaf: u32) -> [u8; 20]
     bytes
 }
 
-// Four numbers in a row.
+// Numbers in a row, one for each lane.
 fn numbers_from(first: u16) -> [u16; LANES]
     requires { first + lanes < 65536 }
     ensures { (j : ℕ) → j < lanes → slice_index result j ≡ first + j }

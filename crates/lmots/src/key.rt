@@ -13,15 +13,15 @@ ghost use Rattle.typecodes.specs.Types.{chains_of, width_of};
 ghost use Rattle.winternitz.specs.Lanes.{lanes};
 
 use crate::chains::Chains;
-use crate::four::FourKeys;
 use crate::hashes::{MESSAGE, PUBLIC};
+use crate::lane_keys::LaneKeys;
 use sha2::{Digest, Sha256};
 use typecodes::{Message, MessageFailed, OtsType};
 use winternitz::lanes::LANES;
 use winternitz::{Step, climb_from, climb_to, climb_whole, digits, feed};
 
 /// A leaf's one-time key, by the identifier I of its tree and its number q: what each hash of the
-/// key begins with (RFC 8554 4.2). As a `Step` it takes steps one by one; its own calls climb four chains at a time.
+/// key begins with (RFC 8554 4.2). As a `Step` it takes steps one by one; its own calls climb chains in lanes.
 #[derive(Clone, Copy, Debug, PartialEq, Eq)]
 pub struct LmOts {
     /// I, 16 bytes.
@@ -99,9 +99,9 @@ impl LmOts {
         self.hash_of_ends(&ends[..count])
     }
 
-    /// The public hashes of the keys of four leaves of a tree, whose private values are made of one seed: as
-    /// `public_hash`, but side by side.
-    pub fn four_public_hashes(
+    /// The public hashes of the keys of several leaves of a tree, one in each lane, whose private values are made of
+    /// one seed: as `public_hash`, but side by side.
+    pub fn public_hashes_in_lanes(
         identifier: [u8; 16],
         leaves: [u32; LANES],
         ots: OtsType,
@@ -110,7 +110,7 @@ impl LmOts {
         ensures { (j : ℕ) → j < lanes → let q = slice_index leaves j in
             slice_index_or result j [] ≡ spec.public_hash identifier q (ends_of_seed identifier q ots seed.now) }
     {
-        FourKeys::of(identifier, leaves).public_hashes(ots, seed)
+        LaneKeys::of(identifier, leaves).public_hashes(ots, seed)
     }
 
     // The public hash of the ends of all chains.

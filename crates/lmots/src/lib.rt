@@ -3,8 +3,8 @@
 //! Its model is `specs/Key.antt`: the standard's hashes, each as a formula over SHA-256. Its contract
 //! for the crates above: `hash_from_signature` gives the public hash of the chain ends to which a
 //! signature's values lead, `public_hash` that of the ends to which a seed's do, and
-//! `four_public_hashes` those of four leaves, made side by side. `sign_digest` writes the values of a
-//! seed's signature, which climb to the seed's ends.
+//! `public_hashes_in_lanes` those of several leaves, made side by side. `sign_digest` writes the values
+//! of a seed's signature, which climb to the seed's ends.
 //!
 //! ```rust
 //! use lmots::LmOts;
@@ -21,9 +21,9 @@
 #![tactic(auto)]
 
 mod chains;
-mod four;
 mod hashes;
 mod key;
+mod lane_keys;
 #[cfg(test)]
 mod tests;
 

@@ -7,7 +7,7 @@ use sha2::{Digest, Sha256};
 use std::process::Abort;
 use typecodes::OtsType;
 use winternitz::lanes::LANES;
-use winternitz::{Step, climb, climb_four};
+use winternitz::{Step, climb, climb_to};
 
 // 00, 01, .., 1f
 const RISING: [u8; 32] = [
@@ -53,15 +53,20 @@ fn step_hashes_its_place(rt: HostRuntime) {
     assert!(rt; KEY.step(0x0102, 254, &RISING) == high);
 }
 
-// Four steps side by side, each with a chain, a place and a value of its own.
+// A chain and a value in each lane.
+const CHAINS: [u16; LANES] = [3, 0x0102, 0, 264, 33, 0xff, 0x0100, 1];
+
+const VALUES: [[u8; 32]; LANES] = [
+    RISING, [0; 32], [0xff; 32], [7; 32], [1; 32], [0x80; 32], RISING, [0x55; 32],
+];
+
+// Steps side by side, each with a chain, a place and a value of its own.
 #[test]
-fn four_steps_are_steps(rt: HostRuntime) {
-    let chains = [3, 0x0102, 0, 264];
-    let at = [7, 254, 0, 255];
-    let values = [RISING, [0; 32], [0xff; 32], [7; 32]];
-    let after = Chains::of(&KEY).step_four(&chains, &at, &values);
+fn steps_in_lanes_are_steps(rt: HostRuntime) {
+    let at = [7, 254, 0, 255, 1, 127, 128, 253];
+    let after = Chains::of(&KEY).step_in_lanes(&CHAINS, &at, &VALUES);
     for lane in 0..LANES {
-        let plain = KEY.step(chains[lane], at[lane], &values[lane]);
+        let plain = KEY.step(CHAINS[lane], at[lane], &VALUES[lane]);
         assert!(rt; after[lane] == plain, "lane {lane}");
     }
 }
@@ -71,25 +76,30 @@ fn four_steps_are_steps(rt: HostRuntime) {
 #[test]
 fn each_length_climbs_in_each_lane(rt: HostRuntime) {
     for steps in 0..=255u8 {
-        expect_four(&rt, &[steps; LANES]);
-        let to = [
-            steps,
-            steps.wrapping_add(64),
-            steps.wrapping_add(128),
-            steps.wrapping_add(192),
-        ];
-        expect_four(&rt, &to);
+        expect_lanes_by(&rt, steps);
+        let mut to = [0; LANES];
+        for lane in 0..LANES {
+            to[lane] = steps.wrapping_add((256 / LANES * lane % 256) as u8);
+        }
+        expect_climbs(&rt, &to);
     }
 }
 
-// Four chains that climb together from their first values end where each ends by itself.
-fn expect_four(rt: &impl Abort, to: &[u8; LANES]) {
-    let chains = [3, 0x0102, 0, 264];
-    let values = [RISING, [0; 32], [0xff; 32], [7; 32]];
-    let ends = climb_four(&Chains::of(&KEY), &chains, &[0; LANES], to, &values);
+// Chains that climb together from their first values, by as many steps, end where each ends by itself.
+fn expect_lanes_by(rt: &impl Abort, steps: u8) {
+    let ends = Chains::of(&KEY).steps_in_lanes(&CHAINS, &[0; LANES], steps, &VALUES);
     for lane in 0..LANES {
-        let end = climb(&KEY, chains[lane], 0, to[lane], &values[lane]);
-        assert!(rt; ends[lane] == end, "lane {lane} of {to:?}");
+        let end = climb(&KEY, CHAINS[lane], 0, steps, &VALUES[lane]);
+        assert!(rt; ends[lane] == end, "lane {lane} of {steps}");
+    }
+}
+
+// The same of the first chains of a key, each to a place of its own.
+fn expect_climbs(rt: &impl Abort, to: &[u8; LANES]) {
+    let ends = climb_to(&Chains::of(&KEY), to, &VALUES);
+    for chain in 0..LANES {
+        let end = climb(&KEY, chain as u16, 0, to[chain], &VALUES[chain]);
+        assert!(rt; ends[chain] == end, "chain {chain} of {to:?}");
     }
 }
 
@@ -201,7 +211,7 @@ fn public_hash_ends_every_chain(rt: HostRuntime) {
         (OtsType::W4, four_bits, BESIDE_FOUR_BITS),
     ];
     for (ots, expected, beside) in types {
-        expect_fours(&rt, &KEY, ots, &RISING, (expected, beside));
+        expect_lanes(&rt, &KEY, ots, &RISING, (expected, beside));
     }
 }
 
@@ -221,9 +231,9 @@ const BESIDE_FOUR_BITS: [u8; 32] = [
     0x3d, 0x99, 0x1a, 0x35, 0x24, 0x27, 0xd1, 0x13, 0x67, 0xb3, 0xdf, 0x35, 0xfb, 0x20, 0xfe, 0xe3,
 ];
 
-// A key in each lane, with leaf 77 of its tree in the three others: each lane has the public hash of its leaf, of which
-// the second one is leaf 77's.
-fn expect_fours(
+// A key in each lane, with leaf 77 of its tree in all others: each lane has the public hash of its leaf, of which the
+// second one is leaf 77's.
+fn expect_lanes(
     rt: &impl Abort,
     key: &LmOts,
     ots: OtsType,
@@ -235,7 +245,7 @@ fn expect_fours(
         leaves[lane] = key.leaf;
         let mut hashes = [beside; LANES];
         hashes[lane] = expected;
-        let made = LmOts::four_public_hashes(key.identifier, leaves, ots, seed);
+        let made = LmOts::public_hashes_in_lanes(key.identifier, leaves, ots, seed);
         assert!(rt; made == hashes, "lane {lane}");
     }
 }
@@ -279,7 +289,7 @@ const REAL_MESSAGE: [u8; 32] = [
 #[test]
 fn a_real_seed_makes_the_public_hash(rt: HostRuntime) {
     assert!(rt; REAL_KEY.public_hash(OtsType::W8, &REAL_SEED) == REAL_HASH);
-    expect_fours(
+    expect_lanes(
         &rt,
         &REAL_KEY,
         OtsType::W8,

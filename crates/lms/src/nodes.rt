@@ -32,8 +32,8 @@ impl Nodes {
         hasher.finalize()
     }
 
-    // The nodes of four leaves.
-    pub(crate) fn four_leaves(
+    // The nodes of a leaf in each lane.
+    pub(crate) fn leaves_in_lanes(
         &self,
         leaves: &[u32; LANES],
         public_hashes: &[[u8; 32]; LANES],

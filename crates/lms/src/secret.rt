@@ -1,7 +1,8 @@
 //! Secrets, and the trees that they make.
 
-ghost use Rattle.std.specs.Prelude.{◌≡◌, ◌+◌};
+ghost use Rattle.std.specs.Prelude.{◌≡◌, ◌≤◌, ◌<◌, ◌+◌, ◌^◌, ℕ, slice_index};
 ghost use Rattle.typecodes.specs.Types.{height_of};
+ghost use Rattle.winternitz.specs.Lanes.{lanes};
 
 use crate::nodes::Nodes;
 use lmots::LmOts;
@@ -57,16 +58,14 @@ impl LmsTree {
 }
 
 impl LmsTree {
-    // Four leaves more are made.
-    fn count_four(&mut self)
+    // A leaf more is made in each lane.
+    fn count_lanes(&mut self)
         ensures secret { self.new.secret ≡ self.old.secret }
-        ensures made { self.new.made ≡ self.old.made + 4 }
+        ensures made { self.new.made ≡ self.old.made + lanes }
     {
-        let made = &mut self.made;
-        made.add_one();
-        made.add_one();
-        made.add_one();
-        made.add_one();
+        for _lane in 0..LANES {
+            Count::add_one(&mut self.made);
+        }
     }
 }
 
@@ -98,16 +97,28 @@ impl TreeHash for LmsTree {
         secret.nodes().leaf(i, &public_hash)
     }
 
-    fn four_leaves(&mut self, first: u32) -> [[u8; 32]; LANES] {
-        let leaves = [first, first + 1, first + 2, first + 3];
-        self.count_four();
+    fn leaves_in_lanes(&mut self, first: u32) -> [[u8; 32]; LANES] {
+        let leaves = leaves_from(first);
+        self.count_lanes();
         let secret = &self.secret;
-        let public_hashes = LmOts::four_public_hashes(
+        let public_hashes = LmOts::public_hashes_in_lanes(
             secret.identifier,
             leaves,
             secret.pair.ots,
             &secret.seed,
         );
-        secret.nodes().four_leaves(&leaves, &public_hashes)
+        secret.nodes().leaves_in_lanes(&leaves, &public_hashes)
     }
+}
+
+// The numbers of leaves in a row, one for each lane.
+fn leaves_from(first: u32) -> [u32; LANES]
+    requires { first + lanes ≤ 2 ^ 32 }
+    ensures { (j : ℕ) → j < lanes → slice_index result j ≡ first + j }
+{
+    let mut leaves = [first; LANES];
+    for lane in 0..LANES {
+        leaves[lane] = first + lane as u32;
+    }
+    leaves
 }

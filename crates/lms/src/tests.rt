@@ -9,6 +9,7 @@ use std::io::Read;
 use std::process::Abort;
 use std::test::Fail;
 use typecodes::{Cause, LmsPair, LmsType, OtsType, ReadFault, Refusal};
+use winternitz::lanes::LANES;
 
 const PAIR: LmsPair = LmsPair {
     tree: LmsType::H5,
@@ -271,9 +272,9 @@ fn tree() -> [[u8; 32]; 64] {
     nodes
 }
 
-// The leaves of that tree, one by one and four at a time from each leaf on.
+// The leaves of that tree, one by one and in lanes from each leaf on.
 #[test]
-fn leaves_are_made_one_by_one_and_in_fours(rt: HostRuntime) {
+fn leaves_are_made_one_by_one_and_in_lanes(rt: HostRuntime) {
     let nodes = tree();
     let mut seed = [0; 32];
     for i in 0..32u8 {
@@ -284,11 +285,12 @@ fn leaves_are_made_one_by_one_and_in_fours(rt: HostRuntime) {
         identifier: IDENTIFIER,
         seed,
     });
-    for first in 0..29u32 {
-        let at = 32 + first as usize;
-        let four = [nodes[at], nodes[at + 1], nodes[at + 2], nodes[at + 3]];
-        assert!(rt; made.leaf(first) == nodes[at], "{first}");
-        assert!(rt; made.four_leaves(first) == four, "{first}");
+    for first in 0..=32 - LANES {
+        let at = 32 + first;
+        let mut together = [[0; 32]; LANES];
+        together.copy_from_slice(&nodes[at..at + LANES]);
+        assert!(rt; made.leaf(first as u32) == nodes[at], "{first}");
+        assert!(rt; made.leaves_in_lanes(first as u32) == together, "{first}");
     }
 }
 

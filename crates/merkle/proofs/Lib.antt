@@ -5,4 +5,4 @@ pub mod Paths
 pub mod Listing
 pub mod Reading
 pub mod Kept
-pub mod FourLeaves
+pub mod Halves

@@ -2,3 +2,4 @@ pub mod Tree
 pub mod Ascent
 pub mod Nodes
 pub mod Cache
+pub mod Lanes

@@ -1,5 +1,5 @@
 -- The nodes of a part of a tree, listed as they are made (RFC 8391 4.1.6), and an authentication path's nodes in it.
-use Rattle.std.specs.Prelude.{ℕ, zero, suc, ◌+◌, ◌*◌, ◌/◌, ◌^◌, List, [], ◌∷◌, ◌++◌, map}
+use Rattle.std.specs.Prelude.{◌≡◌, ℕ, zero, suc, ◌+◌, ◌*◌, ◌/◌, ◌<◌, ◌^◌, List, [], ◌∷◌, ◌++◌, map, slice_index_or}
 use Rattle.std.specs.List.{range_with_len}
 use Rattle.merkle.specs.Tree.{Leaves, Joins, node, sibling}
 
@@ -14,3 +14,7 @@ nodes_under leaf join base (suc depth) j =
 -- the siblings of node i of height base and of the nodes over it, at `depth` heights
 abbrev pub path_from : Leaves → Joins → ℕ → ℕ → ℕ → List (List ℕ)
 path_from leaf join base depth i = map (λ k. node leaf join (base + k) (sibling (i / 2 ^ k))) (range_with_len 0 depth)
+
+-- these are the leaves under node j of height h
+abbrev pub AreUnder : Leaves → ℕ → ℕ → List (List ℕ) → Type 0
+AreUnder leaf h j leaves = (k : ℕ) → k < 2 ^ h → slice_index_or leaves k [] ≡ leaf (2 ^ h * j + k)

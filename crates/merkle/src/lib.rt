@@ -8,10 +8,10 @@
 //! leaves of one block at most; `root_from_path` gives the last node of the ascent, and the path of
 //! leaf q leads from it to the root.
 //!
-//! Leaves are made four at a time where four stand under one node of height 2, by
-//! `TreeHash::four_leaves`: a tree may make these together, and makes them one by one otherwise. The
-//! leaves of a tree or of a cache's block that is less than 2 high are made one by one, and so are
-//! those under the two lowest nodes of a path that is made without a cache.
+//! Leaves are made in lanes, eight at a time, where eight stand under one node of height 3, by
+//! `TreeHash::leaves_in_lanes`: a tree may make these together, and makes them one by one otherwise. The
+//! leaves of a tree or of a cache's block that is less than 3 high are made one by one, and so are
+//! those under the three lowest nodes of a path that is made without a cache.
 //!
 //! ```rust
 //! use merkle::{PathCache, path, root, root_from_path};

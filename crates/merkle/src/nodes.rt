@@ -2,13 +2,13 @@
 
 ghost use Rattle.std.specs.Prelude.{◌≡◌, ◌≤◌, ◌<◌, ◌+◌, ◌-◌, ◌*◌, ◌/◌, ◌^◌, ℕ, List, length};
 ghost use Rattle.merkle.specs.Tree.{Leaves, Joins, node};
-ghost use Rattle.merkle.specs.Nodes.{nodes_under, path_from};
+ghost use Rattle.merkle.specs.Nodes.{AreUnder, nodes_under, path_from};
 
-use crate::tree::{TreeHash, node_at, nodes_over_four};
+use crate::tree::{LANES, LANES_HEIGHT, NodeHash, TreeHash, node_at, node_over};
 
 /// Writes the nodes from node `index` of height `base + depth` down to those of height `base`, `2^(depth + 1) - 1` in
-/// all. Of what stands under a node of height `base` nothing is kept. Leaves are made four at a time where `base`
-/// is at least 2, or is 0 with a `depth` of at least 2.
+/// all. Of what stands under a node of height `base` nothing is kept. Leaves are made in lanes where there are
+/// enough for all lanes under node `index`, or under each of those nodes.
 pub(crate) fn fill<T: TreeHash>(
     tree: &mut T,
     base: u8,
@@ -24,12 +24,13 @@ pub(crate) fn fill<T: TreeHash>(
     ensures leaves { T.leaf_of tree.new ≡ T.leaf_of tree.old }
     ensures joins { T.join_of tree.new ≡ T.join_of tree.old }
 {
-    if depth == 0 {
-        into[0] = node_at(tree, base, index);
+    if base + depth == LANES_HEIGHT {
+        let leaves = tree.leaves_in_lanes(LANES as u32 * index);
+        fill_over(tree, base, depth, index, &leaves, into);
         return;
     }
-    if base == 0 && depth == 2 {
-        into.copy_from_slice(&nodes_over_four(tree, index));
+    if depth == 0 {
+        into[0] = node_at(tree, base, index);
         return;
     }
     let below = depth - 1;
@@ -38,6 +39,37 @@ pub(crate) fn fill<T: TreeHash>(
     let (right, top) = rest.split_at_mut(half);
     fill(tree, base, below, 2 * index, left);
     fill(tree, base, below, 2 * index + 1, right);
+    top[0] = tree.join(base + below, index, &left[half - 1], &right[half - 1]);
+}
+
+/// As `fill`, of the leaves under node `index`, which are made already.
+fn fill_over<T: NodeHash>(
+    tree: &T,
+    base: u8,
+    depth: u8,
+    index: u32,
+    leaves: &[[u8; 32]],
+    into: &mut [[u8; 32]],
+)
+    requires height { base + depth ≤ 25 }
+    requires inside { index < 2 ^ (25 - (base + depth)) }
+    requires count { length leaves.now ≡ 2 ^ (base + depth) }
+    requires room { length into.old + 1 ≡ 2 ^ (depth + 1) }
+    ensures { (leaf : Leaves) → AreUnder leaf (base + depth) index leaves.now
+        → into.new ≡ nodes_under leaf (T.join_of tree.now) base depth index }
+{
+    if depth == 0 {
+        into[0] = node_over(tree, base, index, leaves);
+        return;
+    }
+    let below = depth - 1;
+    let first = &leaves[..leaves.len() / 2];
+    let second = &leaves[leaves.len() / 2..];
+    let half = into.len() / 2;
+    let (left, rest) = into.split_at_mut(half);
+    let (right, top) = rest.split_at_mut(half);
+    fill_over(tree, base, below, 2 * index, first, left);
+    fill_over(tree, base, below, 2 * index + 1, second, right);
     top[0] = tree.join(base + below, index, &left[half - 1], &right[half - 1]);
 }
 

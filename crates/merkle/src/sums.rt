@@ -2,16 +2,16 @@
 
 ghost use Rattle.std.specs.Prelude.{◌≡◌, ◌+◌, ◌%◌, replicate, slice_index, slice_set};
 
-use crate::tree::{NodeHash, TreeHash};
+use crate::tree::{LANES, NodeHash, TreeHash};
 use typecodes::Count;
 
 /// Byte 0 of leaf i is i + 1; of a node it is the sum of its children's, byte 1 is their height and
-/// byte 2 the node's index. `made` counts leaves as it runs, `count` for the contract, and `fours`
-/// how often four were asked for together.
+/// byte 2 the node's index. `made` counts leaves as it runs, `count` for the contract, and
+/// `together` how often as many as there are lanes were asked for together.
 #[derive(Drop)]
 pub(crate) struct Sums {
     pub(crate) made: u32,
-    pub(crate) fours: u32,
+    pub(crate) together: u32,
     count: Count,
 }
 
@@ -21,7 +21,7 @@ impl Sums {
     {
         Sums {
             made: 0,
-            fours: 0,
+            together: 0,
             count: Count::new(),
         }
     }
@@ -54,13 +54,17 @@ impl TreeHash for Sums {
         leaf
     }
 
-    fn four_leaves(&mut self, first: u32) -> [[u8; 32]; 4] {
-        self.fours = self.fours.wrapping_add(1);
+    fn leaves_in_lanes(&mut self, first: u32) -> [[u8; 32]; LANES] {
+        self.together = self.together.wrapping_add(1);
         [
             self.leaf(first),
             self.leaf(first + 1),
             self.leaf(first + 2),
             self.leaf(first + 3),
+            self.leaf(first + 4),
+            self.leaf(first + 5),
+            self.leaf(first + 6),
+            self.leaf(first + 7),
         ]
     }
 }
@@ -74,14 +78,14 @@ pub(crate) fn node(sum: u8, height: u8, index: u8) -> [u8; 32] {
     node
 }
 
-/// The node at this place in a tree of height 5 or less, by the sum of the n leaves below it, of which the first one
+/// The node at this place in a tree of height 7 or less, by the sum of the n leaves below it, of which the first one
 /// has the index n * `index`: n times that, and the numbers from 1 to n.
 pub(crate) fn worked_out(height: u8, index: u32) -> [u8; 32] {
     if height == 0 {
         return node((index.wrapping_add(1) % 256) as u8, 0, 0);
     }
-    let leaves = [1u32, 2, 4, 8, 16, 32][usize::from(height.min(5))];
-    let to_leaves = [1u32, 3, 10, 36, 136, 528][usize::from(height.min(5))];
+    let leaves = [1u32, 2, 4, 8, 16, 32, 64, 128][usize::from(height.min(7))];
+    let to_leaves = [1u32, 3, 10, 36, 136, 528, 2080, 8256][usize::from(height.min(7))];
     let sum = leaves
         .wrapping_mul(leaves)
         .wrapping_mul(index)

@@ -1,8 +1,16 @@
 //! Trees by their leaves and their join: their roots and authentication paths.
 
 ghost use Rattle.std.specs.Prelude.{◌≡◌, ◌≤◌, ◌<◌, ◌+◌, ◌-◌, ◌^◌, ℕ, List, [], length, slice_index_or};
-ghost use Rattle.merkle.specs.Nodes.{nodes_under};
-ghost use Rattle.merkle.specs.Tree.{node, root_of, path_of, sibling};
+ghost use Rattle.merkle.specs.Lanes.{lanes};
+ghost use Rattle.merkle.specs.Nodes.{AreUnder};
+ghost use Rattle.merkle.specs.Tree.{Leaves, node, root_of, path_of, sibling};
+
+/// How many leaves are made together, one in each lane of a hash. What another number changes besides, docs/ADDING.md
+/// lists.
+pub const LANES: usize = 8;
+
+/// The height of a node that stands over so many leaves.
+pub(crate) const LANES_HEIGHT: u8 = 3;
 
 /// How a hash tree's nodes are made from those below them.
 pub trait NodeHash {
@@ -29,40 +37,47 @@ pub trait TreeHash: NodeHash {
         ensures leaves { leaf_of self.new ≡ leaf_of self.old }
         ensures joins { Self.join_of self.new ≡ Self.join_of self.old };
 
-    /// Leaves first, .., first + 3, which count as four leaves made. They are made one by one, but for a tree that has
-    /// a function of its own, which may make them together.
-    fn four_leaves(&mut self, first: u32) -> [[u8; 32]; 4]
-        requires inside { first + 3 < 2 ^ 32 }
-        ensures values { (j : ℕ) → j < 4 → slice_index_or result j [] ≡ leaf_of self.old (first + j) }
-        ensures counted { made self.new ≡ made self.old + 4 }
+    /// The leaves from `first` on, one for each lane, which count as so many leaves made. They are made one by one, but
+    /// for a tree that has a function of its own, which may make them together.
+    fn leaves_in_lanes(&mut self, first: u32) -> [[u8; 32]; LANES]
+        requires inside { first + lanes ≤ 2 ^ 32 }
+        ensures values { (j : ℕ) → j < lanes → slice_index_or result j [] ≡ leaf_of self.old (first + j) }
+        ensures counted { made self.new ≡ made self.old + lanes }
         ensures leaves { leaf_of self.new ≡ leaf_of self.old }
         ensures joins { Self.join_of self.new ≡ Self.join_of self.old }
     {
-        [
-            self.leaf(first),
-            self.leaf(first + 1),
-            self.leaf(first + 2),
-            self.leaf(first + 3),
-        ]
+        let mut leaves = [[0; 32]; LANES];
+        for lane in 0..LANES {
+            leaves[lane] = self.leaf(first + lane as u32);
+        }
+        leaves
     }
 }
 
-/// Node `index` of height 2 and all nodes under it, listed as `fill` lists them, from four leaves at once.
-pub(crate) fn nodes_over_four<T: TreeHash>(tree: &mut T, index: u32) -> [[u8; 32]; 7]
-    requires { index < 2 ^ (25 - 2) }
-    ensures value { result ≡ nodes_under (T.leaf_of tree.old) (T.join_of tree.old) 0 2 index }
-    ensures counted { T.made tree.new ≡ T.made tree.old + 4 }
-    ensures leaves { T.leaf_of tree.new ≡ T.leaf_of tree.old }
-    ensures joins { T.join_of tree.new ≡ T.join_of tree.old }
+/// Node `index` of a height, of the leaves below it.
+pub(crate) fn node_over<T: NodeHash>(
+    tree: &T,
+    height: u8,
+    index: u32,
+    leaves: &[[u8; 32]],
+) -> [u8; 32]
+    requires height { height ≤ 25 }
+    requires inside { index < 2 ^ (25 - height) }
+    requires count { length leaves.now ≡ 2 ^ height }
+    ensures { (leaf : Leaves) → AreUnder leaf height index leaves.now
+        → result ≡ node leaf (T.join_of tree.now) height index }
 {
-    let leaves = tree.four_leaves(4 * index);
-    let left = tree.join(0, 2 * index, &leaves[0], &leaves[1]);
-    let right = tree.join(0, 2 * index + 1, &leaves[2], &leaves[3]);
-    let top = tree.join(1, index, &left, &right);
-    [leaves[0], leaves[1], left, leaves[2], leaves[3], right, top]
+    if height == 0 {
+        return leaves[0];
+    }
+    let lower = height - 1;
+    let half = leaves.len() / 2;
+    let left = node_over(tree, lower, 2 * index, &leaves[..half]);
+    let right = node_over(tree, lower, 2 * index + 1, &leaves[half..]);
+    tree.join(lower, index, &left, &right)
 }
 
-/// Node `index` of a height, from the leaves below it, made four at a time where the height is at least 2.
+/// Node `index` of a height, from the leaves below it, made in lanes where there are enough for all lanes.
 pub(crate) fn node_at<T: TreeHash>(tree: &mut T, height: u8, index: u32) -> [u8; 32]
     requires height { height ≤ 25 }
     requires inside { index < 2 ^ (25 - height) }
@@ -75,8 +90,9 @@ pub(crate) fn node_at<T: TreeHash>(tree: &mut T, height: u8, index: u32) -> [u8;
     if height == 0 {
         return tree.leaf(index);
     }
-    if height == 2 {
-        return nodes_over_four(tree, index)[6];
+    if height == LANES_HEIGHT {
+        let leaves = tree.leaves_in_lanes(LANES as u32 * index);
+        return node_over(tree, height, index, &leaves);
     }
     let below = height - 1;
     let left = node_at(tree, below, 2 * index);

@@ -32,13 +32,13 @@ first_are value n values room each =
 pub first_at : (n i : ℕ) (values : List (List ℕ)) → i < n → slice_index_or (take n values) i [] ≡ slice_index_or values i []
 first_at n i values within = get_or-take n values i [] within
 
--- a group of four more is made after those that were, which stay
-pub four_more : (value : ℕ → List ℕ) (place : ℕ) (old new : List (List ℕ))
+-- those of all lanes are made after those that were, which stay
+pub lanes_more : (value : ℕ → List ℕ) (place : ℕ) (old new : List (List ℕ))
     → ((i : ℕ) → i < place → slice_index_or old i [] ≡ value i)
     → ((i : ℕ) → i < place → slice_index_or new i [] ≡ slice_index_or old i [])
     → ((j : ℕ) → j < lanes → slice_index_or new (place + j) [] ≡ value (place + j))
     → (i : ℕ) → i < place + lanes → slice_index_or new i [] ≡ value i
-four_more value place old new before kept made i low = elim (cases_lt i place) [
+lanes_more value place old new before kept made i low = elim (cases_lt i place) [
   | inl less ↦ kept i less ∙ before i less
   | inr past ↦
       let there : place + (i - place) ≡ i = omega arith in

@@ -51,15 +51,6 @@ walk_further step c a n at u v w before here last =
     walk_more step c a (a + n) u v w (omega arith) before (last ∙ ap (λ p. step c p v) here)
     ∙ ap (λ b. walk step c a b u) more
 
--- and on to the end
-pub walk_finished : (step : Steps) (c a n at d : ℕ) (u v w : List ℕ)
-    → v ≡ walk step c a (a + n) u → at ≡ a + n → at ≤ d → w ≡ walk step c at d v → w ≡ walk step c a d u
-walk_finished step c a n at d u v w before here within last =
-    last
-    ∙ ap (λ p. walk step c p d v) here
-    ∙ ap (walk step c (a + n) d) before
-    ∙ walk-walk step c a (a + n) d u (omega arith) (omega arith)
-
 -- ---- the same walk of equal chains, places and values
 
 pub walk_same : (step : Steps) (c d a e b f : ℕ) (u v w : List ℕ) → d ≡ c → e ≡ a → f ≡ b → v ≡ u → w ≡ walk step d e f v → w ≡ walk step c a b u

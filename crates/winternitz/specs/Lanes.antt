@@ -6,7 +6,7 @@ use Rattle.sha2.specs.Sha256.{digest_bytes}
 
 -- How many lanes there are. What another number changes besides, docs/ADDING.md lists.
 abbrev pub lanes : ℕ
-lanes = 4
+lanes = 8
 
 -- lane j of each vector of a list
 abbrev pub lane : ℕ → List (List ℕ) → List ℕ

@@ -15,8 +15,8 @@ pub trait Step {
     fn step(&self, chain: u16, at: u8, value: &[u8; 32]) -> [u8; 32]
         ensures { result ≡ step_of self.now chain at value.now };
 
-    /// A step of each of four chains, each at its own place. A hash with lanes takes them together.
-    fn step_four(
+    /// A step of a chain in each lane, each at its own place. A hash with lanes takes them together.
+    fn step_in_lanes(
         &self,
         chains: &[u16; LANES],
         at: &[u8; LANES],
@@ -32,9 +32,9 @@ pub trait Step {
         after
     }
 
-    /// So many steps of each of four chains, each from its own place. A hash with lanes can keep the values as words
+    /// So many steps of a chain in each lane, each from its own place. A hash with lanes can keep the values as words
     /// until all steps are taken. The caller keeps the last places below 256.
-    fn steps_four(
+    fn steps_in_lanes(
         &self,
         chains: &[u16; LANES],
         from: &[u8; LANES],
@@ -47,7 +47,7 @@ pub trait Step {
     {
         let mut values = *values;
         for taken in 0..steps {
-            values = self.step_four(chains, &added(from, taken), &values);
+            values = self.step_in_lanes(chains, &added(from, taken), &values);
         }
         values
     }
@@ -66,40 +66,7 @@ pub fn climb<S: Step>(step: &S, chain: u16, from: u8, to: u8, value: &[u8; 32]) 
     value
 }
 
-/// The values of four chains, each after the steps from, .., to - 1 of its own. They climb together until one of them
-/// is at its end; what is then left of the others is climbed by itself.
-pub fn climb_four<S: Step>(
-    step: &S,
-    chains: &[u16; LANES],
-    from: &[u8; LANES],
-    to: &[u8; LANES],
-    values: &[[u8; 32]; LANES],
-) -> [[u8; 32]; LANES]
-    requires { (j : ℕ) → j < lanes → slice_index from.now j ≤ slice_index to.now j }
-    ensures { (j : ℕ) → j < lanes → slice_index_or result j [] ≡ walk (S.step_of step.now)
-        (slice_index chains.now j) (slice_index from.now j) (slice_index to.now j) (slice_index_or values.now j []) }
-{
-    let shortest = shortest(from, to);
-    let values = step.steps_four(chains, from, shortest, values);
-    climb_rest(step, chains, &added(from, shortest), to, &values)
-}
-
-// How many steps the shortest of four ways has.
-fn shortest(from: &[u8; LANES], to: &[u8; LANES]) -> u8
-    requires { (j : ℕ) → j < lanes → slice_index from.now j ≤ slice_index to.now j }
-    ensures all { (j : ℕ) → j < lanes → slice_index from.now j + result ≤ slice_index to.now j }
-    ensures one { (j : ℕ) × (j < lanes) × (slice_index from.now j + result ≡ slice_index to.now j) }
-{
-    let mut shortest = to[0] - from[0];
-    for lane in 1..LANES {
-        if to[lane] - from[lane] < shortest {
-            shortest = to[lane] - from[lane];
-        }
-    }
-    shortest
-}
-
-/// The places of four chains after as many steps of each. The caller keeps them below 256.
+/// The places of the chains of all lanes after as many steps of each. The caller keeps them below 256.
 pub fn added(from: &[u8; LANES], taken: u8) -> [u8; LANES]
     requires { (j : ℕ) → j < lanes → slice_index from.now j + taken < 256 }
     ensures { (j : ℕ) → j < lanes → slice_index result j ≡ slice_index from.now j + taken }
@@ -109,25 +76,6 @@ pub fn added(from: &[u8; LANES], taken: u8) -> [u8; LANES]
         places[lane] = from[lane] + taken;
     }
     places
-}
-
-// Climbs four chains, each by itself.
-fn climb_rest<S: Step>(
-    step: &S,
-    chains: &[u16; LANES],
-    from: &[u8; LANES],
-    to: &[u8; LANES],
-    values: &[[u8; 32]; LANES],
-) -> [[u8; 32]; LANES]
-    requires { (j : ℕ) → j < lanes → slice_index from.now j ≤ slice_index to.now j }
-    ensures { (j : ℕ) → j < lanes → slice_index_or result j [] ≡ walk (S.step_of step.now)
-        (slice_index chains.now j) (slice_index from.now j) (slice_index to.now j) (slice_index_or values.now j []) }
-{
-    let mut ends = [[0; 32]; LANES];
-    for lane in 0..LANES {
-        ends[lane] = climb(step, chains[lane], from[lane], to[lane], &values[lane]);
-    }
-    ends
 }
 
 #[cfg(test)]

@@ -1,4 +1,4 @@
-//! All chains of a key, climbed four at a time.
+//! All chains of a key, climbed side by side.
 
 ghost use Rattle.std.specs.Prelude.{◌≡◌, ◌≤◌, ◌<◌, ◌+◌, ℕ, List, [], length, slice_index, slice_index_or};
 ghost use Rattle.winternitz.specs.Chain.{walk, walk_of};
@@ -57,7 +57,7 @@ fn the_same(place: u8) -> [u8; MOST_CHAINS]
 
 // Climbs each chain from its value by the steps from, .., to - 1 of its own: side by side as far as the lanes are
 // shared out among them, and what is left of each by itself.
-fn climb_each<S: Step>(step: &S, from: &[u8], to: &[u8], values: &[[u8; 32]]) -> Values
+pub(crate) fn climb_each<S: Step>(step: &S, from: &[u8], to: &[u8], values: &[[u8; 32]]) -> Values
     requires few { length values.now ≤ 265 }
     requires from { length values.now ≤ length from.now }
     requires to { length values.now ≤ length to.now }
@@ -116,7 +116,7 @@ fn climb_together<S: Step>(step: &S, to: &[u8], at: &mut [u8; MOST_CHAINS], ends
     }
 }
 
-// Climbs the four chains of a turn by its steps, side by side.
+// Climbs the chains of a turn by its steps, side by side.
 fn climb_by<S: Step>(
     step: &S,
     turn: &Turn,
@@ -132,7 +132,7 @@ fn climb_by<S: Step>(
 {
     let begin = bytes_of(at, &turn.chains);
     let values = values_of(ends, &turn.chains);
-    let climbed = step.steps_four(&turn.chains, &begin, turn.steps, &values);
+    let climbed = step.steps_in_lanes(&turn.chains, &begin, turn.steps, &values);
     let end = added(&begin, turn.steps);
     for lane in 0..LANES {
         let chain = usize::from(turn.chains[lane]);
@@ -153,16 +153,16 @@ fn climb_rest<S: Step>(step: &S, to: &[u8], at: &[u8; MOST_CHAINS], ends: &mut V
     }
 }
 
-// The bytes that stand at the places of four chains.
+// The bytes that stand at the places of the chains of all lanes.
 fn bytes_of(bytes: &[u8], chains: &[u16; LANES]) -> [u8; LANES]
     requires { (j : ℕ) → j < lanes → slice_index chains.now j < length bytes.now }
     ensures { (j : ℕ) → j < lanes → slice_index result j ≡ slice_index bytes.now (slice_index chains.now j) }
 {
-    let mut four = [0; LANES];
+    let mut picked = [0; LANES];
     for lane in 0..LANES {
-        four[lane] = bytes[usize::from(chains[lane])];
+        picked[lane] = bytes[usize::from(chains[lane])];
     }
-    four
+    picked
 }
 
 // The values that stand there.
@@ -171,11 +171,11 @@ fn values_of(values: &[[u8; 32]], chains: &[u16; LANES]) -> [[u8; 32]; LANES]
     ensures { (j : ℕ) → j < lanes
         → slice_index_or result j [] ≡ slice_index_or values.now (slice_index chains.now j) [] }
 {
-    let mut four = [[0; 32]; LANES];
+    let mut picked = [[0; 32]; LANES];
     for lane in 0..LANES {
-        four[lane] = values[usize::from(chains[lane])];
+        picked[lane] = values[usize::from(chains[lane])];
     }
-    four
+    picked
 }
 
 #[cfg(test)]

@@ -9,7 +9,7 @@ ghost use Rattle.winternitz.specs.Lanes.{four_bytes, lanes, lane_state, value_in
 
 use crate::lanes::constants::INITIAL;
 use crate::lanes::rounds::compress_words;
-use std::simd::u32x4;
+use std::simd::u32x8;
 
 mod beginning;
 mod constants;
@@ -19,13 +19,13 @@ mod rounds;
 mod tests;
 
 pub use crate::lanes::beginning::Beginning;
-pub use crate::lanes::long::sha256_of_four;
+pub use crate::lanes::long::sha256_in_lanes;
 
 /// How many blocks stand side by side. What another number changes besides, docs/ADDING.md lists.
-pub const LANES: usize = 4;
+pub const LANES: usize = 8;
 
 /// A word of each block.
-pub type Words = u32x4;
+pub type Words = u32x8;
 
 /// A hash value in each lane.
 pub type States = [Words; 8];
@@ -77,7 +77,7 @@ pub fn compress(states: &States, blocks: &[[u8; 64]; LANES]) -> States
     compress_words(states, &words)
 }
 
-// The words at byte i of four lists of bytes.
+// The words at byte i of the lists of bytes of all lanes.
 pub(crate) fn load<const N: usize>(bytes: &[[u8; N]; LANES], i: usize) -> Words
     requires { i + 4 ≤ N }
     ensures { (j : ℕ) → j < lanes → slice_index result j ≡ word_at (slice_index_or bytes.now j []) i }

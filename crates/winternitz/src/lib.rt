@@ -7,10 +7,10 @@
 //! as great: to come from one digest's values to another's, some chain would have to be climbed
 //! down. `chain_law`: a type of the tables has a chain for each digit.
 //!
-//! Chains climb in fours: `climb_whole`, `climb_to` and `climb_from` are the walks of all chains of a
-//! key, of whose steps each lane takes an equal part, and `lanes` is SHA-256 of four blocks side by side
-//! (`specs/Lanes.antt`), by which a `Step` can take four steps at once. `feed` gives a message to a hash,
-//! piece by piece, for the digests that are signed.
+//! Chains climb in lanes: `climb_whole`, `climb_to` and `climb_from` are the walks of all chains of a
+//! key, of whose steps each lane takes an equal part, and `lanes` is SHA-256 of blocks side by side, one
+//! in each lane (`specs/Lanes.antt`), by which a `Step` can take a step in each lane at once.
+//! `feed` gives a message to a hash, piece by piece, for the digests that are signed.
 //!
 //! ```rust
 //! use winternitz::{climb_from, digits};
@@ -28,7 +28,7 @@ mod laws;
 mod message;
 mod shares;
 
-pub use crate::chain::{Step, added, climb, climb_four};
+pub use crate::chain::{Step, added, climb};
 pub use crate::digest::{Digits, digits};
 pub use crate::groups::{MOST_CHAINS, Values, climb_from, climb_to, climb_whole};
 pub use crate::laws::chain_law;

@@ -11,7 +11,7 @@ ghost use Rattle.winternitz.specs.Lanes.{lanes};
 
 use crate::lanes::LANES;
 
-/// Four chains that climb together, and by how many steps.
+/// The chains of all lanes, which climb together, and by how many steps.
 #[derive(Clone, Copy)]
 pub(crate) struct Turn {
     pub(crate) chains: [u16; LANES],

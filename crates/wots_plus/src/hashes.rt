@@ -24,8 +24,8 @@ pub fn hash_f(key: &[u8; 32], message: &[u8; 32]) -> [u8; 32]
     hasher.finalize()
 }
 
-// F of four keys and messages, side by side.
-pub(crate) fn hash_f_four(
+// F of a key and a message in each lane, side by side.
+pub(crate) fn hash_f_in_lanes(
     keys: &[[u8; 32]; LANES],
     messages: &[[u8; 32]; LANES],
 ) -> [[u8; 32]; LANES]
@@ -143,8 +143,8 @@ impl Prf {
         hasher.finalize()
     }
 
-    // PRF(KEY, M) of four messages, side by side.
-    pub(crate) fn hash_four(&self, messages: &[[u8; 32]; LANES]) -> [[u8; 32]; LANES]
+    // PRF(KEY, M) of a message in each lane, side by side.
+    pub(crate) fn hash_in_lanes(&self, messages: &[[u8; 32]; LANES]) -> [[u8; 32]; LANES]
         ensures { (j : ℕ) → j < lanes
             → slice_index_or result j [] ≡ prf self.now.key (slice_index_or messages.now j []) }
     {
@@ -183,8 +183,11 @@ pub(crate) fn xor(bytes: &[u8; 32], mask: &[u8; 32]) -> [u8; 32]
     out
 }
 
-// The same of four.
-pub(crate) fn xor_four(bytes: &[[u8; 32]; LANES], masks: &[[u8; 32]; LANES]) -> [[u8; 32]; LANES]
+// The same in each lane.
+pub(crate) fn xor_in_lanes(
+    bytes: &[[u8; 32]; LANES],
+    masks: &[[u8; 32]; LANES],
+) -> [[u8; 32]; LANES]
     ensures { (j : ℕ) → j < lanes → slice_index_or result j []
         ≡ spec.xor (slice_index_or bytes.now j []) (slice_index_or masks.now j []) }
 {

@@ -13,7 +13,7 @@ ghost use Rattle.wots_plus.specs.Key as spec;
 ghost use Rattle.wots_plus.specs.Key.{ClimbTo, ends_of_secret, ends_of_signature, signed_values, step_of};
 
 use crate::address::Address;
-use crate::hashes::{Prf, first_state, hash_f, hash_f_four, keyed, xor, xor_four};
+use crate::hashes::{Prf, first_state, hash_f, hash_f_in_lanes, keyed, xor, xor_in_lanes};
 use sha2::{Digest, Sha256};
 use typecodes::{WOTS_CHAINS, put};
 use winternitz::lanes::{LANES, States, in_each, sha256_of_128};
@@ -43,15 +43,15 @@ impl Step for Wots<'_> {
         hash_f(&key, &xor(value, &mask))
     }
 
-    fn step_four(
+    fn step_in_lanes(
         &self,
         chains: &[u16; LANES],
         at: &[u8; LANES],
         values: &[[u8; 32]; LANES],
     ) -> [[u8; 32]; LANES] {
-        let keys = self.seed.hash_four(&self.step_addresses(chains, at, 0));
-        let masks = self.seed.hash_four(&self.step_addresses(chains, at, 1));
-        hash_f_four(&keys, &xor_four(values, &masks))
+        let keys = self.seed.hash_in_lanes(&self.step_addresses(chains, at, 0));
+        let masks = self.seed.hash_in_lanes(&self.step_addresses(chains, at, 1));
+        hash_f_in_lanes(&keys, &xor_in_lanes(values, &masks))
     }
 }
 
@@ -68,7 +68,7 @@ impl Wots<'_> {
         address.bytes(key_and_mask)
     }
 
-    // Those of four steps.
+    // Those of a step in each lane.
     fn step_addresses(
         &self,
         chains: &[u16; LANES],
@@ -95,7 +95,7 @@ impl Wots<'_> {
         hasher.finalize()
     }
 
-    // The private values of all chains, four at a time.
+    // The private values of all chains, made in lanes.
     fn private_values(&self, secret: &[u8; 32]) -> Values
         ensures { (i : ℕ) → i < wots_chains → slice_index_or result i []
             ≡ spec.private_value self.now.seed.now.key self.now.leaf secret.now i }
@@ -103,7 +103,7 @@ impl Wots<'_> {
         let first = in_each(&first_state(4, secret));
         let mut values = [[0; 32]; MOST_CHAINS];
         for group in 0..WOTS_CHAINS / LANES {
-            self.four_private_values(secret, &first, LANES * group, &mut values);
+            self.private_values_in_lanes(secret, &first, LANES * group, &mut values);
         }
         for chain in WOTS_CHAINS / LANES * LANES..WOTS_CHAINS {
             values[chain] = self.private_value(secret, chain as u16);
@@ -111,8 +111,8 @@ impl Wots<'_> {
         values
     }
 
-    // Four private values, from that of a chain on, by the hash value after the first block of all.
-    fn four_private_values(
+    // A private value in each lane, from that of a chain on, by the hash value after the first block of all.
+    fn private_values_in_lanes(
         &self,
         secret: &[u8; 32],
         first: &States,

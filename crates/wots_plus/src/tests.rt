@@ -7,7 +7,7 @@ use crate::{Address, Prf, Wots, hash_f, hash_h, hash_message, hash_message_from,
 use sha2::{Digest, Sha256};
 use std::process::Abort;
 use winternitz::lanes::LANES;
-use winternitz::{Step, climb, climb_four, digits};
+use winternitz::{Step, climb, climb_to, digits};
 
 // SEED: 00, 01, .., 1f
 const SEED: [u8; 32] = [
@@ -125,21 +125,26 @@ fn step_hashes_what_its_mask_leaves(rt: HostRuntime) {
     assert!(rt; key.step(2, 3, &VALUE) == expected);
 }
 
-// Four steps side by side, each with a chain, a place and a value of its own, under two keys in turn.
+// A chain and a value in each lane.
+const CHAINS: [u16; LANES] = [3, 0, 66, 5, 1, 33, 64, 65];
+
+const VALUES: [[u8; 32]; LANES] = [
+    VALUE, OTHER, [0; 32], [0xff; 32], [1; 32], [0x80; 32], VALUE, SECRET,
+];
+
+// Steps side by side, each with a chain, a place and a value of its own, under two keys in turn.
 #[test]
-fn four_steps_are_steps(rt: HostRuntime) {
-    let chains = [3, 0, 66, 5];
-    let at = [7, 0, 14, 1];
-    let values = [VALUE, OTHER, [0; 32], [0xff; 32]];
+fn steps_in_lanes_are_steps(rt: HostRuntime) {
+    let at = [7, 0, 14, 1, 13, 8, 2, 0];
     for seed in [SEED, OTHER] {
         let seed = Prf::new(seed);
         let key = Wots {
             seed: &seed,
             leaf: 0x01020304,
         };
-        let after = key.step_four(&chains, &at, &values);
+        let after = key.step_in_lanes(&CHAINS, &at, &VALUES);
         for lane in 0..LANES {
-            let plain = key.step(chains[lane], at[lane], &values[lane]);
+            let plain = key.step(CHAINS[lane], at[lane], &VALUES[lane]);
             assert!(rt; after[lane] == plain, "lane {lane}");
         }
     }
@@ -155,20 +160,30 @@ fn each_length_climbs_in_each_lane(rt: HostRuntime) {
         leaf: 0x01020304,
     };
     for steps in 0..16u8 {
-        expect_four(&rt, &key, &[steps; LANES]);
-        let to = [steps, (steps + 4) % 16, (steps + 8) % 16, (steps + 12) % 16];
-        expect_four(&rt, &key, &to);
+        expect_lanes_by(&rt, &key, steps);
+        let mut to = [0; LANES];
+        for lane in 0..LANES {
+            to[lane] = (steps + (16 / LANES * lane % 16) as u8) % 16;
+        }
+        expect_climbs(&rt, &key, &to);
     }
 }
 
-// Four chains that climb together from their first values end where each ends by itself.
-fn expect_four(rt: &impl Abort, key: &Wots<'_>, to: &[u8; LANES]) {
-    let chains = [3, 0, 66, 5];
-    let values = [VALUE, OTHER, [0; 32], [0xff; 32]];
-    let ends = climb_four(key, &chains, &[0; LANES], to, &values);
+// Chains that climb together from their first values, by as many steps, end where each ends by itself.
+fn expect_lanes_by(rt: &impl Abort, key: &Wots<'_>, steps: u8) {
+    let ends = key.steps_in_lanes(&CHAINS, &[0; LANES], steps, &VALUES);
     for lane in 0..LANES {
-        let end = climb(key, chains[lane], 0, to[lane], &values[lane]);
-        assert!(rt; ends[lane] == end, "lane {lane} of {to:?}");
+        let end = climb(key, CHAINS[lane], 0, steps, &VALUES[lane]);
+        assert!(rt; ends[lane] == end, "lane {lane} of {steps}");
+    }
+}
+
+// The same of the first chains of a key, each to a place of its own.
+fn expect_climbs(rt: &impl Abort, key: &Wots<'_>, to: &[u8; LANES]) {
+    let ends = climb_to(key, to, &VALUES);
+    for chain in 0..LANES {
+        let end = climb(key, chain as u16, 0, to[chain], &VALUES[chain]);
+        assert!(rt; ends[chain] == end, "chain {chain} of {to:?}");
     }
 }
 

@@ -190,48 +190,50 @@ fn caches_begin_with_the_block_of_a_leaf(rt: HostRuntime) -> Result<(), Fail> {
     Ok(())
 }
 
-// The height of a tree, how many leaves a cache has made after the paths of all leaves in turn, and how often four
-// together: when it was new, and by then. The blocks of height 2 and 3 have two leaves each.
-const FOURS: [(u8, u32, u32, u32); 6] = [
+// The height of a tree, how many leaves a cache has made after the paths of all leaves in turn, and how often in lanes:
+// when it was new, and by then. The blocks of trees of height 6 and 7 have eight leaves each, those of others fewer.
+const TOGETHER: [(u8, u32, u32, u32); 8] = [
     (0, 1, 0, 0),
     (1, 3, 0, 0),
     (2, 6, 0, 0),
     (3, 14, 0, 0),
-    (4, 28, 4, 7),
-    (5, 60, 8, 15),
+    (4, 28, 1, 1),
+    (5, 60, 3, 3),
+    (6, 120, 8, 15),
+    (7, 248, 16, 31),
 ];
 
-// Whether a cache gives the root and the paths of all leaves in turn, and makes so many leaves for that, four together
-// so often.
+// Whether a cache gives the root and the paths of all leaves in turn, and makes so many leaves for that, in lanes so
+// often.
 fn gives_all(
     alloc: Global,
     height: u8,
     leaves: u32,
     new: u32,
-    fours: u32,
+    together: u32,
 ) -> Result<bool, OutOfMemory> {
-    if height > 5 {
+    if height > 7 {
         return Ok(false);
     }
     let mut cache = PathCache::new(alloc, Sums::new(), height)?;
-    if cache.root() != worked_out(height, 0) || cache.tree.fours != new {
+    if cache.root() != worked_out(height, 0) || cache.tree.together != new {
         return Ok(false);
     }
-    let mut nodes = [[0; 32]; 5];
+    let mut nodes = [[0; 32]; 7];
     let nodes = &mut nodes[..usize::from(height)];
     for q in 0..2u32.pow(u32::from(height)) {
         if growth(&mut cache, q, nodes).is_none() || !is_path(nodes, q) {
             return Ok(false);
         }
     }
-    Ok(cache.tree.made == leaves && cache.tree.fours == fours)
+    Ok(cache.tree.made == leaves && cache.tree.together == together)
 }
 
 #[test]
-fn blocks_are_made_four_leaves_together(rt: HostRuntime) -> Result<(), Fail> {
-    for (height, leaves, new, fours) in FOURS {
+fn blocks_are_made_in_lanes(rt: HostRuntime) -> Result<(), Fail> {
+    for (height, leaves, new, together) in TOGETHER {
         assert!(rt;
-            gives_all(rt.alloc(), height, leaves, new, fours)?,
+            gives_all(rt.alloc(), height, leaves, new, together)?,
             "at height {height}"
         );
     }

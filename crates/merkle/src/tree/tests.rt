@@ -4,7 +4,7 @@ ghost use Rattle.std.specs.Prelude.{◌%◌, replicate, slice_set};
 
 use crate::ascent::root_from_path;
 use crate::sums::{Sums, is_path, node, worked_out};
-use crate::tree::{NodeHash, TreeHash, path, root};
+use crate::tree::{LANES, NodeHash, TreeHash, path, root};
 use typecodes::Count;
 
 #[test]
@@ -34,41 +34,44 @@ fn a_tree_of_height_zero(rt: HostRuntime) {
     assert!(rt; root_from_path(&tree, 0, &leaf, &nodes) == leaf);
 }
 
-// The height of a tree, how many leaves it has, and how often its root and one of its paths make four together.
-const FOURS: [(u8, u32, u32, u32); 6] = [
+// The height of a tree, how many leaves it has, and how often its root and one of its paths make leaves in lanes.
+const TOGETHER: [(u8, u32, u32, u32); 8] = [
     (0, 1, 0, 0),
     (1, 2, 0, 0),
-    (2, 4, 1, 0),
-    (3, 8, 2, 1),
-    (4, 16, 4, 3),
-    (5, 32, 8, 7),
+    (2, 4, 0, 0),
+    (3, 8, 1, 0),
+    (4, 16, 2, 1),
+    (5, 32, 4, 3),
+    (6, 64, 8, 7),
+    (7, 128, 16, 15),
 ];
 
-// Whether the root of a tree is right, from so many leaves, made four together so often.
-fn is_root(height: u8, leaves: u32, fours: u32) -> bool {
-    if height > 5 {
+// Whether the root of a tree is right, from so many leaves, made in lanes so often.
+fn is_root(height: u8, leaves: u32, together: u32) -> bool {
+    if height > 7 {
         return false;
     }
     let mut tree = Sums::new();
-    root(&mut tree, height) == worked_out(height, 0) && tree.made == leaves && tree.fours == fours
+    let root = root(&mut tree, height);
+    root == worked_out(height, 0) && tree.made == leaves && tree.together == together
 }
 
-// Whether a path is right, from all leaves but its own, made four together so often.
-fn is_path_of(height: u8, q: u32, fours: u32) -> bool {
-    if height > 5 || q >= 2u32.pow(u32::from(height)) {
+// Whether a path is right, from all leaves but its own, made in lanes so often.
+fn is_path_of(height: u8, q: u32, together: u32) -> bool {
+    if height > 7 || q >= 2u32.pow(u32::from(height)) {
         return false;
     }
     let mut tree = Sums::new();
-    let mut nodes = [[0; 32]; 5];
+    let mut nodes = [[0; 32]; 7];
     let nodes = &mut nodes[..usize::from(height)];
     path(&mut tree, height, q, nodes);
     let others = 2u32.pow(u32::from(height)) - 1;
-    is_path(nodes, q) && tree.made == others && tree.fours == fours
+    is_path(nodes, q) && tree.made == others && tree.together == together
 }
 
 #[test]
-fn leaves_are_made_four_together(rt: HostRuntime) {
-    for (height, leaves, in_root, in_path) in FOURS {
+fn leaves_are_made_in_lanes(rt: HostRuntime) {
+    for (height, leaves, in_root, in_path) in TOGETHER {
         assert!(rt; is_root(height, leaves, in_root), "at height {height}");
         for q in 0..leaves {
             assert!(rt;
@@ -107,11 +110,14 @@ impl TreeHash for OneByOne {
 }
 
 #[test]
-fn four_leaves_one_by_one(rt: HostRuntime) {
+fn leaves_of_lanes_one_by_one(rt: HostRuntime) {
     let mut tree = OneByOne { made: Count::new() };
-    let wanted = [node(8, 0, 0), node(9, 0, 0), node(10, 0, 0), node(11, 0, 0)];
-    assert!(rt; tree.four_leaves(8) == wanted);
-    let mut nodes = [[0; 32]; 3];
-    path(&mut tree, 3, 2, &mut nodes);
-    assert!(rt; nodes == [node(3, 0, 0), node(0, 0, 0), node(4, 0, 0)]);
+    let mut wanted = [[0; 32]; LANES];
+    for lane in 0..LANES {
+        wanted[lane] = node((16 + lane % 8) as u8, 0, 0);
+    }
+    assert!(rt; tree.leaves_in_lanes(16) == wanted);
+    let mut nodes = [[0; 32]; 4];
+    path(&mut tree, 4, 2, &mut nodes);
+    assert!(rt; nodes == [node(3, 0, 0), node(0, 0, 0), node(4, 0, 0), node(8, 0, 0)]);
 }

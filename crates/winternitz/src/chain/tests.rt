@@ -3,8 +3,9 @@
 ghost use Rattle.std.specs.Prelude.{ℕ, ◌≤◌, ◌<◌, ◌+◌, ◌%◌, List, length, slice_index, slice_set};
 ghost use Rattle.winternitz.specs.Lanes.{lanes};
 
+use crate::groups::climb_each;
 use crate::lanes::LANES;
-use crate::{Step, climb, climb_four, climb_from, climb_to, climb_whole};
+use crate::{Step, added, climb, climb_from, climb_to, climb_whole};
 use std::process::Abort;
 
 // A step that counts itself in the first byte, and leaves its number and its chain in the next ones.
@@ -40,21 +41,72 @@ fn climbs_take_a_step_for_each_number(rt: HostRuntime) {
     assert!(rt; climb(&Counting, 264, 0, 255, &start)[2] == 8);
 }
 
-// Where four chains begin and end: each of 0, 1, 2, 15 and 255 steps in each lane.
+// A chain in each lane, the least and the greatest number among them, and a value for each.
+const CHAINS: [u16; LANES] = [0, 264, 7, 65535, 255, 256, 1, 32768];
+
+const VALUES: [[u8; 32]; LANES] = [
+    [1; 32], [2; 32], [3; 32], [4; 32], [255; 32], [6; 32], [0; 32], [8; 32],
+];
+
+// Where chains begin and end: each of 0, 1, 2, 15 and 255 steps, in some lanes.
 const WAYS: [([u8; LANES], [u8; LANES]); 7] = [
-    ([0, 0, 0, 0], [255, 255, 255, 255]),
-    ([0, 3, 240, 254], [255, 4, 255, 254]),
-    ([9, 0, 0, 240], [9, 2, 255, 255]),
-    ([0, 7, 13, 0], [1, 7, 15, 255]),
-    ([1, 0, 100, 200], [3, 15, 101, 200]),
-    ([0, 1, 2, 3], [15, 15, 2, 5]),
-    ([5, 5, 0, 5], [5, 5, 255, 5]),
+    (
+        [0, 0, 0, 0, 0, 0, 0, 0],
+        [255, 255, 255, 255, 255, 255, 255, 255],
+    ),
+    (
+        [0, 3, 240, 254, 0, 254, 3, 240],
+        [255, 4, 255, 254, 1, 255, 3, 242],
+    ),
+    (
+        [9, 0, 0, 240, 9, 0, 0, 240],
+        [9, 2, 255, 255, 24, 0, 1, 242],
+    ),
+    ([0, 7, 13, 0, 7, 0, 0, 13], [1, 7, 15, 255, 22, 255, 0, 14]),
+    (
+        [1, 0, 100, 200, 200, 100, 0, 1],
+        [3, 15, 101, 200, 201, 115, 2, 1],
+    ),
+    ([0, 1, 2, 3, 4, 5, 6, 7], [15, 15, 2, 5, 5, 20, 255, 7]),
+    ([5, 5, 0, 5, 5, 5, 5, 0], [5, 5, 255, 5, 5, 5, 6, 0]),
 ];
 
 #[test]
-fn four_chains_climb_as_each_by_itself(rt: HostRuntime) {
+fn chains_climb_from_any_place_to_any_other(rt: HostRuntime) {
     for (from, to) in WAYS {
-        expect_four(&rt, &from, &to);
+        expect_ways(&rt, &from, &to);
+    }
+}
+
+// Chains with places of their own end where each ends by itself.
+fn expect_ways(rt: &impl Abort, from: &[u8; LANES], to: &[u8; LANES])
+    requires { (j : ℕ) → j < lanes → slice_index from.now j ≤ slice_index to.now j }
+{
+    let ends = climb_each(&Counting, from, to, &VALUES);
+    for i in 0..LANES {
+        let end = climb(&Counting, i as u16, from[i], to[i], &VALUES[i]);
+        assert!(rt; ends[i] == end, "chain {i} from {from:?} to {to:?}");
+    }
+}
+
+// Each number of steps, from the first place and to the last one.
+#[test]
+fn each_length_climbs_in_lanes(rt: HostRuntime) {
+    for steps in 0..=255u8 {
+        expect_lanes(&rt, &[0; LANES], steps);
+        expect_lanes(&rt, &[255 - steps; LANES], steps);
+    }
+}
+
+// Chains that climb together end where each ends by itself.
+fn expect_lanes(rt: &impl Abort, from: &[u8; LANES], steps: u8)
+    requires { (j : ℕ) → j < lanes → slice_index from.now j + steps < 256 }
+{
+    let ends = Counting.steps_in_lanes(&CHAINS, from, steps, &VALUES);
+    let to = added(from, steps);
+    for lane in 0..LANES {
+        let end = climb(&Counting, CHAINS[lane], from[lane], to[lane], &VALUES[lane]);
+        assert!(rt; ends[lane] == end, "lane {lane} from {from:?} by {steps}");
     }
 }
 
@@ -62,27 +114,12 @@ fn four_chains_climb_as_each_by_itself(rt: HostRuntime) {
 #[test]
 fn each_length_climbs_in_each_lane(rt: HostRuntime) {
     for steps in 0..=255u8 {
-        expect_four(&rt, &[0; LANES], &[steps; LANES]);
-        let to = [
-            steps,
-            steps.wrapping_add(64),
-            steps.wrapping_add(128),
-            steps.wrapping_add(192),
-        ];
-        expect_four(&rt, &[0; LANES], &to);
-    }
-}
-
-// Four chains that climb together end where each ends by itself.
-fn expect_four(rt: &impl Abort, from: &[u8; LANES], to: &[u8; LANES])
-    requires { (j : ℕ) → j < lanes → slice_index from.now j ≤ slice_index to.now j }
-{
-    let chains = [0, 264, 7, 65535];
-    let values = [[1; 32], [2; 32], [3; 32], [4; 32]];
-    let ends = climb_four(&Counting, &chains, from, to, &values);
-    for lane in 0..LANES {
-        let end = climb(&Counting, chains[lane], from[lane], to[lane], &values[lane]);
-        assert!(rt; ends[lane] == end, "lane {lane} from {from:?} to {to:?}");
+        let mut others = [0; LANES];
+        for lane in 0..LANES {
+            others[lane] = steps.wrapping_add((256 / LANES * lane % 256) as u8);
+        }
+        expect_climbs(&rt, &[steps; LANES], &VALUES);
+        expect_climbs(&rt, &others, &VALUES);
     }
 }
 
@@ -118,7 +155,7 @@ const ROWS: [(usize, usize, u8); 8] = [
     (128, 128, 7),
 ];
 
-// Numbers of chains that four divides and that it doesn't: each lane takes a part of the row, in which chains begin
+// Numbers of chains that the lanes divide and that they don't: each lane takes a part of the row, in which chains begin
 // and end anywhere.
 #[test]
 fn all_chains_climb_as_each_by_itself(rt: HostRuntime) {
@@ -130,7 +167,7 @@ fn all_chains_climb_as_each_by_itself(rt: HostRuntime) {
             values[i] = [(i % 256) as u8; 32];
         }
         digits[2] = third;
-        for count in [0, 1, 2, 3, 4, 5, 6, 7, 34, 67, 133, 265usize] {
+        for count in [0, 1, 2, 3, 4, 5, 6, 7, 8, 9, 15, 16, 34, 67, 133, 265usize] {
             expect_climbs(&rt, &digits, &values[..count]);
         }
     }

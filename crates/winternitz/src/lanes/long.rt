@@ -7,10 +7,10 @@ ghost use Rattle.winternitz.specs.Lanes.{lane_state, lanes};
 use crate::lanes::{LANES, States, compress, digests, initial};
 use typecodes::put;
 
-/// SHA-256 of four messages of one length side by side. Each stands at the beginning of its bytes, behind which there
-/// is room for the padding (FIPS 180-4 5.1.1), which is written there: what the bytes hold afterwards isn't promised.
-/// The caller keeps 72 bytes of room behind the messages.
-pub fn sha256_of_four<const N: usize>(
+/// SHA-256 of messages of one length side by side, one in each lane. Each stands at the beginning of its bytes, behind
+/// which there is room for the padding (FIPS 180-4 5.1.1), which is written there: what the bytes hold afterwards isn't
+/// promised. The caller keeps 72 bytes of room behind the messages.
+pub fn sha256_in_lanes<const N: usize>(
     messages: &mut [[u8; N]; LANES],
     length: usize,
 ) -> [[u8; 32]; LANES]

@@ -3,8 +3,8 @@
 ghost use Rattle.std.specs.Prelude.{◌≤◌};
 
 use crate::lanes::{
-    Beginning, LANES, compress, digests, in_each, in_lane, in_words, initial, sha256_of_96,
-    sha256_of_128, sha256_of_four,
+    Beginning, LANES, compress, digests, in_each, in_lane, in_words, initial, sha256_in_lanes,
+    sha256_of_96, sha256_of_128,
 };
 use sha2::{Digest, Sha256};
 
@@ -20,9 +20,9 @@ fn scrambled<const N: usize>(lane: usize, round: u32) -> [u8; N] {
 }
 
 // The numbers of a chain and of a step in each lane, the least and the greatest among them.
-const CHAINS: [u16; LANES] = [0, 3, 0x0102, 0xffff];
+const CHAINS: [u16; LANES] = [0, 3, 0x0102, 0xffff, 1, 0xff00, 0x8000, 0x00ff];
 
-const STEPS: [u8; LANES] = [0xff, 0, 7, 254];
+const STEPS: [u8; LANES] = [0xff, 0, 7, 254, 0x80, 1, 0xff, 0];
 
 #[test]
 fn messages_that_begin_alike_have_their_digests(rt: HostRuntime) {
@@ -104,7 +104,7 @@ fn messages_of_any_length_have_their_digests(rt: HostRuntime) {
         }
         let begun = messages;
         assert!(rt; length <= 8504);
-        let digests = sha256_of_four(&mut messages, length);
+        let digests = sha256_in_lanes(&mut messages, length);
         for lane in 0..LANES {
             assert!(rt;
                 digests[lane] == digest_of(&begun[lane], length),

@@ -1,18 +1,19 @@
-use Rattle.std.proofs.Common.{rules, arith, sym, refl, ap, ◌∙◌, []}
+use Rattle.std.proofs.Common.{rules, arith, sym, ap, ◌∙◌}
 use Rattle.merkle.specs.Tree.{node}
 use Rattle.merkle.proofs.tree.+node_at.Goals as goal
 use Rattle.merkle.proofs.Building.{node_leaf, node_children, leaves_twice, children_inside}
-use Rattle.merkle.proofs.Listing.{nodes_last}
+use Rattle.merkle.proofs.Halves.{under_lanes}
 
 pub returns-then-height-eq0-clause-value : goal.returns-then-height-eq0-clause-value
 returns-then-height-eq0-clause-value g t c = c.leaf.ensures.value ∙ sym (node_leaf _ _ _ _ c.if-height-eq0.true)
 
-pub returns-then-height-eq2-clause-value : goal.returns-then-height-eq2-clause-value
-returns-then-height-eq2-clause-value g t c =
+pub returns-then-height-eq-LANES_HEIGHT-clause-value : goal.returns-then-height-eq-LANES_HEIGHT-clause-value
+returns-then-height-eq-LANES_HEIGHT-clause-value g t c =
     let leaf = g.T.TreeHash.leaf_of c.args.tree.now in
     let join = g.T.NodeHash.join_of c.args.tree.now in
-    nodes_last leaf join 0 2 c.args.index 6 c.nodes_over_four.result [] c.nodes_over_four.ensures.value refl
-    ∙ ap (λ h. node leaf join h c.args.index) (sym c.if-height-eq2.true)
+    c.node_over.ensures leaf
+    (under_lanes leaf c.args.height c.args.index _ c.if-height-eq-LANES_HEIGHT.true c.leaves_in_lanes-leaves.ensures.values)
+    ∙ ap (λ f. node leaf f c.args.height c.args.index) c.leaves_in_lanes-leaves.ensures.joins
 
 pub node_at-left-requires : goal.node_at-left-requires
 node_at-left-requires g t c κs within =

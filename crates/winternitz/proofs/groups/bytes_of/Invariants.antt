@@ -5,6 +5,6 @@ use Rattle.winternitz.proofs.groups.bytes_of.Given as goal
 
 abbrev pub invariant-loop-lane : goal.invariant-loop-lane
 invariant-loop-lane l = record {
-  long : length l.four ≡ lanes;
-  each : (j : ℕ) → j < l.lane → slice_index l.four j ≡ slice_index l.bytes (slice_index l.chains j);
+  long : length l.picked ≡ lanes;
+  each : (j : ℕ) → j < l.lane → slice_index l.picked j ≡ slice_index l.bytes (slice_index l.chains j);
 }

@@ -23,6 +23,6 @@ loop-lane-preserved g c =
           (omega (arith, c.loop-lane.invariant.places)) (omega (arith, c.loop-lane.invariant.values))
           (omega (arith, begin, end)) (omega (arith, begin, end, far))
           (walk_same _ _ _ _ _ _ _ _ _ _ chain begin (sym (c.added-end.ensures j low))
-          (c.values_of-values.ensures j low ∙ ap (λ k. slice_index_or c.args.ends.now k []) chain) (c.steps_four-climbed.ensures j low))
+          (c.values_of-values.ensures j low ∙ ap (λ k. slice_index_or c.args.ends.now k []) chain) (c.steps_in_lanes-climbed.ensures j low))
           from values i before (c.loop-lane.invariant.ways from values i before);
     }

@@ -5,6 +5,6 @@ use Rattle.winternitz.proofs.groups.values_of.Given as goal
 
 abbrev pub invariant-loop-lane : goal.invariant-loop-lane
 invariant-loop-lane l = record {
-  long : length l.four ≡ lanes;
-  each : (j : ℕ) → j < l.lane → slice_index_or l.four j [] ≡ slice_index_or l.values (slice_index l.chains j) [];
+  long : length l.picked ≡ lanes;
+  each : (j : ℕ) → j < l.lane → slice_index_or l.picked j [] ≡ slice_index_or l.values (slice_index l.chains j) [];
 }

@@ -1,0 +1,7 @@
+use Rattle.std.proofs.Common.{◌∙◌, ◌++◌}
+use Rattle.wots_plus.specs.Hashes.{to_byte}
+use Rattle.wots_plus.proofs.hashes.Prf.hash_in_lanes.Goals as goal
+
+pub returns : goal.returns
+returns c = λ j low.
+    c.sha256_of_96.ensures j low (to_byte 3 32 ++ c.args.self.now.key) c.args.self.now.long (c.in_each.ensures j low ∙ c.args.self.now.kept)
