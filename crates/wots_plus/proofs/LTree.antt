@@ -1,9 +1,10 @@
 -- L-trees, one height at a time.
-use Rattle.std.proofs.Common.{◌≡◌, ◌≢◌, set, ◌∙◌, refl, sym, ap, ap₂, ℕ, zero, suc, ◌+◌, ◌-◌, ◌*◌, ◌/◌, ◌%◌, ◌<◌, ◌≤◌, List, [], ◌∷◌, length, get_or, take, arith, add-one}
+use Rattle.std.proofs.Common.{◌≡◌, ◌≢◌, set, ◌∙◌, refl, sym, subst, inl, inr, ap, ap₂, ℕ, zero, suc, ◌+◌, ◌-◌, ◌*◌, ◌/◌, ◌%◌, ◌<◌, ◌≤◌, List, [], ◌∷◌, length, get_or, take, arith, add-one}
 use Rattle.std.proofs.lemmas.Bool.{cases_lt}
 use Rattle.std.proofs.lemmas.List.{get_or-set_other, get_or-set_same, get_or-take, length-set, length-take-le}
 use Rattle.std.proofs.lemmas.List.FromFn.{fill_by_all}
 use Rattle.std.proofs.Math.Logic.{⊎_elim}
+use Rattle.winternitz.specs.Lanes.{lanes}
 use Rattle.wots_plus.specs.LTree.{LTreeJoins, IsLTreeRoot, at_height, next_height, l_tree_root}
 
 -- as many values as there are pairs, and the odd one
@@ -75,6 +76,23 @@ next_height_with_odd join old new pairs count halves all long odd each rest =
     next_height_all join old (set new pairs last) pairs count halves all (length-set new pairs last ∙ long)
     (λ k within. let other : k ≢ pairs = omega arith in get_or-set_other new pairs k last [] other ∙ each k within)
     (λ _. get_or-set_same new pairs last [] (omega arith) ∙ rest (2 * pairs) (omega arith))
+
+-- as many pairs more are joined as there are lanes, once those before them are
+pub pairs_more : (join : ℕ → List ℕ → List ℕ → List ℕ) (old before after : List (List ℕ)) (first : ℕ)
+    → ((k : ℕ) → k < first → get_or before k [] ≡ join k (get_or old (2 * k) []) (get_or old (2 * k + 1) []))
+    → ((k : ℕ) → 2 * first ≤ k → get_or before k [] ≡ get_or old k [])
+    → ((k : ℕ) → k < first → get_or after k [] ≡ get_or before k [])
+    → ((j : ℕ) → j < lanes
+    → get_or after (first + j) [] ≡ join (first + j) (get_or before (2 * (first + j)) []) (get_or before (2 * (first + j) + 1) []))
+    → (k : ℕ) → k < first + lanes → get_or after k [] ≡ join k (get_or old (2 * k) []) (get_or old (2 * k + 1) [])
+pairs_more join old before after first over rest kept joined k low = elim (cases_lt k first) [
+  | inl less ↦ kept k less ∙ over k less
+  | inr past ↦
+      let there : first + (k - first) ≡ k = omega arith in
+      subst (λ i. get_or after i [] ≡ join i (get_or before (2 * i) []) (get_or before (2 * i + 1) [])) there
+      (joined (k - first) (omega arith))
+      ∙ ap₂ (join k) (rest (2 * k) (omega arith)) (rest (2 * k + 1) (omega arith))
+]
 
 -- one value stays alone
 pub alone : (join : LTreeJoins) (values : List (List ℕ)) (k n : ℕ) (root : List ℕ)

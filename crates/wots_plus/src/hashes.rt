@@ -11,9 +11,9 @@ ghost use Rattle.winternitz.specs.Lanes.{lanes, words-prop};
 
 use crate::address::Address;
 use sha2::{Digest, Sha256};
-use typecodes::{Message, MessageFailed};
+use typecodes::{Message, MessageFailed, put};
 use winternitz::feed;
-use winternitz::lanes::{LANES, compress, in_each, in_lane, initial, sha256_of_96};
+use winternitz::lanes::{LANES, compress, in_each, in_lane, initial, sha256_of_96, sha256_of_128};
 
 /// F(KEY, M), the hash of a chain's step.
 pub fn hash_f(key: &[u8; 32], message: &[u8; 32]) -> [u8; 32]
@@ -68,6 +68,35 @@ pub fn hash_h(key: &[u8; 32], left: &[u8; 32], right: &[u8; 32]) -> [u8; 32]
     hasher.update(left);
     hasher.update(right);
     hasher.finalize()
+}
+
+// H of a key and two nodes in each lane, side by side.
+pub(crate) fn hash_h_in_lanes(
+    keys: &[[u8; 32]; LANES],
+    left: &[[u8; 32]; LANES],
+    right: &[[u8; 32]; LANES],
+) -> [[u8; 32]; LANES]
+    ensures { (j : ℕ) → j < lanes → slice_index_or result j []
+        ≡ spec.hash_h (slice_index_or keys.now j []) (slice_index_or left.now j [] ++ slice_index_or right.now j []) }
+{
+    let mut first = [[0; 64]; LANES];
+    let mut second = [[0; 64]; LANES];
+    for lane in 0..LANES {
+        first[lane] = first_block(1, &keys[lane]);
+        second[lane] = block_of(&left[lane], &right[lane]);
+    }
+    sha256_of_128(&compress(&initial(), &first), &second)
+}
+
+// Two nodes as a block.
+fn block_of(left: &[u8; 32], right: &[u8; 32]) -> [u8; 64]
+    ensures bytes { result ≡ left.now ++ right.now }
+    ensures long { length result ≡ 64 }
+{
+    let mut block = [0; 64];
+    let offset = put(&mut block, 0, left);
+    put(&mut block, offset, right);
+    block
 }
 
 /// H_msg(KEY, M), the digest of a message, by the key r || root || toByte(idx, 32).

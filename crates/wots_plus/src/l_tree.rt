@@ -1,12 +1,15 @@
 //! The L-tree of a leaf.
 
-ghost use Rattle.std.specs.Prelude.{◌≡◌, ℕ, ◌<◌, ◌≤◌, ◌+◌, ◌/◌, List, length, take};
+ghost use Rattle.std.specs.Prelude.{◌≡◌, ℕ, ◌<◌, ◌≤◌, ◌+◌, ◌*◌, ◌/◌, ◌^◌, List, [], length, slice_index_or, take};
 ghost use Rattle.typecodes.specs.Types.{wots_chains};
+ghost use Rattle.winternitz.specs.Lanes.{lanes};
+ghost use Rattle.wots_plus.specs.Address.{l_tree};
 ghost use Rattle.wots_plus.specs.LTree.{IsLTreeRoot, next_height, l_tree_join, l_tree_root};
 
 use crate::address::Address;
-use crate::hashes::rand_hash;
+use crate::hashes::{hash_h_in_lanes, rand_hash, xor_in_lanes};
 use crate::key::Wots;
+use winternitz::lanes::LANES;
 
 impl Wots<'_> {
     /// The root of the leaf's L-tree over values, which it overwrites (RFC 8391 4.1.5). The caller
@@ -29,7 +32,8 @@ impl Wots<'_> {
         values[0]
     }
 
-    // Replaces the values of a height by those of the next, at the front, and counts these.
+    // Replaces the values of a height by those of the next, at the front, and counts these. Pairs are joined in lanes,
+    // and one by one those that are left over.
     fn join_neighbours(&self, height: u32, values: &mut [[u8; 32]]) -> usize
         requires { length values.old ≤ wots_chains }
         ensures count { result ≡ (length values.old + 1) / 2 }
@@ -37,13 +41,83 @@ impl Wots<'_> {
             ≡ next_height (l_tree_join self.now.seed.now.key self.now.leaf height) 0 values.old }
     {
         let pairs = values.len() / 2;
-        for i in 0..pairs {
+        for group in 0..pairs / LANES {
+            self.join_pairs(height, LANES * group, values);
+        }
+        for i in pairs / LANES * LANES..pairs {
             values[i] = self.join(height, i as u32, &values[2 * i], &values[2 * i + 1]);
         }
         if values.len() % 2 == 1 {
             values[pairs] = values[2 * pairs];
         }
         values.len().div_ceil(2)
+    }
+
+    // Joins pairs from that of an index on, as many as there are lanes, and puts their nodes at the places of the
+    // indices.
+    fn join_pairs(&self, height: u32, first: usize, values: &mut [[u8; 32]])
+        requires room { 2 * (first + lanes) ≤ length values.old }
+        requires few { length values.old ≤ wots_chains }
+        ensures below { (k : ℕ) → k < first → slice_index_or values.new k [] ≡ slice_index_or values.old k [] }
+        ensures joined { (j : ℕ) → j < lanes → slice_index_or values.new (first + j) []
+            ≡ l_tree_join self.now.seed.now.key self.now.leaf height (first + j)
+            (slice_index_or values.old (2 * (first + j)) []) (slice_index_or values.old (2 * (first + j) + 1) []) }
+        ensures above { (k : ℕ) → first + lanes ≤ k → slice_index_or values.new k [] ≡ slice_index_or values.old k [] }
+        ensures long { length values.new ≡ length values.old }
+    {
+        let left = every_other(values, 2 * first);
+        let right = every_other(values, 2 * first + 1);
+        let joined = self.join_in_lanes(height, first as u32, &left, &right);
+        for lane in 0..LANES {
+            values[first + lane] = joined[lane];
+        }
+    }
+
+    // Nodes of the leaf's L-tree in a row, one in each lane, from that of an index on, by the height of their children.
+    fn join_in_lanes(
+        &self,
+        height: u32,
+        first: u32,
+        left: &[[u8; 32]; LANES],
+        right: &[[u8; 32]; LANES],
+    ) -> [[u8; 32]; LANES]
+        requires { first + lanes ≤ 2 ^ 32 }
+        ensures { (j : ℕ) → j < lanes → slice_index_or result j []
+            ≡ l_tree_join self.now.seed.now.key self.now.leaf height (first + j)
+            (slice_index_or left.now j []) (slice_index_or right.now j []) }
+    {
+        let seed = self.seed;
+        let keys = seed.hash_in_lanes(&self.node_addresses(height, first, 0));
+        let left_masks = seed.hash_in_lanes(&self.node_addresses(height, first, 1));
+        let right_masks = seed.hash_in_lanes(&self.node_addresses(height, first, 2));
+        let left = xor_in_lanes(left, &left_masks);
+        let right = xor_in_lanes(right, &right_masks);
+        hash_h_in_lanes(&keys, &left, &right)
+    }
+
+    // The addresses of such nodes.
+    fn node_addresses(&self, height: u32, first: u32, key_and_mask: u32) -> [[u8; 32]; LANES]
+        requires { first + lanes ≤ 2 ^ 32 }
+        ensures { (j : ℕ) → j < lanes
+            → slice_index_or result j [] ≡ l_tree self.now.leaf height (first + j) key_and_mask }
+    {
+        let mut addresses = [[0; 32]; LANES];
+        for lane in 0..LANES {
+            addresses[lane] = self.node_address(height, first + lane as u32, key_and_mask);
+        }
+        addresses
+    }
+
+    // The bytes of a node's address.
+    fn node_address(&self, height: u32, index: u32, key_and_mask: u32) -> [u8; 32]
+        ensures { result ≡ l_tree self.now.leaf height index key_and_mask }
+    {
+        let address = Address::LTree {
+            leaf: self.leaf,
+            height,
+            index,
+        };
+        address.bytes(key_and_mask)
     }
 
     // A node of the leaf's L-tree, by the height of its children.
@@ -57,4 +131,16 @@ impl Wots<'_> {
         };
         rand_hash(self.seed, &address, left, right)
     }
+}
+
+// Every other value from a place on, one for each lane.
+fn every_other(values: &[[u8; 32]], first: usize) -> [[u8; 32]; LANES]
+    requires { first + 2 * lanes ≤ length values.now + 1 }
+    ensures { (j : ℕ) → j < lanes → slice_index_or result j [] ≡ slice_index_or values.now (first + 2 * j) [] }
+{
+    let mut others = [[0; 32]; LANES];
+    for lane in 0..LANES {
+        others[lane] = values[first + 2 * lane];
+    }
+    others
 }
