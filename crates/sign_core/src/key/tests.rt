@@ -1,3 +1,6 @@
+//! Public keys and their signatures, which take no memory. Which lengths and fields a key has is said by the tests of
+//! the built program, `tests/conformance`.
+
 use super::*;
 use typecodes::{Cause, LevelCount, LmsPair, LmsType, OtsType, XmssType};
 
@@ -42,26 +45,6 @@ fn keys_are_read_as_they_are_written(rt: HostRuntime) {
     assert!(rt; spelled(of_levels(2), &[0, 0, 0, 2, 0, 0, 0, 5, 0, 0]) == Some(60));
     let xmss = Some(AnyPublic::Xmss(XMSS));
     assert!(rt; spelled(xmss, &[0, 0, 0, 2, 3, 3, 3, 3, 3, 3]) == Some(68));
-}
-
-// What is wrong with so many zeros as a key, if anything.
-fn zeros_as_key(length: usize) -> Option<KeyFault> {
-    AnyPublic::read([0; 70].get(..length)?).err()
-}
-
-#[test]
-fn a_length_names_the_scheme(rt: HostRuntime) {
-    for length in [0, 1, 55, 57, 59, 61, 67, 69, 70usize] {
-        assert!(rt; zeros_as_key(length) == Some(KeyFault::Length(length)));
-    }
-    for (length, cause) in [
-        (56, Cause::UnknownType),
-        (60, Cause::LevelCount),
-        (68, Cause::UnknownType),
-    ] {
-        let fault = KeyFault::Unreadable(ReadFault { place: 0, cause });
-        assert!(rt; zeros_as_key(length) == Some(fault));
-    }
 }
 
 // What zeros are as a signature of a message under a key, and how much of the message is left then.

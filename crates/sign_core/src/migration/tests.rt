@@ -1,18 +1,15 @@
+//! Migrations that fail or are stopped at each call of either disk. What others come to is said by the tests of the
+//! built program, `tests/conformance`.
+
 use super::*;
-use crate::fault::SignFault;
 use crate::signer::Signer;
-use crate::signer::tests::{Entry, LMS, answer, created, tape_of, with_records};
+use crate::signer::tests::{Entry, with_records};
 use crate::source::{Source, TapeSource};
 use state_file::{FileStore, MemoryDisk, Pick, Store, Version};
 use std::test::*;
 
-const TWO_LEVELS: &str = "hss:H5/W8,H5/W8";
-
-// A key whose chains have one step each.
-const FEW_STEPS: &str = "lms:H5/W1";
-
 // The file of these records, and of some more.
-fn file_of(alloc: Global, entries: &[Entry<'_>], more: &[Entry<'_>]) -> Option<Vec<u8>> {
+fn file_of(alloc: Global, entries: &[Entry], more: &[Entry]) -> Option<Vec<u8>> {
     let store = FileStore::format(MemoryDisk::of(alloc, &[]).ok()?).ok()?;
     let store = with_records(with_records(store, entries)?, more)?;
     store.into_disk().stop(Pick::New).ok()
@@ -39,199 +36,10 @@ fn migrated(alloc: Global, old: &[u8], new: &[u8]) -> Option<Migration> {
 }
 
 // Records of version 1, and how they stand in version 2.
-const CARRIED: [(&[Entry], &[Entry]); 3] = [
-    (&[Entry::Key(LMS)], &[Entry::KeyOf(Version::Two, LMS)]),
-    (
-        &[Entry::Key(LMS), Entry::Bound(3, 0)],
-        &[Entry::KeyOf(Version::Two, LMS), Entry::Bound(3, 0)],
-    ),
-    (
-        &[
-            Entry::Key(TWO_LEVELS),
-            Entry::Extend(1, 0, [6; 16]),
-            Entry::BoundLong(0, 64),
-            Entry::Retire(5),
-        ],
-        &[
-            Entry::KeyOf(Version::Two, TWO_LEVELS),
-            Entry::Extend(1, 0, [6; 16]),
-            Entry::BoundLong(0, 64),
-            Entry::Retire(5),
-        ],
-    ),
-];
-
-// New places without a key. Of a long one the bytes behind the records stay.
-const PLACES: [&[u8]; 4] = [&[], &[0xA5], &[0xA5; 256], &[7; 1500]];
-
-// Whether records are carried over to a place, also where a Moved stood after them already.
-fn are_carried(
-    alloc: Global,
-    (entries, carried): (&[Entry<'_>], &[Entry<'_>]),
-    place: &[u8],
-) -> Option<bool> {
-    let wanted = file_of(alloc, carried, &[])?;
-    let sealed = file_of(alloc, entries, &[Entry::Moved])?;
-    let behind = place.get(wanted.len()..).unwrap_or_default();
-    for old in [&file_of(alloc, entries, &[])?, &sealed] {
-        let done = migrated(alloc, old, place)?;
-        let (records, rest) = done.new.split_at_checked(wanted.len())?;
-        let is_count = done.answer == Ok(u32::try_from(carried.len()).ok()?);
-        if !is_count || done.old != sealed || records != wanted.as_slice() || rest != behind {
-            return Some(false);
-        }
-    }
-    Some(true)
-}
-
-// How many of the lists are carried over to each place, before the first that isn't.
-fn count_carried(alloc: Global) -> Option<usize> {
-    for (i, lists) in CARRIED.iter().enumerate() {
-        for place in PLACES {
-            if !are_carried(alloc, *lists, place)? {
-                return Some(i);
-            }
-        }
-    }
-    Some(CARRIED.len())
-}
-
-#[test]
-fn records_are_carried_over(rt: HostRuntime) {
-    assert!(rt; count_carried(rt.alloc()) == Some(CARRIED.len()));
-}
-
-// Files that are refused, where perhaps a byte is turned, whatever stands at the new place.
-const REFUSED: [(&[Entry], Option<(usize, u8)>, MigrateFault); 11] = [
-    (&[], None, MigrateFault::NoKey),
-    (&[Entry::Key(LMS)], Some((0, 0)), MigrateFault::NoKey),
-    (&[Entry::Key(LMS)], Some((1, 3)), MigrateFault::NotKeyFile),
-    (&[Entry::Key(LMS)], Some((11, 3)), MigrateFault::Version),
-    (&[Entry::Key(LMS)], Some((11, 2)), MigrateFault::Damaged(0)),
-    (
-        &[Entry::Key(LMS), Entry::Bound(3, 0)],
-        Some((300, 9)),
-        MigrateFault::Damaged(1),
-    ),
-    (
-        &[Entry::Key(LMS), Entry::Bound(3, 0), Entry::Bound(3, 1)],
-        None,
-        MigrateFault::Illegal(2),
-    ),
-    (
-        &[
-            Entry::KeyOf(Version::Two, LMS),
-            Entry::Bound(3, 0),
-            Entry::Bound(3, 1),
-        ],
-        None,
-        MigrateFault::Illegal(2),
-    ),
-    (
-        &[Entry::KeyOf(Version::Two, LMS), Entry::Moved],
-        None,
-        MigrateFault::Illegal(1),
-    ),
-    (
-        &[Entry::KeyOf(Version::Two, LMS)],
-        None,
-        MigrateFault::Version,
-    ),
-    (
-        &[Entry::KeyOf(Version::Two, LMS), Entry::BoundLong(3, 128)],
-        None,
-        MigrateFault::Version,
-    ),
-];
-
-// Why a file isn't migrated to a place. None where it is, or one of the two isn't what it was.
-fn refusal(
-    alloc: Global,
-    entries: &[Entry<'_>],
-    turned: Option<(usize, u8)>,
-    new: &[u8],
-) -> Option<MigrateFault> {
-    let mut old = file_of(alloc, entries, &[])?;
-    if let Some((offset, byte)) = turned {
-        *old.get_mut(offset)? = byte;
-    }
-    let done = migrated(alloc, &old, new)?;
-    if done.old != old || done.new.as_slice() != new {
-        return None;
-    }
-    done.answer.err()
-}
-
-// How many of the files are refused so, before the first that isn't. What stands at the new place comes last.
-fn count_refused(alloc: Global) -> Option<usize> {
-    let key = file_of(alloc, &[Entry::Key(LMS)], &[])?;
-    for (i, (entries, turned, fault)) in REFUSED.iter().enumerate() {
-        for place in [&[], key.as_slice()] {
-            if refusal(alloc, entries, *turned, place) != Some(*fault) {
-                return Some(i);
-            }
-        }
-    }
-    if refusal(alloc, CARRIED[1].0, None, &key) == Some(MigrateFault::KeyThere) {
-        Some(REFUSED.len())
-    } else {
-        None
-    }
-}
-
-#[test]
-fn refused_migrations_change_nothing(rt: HostRuntime) {
-    assert!(rt; count_refused(rt.alloc()) == Some(REFUSED.len()));
-}
-
-// What a key in a file answers to the request for a name.
-fn answer_on<D: Disk + Drop, R: Source + Drop>(
-    alloc: Global,
-    disk: D,
-    random: R,
-) -> Option<Result<Vec<u8>, SignFault>> {
-    let store = FileStore::open(disk).ok()?;
-    let mut signer = Signer::open(alloc, store, random).ok()?;
-    answer(alloc, &mut signer, b"fw-1", &[1])
-}
-
-// The store of a new key after the request for a name, and its signature.
-fn signed<S: Store + Drop, R: Source + Drop>(
-    alloc: Global,
-    store: S,
-    random: R,
-) -> Option<(S, Vec<u8>)> {
-    let mut signer = created(alloc, FEW_STEPS, store, random)?;
-    let first = answer(alloc, &mut signer, b"fw-1", &[1])?.ok()?;
-    Some((signer.into_store(), first))
-}
-
-// Whether a key goes on at its new place: its first name has the same signature there, and the old file signs no more.
-// It isn't migrated there again, nor from there.
-fn goes_on(alloc: Global) -> Option<bool> {
-    let tape = tape_of::<80>(0, 1);
-    let none = TapeSource::new(&[]);
-    let store = FileStore::format(MemoryDisk::of(alloc, &[]).ok()?).ok()?;
-    let (store, first) = signed(alloc, store, TapeSource::new(&tape))?;
-    let done = migrated(alloc, &store.into_disk().stop(Pick::New).ok()?, &[])?;
-    let is_moved = done.answer == Ok(2) && done.old.len() == 769 && done.new.len() == 513;
-    let again = migrated(alloc, &done.old, &done.new)?;
-    let back = migrated(alloc, &done.new, &[])?;
-    let is_refused = again.answer == Err(MigrateFault::KeyThere)
-        && back.answer == Err(MigrateFault::Version);
-    let old = answer_on(alloc, MemoryDisk::of(alloc, &done.old).ok()?, none)?;
-    let new = answer_on(
-        alloc,
-        MemoryDisk::of(alloc, &done.new).ok()?,
-        TapeSource::new(&[]),
-    )?;
-    Some(is_moved && is_refused && old == Err(SignFault::Moved) && new == Ok(first))
-}
-
-#[test]
-fn a_key_goes_on_at_its_new_place(rt: HostRuntime) {
-    assert!(rt; goes_on(rt.alloc()) == Some(true));
-}
+const CARRIED: (&[Entry], &[Entry]) = (
+    &[Entry::Key(Version::One), Entry::Bound(3, 0)],
+    &[Entry::Key(Version::Two), Entry::Bound(3, 0)],
+);
 
 const PICKS: [Pick; 5] = [
     Pick::Old,
@@ -295,9 +103,9 @@ fn survives(
     (old_call, new_call): (u32, u32),
     stops: bool,
 ) -> Option<Option<bool>> {
-    let file = file_of(alloc, CARRIED[1].0, &[])?;
-    let sealed = file_of(alloc, CARRIED[1].0, &[Entry::Moved])?;
-    let wanted = file_of(alloc, CARRIED[1].1, &[])?;
+    let file = file_of(alloc, CARRIED.0, &[])?;
+    let sealed = file_of(alloc, CARRIED.0, &[Entry::Moved])?;
+    let wanted = file_of(alloc, CARRIED.1, &[])?;
     let old = disk_with_mishap(alloc, &file, old_call, stops)?;
     let new = disk_with_mishap(alloc, place, new_call, stops)?;
     let (old, new, answer) = migrate_key(alloc, old, new);

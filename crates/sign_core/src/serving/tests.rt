@@ -1,57 +1,62 @@
-//! Exchanges of frames, each against what its frames lead to by calls of a signer of the same key.
+//! Exchanges of frames over inputs and outputs that fail, or give and take little at a time, each against the same one
+//! over an input that is there as a whole and an output that takes all. What these lead to is said by the tests of the
+//! built program, `tests/conformance` and `tests/serving`.
 
 use super::*;
-use crate::key::verify_any;
-use crate::signer::tests::{
-    Call, Entry, InFile, Input, LMS, begins_with, file_in, input_of, tape_of, with_records,
-};
-use crate::source::TapeSource;
-use state_file::{FileStore, MemoryDisk};
+use crate::signer::tests::{LMS, created_by, seen_from};
+use crate::source::Source;
+use state_file::{MemoryStore, Store};
+use std::io;
 use std::io::{ErrorKind, Read};
 use std::test::*;
-use std::{io, mem};
 
 mod inputs;
 mod memory;
-mod model;
-mod order;
 mod outputs;
-mod random;
 
-use model::{led_to, replies_to};
-
-// A key whose trees are quickly made.
-const CHEAP: &str = "lms:H5/W2";
-
-// The file of a key, and its tape: the source that the key is opened with gives what comes after the draws of a key of
-// LMS.
-type Start<'a> = (&'a [u8], &'a [u8]);
-
-// Opens the file again.
-fn open<'a>(alloc: Global, (file, tape): Start<'a>) -> Option<InFile<'a>> {
-    let store = FileStore::open(MemoryDisk::of(alloc, file).ok()?).ok()?;
-    let random = TapeSource::new(tape.get(48..).unwrap_or_default());
-    Signer::open(alloc, store, random).ok()
+// An input, of which a read gives at most so many bytes. It ends after them or fails there. It may claim so many bytes
+// more, which its reads say that they gave, and write none of. Where its failure is an interruption, it goes on after
+// it with bytes that it claims.
+#[derive(Drop)]
+struct Input<'a> {
+    rest: &'a [u8],
+    most: usize,
+    fails: bool,
+    is_interrupted: bool,
+    claims: usize,
 }
 
-// A file without a key.
-fn empty_file(alloc: Global) -> Option<FileStore<MemoryDisk>> {
-    FileStore::format(MemoryDisk::of(alloc, &[]).ok()?).ok()
+impl Read for Input<'_> {
+    fn read(&mut self, buffer: &mut [u8]) -> io::Result<usize> {
+        let n = self.most.min(buffer.len()).min(self.rest.len());
+        if n == 0 && self.claims > 0 {
+            let claimed = self.claims.min(buffer.len());
+            self.claims -= claimed;
+            return Ok(claimed);
+        }
+        if n == 0 && self.fails && self.is_interrupted {
+            self.claims = usize::MAX;
+            return Err(io::Error::from(ErrorKind::Interrupted));
+        }
+        if n == 0 && self.fails {
+            return Err(io::Error::from(ErrorKind::BrokenPipe));
+        }
+        let (given, rest) = self.rest.split_at(n);
+        buffer[..n].copy_from_slice(given);
+        self.rest = rest;
+        Ok(n)
+    }
 }
 
-// The file of a new key, after so many of its leaves were retired.
-fn new_file(alloc: Global, text: &str, tape: &[u8], retired: u32) -> Option<Vec<u8>> {
-    let store = empty_file(alloc)?;
-    let calls = [Call::Retire(retired, None)];
-    file_in(begins_with(alloc, text, store, TapeSource::new(tape), &calls)?)
-}
-
-// What an exchange came to: what was written, what it ended with, and the key's file then.
-#[derive(PartialEq, Drop)]
-struct Exchange {
-    output: Vec<u8>,
-    end: Result<u64, ServeFault>,
-    file: Vec<u8>,
+// An input that gives as much as is wanted, and ends then.
+fn input_of(bytes: &[u8]) -> Input<'_> {
+    Input {
+        rest: bytes,
+        most: usize::MAX,
+        fails: false,
+        is_interrupted: false,
+        claims: 0,
+    }
 }
 
 // What a call of an output does otherwise: it fails, takes nothing, or is interrupted.
@@ -63,15 +68,14 @@ enum Odd {
 }
 
 // An output of which a write takes at most so many bytes. The call after so many, a write or a flush, is odd. It counts
-// its writes and flushes.
+// its calls.
 #[derive(Drop)]
 struct Output {
     taken: Vec<u8>,
     most: usize,
-    before: Option<u32>,
+    before: u32,
     odd: Odd,
-    writes: u32,
-    flushes: u32,
+    calls: u32,
 }
 
 // An output that takes all.
@@ -79,28 +83,23 @@ fn taking_all(alloc: Global) -> Output {
     Output {
         taken: Vec::new(alloc),
         most: usize::MAX,
-        before: None,
+        before: u32::MAX,
         odd: Odd::Fails,
-        writes: 0,
-        flushes: 0,
+        calls: 0,
     }
 }
 
 impl Output {
     // Whether this call is the odd one.
     fn is_odd(&mut self) -> bool {
-        let is_odd = self.before == Some(0);
-        self.before = match self.before {
-            Some(before) => before.checked_sub(1),
-            None => None,
-        };
+        let is_odd = self.calls == self.before;
+        self.calls = self.calls.wrapping_add(1);
         is_odd
     }
 }
 
 impl Write for Output {
     fn write(&mut self, bytes: &[u8]) -> io::Result<usize> {
-        self.writes = self.writes.wrapping_add(1);
         if self.is_odd() {
             return match self.odd {
                 Odd::Fails => Err(io::Error::from(ErrorKind::StorageFull)),
@@ -115,7 +114,6 @@ impl Write for Output {
 
     // It takes nothing in any case.
     fn flush(&mut self) -> io::Result<()> {
-        self.flushes = self.flushes.wrapping_add(1);
         if !self.is_odd() {
             return Ok(());
         }
@@ -127,36 +125,46 @@ impl Write for Output {
     }
 }
 
-// What an exchange over such an input and output comes to.
-fn served(
+// What an exchange ends with; and how many leaves the key has then, and what its source gives next.
+type End = (Result<u64, ServeFault>, u32, u8);
+
+// How an exchange ends with a signer, of whose leaves so many are retired; and how many are left then.
+fn served<S: Store, R: Source>(
     alloc: Global,
-    start: Start<'_>,
+    signer: &mut Signer<S, R>,
+    retired: u32,
     input: &mut Input<'_>,
     output: &mut Output,
-) -> Option<Exchange> {
-    let mut signer = open(alloc, start)?;
-    let end = serve(alloc, &mut signer, input, output);
-    Some(Exchange {
-        output: mem::replace(&mut output.taken, Vec::new(alloc)),
-        end,
-        file: file_in(signer.into_store())?,
-    })
+) -> Option<(Result<u64, ServeFault>, u32)> {
+    signer.retire(retired).ok()?;
+    let end = serve(alloc, signer, input, output);
+    Some((end, signer.left().as_slice().first().copied()?))
 }
 
-// A request: its name, how many bytes its message has, and which byte that is each time.
-type Request<'a> = (&'a [u8], u16, u8);
+// How one ends with a new key in this store.
+fn end_in<S: Store + Drop>(
+    alloc: Global,
+    store: S,
+    retired: u32,
+    input: &mut Input<'_>,
+    output: &mut Output,
+) -> Option<End> {
+    let seen = seen_from(7);
+    let mut signer = created_by(alloc, LMS, store, &seen)?;
+    let came = served(alloc, &mut signer, retired, input, output);
+    let _store = signer.into_store();
+    let (end, left) = came?;
+    Some((end, left, seen.next.get()))
+}
 
-// The frames of requests.
-fn frames_of(alloc: Global, requests: &[Request<'_>]) -> Option<Vec<u8>> {
-    let mut frames = Vec::new(alloc);
-    for (name, size, byte) in requests {
-        frames.push(u8::try_from(name.len()).ok()?).ok()?;
-        frames.extend_from_slice(name).ok()?;
-        frames
-            .extend_from_slice(&u32::from(*size).to_be_bytes())
-            .ok()?;
-        let len = frames.len().checked_add(usize::from(*size))?;
-        frames.resize(len, *byte).ok()?;
-    }
-    Some(frames)
+fn end_of(alloc: Global, retired: u32, input: &mut Input<'_>, output: &mut Output) -> Option<End> {
+    let store = MemoryStore::with_limit(alloc, 100);
+    end_in(alloc, store, retired, input, output)
+}
+
+// The same of an exchange over these bytes, and what is written.
+fn whole(alloc: Global, retired: u32, bytes: &[u8]) -> Option<(End, Vec<u8>)> {
+    let mut output = taking_all(alloc);
+    let end = end_of(alloc, retired, &mut input_of(bytes), &mut output)?;
+    Some((end, output.taken))
 }

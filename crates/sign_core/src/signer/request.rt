@@ -100,8 +100,8 @@ impl<S: Store, R: Source> Signer<S, R> {
     /// signs.
     ///
     /// Refusals in their order: 26, 31; under a bound name 27, 21, 29, 28; under a new one 33, 22, 30, 29, 28, then 23,
-    /// 24, 29 for its cache and 25 for each tree that is wanted, 23 for C, 27, 25; 29 also where the store answers 46 to
-    /// an append. After a refusal `out` is empty.
+    /// 24, 29 for its cache and 25 for each tree that is wanted, 23 for C, 27, 25; 29 also where the store answers 46
+    /// to an append. After a refusal `out` is empty.
     pub fn sign<M: Message>(
         &mut self,
         name: &Name,

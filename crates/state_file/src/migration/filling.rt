@@ -29,8 +29,8 @@ struct Copied {
 }
 
 /// Writes the records of a sealed file to a place, but for the Moved, as a file of version 2, and gives both disks
-/// back. The first gate is opened when all else is synced. So a stop leaves the old file as it is, and the place without
-/// a key or with all of these records. Answers how many these are, or that a device failed (45).
+/// back. The first gate is opened when all else is synced. So a stop leaves the old file as it is, and the place
+/// without a key or with all of these records. Answers how many these are, or that a device failed (45).
 pub fn fill<D: Disk + Drop, E: Disk + Drop>(
     sealed: Sealed<D>,
     place: Place<E>,

@@ -213,7 +213,8 @@ fn opened(alloc: Global, content: &[u8], version: Version, numbers: &[u32]) -> O
     Some(store.count())
 }
 
-// How many records two contents open with, if one of both at most can sign: the old one without a Moved, or the new one.
+// How many records two contents open with, if one of both at most can sign: the old one without a Moved, or the new
+// one.
 fn opened_both(alloc: Global, old: &[u8], new: &[u8]) -> Option<(u32, u32)> {
     let counts = (
         opened(alloc, old, Version::One, MOVED)?,

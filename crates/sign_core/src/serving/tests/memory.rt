@@ -4,12 +4,7 @@
 
 use super::*;
 
-const NAME: &[u8] = b"fw-1";
-
-// The beginning of a frame, but for the size of its message.
-const HEAD: &[u8] = b"\x04fw-1";
-
-// Where its message begins.
+// Where the message of a frame begins.
 const MESSAGE: usize = 9;
 
 // What follows the request: the same name with another message, and a frame that claims 2^32 - 1 bytes.
@@ -18,94 +13,76 @@ const CLAIMED: &[u8] = b"\x04fw-1\0\0\0\x01\x01\0\xff\xff\xff\xffabc";
 // The request of a message of so many zeros, and these frames.
 fn frames_with(alloc: Global, size: u32) -> Option<Vec<u8>> {
     let mut frames = Vec::with_capacity(alloc, 70_000).ok()?;
-    frames.extend_from_slice(HEAD).ok()?;
+    frames.extend_from_slice(b"\x04fw-1").ok()?;
     frames.extend_from_slice(&size.to_be_bytes()).ok()?;
     frames.resize(MESSAGE.checked_add(size as usize)?, 0).ok()?;
     frames.extend_from_slice(CLAIMED).ok()?;
     Some(frames)
 }
 
-// How long a signature of a message is. None where it doesn't verify.
-fn verified_len<S: Store, R: Source>(
-    signer: &Signer<S, R>,
-    message: &[u8],
-    signature: &[u8],
-) -> Option<usize> {
-    let mut text = message;
-    verify_any(&signer.public_key(), &mut text, signature).ok()?;
-    Some(signature.len())
-}
-
-// How long the signature of a message is.
-fn signed<S: Store, R: Source>(
-    signer: &mut Signer<S, R>,
-    message: &[u8],
-    out: &mut Vec<u8>,
-) -> Option<usize> {
-    let mut rest = message;
-    signer.sign(&Name::new(NAME).ok()?, &mut rest, out).ok()?;
-    verified_len(signer, message, out)
-}
-
-// The same of the message in these frames.
-fn signed_in_frame<S: Store, R: Source>(
+// How long the signature is that a signer gives the message of these frames, in a frame or not. Two replies of 5 bytes
+// follow that of the frame.
+fn len_by<S: Store, R: Source>(
     alloc: Global,
     signer: &mut Signer<S, R>,
     (frames, message): (&[u8], &[u8]),
+    is_in_frame: bool,
     out: &mut Vec<u8>,
 ) -> Option<usize> {
-    let mut input = frames;
-    if serve(alloc, signer, &mut input, out) != Err(ServeFault::MessageRead) {
-        return None;
+    let (mut input, mut text) = (frames, message);
+    if is_in_frame {
+        if serve(alloc, signer, &mut input, out) != Err(ServeFault::MessageRead) {
+            return None;
+        }
+        return out.len().checked_sub(15);
     }
-    // it stands after its number and size, and two replies of 5 bytes follow
-    let replied = out.len().checked_sub(10)?;
-    verified_len(signer, message, out.get(5..replied)?)
+    let mut signature = Vec::new(alloc);
+    signer
+        .sign(&Name::new(b"fw-1").ok()?, &mut text, &mut signature)
+        .ok()?;
+    Some(signature.len())
 }
 
-// The same of a new key in a store, and a message of so many zeros.
-fn of_new_key<S: Store + Drop>(
+// The same of a new key in this store.
+fn len_in<S: Store + Drop>(
     alloc: Global,
-    store: Option<S>,
-    size: u32,
+    store: S,
+    given: (&[u8], &[u8]),
     is_in_frame: bool,
+    out: &mut Vec<u8>,
 ) -> Option<usize> {
-    let tape = tape_of::<80>(0, 1);
+    let seen = seen_from(7);
+    let mut signer = created_by(alloc, LMS, store, &seen)?;
+    let len = len_by(alloc, &mut signer, given, is_in_frame, out);
+    let _store = signer.into_store();
+    len
+}
+
+// The same of a message of so many zeros.
+fn signed_len(alloc: Global, size: u32, is_in_frame: bool) -> Option<usize> {
     let frames = frames_with(alloc, size)?;
-    let given = (
-        frames.as_slice(),
-        frames.get(MESSAGE..MESSAGE.checked_add(size as usize)?)?,
-    );
-    let mut out = Vec::with_capacity(alloc, 2000).ok()?;
-    let store = begins_with(alloc, LMS, store?, TapeSource::new(&tape), &[])?;
-    let mut signer = Signer::open(alloc, store, TapeSource::new(&tape[48..])).ok()?;
-    if is_in_frame {
-        signed_in_frame(alloc, &mut signer, given, &mut out)
-    } else {
-        signed(&mut signer, given.1, &mut Vec::new(alloc))
-    }
+    let message = frames.get(MESSAGE..MESSAGE.checked_add(size as usize)?)?;
+    let mut out = Vec::with_capacity(alloc, 9000).ok()?;
+    let store = MemoryStore::with_limit(alloc, 100);
+    len_in(alloc, store, (&frames, message), is_in_frame, &mut out)
 }
 
 #[test]
 fn a_short_message_is_signed(rt: HostRuntime) {
-    let store = empty_file(rt.alloc());
-    assert!(rt; of_new_key(rt.alloc(), store, 1, false) == Some(1292));
+    assert!(rt; signed_len(rt.alloc(), 1, false) == Some(8684));
 }
 
 #[test]
 fn a_long_message_is_signed(rt: HostRuntime) {
-    let store = empty_file(rt.alloc());
-    assert!(rt; of_new_key(rt.alloc(), store, 65_536, false) == Some(1292));
+    assert!(rt; signed_len(rt.alloc(), 65_536, false) == Some(8684));
 }
 
 #[test]
 fn a_short_message_is_signed_in_a_frame(rt: HostRuntime) {
-    let store = empty_file(rt.alloc());
-    assert!(rt; of_new_key(rt.alloc(), store, 1, true) == Some(1292));
+    assert!(rt; signed_len(rt.alloc(), 1, true) == Some(8684));
 }
 
 #[test]
 fn a_long_message_is_signed_in_a_frame(rt: HostRuntime) {
-    let store = empty_file(rt.alloc());
-    assert!(rt; of_new_key(rt.alloc(), store, 65_536, true) == Some(1292));
+    assert!(rt; signed_len(rt.alloc(), 65_536, true) == Some(8684));
 }

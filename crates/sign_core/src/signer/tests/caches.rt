@@ -2,601 +2,214 @@
 
 use super::*;
 
-// What is done with a new key, and how many leaves its caches have made between.
-const KEPT: [Script; 6] = [
-    // the fifth name, whose leaf is in the next block of four, makes these four leaves
-    Script {
-        text: LMS,
-        tape: COUNTED,
-        room: None,
-        lives: &[Life {
-            drawn: (0, 208),
-            calls: &[
-                Call::Made([None; 3]),
-                Call::Sign(0, b'm', None),
-                Call::Made([Some(32), None, None]),
-                Call::Sign(1, b'm', None),
-                Call::Made([Some(32), None, None]),
-                Call::Sign(2, b'm', None),
-                Call::Made([Some(32), None, None]),
-                Call::Sign(3, b'm', None),
-                Call::Made([Some(32), None, None]),
-                Call::Sign(4, b'm', None),
-                Call::Made([Some(36), None, None]),
-            ],
-            from: 1,
-            said: &[
-                Said::Bound(0, 0, Some(48)),
-                Said::Bound(1, 1, Some(80)),
-                Said::Bound(2, 2, Some(112)),
-                Said::Bound(3, 3, Some(144)),
-                Said::Bound(4, 4, Some(176)),
-            ],
-            len: 1537,
-        }],
-    },
-    // a block is kept when leaves of it are retired
-    Script {
-        text: LMS,
-        tape: BLOCKS,
-        room: None,
-        lives: &[Life {
-            drawn: (0, 1072),
-            calls: &[
-                Call::SignAll(0, 5),
-                Call::Made([Some(36), None, None]),
-                Call::Retire(6, None),
-                Call::Made([Some(36), None, None]),
-                Call::Sign(5, 1, None),
-                Call::Made([Some(36), None, None]),
-            ],
-            from: 5,
-            said: &[
-                Said::Bound(4, 4, Some(176)),
-                Said::Retire(6),
-                Said::Bound(5, 6, Some(208)),
-            ],
-            len: 2049,
-        }],
-    },
-    // the blocks after the first one are made once, and that of the first leaf again for a repeat
-    Script {
-        text: LMS,
-        tape: BLOCKS,
-        room: None,
-        lives: &[Life {
-            drawn: (0, 1072),
-            calls: &[
-                Call::SignAll(0, 32),
-                Call::Made([Some(60), None, None]),
-                Call::Sign(0, b'm', None),
-                Call::Made([Some(64), None, None]),
-            ],
-            from: 32,
-            said: &[Said::Bound(31, 31, Some(1040))],
-            len: 8449,
-        }],
-    },
+// A key, what is done with a new one and once it is opened, and how many records there are then. A request that is
+// signed makes the cache of each current tree that stood before its name, and of no other, and each leaf of these trees
+// once. A refusal that comes before that makes none.
+type Row<'a> = (&'a str, &'a [Step<'a>], &'a [Step<'a>], u32);
+
+const NONE: Step<'static> = Step::Made([None, None, None]);
+
+const ONE: Step<'static> = Step::Made([Some(32), None, None]);
+
+const BOTH: Step<'static> = Step::Made([Some(32), Some(32), None]);
+
+// Six names of a new key.
+const SIX: &[Step<'static>] = &[
+    Step::Sign(0, 1, None),
+    Step::Sign(1, 1, None),
+    Step::Sign(2, 1, None),
+    Step::Sign(3, 1, None),
+    Step::Sign(4, 1, None),
+    Step::Sign(5, 1, None),
+];
+
+// Six names of two levels, after which another lower tree signs a name.
+const REPLACED: &[Step<'static>] = &[
+    Step::Sign(0, 1, None),
+    Step::Sign(1, 1, None),
+    Step::Sign(2, 1, None),
+    Step::Sign(3, 1, None),
+    Step::Sign(4, 1, None),
+    Step::Sign(5, 1, None),
+    Step::Retire(32, None),
+    Step::Sign(6, 1, None),
+];
+
+// Lower trees that sign one name each: the last one by leaf 3 of the top tree, which ends its first block of four ..
+const FOUR_TREES: &[Step<'static>] = &[
+    Step::Sign(0, 1, None),
+    Step::Retire(32, None),
+    Step::Sign(1, 1, None),
+    Step::Retire(32, None),
+    Step::Sign(2, 1, None),
+    Step::Retire(32, None),
+    Step::Sign(3, 1, None),
+];
+
+// .. and by leaf 5, which is in the next one.
+const SIX_TREES: &[Step<'static>] = &[
+    Step::Sign(0, 1, None),
+    Step::Retire(32, None),
+    Step::Sign(1, 1, None),
+    Step::Retire(32, None),
+    Step::Sign(2, 1, None),
+    Step::Retire(32, None),
+    Step::Sign(3, 1, None),
+    Step::Retire(32, None),
+    Step::Sign(4, 1, None),
+    Step::Retire(32, None),
+    Step::Sign(5, 1, None),
+];
+
+const ROWS: [Row<'static>; 20] = [
+    // the fifth name, whose leaf is in the next block of four, makes these four leaves; a block is kept when leaves of
+    // it are retired; that of the first leaf is made again for a repeat
+    (
+        LMS,
+        &[
+            NONE,
+            Step::Sign(0, 1, None),
+            ONE,
+            Step::Sign(1, 1, None),
+            Step::Sign(2, 1, None),
+            Step::Sign(3, 1, None),
+            ONE,
+            Step::Sign(4, 1, None),
+            Step::Made([Some(36), None, None]),
+            Step::Retire(6, None),
+            Step::Made([Some(36), None, None]),
+            Step::Sign(5, 1, None),
+            Step::Made([Some(36), None, None]),
+            Step::Sign(0, 1, None),
+            Step::Made([Some(40), None, None]),
+        ],
+        &[],
+        8,
+    ),
+    // each block is made once
+    (
+        LMS,
+        &[
+            Step::Sign(0, 1, None),
+            Step::Retire(4, None),
+            Step::Sign(1, 1, None),
+            Step::Retire(8, None),
+            Step::Sign(2, 1, None),
+            Step::Retire(12, None),
+            Step::Sign(3, 1, None),
+            Step::Retire(16, None),
+            Step::Sign(4, 1, None),
+            Step::Retire(20, None),
+            Step::Sign(5, 1, None),
+            Step::Retire(24, None),
+            Step::Sign(6, 1, None),
+            Step::Retire(28, None),
+            Step::Sign(7, 1, None),
+            Step::Made([Some(60), None, None]),
+        ],
+        &[],
+        16,
+    ),
     // a new lower tree is made once, with its cache; a repeat under the tree before it makes no cache, nor does one
     // under the current tree
-    Script {
-        text: TWO,
-        tape: BLOCKS,
-        room: None,
-        lives: &[Life {
-            drawn: (0, 1072),
-            calls: &[
-                Call::Left(&[32, 0]),
-                Call::Made([None; 3]),
-                Call::Sign(0, 1, None),
-                Call::Made([Some(32), Some(32), None]),
-                Call::SignAll(1, 5),
-                Call::Made([Some(32), Some(36), None]),
-                Call::Retire(32, None),
-                Call::Sign(5, 1, None),
-                Call::Made([Some(32), Some(32), None]),
-                Call::Sign(0, 1, None),
-                Call::Made([Some(32), Some(32), None]),
-                Call::Sign(5, 1, None),
-                Call::Made([Some(32), Some(32), None]),
-            ],
-            from: 7,
-            said: &[
-                Said::Retire(32),
-                Said::Extend(1, 1, 288),
-                Said::Bound(5, 0, Some(368)),
-            ],
-            len: 2561,
-        }],
-    },
-    // an XMSS key has one cache
-    Script {
-        text: XMSS,
-        tape: BLOCKS,
-        room: None,
-        lives: &[Life {
-            drawn: (0, 1072),
-            calls: &[
-                Call::Sign(0, b'm', None),
-                Call::Made([Some(1024), None, None]),
-            ],
-            from: 0,
-            said: &[Said::Key(0), Said::Bound(0, 0, None)],
-            len: 513,
-        }],
-    },
-    // all names of two levels: a Key, 32 Extends and 1,024 Bounds after the first gate
-    Script {
-        text: "hss:H5/W4,H5/W4",
-        tape: BLOCKS,
-        room: None,
-        lives: &[Life {
-            drawn: (0, 36000),
-            calls: &[
-                Call::SignAll(0, 1024),
-                Call::Sign(1024, b'm', Some(SignFault::Exhausted)),
-            ],
-            from: 1056,
-            said: &[Said::Bound(1023, 31, Some(35_344))],
-            len: 270_593,
-        }],
-    },
-];
-
-#[test]
-fn caches_make_each_block_once(rt: HostRuntime) {
-    assert!(rt; first_other_script(rt.alloc(), Version::One, &KEPT) == KEPT.len());
-}
-
-// What is done with a new key, and then with the key that its file opens. A request that is signed makes the cache of
-// each current tree that stood before its name, and of no other, and each leaf of these trees once. A refusal that
-// comes before that makes none.
-const REOPENED: [Script; 17] = [
+    (
+        TWO,
+        &[
+            NONE,
+            Step::Sign(0, 1, None),
+            BOTH,
+            Step::Sign(1, 1, None),
+            Step::Sign(2, 1, None),
+            Step::Sign(3, 1, None),
+            Step::Sign(4, 1, None),
+            Step::Made([Some(32), Some(36), None]),
+            Step::Retire(32, None),
+            Step::Sign(5, 1, None),
+            BOTH,
+            Step::Sign(0, 1, None),
+            BOTH,
+            Step::Sign(5, 1, None),
+            BOTH,
+        ],
+        &[],
+        10,
+    ),
+    // an XMSS key has one cache; leaf 40 is in its second block of 32
+    (
+        XMSS,
+        &[
+            Step::Sign(0, 1, None),
+            Step::Made([Some(1024), None, None]),
+            Step::Retire(40, None),
+            Step::Sign(1, 1, None),
+        ],
+        &[Step::Sign(1, 1, None), Step::Made([Some(1024), None, None])],
+        4,
+    ),
+    (
+        XMSS,
+        &[Step::Retire(40, None)],
+        &[Step::Sign(0, 1, None), Step::Made([Some(1024), None, None])],
+        3,
+    ),
     // what comes before the caches makes none
-    Script {
-        text: LMS,
-        tape: BLOCKS,
-        room: None,
-        lives: &[
-            Life {
-                drawn: (0, 240),
-                calls: &[Call::SignAll(0, 6)],
-                from: 6,
-                said: &[Said::Bound(5, 5, Some(208))],
-                len: 1793,
-            },
-            Life {
-                drawn: (240, 240),
-                calls: &[
-                    Call::Left(&[26]),
-                    Call::Retire(3, None),
-                    Call::Made([None; 3]),
-                ],
-                from: 7,
-                said: &[],
-                len: 1793,
-            },
-        ],
-    },
-    Script {
-        text: LMS,
-        tape: BLOCKS,
-        room: None,
-        lives: &[
-            Life {
-                drawn: (0, 240),
-                calls: &[Call::SignAll(0, 6)],
-                from: 6,
-                said: &[Said::Bound(5, 5, Some(208))],
-                len: 1793,
-            },
-            Life {
-                drawn: (240, 240),
-                calls: &[
-                    Call::Sign(5, 1, Some(SignFault::Changed)),
-                    Call::Made([None; 3]),
-                ],
-                from: 7,
-                said: &[],
-                len: 1793,
-            },
-        ],
-    },
-    Script {
-        text: LMS,
-        tape: BLOCKS,
-        room: None,
-        lives: &[
-            Life {
-                drawn: (0, 48),
-                calls: &[Call::Retire(32, None)],
-                from: 1,
-                said: &[Said::Retire(32)],
-                len: 513,
-            },
-            Life {
-                drawn: (48, 48),
-                calls: &[
-                    Call::Sign(0, 1, Some(SignFault::Exhausted)),
-                    Call::Made([None; 3]),
-                ],
-                from: 2,
-                said: &[],
-                len: 513,
-            },
-        ],
-    },
+    (
+        LMS,
+        SIX,
+        &[Step::Left(&[26]), Step::Retire(3, None), NONE],
+        7,
+    ),
+    (
+        LMS,
+        SIX,
+        &[Step::Sign(5, 2, Some(SignFault::Changed)), NONE],
+        7,
+    ),
+    (
+        LMS,
+        &[Step::Retire(32, None)],
+        &[Step::Sign(0, 1, Some(SignFault::Exhausted)), NONE],
+        2,
+    ),
     // a bound name and a new one, of a leaf in the first block of four or in another
-    Script {
-        text: LMS,
-        tape: BLOCKS,
-        room: None,
-        lives: &[
-            Life {
-                drawn: (0, 240),
-                calls: &[Call::SignAll(0, 6)],
-                from: 6,
-                said: &[Said::Bound(5, 5, Some(208))],
-                len: 1793,
-            },
-            Life {
-                drawn: (240, 240),
-                calls: &[
-                    Call::Sign(3, b'm', None),
-                    Call::Made([Some(32), None, None]),
-                ],
-                from: 7,
-                said: &[],
-                len: 1793,
-            },
-        ],
-    },
-    Script {
-        text: LMS,
-        tape: BLOCKS,
-        room: None,
-        lives: &[
-            Life {
-                drawn: (0, 240),
-                calls: &[Call::SignAll(0, 6)],
-                from: 6,
-                said: &[Said::Bound(5, 5, Some(208))],
-                len: 1793,
-            },
-            Life {
-                drawn: (240, 240),
-                calls: &[
-                    Call::Sign(5, b'm', None),
-                    Call::Made([Some(32), None, None]),
-                ],
-                from: 7,
-                said: &[],
-                len: 1793,
-            },
-        ],
-    },
-    Script {
-        text: LMS,
-        tape: BLOCKS,
-        room: None,
-        lives: &[
-            Life {
-                drawn: (0, 240),
-                calls: &[Call::SignAll(0, 6)],
-                from: 6,
-                said: &[Said::Bound(5, 5, Some(208))],
-                len: 1793,
-            },
-            Life {
-                drawn: (240, 272),
-                calls: &[Call::Sign(6, 1, None), Call::Made([Some(32), None, None])],
-                from: 7,
-                said: &[Said::Bound(6, 6, Some(240))],
-                len: 2049,
-            },
-        ],
-    },
-    Script {
-        text: TWO,
-        tape: BLOCKS,
-        room: None,
-        lives: &[
-            Life {
-                drawn: (0, 320),
-                calls: &[Call::SignAll(0, 6)],
-                from: 7,
-                said: &[Said::Bound(5, 5, Some(288))],
-                len: 2049,
-            },
-            Life {
-                drawn: (320, 320),
-                calls: &[
-                    Call::Sign(5, b'm', None),
-                    Call::Made([Some(32), Some(32), None]),
-                ],
-                from: 8,
-                said: &[],
-                len: 2049,
-            },
-        ],
-    },
-    Script {
-        text: TWO,
-        tape: BLOCKS,
-        room: None,
-        lives: &[
-            Life {
-                drawn: (0, 320),
-                calls: &[Call::SignAll(0, 6)],
-                from: 7,
-                said: &[Said::Bound(5, 5, Some(288))],
-                len: 2049,
-            },
-            Life {
-                drawn: (320, 432),
-                calls: &[
-                    Call::Retire(32, None),
-                    Call::Sign(6, 1, None),
-                    Call::Made([Some(32), Some(32), None]),
-                ],
-                from: 8,
-                said: &[
-                    Said::Retire(32),
-                    Said::Extend(1, 1, 320),
-                    Said::Bound(6, 0, Some(400)),
-                ],
-                len: 2817,
-            },
-        ],
-    },
+    (LMS, SIX, &[Step::Sign(3, 1, None), ONE], 7),
+    (LMS, SIX, &[Step::Sign(5, 1, None), ONE], 7),
+    (LMS, SIX, &[Step::Sign(6, 1, None), ONE], 8),
+    (TWO, SIX, &[Step::Sign(5, 1, None), BOTH], 8),
+    (
+        TWO,
+        SIX,
+        &[Step::Retire(32, None), Step::Sign(6, 1, None), BOTH],
+        11,
+    ),
     // under a tree that isn't current any more
-    Script {
-        text: TWO,
-        tape: BLOCKS,
-        room: None,
-        lives: &[
-            Life {
-                drawn: (0, 432),
-                calls: &[
-                    Call::SignAll(0, 6),
-                    Call::Retire(32, None),
-                    Call::Sign(6, 1, None),
-                ],
-                from: 8,
-                said: &[
-                    Said::Retire(32),
-                    Said::Extend(1, 1, 320),
-                    Said::Bound(6, 0, Some(400)),
-                ],
-                len: 2817,
-            },
-            Life {
-                drawn: (432, 432),
-                calls: &[
-                    Call::Sign(5, b'm', None),
-                    Call::Made([Some(32), None, None]),
-                ],
-                from: 11,
-                said: &[],
-                len: 2817,
-            },
-        ],
-    },
-    Script {
-        text: TWO,
-        tape: BLOCKS,
-        room: None,
-        lives: &[
-            Life {
-                drawn: (0, 432),
-                calls: &[
-                    Call::SignAll(0, 6),
-                    Call::Retire(32, None),
-                    Call::Sign(6, 1, None),
-                ],
-                from: 8,
-                said: &[
-                    Said::Retire(32),
-                    Said::Extend(1, 1, 320),
-                    Said::Bound(6, 0, Some(400)),
-                ],
-                len: 2817,
-            },
-            Life {
-                drawn: (432, 432),
-                calls: &[
-                    Call::Sign(6, 1, None),
-                    Call::Made([Some(32), Some(32), None]),
-                ],
-                from: 11,
-                said: &[],
-                len: 2817,
-            },
-        ],
-    },
+    (TWO, REPLACED, &[Step::Sign(5, 1, None), ONE], 11),
+    (TWO, REPLACED, &[Step::Sign(6, 1, None), BOTH], 11),
     // the second request makes none anew
-    Script {
-        text: TWO,
-        tape: BLOCKS,
-        room: None,
-        lives: &[
-            Life {
-                drawn: (0, 432),
-                calls: &[
-                    Call::SignAll(0, 6),
-                    Call::Retire(32, None),
-                    Call::Sign(6, 1, None),
-                ],
-                from: 8,
-                said: &[
-                    Said::Retire(32),
-                    Said::Extend(1, 1, 320),
-                    Said::Bound(6, 0, Some(400)),
-                ],
-                len: 2817,
-            },
-            Life {
-                drawn: (432, 432),
-                calls: &[
-                    Call::Sign(6, 1, None),
-                    Call::Sign(5, b'm', None),
-                    Call::Made([Some(32), Some(32), None]),
-                ],
-                from: 11,
-                said: &[],
-                len: 2817,
-            },
-        ],
-    },
+    (
+        TWO,
+        REPLACED,
+        &[Step::Sign(6, 1, None), Step::Sign(5, 1, None), BOTH],
+        11,
+    ),
     // the last leaf of a block signs the current tree, and the next one is in another block
-    Script {
-        text: TWO,
-        tape: BLOCKS,
-        room: None,
-        lives: &[
-            Life {
-                drawn: (0, 496),
-                calls: &[Call::UseUp(0, 3), Call::Sign(3, 1, None)],
-                from: 10,
-                said: &[Said::Extend(1, 3, 384), Said::Bound(3, 0, Some(464))],
-                len: 3073,
-            },
-            Life {
-                drawn: (496, 528),
-                calls: &[
-                    Call::Sign(4, 1, None),
-                    Call::Made([Some(32), Some(32), None]),
-                ],
-                from: 12,
-                said: &[Said::Bound(4, 1, Some(496))],
-                len: 3329,
-            },
-        ],
-    },
+    (TWO, FOUR_TREES, &[Step::Sign(4, 1, None), BOTH], 13),
     // a leaf of another block signs the current tree, and one of the first block that of a name bound before
-    Script {
-        text: TWO,
-        tape: BLOCKS,
-        room: None,
-        lives: &[
-            Life {
-                drawn: (0, 720),
-                calls: &[Call::UseUp(0, 5), Call::Sign(5, 1, None)],
-                from: 16,
-                said: &[Said::Extend(1, 5, 608), Said::Bound(5, 0, Some(688))],
-                len: 4609,
-            },
-            Life {
-                drawn: (720, 720),
-                calls: &[
-                    Call::Sign(5, 1, None),
-                    Call::Made([Some(32), Some(32), None]),
-                ],
-                from: 18,
-                said: &[],
-                len: 4609,
-            },
-        ],
-    },
-    Script {
-        text: TWO,
-        tape: BLOCKS,
-        room: None,
-        lives: &[
-            Life {
-                drawn: (0, 720),
-                calls: &[Call::UseUp(0, 5), Call::Sign(5, 1, None)],
-                from: 16,
-                said: &[Said::Extend(1, 5, 608), Said::Bound(5, 0, Some(688))],
-                len: 4609,
-            },
-            Life {
-                drawn: (720, 720),
-                calls: &[
-                    Call::Sign(0, b'm', None),
-                    Call::Made([Some(32), None, None]),
-                ],
-                from: 18,
-                said: &[],
-                len: 4609,
-            },
-        ],
-    },
-    Script {
-        text: TWO,
-        tape: BLOCKS,
-        room: None,
-        lives: &[
-            Life {
-                drawn: (0, 720),
-                calls: &[Call::UseUp(0, 5), Call::Sign(5, 1, None)],
-                from: 16,
-                said: &[Said::Extend(1, 5, 608), Said::Bound(5, 0, Some(688))],
-                len: 4609,
-            },
-            Life {
-                drawn: (720, 832),
-                calls: &[
-                    Call::Retire(32, None),
-                    Call::Sign(6, 1, None),
-                    Call::Made([Some(32), Some(32), None]),
-                ],
-                from: 18,
-                said: &[
-                    Said::Retire(32),
-                    Said::Extend(1, 6, 720),
-                    Said::Bound(6, 0, Some(800)),
-                ],
-                len: 5377,
-            },
-        ],
-    },
-    // leaf 40 of an XMSS key is in its second block of 32
-    Script {
-        text: XMSS,
-        tape: BLOCKS,
-        room: None,
-        lives: &[
-            Life {
-                drawn: (0, 96),
-                calls: &[Call::Retire(40, None), Call::Sign(0, 1, None)],
-                from: 1,
-                said: &[Said::Retire(40), Said::Bound(0, 40, None)],
-                len: 769,
-            },
-            Life {
-                drawn: (96, 96),
-                calls: &[Call::Sign(0, 1, None), Call::Made([Some(1024), None, None])],
-                from: 3,
-                said: &[],
-                len: 769,
-            },
-        ],
-    },
-    Script {
-        text: XMSS,
-        tape: BLOCKS,
-        room: None,
-        lives: &[
-            Life {
-                drawn: (0, 96),
-                calls: &[Call::Retire(40, None)],
-                from: 1,
-                said: &[Said::Retire(40)],
-                len: 513,
-            },
-            Life {
-                drawn: (96, 96),
-                calls: &[Call::Sign(0, 1, None), Call::Made([Some(1024), None, None])],
-                from: 2,
-                said: &[Said::Bound(0, 40, None)],
-                len: 769,
-            },
-        ],
-    },
+    (TWO, SIX_TREES, &[Step::Sign(5, 1, None), BOTH], 18),
+    (TWO, SIX_TREES, &[Step::Sign(0, 1, None), ONE], 18),
+    (
+        TWO,
+        SIX_TREES,
+        &[Step::Retire(32, None), Step::Sign(6, 1, None), BOTH],
+        21,
+    ),
 ];
 
 #[test]
-fn a_key_that_is_opened_makes_the_caches_that_it_needs(rt: HostRuntime) {
-    assert!(rt; first_other_script(rt.alloc(), Version::One, &REOPENED) == REOPENED.len());
+fn a_key_makes_the_caches_that_it_needs(rt: HostRuntime) {
+    for (text, first, second, records) in &ROWS {
+        let key = (*text, MemoryStore::with_limit(rt.alloc(), 100));
+        let is_right = lived(rt.alloc(), key, &seen_from(7), (first, second), *records);
+        assert!(rt; is_right == Some(true));
+    }
 }

@@ -1,70 +1,46 @@
-//! Records that go on in another file.
+//! Records that go on in another file, in a store that has stopped. What is answered where it runs is said by the tests
+//! of the built program, `tests/conformance`.
 
-use super::lists::{Entry, listed};
+use super::steps::{Numbers, are_taken};
 use super::*;
-
-const REFUSED: Option<SignFault> = Some(SignFault::Moved);
-
-// What requests and retires answer where the records have moved. That comes before a message that fails.
-const MOVED: [Call; 8] = [
-    Call::Sign(0, b'm', REFUSED),
-    Call::SignLong(65, 1, REFUSED),
-    Call::Sign(1, 1, REFUSED),
-    Call::Fail(0, &[0], SignFault::Moved, &[28]),
-    Call::Retire(0, REFUSED),
-    Call::Retire(5, REFUSED),
-    Call::Retire(33, REFUSED),
-    Call::Left(&[28]),
-];
 
 const STOPPED: Option<SignFault> = Some(SignFault::Stopped);
 
-// The same where the store has stopped, too, which comes first.
-const CLOSED: [Call; 5] = [
-    Call::Sign(0, b'm', STOPPED),
-    Call::SignLong(65, 1, STOPPED),
-    Call::Sign(1, 1, STOPPED),
-    Call::Retire(0, STOPPED),
-    Call::Retire(33, STOPPED),
+// What requests and retires answer then, which comes before that the records have moved.
+const CLOSED: [Step; 4] = [
+    Step::Sign(0, 1, STOPPED),
+    Step::Sign(1, 1, STOPPED),
+    Step::Retire(0, STOPPED),
+    Step::Retire(33, STOPPED),
 ];
 
-// The first of these calls of a store that is answered otherwise, and the store then. Where that is wanted an append
-// fails before them, so that the store has stopped.
-fn first_other_under<S: Store + Drop, R: Source + Drop>(
+// Whether a key in a store answers so after an append that has failed.
+fn is_closed<S: Store + Drop, R: Source + Drop>(
     alloc: Global,
     (store, random): (S, R),
-    stops: bool,
-    calls: &[Call<'_>],
-) -> Option<(usize, S)> {
+    seen: &Seen,
+) -> Option<bool> {
     let mut signer = Signer::open(alloc, store, random).ok()?;
-    if stops {
-        match signer.store.load(0) {
-            Ok(Some(_)) => match signer.store.append(&Record::Moved) {
-                Err(StoreFault::DeviceFailed) => signer.is_open = false,
-                _ => return None,
-            },
+    match signer.store.load(0) {
+        Ok(Some(_)) => match signer.store.append(&Record::Moved) {
+            Err(StoreFault::DeviceFailed) => signer.is_open = false,
             _ => return None,
-        }
+        },
+        _ => return None,
     }
-    let count = first_other_call(alloc, &mut signer, calls)?;
-    Some((count, signer.into_store()))
+    are_taken(&mut signer, seen, &CLOSED, &mut Vec::new(alloc))
 }
 
-// The same where a name was bound to leaf 3 and the records have moved; and whether no record comes after these, in a
-// store that goes on.
-fn of_moved(alloc: Global, stops: bool, calls: &[Call<'_>]) -> Option<(usize, bool)> {
-    let tape = tape_of::<32>(0, 1);
-    let mut store = listed(alloc, &[Entry::Bound(3, 0), Entry::Moved])?;
+// The same of one in memory, where a name was bound and the records have moved.
+fn of_moved(alloc: Global) -> Option<bool> {
+    let seen = seen_from(50);
+    let entries = [Entry::Key(Version::One), Entry::Bound(3, 0), Entry::Moved];
+    let mut store = with_records(MemoryStore::with_limit(alloc, 100), &entries)?;
     store.cut_at(1, Cut::Old);
-    let given = (store, TapeSource::new(&tape));
-    let (count, mut store) = first_other_under(alloc, given, stops, calls)?;
-    Some((count, store.load(3) == Ok(None)))
+    is_closed(alloc, (store, Numbers { next: &seen.next }), &seen)
 }
 
 #[test]
-fn moved_records_sign_nothing(rt: HostRuntime) {
-    let refused = of_moved(rt.alloc(), false, &MOVED);
-    assert!(rt; refused == Some((MOVED.len(), true)));
-    let stopped = of_moved(rt.alloc(), true, &CLOSED);
-    assert!(rt; stopped == Some((CLOSED.len(), false)));
+fn a_stopped_store_comes_before_moved_records(rt: HostRuntime) {
+    assert!(rt; of_moved(rt.alloc()) == Some(true));
 }

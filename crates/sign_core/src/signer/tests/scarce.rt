@@ -102,121 +102,71 @@ fn empty_store(alloc: Global, appends: Option<u32>, loads: Option<u32>) -> Scarc
     }
 }
 
-const NO_MEMORY: Option<SignFault> = Some(SignFault::OutOfMemory);
+// A row: a key; how many appends, or loads, come before the one that is refused; what is done with a new key, and once
+// it is opened; how many records there are then; and whether memory was refused to its creation or an opening, or to a
+// step.
+type Row<'a> = (
+    &'a str,
+    (Option<u32>, Option<u32>),
+    (&'a [Step<'a>], &'a [Step<'a>]),
+    u32,
+    (u32, u32),
+);
 
-// The keys, how many appends come before the one that is refused, and what is answered: no name is bound, and the call
-// that comes again is answered as ever. A name of two levels keeps the tree that was recorded before its refusal.
-const REFUSED: [(&str, u32, &[Call<'_>]); 5] = [
+const SIGNS: &[Step<'static>] = &[Step::Sign(1, 1, None)];
+
+const TWO_LEFT: &[Step<'static>] = &[Step::Left(&[31, 31])];
+
+const ONE_LEFT: &[Step<'static>] = &[Step::Left(&[31])];
+
+const NONE_USED: &[Step<'static>] = &[Step::Left(&[32])];
+
+// A name, trees or leaves to retire whose append is refused: a name of two levels keeps the tree that was recorded
+// before its refusal. A create is refused by the first load, or the first append. Each load of an opening is refused in
+// turn: of the two records, and the one that finds no more.
+const ROWS: [Row<'static>; 10] = [
     (
         LMS,
-        1,
-        &[
-            Call::Sign(1, 1, NO_MEMORY),
-            Call::Left(&[32]),
-            Call::Sign(1, 2, None),
-            Call::Sign(1, 1, Some(SignFault::Changed)),
-            Call::Left(&[31]),
-        ],
-    ),
-    (
-        TWO,
-        1,
-        &[
-            Call::Sign(1, 1, NO_MEMORY),
-            Call::Left(&[32, 0]),
-            Call::Sign(1, 1, None),
-            Call::Left(&[31, 31]),
-        ],
-    ),
-    (
-        TWO,
+        (Some(1), None),
+        (
+            &[
+                Step::Sign(1, 2, None),
+                Step::Sign(1, 1, Some(SignFault::Changed)),
+            ],
+            ONE_LEFT,
+        ),
         2,
-        &[
-            Call::Sign(1, 1, NO_MEMORY),
-            Call::Left(&[31, 32]),
-            Call::Sign(1, 1, None),
-            Call::Left(&[31, 31]),
-        ],
+        (0, 1),
     ),
+    (TWO, (Some(1), None), (SIGNS, TWO_LEFT), 3, (0, 1)),
+    (TWO, (Some(2), None), (SIGNS, TWO_LEFT), 3, (0, 1)),
     (
         XMSS,
-        1,
-        &[
-            Call::Sign(1, 1, NO_MEMORY),
-            Call::Left(&[1024]),
-            Call::Sign(1, 1, None),
-        ],
+        (Some(1), None),
+        (SIGNS, &[Step::Left(&[1023])]),
+        2,
+        (0, 1),
     ),
     (
         LMS,
-        1,
-        &[
-            Call::Retire(3, NO_MEMORY),
-            Call::Left(&[32]),
-            Call::Retire(3, None),
-            Call::Left(&[29]),
-        ],
+        (Some(1), None),
+        (&[Step::Retire(3, None)], &[Step::Left(&[29])]),
+        2,
+        (0, 1),
     ),
+    (LMS, (Some(0), None), (&[], NONE_USED), 1, (1, 0)),
+    (LMS, (None, Some(0)), (&[], NONE_USED), 1, (1, 0)),
+    (LMS, (None, Some(1)), (SIGNS, ONE_LEFT), 2, (1, 0)),
+    (LMS, (None, Some(2)), (SIGNS, ONE_LEFT), 2, (1, 0)),
+    (LMS, (None, Some(3)), (SIGNS, ONE_LEFT), 2, (1, 0)),
 ];
 
 #[test]
-fn an_append_without_memory_binds_nothing(rt: HostRuntime) {
-    let tape = tape_of::<512>(0, 16);
-    for (text, appends, calls) in &REFUSED {
-        let store = empty_store(rt.alloc(), Some(*appends), None);
-        let random = TapeSource::new(&tape);
-        assert!(rt; begins_with(rt.alloc(), text, store, random, calls).is_some());
-    }
-}
-
-// A create is refused by the first load, or the first append, and makes the key when it comes again.
-const CREATES: &[Try] = &[Try::Create(NO_MEMORY), Try::Create(None)];
-
-// An opening is refused by a load, and opens the key when it comes again.
-const OPENS: &[Try] = &[Try::Open(Some(SignFault::NoMemoryToOpen)), Try::Open(None)];
-
-// How many appends, or loads, come before the one that is refused, and the tries that meet it: of a store with no
-// record, or of a key with one name. Each load of an opening is refused in turn: of the two records, and the one that
-// finds no more. How many leaves are left then.
-const TRIES: [(Option<u32>, Option<u32>, &[Try], u32); 5] = [
-    (Some(0), None, CREATES, 32),
-    (None, Some(0), CREATES, 32),
-    (None, Some(0), OPENS, 31),
-    (None, Some(1), OPENS, 31),
-    (None, Some(2), OPENS, 31),
-];
-
-// The store of a row: with a key that has one name, where it is to be opened.
-fn store_of(
-    alloc: Global,
-    (appends, loads): (Option<u32>, Option<u32>),
-    tries: &[Try],
-) -> Option<Scarce> {
-    let tape = tape_of::<80>(0, 1);
-    let mut store = empty_store(alloc, appends, None);
-    if matches!(tries.first(), Some(Try::Open(_))) {
-        let name = [Call::Sign(1, 1, None)];
-        store = begins_with(alloc, LMS, store, TapeSource::new(&tape), &name)?;
-    }
-    store.loads = loads;
-    Some(store)
-}
-
-// How many leaves a key has left after these tries in a store. None where one comes out otherwise.
-fn left_after<S: Store + Drop>(alloc: Global, store: Option<S>, tries: &[Try]) -> Option<u32> {
-    let tape = tape_of::<96>(0, 1);
-    let random = TapeSource::new(&tape);
-    let (count, store, random) = first_other_try(alloc, LMS, store?, random, tries)?;
-    if count != tries.len() {
-        return None;
-    }
-    opened(alloc, store, random)?.0.ok()
-}
-
-#[test]
-fn a_create_or_an_opening_without_memory_comes_again(rt: HostRuntime) {
-    for (appends, loads, tries, left) in &TRIES {
-        let store = store_of(rt.alloc(), (*appends, *loads), tries);
-        assert!(rt; left_after(rt.alloc(), store, tries) == Some(*left));
+fn what_is_refused_memory_comes_again(rt: HostRuntime) {
+    for (text, (appends, loads), lives, records, refused) in &ROWS {
+        let seen = seen_from(7);
+        let key = (*text, empty_store(rt.alloc(), *appends, *loads));
+        assert!(rt; lived(rt.alloc(), key, &seen, *lives, *records) == Some(true));
+        assert!(rt; (seen.openings.get(), seen.steps.get()) == *refused);
     }
 }

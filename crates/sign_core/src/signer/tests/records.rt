@@ -1,0 +1,252 @@
+//! Lists of records, legal and not, in memory. What files of such lists open with is said by the tests of the built
+//! program, `tests/conformance` and `tests/machine_edge`.
+
+ghost use Rattle.std.specs.Prelude.{◌≡◌, true};
+ghost use Rattle.state_file.specs.Slot.{FitsVersion, version_begun};
+
+use super::steps::Numbers;
+use super::*;
+use crate::ledger::LedgerFault;
+use lmots::LmOts;
+use typecodes::{LmsType, OtsType};
+
+// A record of a list: a key of H5/W1 of a version, whose root isn't that of its tree; a tree of a level under a leaf of
+// the level above, whose I has this number in each byte; a leaf with the name of a number, or with one of so many
+// letters, and the first with the digest of the byte 1 under the key; leaves that are retired, and a Moved.
+#[derive(Clone, Copy)]
+pub(crate) enum Entry {
+    Key(Version),
+    Extend(u8, u32, u8),
+    Bound(u32, u8),
+    BoundLong(u32, usize),
+    BoundByte(u32, u8),
+    Retire(u32),
+    Moved,
+}
+
+// The record of a name.
+fn bound_of(name: Option<Name>, leaf: u32, digest: [u8; 32]) -> Option<Record> {
+    Some(Record::Bound(Bound {
+        name: name?,
+        leaf,
+        randomizer: [4; 32],
+        digest,
+    }))
+}
+
+pub(super) fn record_of(entry: Entry) -> Option<Record> {
+    match entry {
+        Entry::Key(version) => Some(Record::Key(Key {
+            version,
+            secret: Secret::Lms {
+                pair: LmsPair {
+                    tree: LmsType::H5,
+                    ots: OtsType::W1,
+                },
+                identifier: [1; 16],
+                seed: [2; 32],
+            },
+            root: [3; 32],
+        })),
+        Entry::Extend(level, parent_leaf, number) => Some(Record::Extend(Extend {
+            level,
+            parent_leaf,
+            identifier: [number; 16],
+            seed: [7; 32],
+            randomizer: [8; 32],
+            digest: [9; 32],
+            root: [10; 32],
+        })),
+        Entry::Bound(leaf, number) => bound_of(name_of(number), leaf, [5; 32]),
+        Entry::BoundLong(leaf, len) => {
+            bound_of(Name::new([b'n'; 128].get(..len)?).ok(), leaf, [5; 32])
+        }
+        Entry::BoundByte(leaf, number) => {
+            let one_time = LmOts {
+                identifier: [1; 16],
+                leaf,
+            };
+            bound_of(
+                name_of(number),
+                leaf,
+                one_time.message_digest(&[4; 32], &[1]),
+            )
+        }
+        Entry::Retire(upto) => Some(Record::Retire { upto }),
+        Entry::Moved => Some(Record::Moved),
+    }
+}
+
+// Whether the file that the first of two records begins can hold the other one.
+fn can_hold(first: &Record, entry: &Record) -> bool
+    ensures { result ≡ true → FitsVersion (version_begun first.now) entry.now }
+{
+    let version = match first {
+        Record::Key(key) => key.version,
+        Record::Extend(_) | Record::Bound(_) | Record::Retire { .. } | Record::Moved =>
+            Version::One,
+    };
+    entry.fits(version)
+}
+
+// Adds a record to a store, where it is a Key and the first, or the file can hold it.
+pub(super) fn add<S: Store>(store: &mut S, entry: &Record) -> Option<()> {
+    let can_follow = match store.load(0).ok()? {
+        None => matches!(entry, Record::Key(_)),
+        Some(first) => can_hold(&first, entry),
+    };
+    if !can_follow {
+        return None;
+    }
+    store.append(entry).ok()
+}
+
+// A store with these records after those that it has.
+pub(crate) fn with_records<S: Store + Drop>(store: S, entries: &[Entry]) -> Option<S> {
+    let mut store = store;
+    for entry in entries {
+        add(&mut store, &record_of(*entry)?)?;
+    }
+    Some(store)
+}
+
+const KEY: Entry = Entry::Key(Version::One);
+
+const KEY_TWO: Entry = Entry::Key(Version::Two);
+
+// Lists, and their faults, as a ledger and in a store in memory, where that takes them. How long a name is has no part
+// in it.
+const LISTS: [(&[Entry], Option<LedgerFault>); 24] = [
+    (&[KEY_TWO], None),
+    (&[KEY_TWO, Entry::Moved], Some(LedgerFault::Illegal(1))),
+    (&[KEY_TWO, KEY], Some(LedgerFault::Illegal(1))),
+    (&[KEY_TWO, Entry::BoundLong(3, 128)], None),
+    (
+        &[KEY_TWO, Entry::BoundLong(3, 128), Entry::BoundLong(7, 128)],
+        Some(LedgerFault::Illegal(2)),
+    ),
+    (&[KEY, Entry::BoundLong(3, 65)], None),
+    (&[], Some(LedgerFault::Empty)),
+    (&[Entry::Bound(0, 0)], Some(LedgerFault::Illegal(0))),
+    (&[Entry::Bound(0, 0), KEY], Some(LedgerFault::Illegal(0))),
+    (&[Entry::Retire(0)], Some(LedgerFault::Illegal(0))),
+    (&[Entry::Extend(1, 0, 6)], Some(LedgerFault::Illegal(0))),
+    (&[Entry::Moved], Some(LedgerFault::Illegal(0))),
+    (&[KEY, KEY], Some(LedgerFault::Illegal(1))),
+    (
+        &[KEY, Entry::Bound(3, 0), Entry::Bound(3, 1), KEY],
+        Some(LedgerFault::Illegal(2)),
+    ),
+    (
+        &[KEY, Entry::Bound(3, 0), Entry::Bound(7, 0)],
+        Some(LedgerFault::Illegal(2)),
+    ),
+    (
+        &[KEY, Entry::Retire(5), Entry::Bound(4, 0)],
+        Some(LedgerFault::Illegal(2)),
+    ),
+    (
+        &[KEY, Entry::Extend(1, 0, 6)],
+        Some(LedgerFault::Illegal(1)),
+    ),
+    (&[KEY, Entry::Bound(32, 0)], Some(LedgerFault::Illegal(1))),
+    (&[KEY, Entry::Retire(33)], Some(LedgerFault::Illegal(1))),
+    (&[KEY], None),
+    (
+        &[
+            KEY,
+            Entry::Bound(3, 0),
+            Entry::Retire(5),
+            Entry::Bound(31, 1),
+        ],
+        None,
+    ),
+    (&[KEY, Entry::Retire(32), Entry::Retire(0)], None),
+    (&[KEY, Entry::Moved], None),
+    (
+        &[KEY, Entry::Moved, Entry::Retire(5)],
+        Some(LedgerFault::Illegal(2)),
+    ),
+];
+
+// A list of records.
+pub(super) fn records_of(alloc: Global, entries: &[Entry]) -> Option<Vec<Record>> {
+    let mut records = Vec::new(alloc);
+    for entry in entries {
+        records.push(record_of(*entry)?).ok()?;
+    }
+    Some(records)
+}
+
+// The number of the fault with which a store opens; 0 where it opens.
+fn number_in<S: Store + Drop>(alloc: Global, store: S) -> u8 {
+    let seen = seen_from(0);
+    match Signer::open(alloc, store, Numbers { next: &seen.next }) {
+        Ok(_signer) => 0,
+        Err(refused) => refused.fault.number(),
+    }
+}
+
+// The first of these lists that has another fault, or another number of it in a store; their count if none.
+fn first_other_list(alloc: Global) -> Option<usize> {
+    for (i, (entries, fault)) in LISTS.iter().enumerate() {
+        let records = records_of(alloc, entries)?;
+        let number = match fault {
+            Some(fault) => fault.number(),
+            None => 0,
+        };
+        if Ledger::replay(alloc, &records).err() != *fault {
+            return Some(i);
+        }
+        if let Some(store) = with_records(MemoryStore::with_limit(alloc, 100), entries) {
+            if number_in(alloc, store) != number {
+                return Some(i);
+            }
+        }
+    }
+    Some(LISTS.len())
+}
+
+#[test]
+fn ledgers_are_legal_lists(rt: HostRuntime) {
+    assert!(rt; first_other_list(rt.alloc()) == Some(LISTS.len()));
+    for (fault, number) in &[(LedgerFault::Empty, 40), (LedgerFault::OutOfMemory, 46u8)] {
+        assert!(rt; fault.number() == *number);
+    }
+}
+
+// The number of the fault with which a key is made in a store, 0 where it is made; and the store.
+fn made_in<S: Store + Drop>(alloc: Global, store: S) -> Option<(u8, S)> {
+    if store.limit() == 0 {
+        return None;
+    }
+    let seen = seen_from(7);
+    let spec = Spec::parse(LMS).ok()?;
+    match Signer::create(alloc, spec, store, Numbers { next: &seen.next }) {
+        Ok(signer) => Some((0, signer.into_store())),
+        Err(refused) => {
+            let number = refused.fault.number();
+            let (store, _random) = refused.given;
+            Some((number, store))
+        }
+    }
+}
+
+// The numbers of the faults of two keys that are made in one store, and of an opening.
+fn made_twice(alloc: Global, is_cut: bool) -> Option<(u8, u8, u8)> {
+    let mut store = MemoryStore::with_limit(alloc, 2);
+    if is_cut {
+        store.cut_at(1, Cut::Old);
+    }
+    let (first, store) = made_in(alloc, store)?;
+    let (second, store) = made_in(alloc, store)?;
+    Some((first, second, number_in(alloc, store)))
+}
+
+// A store with a key gets no other. Where the append of a key is cut, none is made or opened as long as the store has
+// stopped.
+#[test]
+fn a_store_has_one_key(rt: HostRuntime) {
+    assert!(rt; made_twice(rt.alloc(), false) == Some((0, 50, 0)));
+    assert!(rt; made_twice(rt.alloc(), true) == Some((25, 26, 26)));
+}

@@ -1,0 +1,246 @@
+//! What is done with a key, step by step, and what it answers. A step or an opening to which memory is refused comes
+//! again, and is answered then.
+
+use super::*;
+use std::cell::Cell;
+
+// A source that gives one number in each byte of a draw, and the next one at the next draw.
+#[derive(Drop)]
+pub(crate) struct Numbers<'a> {
+    pub(super) next: &'a Cell<u8>,
+}
+
+impl Source for Numbers<'_> {
+    ghost use Rattle.std.specs.Prelude.{None};
+
+    ghost failures = { λ _. 0 };
+
+    ghost upcoming = { λ _. None };
+
+    fn fill(&mut self, into: &mut [u8]) -> Result<(), SourceFault> {
+        let next = self.next.get();
+        into.fill(next);
+        self.next.set(next.wrapping_add(1));
+        Ok(())
+    }
+}
+
+// What is done with a key: a request of the name of a number with a message of one byte, or leaves that are retired,
+// and the fault of either, if any; how many leaves are left; how many leaves the caches of three levels have made.
+#[derive(Clone, Copy)]
+pub(super) enum Step<'a> {
+    Sign(u8, u8, Option<SignFault>),
+    Retire(u32, Option<SignFault>),
+    Left(&'a [u32]),
+    Made([Option<u64>; 3]),
+}
+
+// What was seen of a key: the number that its source gives next; and how often memory was refused to its creation or an
+// opening, to a step, and of these to a name after something was drawn for it, and to leaves.
+#[derive(Drop)]
+pub(crate) struct Seen {
+    pub(crate) next: Cell<u8>,
+    pub(super) openings: Cell<u32>,
+    pub(super) steps: Cell<u32>,
+    pub(super) names: Cell<u32>,
+    pub(super) retires: Cell<u32>,
+}
+
+pub(crate) fn seen_from(next: u8) -> Seen {
+    Seen {
+        next: Cell::new(next),
+        openings: Cell::new(0),
+        steps: Cell::new(0),
+        names: Cell::new(0),
+        retires: Cell::new(0),
+    }
+}
+
+fn count_one(count: &Cell<u32>) {
+    count.set(count.get().wrapping_add(1));
+}
+
+// A refusal of memory to a step, before which the source was to give this number.
+fn note(seen: &Seen, step: &Step<'_>, before: u8) {
+    count_one(&seen.steps);
+    match step {
+        Step::Sign(_, _, _) if seen.next.get() != before => count_one(&seen.names),
+        Step::Retire(_, _) => count_one(&seen.retires),
+        _ => {}
+    }
+}
+
+// The signer of a new key of this spec, at the second try where memory is refused at the first.
+pub(crate) fn created_by<'a, S: Store + Drop>(
+    alloc: Global,
+    text: &str,
+    store: S,
+    seen: &'a Seen,
+) -> Option<Signer<S, Numbers<'a>>> {
+    if store.limit() == 0 {
+        return None;
+    }
+    let spec = Spec::parse(text).ok()?;
+    match Signer::create(alloc, spec, store, Numbers { next: &seen.next }) {
+        Ok(signer) => Some(signer),
+        Err(refused) => match refused.fault {
+            SignFault::OutOfMemory => {
+                count_one(&seen.openings);
+                let (store, random) = refused.given;
+                if store.limit() == 0 {
+                    return None;
+                }
+                Signer::create(alloc, Spec::parse(text).ok()?, store, random).ok()
+            }
+            _ => None,
+        },
+    }
+}
+
+// The signer of a store, in the same way.
+fn opened_by<'a, S: Store + Drop>(
+    alloc: Global,
+    store: S,
+    seen: &'a Seen,
+) -> Option<Signer<S, Numbers<'a>>> {
+    match Signer::open(alloc, store, Numbers { next: &seen.next }) {
+        Ok(signer) => Some(signer),
+        Err(refused) => match refused.fault {
+            SignFault::NoMemoryToOpen => {
+                count_one(&seen.openings);
+                let (store, random) = refused.given;
+                Signer::open(alloc, store, random).ok()
+            }
+            _ => None,
+        },
+    }
+}
+
+// The name of a number.
+pub(super) fn name_of(number: u8) -> Option<Name> {
+    Name::new(&[b'0'.wrapping_add(number)]).ok()
+}
+
+// The fault of a request of one byte, if any, whose signature is valid. A refusal leaves no byte, and one of memory
+// binds no name.
+fn request<S: Store, R: Source>(
+    signer: &mut Signer<S, R>,
+    number: u8,
+    message: u8,
+    out: &mut Vec<u8>,
+) -> Option<Option<SignFault>> {
+    let name = name_of(number)?;
+    let was_bound = signer.ledger.find(&name).is_some();
+    let fault = signer.sign(&name, &mut [message].as_slice(), out).err();
+    let is_right = match fault {
+        None => verify_any(&signer.public_key(), &mut [message].as_slice(), out).is_ok(),
+        Some(SignFault::OutOfMemory) => {
+            out.is_empty() && signer.ledger.find(&name).is_some() == was_bound
+        }
+        Some(_) => out.is_empty(),
+    };
+    if is_right { Some(fault) } else { None }
+}
+
+// Whether a step is answered as it should be, or memory is refused to it. None where it is answered otherwise.
+fn is_answered<S: Store, R: Source>(
+    signer: &mut Signer<S, R>,
+    step: &Step<'_>,
+    out: &mut Vec<u8>,
+) -> Option<bool> {
+    let (came, wanted) = match step {
+        Step::Sign(number, message, fault) => (request(signer, *number, *message, out)?, *fault),
+        Step::Retire(upto, fault) => (signer.retire(*upto).err(), *fault),
+        Step::Left(counts) if signer.left().as_slice() == *counts => (None, None),
+        Step::Made([top, middle, bottom])
+            if signer.cache_leaves(0) == *top
+                && signer.cache_leaves(1) == *middle
+                && signer.cache_leaves(2) == *bottom => { (None, None) }
+        Step::Left(_) | Step::Made(_) => return None,
+    };
+    match came {
+        _ if came == wanted => Some(true),
+        Some(SignFault::OutOfMemory) => Some(false),
+        _ => None,
+    }
+}
+
+// Whether all steps are answered as they should be, each at the second try where memory is refused at the first, and
+// memory is refused once at most.
+pub(super) fn are_taken<S: Store, R: Source>(
+    signer: &mut Signer<S, R>,
+    seen: &Seen,
+    steps: &[Step<'_>],
+    out: &mut Vec<u8>,
+) -> Option<bool> {
+    for step in steps {
+        let before = seen.next.get();
+        if !is_answered(signer, step, out)? {
+            note(seen, step, before);
+            if !is_answered(signer, step, out)? {
+                return Some(false);
+            }
+        }
+    }
+    Some(seen.openings.get().checked_add(seen.steps.get())? <= 1)
+}
+
+// The store of a new key after these steps.
+pub(super) fn begins<S: Store + Drop>(
+    alloc: Global,
+    (text, store): (&str, S),
+    seen: &Seen,
+    steps: &[Step<'_>],
+    out: &mut Vec<u8>,
+) -> Option<S> {
+    let mut signer = created_by(alloc, text, store, seen)?;
+    let are_taken = are_taken(&mut signer, seen, steps, out);
+    let store = signer.into_store();
+    if are_taken == Some(true) {
+        Some(store)
+    } else {
+        None
+    }
+}
+
+// The store of a key that is opened after these steps.
+pub(super) fn goes_on<S: Store + Drop>(
+    alloc: Global,
+    store: S,
+    seen: &Seen,
+    steps: &[Step<'_>],
+    out: &mut Vec<u8>,
+) -> Option<S> {
+    let mut signer = opened_by(alloc, store, seen)?;
+    let are_taken = are_taken(&mut signer, seen, steps, out);
+    let store = signer.into_store();
+    if are_taken == Some(true) {
+        Some(store)
+    } else {
+        None
+    }
+}
+
+// Whether a store has so many records.
+pub(super) fn has_records<S: Store>(store: &mut S, count: u32) -> bool {
+    let is_last = match count.checked_sub(1) {
+        Some(last) => matches!(store.load(last), Ok(Some(_))),
+        None => true,
+    };
+    is_last && store.load(count) == Ok(None)
+}
+
+// Whether a new key comes through two lives, of which the second one begins with an opening, and its store has so many
+// records then.
+pub(super) fn lived<S: Store + Drop>(
+    alloc: Global,
+    key: (&str, S),
+    seen: &Seen,
+    (first, second): (&[Step<'_>], &[Step<'_>]),
+    records: u32,
+) -> Option<bool> {
+    let mut out = Vec::new(alloc);
+    let store = begins(alloc, key, seen, first, &mut out)?;
+    let mut store = goes_on(alloc, store, seen, second, &mut out)?;
+    Some(has_records(&mut store, records))
+}
