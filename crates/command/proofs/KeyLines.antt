@@ -1,5 +1,5 @@
 -- From the step on the disk of a state file to the whole command.
-use Rattle.std.proofs.Common.{◌≡◌, ◌≢◌, ℕ, List, [], ◌∷◌, ◌++◌, Option, Result, Ok, Err, inr, refl, subst, sym}
+use Rattle.std.proofs.Common.{◌≡◌, ℕ, List, [], ◌∷◌, ◌++◌, Option, Result, Ok, Err, inr, refl, subst, sym}
 use Rattle.typecodes.specs.declared.message.Message as message
 use Rattle.typecodes.specs.declared.spec.Spec.{Spec}
 use Rattle.typecodes.specs.Name.{IsName}

@@ -1,7 +1,7 @@
 -- What becomes of a message that verification reads, and of the file that it reads.
 use Rattle.std.proofs.Common.{◌≡◌, ◌∙◌, ℕ, List, [], ◌∷◌, ◌++◌, Option, Result, Ok, Err, MatchResult, IsErrAnd, ◌⊎◌, inl, inr, refl, sym, ap, subst}
 use Rattle.std.specs.Prelude.{⊤}
-use Rattle.typecodes.specs.Message.{CantBeRead, ReadOutcome, Transitions, ReadWhole, Transition}
+use Rattle.typecodes.specs.Message.{CantBeRead, ReadOutcome, ReadWhole, Transition}
 use Rattle.typecodes.specs.declared.refusal.Refusal.{Refusal as SignatureRefusal}
 use Rattle.typecodes.specs.declared.refusal.Refusal.TheVariants.{Unreadable, TypeMismatch, LevelMismatch, RootMismatch, MessageRead}
 use Rattle.sign_core.specs.declared.key.AnyPublic.{AnyPublic}

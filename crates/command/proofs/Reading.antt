@@ -1,5 +1,5 @@
 -- Transitions of a file, one after the other.
-use Rattle.std.proofs.Common.{◌≡◌, ◌∙◌, ◌<◌, ℕ, ◌≤◌, ◌^◌, List, [], ◌∷◌, ◌++◌, length, take, Result, Ok, Err, IfOk, IsErrAnd, inl, inr, refl, sym, ap, subst, arith, append_assoc, length-append, length-take-le, take_all, Option, Some, None, ◌⊎◌}
+use Rattle.std.proofs.Common.{◌≡◌, ◌∙◌, ◌<◌, ℕ, ◌≤◌, ◌^◌, List, [], ◌∷◌, ◌++◌, length, take, Result, Ok, Err, IfOk, IsErrAnd, inl, inr, refl, sym, ap, subst, arith, length-append, length-take-le, take_all, Option, Some, None, ◌⊎◌}
 use Rattle.std.specs.Prelude.{MatchResult}
 use Rattle.std.specs.declared.io.ErrorKind.{ErrorKind}
 use Rattle.std.specs.Io.KnownBytes.{Consumes, IsAtEnd}
@@ -9,9 +9,9 @@ use Rattle.std.specs.declared.io.ErrorKind.TheVariants.{FileTooLarge, OutOfMemor
 use Rattle.typecodes.specs.declared.reading.ReadError.{ReadError}
 use Rattle.typecodes.specs.declared.reading.ReadError.TheVariants.{Failed, TooLong, Refused}
 use Rattle.typecodes.specs.Message.{Gave, IsContent, ReadOutcome, Transitions, Transition}
-use Rattle.typecodes.specs.Reading.{FillsOrEnds, ReadsFull, ReadsToEnd as EndsOrFails, Refuses, Takes}
+use Rattle.typecodes.specs.Reading.{ReadsFull, ReadsToEnd as EndsOrFails, Refuses, Takes}
 use Rattle.typecodes.proofs.Messages.{content_at_end, fails-append, gives-all-append, gives-append}
-use Rattle.command.specs.Files.{CantKeep, FailsToRead, FileState, FillsOrFails, FillsRoom, KeepsContents, ReadsAllOrFails, ReadsFileOnce, ReportsMemory, left_of}
+use Rattle.command.specs.Files.{CantKeep, FailsToRead, FileState, FillsOrFails, FillsRoom, ReadsAllOrFails, ReadsFileOnce, left_of}
 use Rattle.command.specs.Refusal.{refusal_of}
 use Rattle.command.specs.declared.refusal.Refusal.{Refusal}
 use Rattle.command.specs.declared.refusal.Refusal.TheVariants as refused

@@ -15,7 +15,6 @@ use Rattle.state_file.specs.declared.store.file_store.FileStore.{FileStore}
 use Rattle.command.specs.declared.line.UsageFault.{UsageFault}
 use Rattle.command.specs.declared.line_fault.LineFault.{LineFault}
 use Rattle.command.specs.declared.line_fault.LineFault.TheVariants.{OutOfMemory}
-use Rattle.command.specs.declared.refusal.Refusal.{Refusal}
 use Rattle.command.specs.AuditGiven.{Pair, pairs_in}
 use Rattle.command.specs.Audit.{anchor_in}
 use Rattle.state_file.specs.declared.record.Version.{Version}
@@ -27,7 +26,7 @@ use Rattle.command.specs.Number.{number_in}
 use Rattle.command.specs.Output.{Taken}
 use Rattle.command.specs.Program.{AsksToServe, Explains, HasRepliesAlone, KeepsErrorsUnlessServing, ReportsOutOfMemory, ReportsTask, begins_with_serve}
 use Rattle.command.specs.Retire.{most_leaves}
-use Rattle.command.specs.Streams.{OutputSeen, Streams, taken}
+use Rattle.command.specs.Streams.{OutputSeen, Streams}
 use Rattle.command.specs.Trace.{Happening}
 use Rattle.command.proofs.Accepting.{found_in, is_audit, is_audit_given, is_make, is_migrate, is_named, is_retire, is_serve, is_sign, is_verify, no_line_faults, none_of, nothing_fails, ok_same}
 use Rattle.command.proofs.Walking.{audit_given_shape, audit_shape, enters_audit, enters_audit_given, enters_make, enters_migrate, enters_retire, enters_serve, enters_sign, enters_verify, entered_rows, make_shape, migrate_shape, retire_shape, serve_shape, sign_shape, verify_shape}

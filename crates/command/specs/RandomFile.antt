@@ -1,5 +1,6 @@
 -- What callers see of a file of random bytes, and what drawing from it does.
-use Rattle.std.specs.Prelude.{ℕ, List, ◌⊎◌, ◌<◌, length, Result, Ok, Err}
+use Rattle.std.specs.Prelude.{ℕ, List, ◌⊎◌, ◌≡◌, ◌<◌, length, Result, Ok, Err}
+use Rattle.std.specs.Int.{Width, from_le_bytes}
 use Rattle.typecodes.specs.Message.{GivesAll, GivesText, Transition}
 use Rattle.command.specs.declared.random_file.RandomFile.{RandomFile}
 use Rattle.command.specs.declared.trace.Role.TheVariants.{Random}
@@ -17,6 +18,11 @@ random_trace random = random.trace.events
 -- A read of it happened to it, and nothing else.
 abbrev pub ReadsRandom : {F : Type 0} → Transition (RandomFile F)
 ReadsRandom old outcome new = ReadsOnce Random (random_trace old) outcome (random_trace new)
+
+-- So many bytes were read, and no others; the number is theirs, the low byte first.
+abbrev pub GivesNumber : {M : Type 0} → ℕ → Width → Transition M → M → ℕ → M → Type 0
+GivesNumber size width transition old number new = (bytes : List ℕ) × (length bytes ≡ size)
+    × (number ≡ from_le_bytes width bytes) × GivesText transition bytes old new
 
 -- It was read to its end, and gave fewer bytes than so many.
 abbrev pub EndsBefore : {M : Type 0} → Transition M → ℕ → M → M → Type 0

@@ -139,13 +139,6 @@ impl<F: OffsetFile> FileDisk<F> {
             past_ends: Count::new(),
         }
     }
-
-    /// The file.
-    pub fn into_file(self) -> F
-        ensures { result ≡ file_of self }
-    {
-        self.file
-    }
 }
 
 // The answer, which is counted where it is a refusal.

@@ -50,8 +50,6 @@ mod signing;
 mod standard;
 mod state;
 mod target;
-#[cfg(test)]
-mod tests;
 mod texts;
 mod trace;
 mod verify;

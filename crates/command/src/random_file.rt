@@ -50,9 +50,14 @@ impl<F: Read> Message for RandomFile<F> {
 }
 
 impl<F: Read> TryRng for RandomFile<F> {
-    ghost use Rattle.command.specs.RandomFile.{ReadsRandom};
+    ghost use Rattle.std.specs.Int.{w32, w64};
+    ghost use Rattle.command.specs.RandomFile.{GivesNumber, ReadsRandom};
 
     type Error = SourceFault;
+
+    ghost may_next_u32 = { GivesNumber 4 w32 ReadsRandom };
+
+    ghost may_next_u64 = { GivesNumber 8 w64 ReadsRandom };
 
     // These bytes were read, and no others.
     ghost may_fill = { λ old bytes new. GivesText ReadsRandom bytes old new };

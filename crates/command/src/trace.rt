@@ -88,7 +88,7 @@ impl Model for Trace {
 
 impl Trace {
     ghost use Rattle.typecodes.specs.Message.{read_outcome};
-    ghost use Rattle.command.specs.Trace.{ReadsOnce, happening_of, opening};
+    ghost use Rattle.command.specs.Trace.{ReadsOnce, happening_of};
 
     /// Nothing happened.
     pub fn new() -> Trace
@@ -109,23 +109,6 @@ impl Trace {
         ensures { self.new.events ≡ self.old.events ++ happening_of event.now ∷ [] }
     {
         *self = self.and(event);
-    }
-
-    /// Notes how a file was opened, and gives this answer.
-    pub fn note_opening<F, E>(
-        &mut self,
-        role: Role,
-        path: &str,
-        answer: Result<F, E>,
-    ) -> Result<F, E>
-        ensures answer { result ≡ answer }
-        ensures notes { self.new.events ≡ self.old.events ++ opening role path.now answer ∷ [] }
-    {
-        *self = match &answer {
-            Ok(_) => self.and(&Event::Opened(role, path)),
-            Err(_) => self.and(&Event::NotOpened(role, path)),
-        };
-        answer
     }
 
     /// Notes a read into this buffer, and gives its answer.

@@ -1,15 +1,10 @@
 //! Calls that take no memory. Of each pair of tests the first one prepares what the second one then calls, and both
 //! have as many growths of memory. `tests/run` counts them from outside.
 
-use super::files::stored;
-use super::programs::{Scheme, bytes_in, given_of, signed_with};
 use super::room::Room;
 use super::*;
-use sign_core::{ServeFault, SignFault, serve, verify_any};
+use sign_core::{ServeFault, SignFault, serve};
 use state_file::{FormatFault, OpenFault, Record, StoreFault};
-use std::io;
-use std::io::{ErrorKind, Read};
-use typecodes::Refusal;
 
 // What an opening finds where a byte of a file of two records is another one, and why no key is made there: the Key's
 // gate, its kind, and the first byte of its version and of its tag; the kind and the first byte of the tag of the
@@ -66,14 +61,15 @@ fn has_stopped<D: Disk + Drop>(store: &mut FileStore<D>) -> bool {
     !is_tagged && !is_read && added(store) == Some(Err(StoreFault::Stopped))
 }
 
-// Whether a disk that has room for seven records refuses another one, and its store has stopped then.
-fn stops_when_full<D: Disk + Drop>(disk: D) -> Option<bool> {
+// Whether a disk that has room for seven records refuses another one, and its store has stopped then, also for audits.
+fn stops_when_full<D: Disk + Drop>(alloc: Global, disk: D) -> Option<bool> {
     let mut store = FileStore::open(disk).ok()?;
     for _ in store.count()..7 {
         added(&mut store)?.ok()?;
     }
     let is_full = added(&mut store)? == Err(StoreFault::DeviceFailed);
-    Some(is_full && has_stopped(&mut store))
+    let is_audited = !matches!(audit(alloc, &mut store, None), Err(AuditFault::Stopped));
+    Some(is_full && has_stopped(&mut store) && !is_audited)
 }
 
 // The disk after the records of a key, whose leaves are all retired, are read again, and whether they are right: no key
@@ -115,7 +111,7 @@ fn has<S: Store, R: Source>(signer: &Signer<S, R>, left: &[u32], caches: [bool; 
 fn retired<S: Store + Drop>(alloc: Global, store: S) -> Option<(S, bool)> {
     let name = Name::new(b"fw-1").ok()?;
     let mut out = Vec::new(alloc);
-    let mut signer = created(alloc, Version::One, ONE_TREE, store, Numbers { next: 0 })?;
+    let mut signer = created(alloc, ONE_TREE, store, Numbers { next: 0 })?;
     let is_new = has(&signer, &[32], [false; 3]);
     let beyond = signer.retire(33) == Err(SignFault::RetireRange);
     let is_retired = signer.retire(32) == Ok(()) && signer.retire(5) == Ok(());
@@ -130,19 +126,24 @@ fn is_kept_on<D: Disk + Drop>(alloc: Global, disk: Option<D>) -> Option<bool> {
     let mut disk = store.into_disk();
     let is_right = is_right && disk.len() == Ok(513);
     let (disk, is_again) = opened_again(disk)?;
-    Some(is_right && is_again && stops_when_full(disk)?)
+    Some(is_right && is_again && stops_when_full(alloc, disk)?)
 }
 
 #[test]
 fn a_room_is_made(rt: HostRuntime) {
-    let room = Room::of(rt.alloc(), &[], u32::MAX, u64::MAX);
+    let room = Room::of(rt.alloc());
     assert!(rt; room.is_some());
 }
 
 #[test]
 fn a_key_is_made_in_a_room(rt: HostRuntime) {
-    let room = Room::of(rt.alloc(), &[], u32::MAX, u64::MAX);
+    let room = Room::of(rt.alloc());
     assert!(rt; is_kept_on(rt.alloc(), room) == Some(true));
+}
+
+// A store for a new key.
+fn new_store(alloc: Global) -> Option<FileStore<MemoryDisk>> {
+    FileStore::format(MemoryDisk::of(alloc, &[]).ok()?).ok()
 }
 
 // Signs the byte 1 under a name. Where the tree that did so is to be replaced, its leaves are retired, and the byte 2
@@ -225,92 +226,30 @@ fn signs_in<S: Store + Drop>(
     replaces: bool,
     is_tried: bool,
 ) -> Option<bool> {
-    let mut signer = created(alloc, Version::One, TWO_LEVELS, store?, Numbers { next: 0 })?;
+    let mut signer = created(alloc, TWO_LEVELS, store?, Numbers { next: 0 })?;
     signs(alloc, &mut signer, replaces, is_tried)
 }
 
 #[test]
 fn a_name_is_signed(rt: HostRuntime) {
-    let store = stored(rt.alloc(), Version::One, &[]);
+    let store = new_store(rt.alloc());
     assert!(rt; signs_in(rt.alloc(), store, false, false) == Some(true));
 }
 
 #[test]
 fn other_requests_are_refused(rt: HostRuntime) {
-    let store = stored(rt.alloc(), Version::One, &[]);
+    let store = new_store(rt.alloc());
     assert!(rt; signs_in(rt.alloc(), store, false, true) == Some(true));
 }
 
 #[test]
 fn a_tree_is_replaced(rt: HostRuntime) {
-    let store = stored(rt.alloc(), Version::One, &[]);
+    let store = new_store(rt.alloc());
     assert!(rt; signs_in(rt.alloc(), store, true, false) == Some(true));
 }
 
 #[test]
 fn a_name_of_an_old_tree_is_repeated(rt: HostRuntime) {
-    let store = stored(rt.alloc(), Version::One, &[]);
+    let store = new_store(rt.alloc());
     assert!(rt; signs_in(rt.alloc(), store, true, true) == Some(true));
-}
-
-// A public key, and a message with its signature.
-type Bytes = (Vec<u8>, Given);
-
-// One of each scheme, of other programs, with its place among those.
-const ONE_OF_EACH: [(Scheme, usize); 3] = [(Scheme::Lms, 1), (Scheme::Hss, 0), (Scheme::Model, 0)];
-
-// Its key, message and signature.
-fn known(alloc: Global, scheme: Scheme, place: usize) -> Option<Bytes> {
-    let signed = signed_with(scheme);
-    let public = bytes_in(alloc, signed.0)?;
-    Some((public, given_of(alloc, signed, place, place)?))
-}
-
-// A message that can't be read.
-#[derive(Drop)]
-struct Unread;
-
-impl Read for Unread {
-    fn read(&mut self, _: &mut [u8]) -> io::Result<usize> {
-        Err(io::Error::from(ErrorKind::BrokenPipe))
-    }
-}
-
-// Whether a signature is valid, and not for another message, nor one that can't be read, nor without its last byte.
-fn is_verified(public: &AnyPublic, given: &Given) -> bool {
-    let signature = given.signature.as_slice();
-    let len = signature.len().saturating_sub(1);
-    let cut = signature.get(..len).unwrap_or_default();
-    let valid = verify_any(public, &mut given.message.as_slice(), signature);
-    let other = verify_any(public, &mut b"other".as_slice(), signature);
-    let short = verify_any(public, &mut given.message.as_slice(), cut);
-    let is_unread = verify_any(public, &mut Unread, signature) == Err(Refusal::MessageRead);
-    let is_other = matches!(other, Err(Refusal::RootMismatch(_)));
-    let is_short = matches!(short, Err(Refusal::Unreadable(_)));
-    valid == Ok(()) && is_other && is_short && is_unread
-}
-
-// Whether a key is read and written, and its signature verified.
-fn is_read(known: Option<Bytes>) -> bool {
-    let Some((bytes, given)) = known else {
-        return false;
-    };
-    match AnyPublic::read(&bytes) {
-        Ok(public) => public.write().as_slice() == bytes.as_slice() && is_verified(&public, &given),
-        Err(_) => false,
-    }
-}
-
-#[test]
-fn signatures_are_there(rt: HostRuntime) {
-    for (scheme, place) in &ONE_OF_EACH {
-        assert!(rt; known(rt.alloc(), *scheme, *place).is_some());
-    }
-}
-
-#[test]
-fn signatures_are_read(rt: HostRuntime) {
-    for (scheme, place) in &ONE_OF_EACH {
-        assert!(rt; is_read(known(rt.alloc(), *scheme, *place)));
-    }
 }

@@ -1,4 +1,4 @@
-//! A disk in room that was made before, which can show other bytes than those that were synced.
+//! A disk in room that was made before.
 
 ghost use Rattle.std.specs.Prelude.{[], false, ⊤};
 ghost use Rattle.state_file.specs.Disk.{settled};
@@ -7,30 +7,24 @@ use super::*;
 use state_file::DiskFault;
 use typecodes::Count;
 
-// A disk that says nothing of stops. After so many reads, one from an offset on gives other bytes.
+// A disk that says nothing of stops.
 #[derive(Drop)]
 pub(super) struct Room {
     bytes: Vec<u8>,
     // how many of them are there
     size: usize,
-    // how many reads come before
-    reads: u32,
-    offset: u64,
     failures: Count,
     past_ends: Count,
 }
 
 impl Room {
-    // A disk with these bytes and room for 2000, of which a read from this offset on gives other bytes after so many
-    // reads.
-    pub(super) fn of(alloc: Global, file: &[u8], reads: u32, offset: u64) -> Option<Self> {
-        let mut bytes = file.to_vec(alloc).ok()?;
+    // A disk without a byte, and room for 2000.
+    pub(super) fn of(alloc: Global) -> Option<Self> {
+        let mut bytes = Vec::new(alloc);
         bytes.resize(2000, 0).ok()?;
         Some(Room {
             bytes,
-            size: file.len(),
-            reads,
-            offset,
+            size: 0,
             failures: Count::new(),
             past_ends: Count::new(),
         })
@@ -93,14 +87,6 @@ impl Disk for Room {
             self.failures.add_one();
             self.past_ends.add_one();
             return Err(DiskFault::PastEnd);
-        }
-        match self.reads.checked_sub(1) {
-            Some(left) => self.reads = left,
-            None => {
-                if at == self.offset {
-                    into.fill(0xA5);
-                }
-            }
         }
         Ok(())
     }

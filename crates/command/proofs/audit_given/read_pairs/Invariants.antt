@@ -1,4 +1,4 @@
-use Rattle.std.proofs.Common.{◌≡◌, ℕ, List, map, take}
+use Rattle.std.proofs.Common.{map, take}
 use Rattle.command.specs.AuditGiven.{ReadsPairs, pair_of}
 use Rattle.command.specs.Files.{KeepsContents}
 use Rattle.command.proofs.audit_given.read_pairs.Given as goal

@@ -1,4 +1,4 @@
-use Rattle.std.proofs.Common.{rules, ℕ, ◌+◌, ◌<◌, ◌^◌, ◌≡◌, length, arith, Ok, Err}
+use Rattle.std.proofs.Common.{rules, ◌+◌, ◌<◌, ◌^◌, ◌≡◌, length, arith, Ok, Err}
 use Rattle.state_file.specs.declared.disk.DiskFault.TheVariants as fault
 use Rattle.command.specs.FileDisk.{ReadsAt}
 use Rattle.command.proofs.Offsets.{broke_there, ended_there, filled_there, same_file_read}

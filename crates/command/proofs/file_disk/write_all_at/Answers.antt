@@ -1,4 +1,4 @@
-use Rattle.std.proofs.Common.{rules, ℕ, ◌+◌, ◌<◌, ◌^◌, ◌≡◌, length, arith, Ok, Err}
+use Rattle.std.proofs.Common.{rules, ◌+◌, ◌<◌, ◌^◌, ◌≡◌, length, arith, Ok, Err}
 use Rattle.state_file.specs.declared.disk.DiskFault.TheVariants as fault
 use Rattle.command.specs.FileDisk.{WritesAt}
 use Rattle.command.proofs.Offsets.{not_written_there, same_file_written, written_there}

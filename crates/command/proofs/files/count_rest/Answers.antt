@@ -1,4 +1,4 @@
-use Rattle.std.proofs.Common.{rules, ◌≡◌, ◌∙◌, ◌<◌, ◌^◌, [], length, arith, refl, ap, sym, Err}
+use Rattle.std.proofs.Common.{◌≡◌, ◌∙◌, [], length, arith, refl, ap, sym, Err}
 use Rattle.std.specs.IoError.{error_kind}
 use Rattle.command.specs.Files.{FailsToRead}
 use Rattle.command.proofs.Reading.{rest_ended, rest_endless, rest_failed, too_large, via}

@@ -1,4 +1,4 @@
-use Rattle.std.proofs.Common.{rules, ◌≡◌, ◌<◌, IfOk, ℕ, length, take}
+use Rattle.std.proofs.Common.{rules, ◌≡◌, ◌<◌, IfOk, length, take}
 use Rattle.std.specs.Io.KnownBytes.{Consumes, IsAtEnd}
 use Rattle.command.specs.Files.{FillsOrFails, KeepsContents}
 use Rattle.command.proofs.Reading.{full_bytes, full_end, full_noted, full_stays, via}

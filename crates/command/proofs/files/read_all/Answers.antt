@@ -1,8 +1,7 @@
-use Rattle.std.proofs.Common.{rules, ◌≡◌, ◌∙◌, inl, inr, refl, ap, Err}
+use Rattle.std.proofs.Common.{rules, ◌∙◌, inl, inr, refl, ap, Err}
 use Rattle.std.specs.IoError.{error_kind}
 use Rattle.std.specs.declared.io.ErrorKind.TheVariants.{FileTooLarge}
-use Rattle.command.specs.Files.{CantKeep}
-use Rattle.command.proofs.Reading.{kept_all, rest_endless, rest_failed, rest_refused, too_large, via}
+use Rattle.command.proofs.Reading.{kept_all, rest_endless, rest_failed, rest_refused, too_large}
 use Rattle.command.proofs.files.read_all.Goals as goal
 
 pub returns-in-Ok-clause-reads : goal.returns-in-Ok-clause-reads
