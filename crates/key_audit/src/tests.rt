@@ -1,4 +1,4 @@
-//! Calls that take no memory.
+//! A key whose disk fails or stops at each call, and calls that take no memory.
 
 use crate::*;
 use sign_core::{AnyPublic, Signer, Source, SourceFault};
@@ -8,6 +8,7 @@ use typecodes::{Name, Spec};
 
 mod fixed;
 mod room;
+mod script;
 
 // A source that gives one number in each byte of a draw, and the next one at the next draw.
 #[derive(Drop)]
