@@ -70,7 +70,7 @@ fn note(seen: &Seen, step: &Step<'_>, before: u8) {
     }
 }
 
-// The signer of a new key of this spec, at the second try where memory is refused at the first.
+// The signer of a new key of this spec, at the second try where memory is refused at the first, with the same numbers.
 pub(crate) fn created_by<'a, S: Store + Drop>(
     alloc: Global,
     text: &str,
@@ -81,11 +81,13 @@ pub(crate) fn created_by<'a, S: Store + Drop>(
         return None;
     }
     let spec = Spec::parse(text).ok()?;
+    let first = seen.next.get();
     match Signer::create(alloc, spec, store, Numbers { next: &seen.next }) {
         Ok(signer) => Some(signer),
         Err(refused) => match refused.fault {
             SignFault::OutOfMemory => {
                 count_one(&seen.openings);
+                seen.next.set(first);
                 let (store, random) = refused.given;
                 if store.limit() == 0 {
                     return None;
