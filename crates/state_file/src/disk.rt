@@ -6,8 +6,6 @@ ghost use Rattle.state_file.specs.Disk.{CallsDisk, Counts, DiskState, MayLeave, 
 
 mod log;
 mod memory_disk;
-#[cfg(test)]
-mod tests;
 
 pub use memory_disk::{MemoryDisk, Pick};
 use thiserror::Error;

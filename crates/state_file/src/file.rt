@@ -3,8 +3,6 @@
 mod format;
 mod gates;
 mod opening;
-#[cfg(test)]
-mod tests;
 mod unfinished;
 
 pub use format::FormatFault;

@@ -25,12 +25,8 @@ mod laws;
 mod migration;
 mod record;
 mod refused;
-#[cfg(test)]
-mod samples;
 mod slot;
 mod store;
-#[cfg(test)]
-mod turning_disk;
 
 pub use crate::disk::{Disk, DiskFault, MemoryDisk, Pick};
 pub use crate::file::{FormatFault, OpenFault};

@@ -7,8 +7,6 @@ mod filling;
 mod place;
 mod sealed;
 mod sealing;
-#[cfg(test)]
-mod tests;
 
 use crate::disk::DiskFault;
 pub use filling::fill;

@@ -8,8 +8,6 @@ mod key;
 mod record;
 mod secret;
 mod tag;
-#[cfg(test)]
-mod tests;
 
 pub(crate) use gate::{CLOSED, OPEN, is_open};
 pub(crate) use key::{begins_key, version_of};

@@ -7,8 +7,6 @@ ghost use Rattle.state_file.specs.Disk.{Counts, LeavesOnly};
 mod file_store;
 mod memory_store;
 mod slot_list;
-#[cfg(test)]
-mod tests;
 
 use crate::record::Record;
 pub use file_store::FileStore;

@@ -12,9 +12,6 @@ ghost use Rattle.state_file.specs.Laws.{has_moved};
 ghost use Rattle.state_file.specs.Slot.{version_code, version_in};
 ghost use Rattle.state_file.specs.Store.{is_device_failed, is_out_of_memory, unreadable_slot};
 
-#[cfg(test)]
-mod tests;
-
 use crate::disk::Disk;
 use crate::file::{
     FormatFault, MOST, OpenFault, add_slot, find_records, format, read_entry, read_tag,

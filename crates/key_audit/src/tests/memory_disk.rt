@@ -1,6 +1,6 @@
 //! A disk in memory, call by call.
 
-use crate::*;
+use state_file::{Disk, DiskFault, MemoryDisk, Pick};
 use std::alloc::Global;
 
 // A call of a disk and what it answers, a plan of one that is refused, or what a stop leaves by a pick.
