@@ -35,8 +35,6 @@ mod laws;
 mod leaf;
 mod leaf_index;
 mod report;
-#[cfg(test)]
-mod tests;
 mod uses;
 
 pub use crate::file::audit::audit;

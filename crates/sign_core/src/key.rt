@@ -109,6 +109,3 @@ pub fn verify_any<M: Message>(
         AnyPublic::Xmss(key) => xmss::verify(key, message, signature),
     }
 }
-
-#[cfg(test)]
-mod tests;

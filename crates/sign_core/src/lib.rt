@@ -45,8 +45,6 @@ mod serving;
 mod signer;
 mod source;
 mod standing;
-#[cfg(test)]
-mod tests;
 mod trees;
 mod writing;
 

@@ -3,8 +3,6 @@
 ghost use Rattle.sign_core.specs.Migration.{Migrates};
 
 mod old_file;
-#[cfg(test)]
-mod tests;
 
 use crate::migration::old_file::open_old;
 use state_file::{Disk, MigrateFault, Place, Refused, fill, seal};

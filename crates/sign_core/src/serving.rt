@@ -211,6 +211,3 @@ fn write_part<W: Write>(writer: &mut W, bytes: &[u8]) -> Result<(), ServeFault>
         Err(_) => Err(ServeFault::WriteFailed),
     }
 }
-
-#[cfg(test)]
-mod tests;

@@ -15,8 +15,6 @@ ghost use Rattle.lms.specs.Secret.{root_in};
 
 mod request;
 mod signing;
-#[cfg(test)]
-pub(crate) mod tests;
 
 use crate::caches::Caches;
 use crate::fault::SignFault;

@@ -1,7 +1,8 @@
-use super::*;
+//! The example of sign_core's documentation.
+
+use sign_core::{AnyPublic, Signer, Source, TapeSource, verify_any};
 use state_file::{MemoryStore, Store};
 use std::alloc::Global;
-use std::test::*;
 use typecodes::{Name, Spec};
 
 // The example of the crate's documentation, in this store and with this source: the store after a signature that

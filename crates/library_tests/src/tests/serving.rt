@@ -2,13 +2,13 @@
 //! over an input that is there as a whole and an output that takes all. What these lead to is said by the tests of the
 //! built program, `tests/conformance` and `tests/serving`.
 
-use super::*;
-use crate::signer::tests::{LMS, created_by, seen_from};
-use crate::source::Source;
+use crate::tests::signer::{LMS, created_by, seen_from};
+use sign_core::{ServeFault, Signer, Source, serve};
 use state_file::{MemoryStore, Store};
+use std::alloc::Global;
 use std::io;
-use std::io::{ErrorKind, Read};
-use std::test::*;
+use std::io::{ErrorKind, Read, Write};
+use typecodes::Name;
 
 mod inputs;
 mod memory;

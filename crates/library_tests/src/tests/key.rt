@@ -1,8 +1,11 @@
 //! Public keys and their signatures, which take no memory. Which lengths and fields a key has is said by the tests of
 //! the built program, `tests/conformance`.
 
-use super::*;
-use typecodes::{Cause, LevelCount, LmsPair, LmsType, OtsType, XmssType};
+use hss::HssPublic;
+use lms::LmsPublic;
+use sign_core::{AnyPublic, verify_any};
+use typecodes::{Cause, LevelCount, LmsPair, LmsType, OtsType, ReadFault, Refusal, XmssType};
+use xmss::XmssPublic;
 
 const LMS: LmsPublic = LmsPublic {
     pair: LmsPair {

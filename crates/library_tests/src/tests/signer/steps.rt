@@ -123,6 +123,12 @@ pub(super) fn name_of(number: u8) -> Option<Name> {
     Name::new(&[b'0'.wrapping_add(number)]).ok()
 }
 
+// Whether no name was bound between these counts of leaves of the lowest tree: a tree that was used up may have been
+// replaced by one of height 5.
+fn binds_none(before: Option<u32>, after: Option<u32>) -> bool {
+    before == after || (before == Some(0) && after == Some(32))
+}
+
 // The fault of a request of one byte, if any, whose signature is valid. A refusal leaves no byte, and one of memory
 // binds no name.
 fn request<S: Store, R: Source>(
@@ -132,12 +138,12 @@ fn request<S: Store, R: Source>(
     out: &mut Vec<u8>,
 ) -> Option<Option<SignFault>> {
     let name = name_of(number)?;
-    let was_bound = signer.ledger.find(&name).is_some();
+    let before = signer.left().as_slice().last().copied();
     let fault = signer.sign(&name, &mut [message].as_slice(), out).err();
     let is_right = match fault {
         None => verify_any(&signer.public_key(), &mut [message].as_slice(), out).is_ok(),
         Some(SignFault::OutOfMemory) => {
-            out.is_empty() && signer.ledger.find(&name).is_some() == was_bound
+            out.is_empty() && binds_none(before, signer.left().as_slice().last().copied())
         }
         Some(_) => out.is_empty(),
     };

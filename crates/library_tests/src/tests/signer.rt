@@ -1,13 +1,14 @@
-use super::*;
-use crate::key::verify_any;
-use crate::source::SourceFault;
-use state_file::{Bound, Cut, Extend, MemoryStore};
-use std::test::*;
-use typecodes::Name;
+//! Signers over stores in memory.
+
+use sign_core::{Ledger, LedgerFault, SignFault, Signer, Source, SourceFault, verify_any};
+use state_file::{
+    Bound, Cut, Extend, Key, MemoryStore, Record, Secret, Store, StoreFault, Version,
+};
+use std::alloc::Global;
+use typecodes::{LmsPair, Name, Spec};
 
 mod caches;
 mod memory;
-mod moved;
 mod records;
 mod scarce;
 mod steps;

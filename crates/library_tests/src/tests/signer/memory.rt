@@ -4,7 +4,6 @@
 
 use super::records::records_of;
 use super::*;
-use crate::ledger::LedgerFault;
 
 // Ten names of a key, after eight of which more leaves are retired.
 const TEN: [Step; 19] = [

@@ -1,12 +1,10 @@
 //! Migrations that fail or are stopped at each call of either disk. What others come to is said by the tests of the
 //! built program, `tests/conformance`.
 
-use super::*;
-use crate::signer::Signer;
-use crate::signer::tests::{Entry, with_records};
-use crate::source::{Source, TapeSource};
-use state_file::{FileStore, MemoryDisk, Pick, Store, Version};
-use std::test::*;
+use crate::tests::signer::{Entry, with_records};
+use sign_core::{Signer, Source, TapeSource, migrate_key};
+use state_file::{Disk, FileStore, MemoryDisk, MigrateFault, Pick, Store, Version};
+use std::alloc::Global;
 
 // The file of these records, and of some more.
 fn file_of(alloc: Global, entries: &[Entry], more: &[Entry]) -> Option<Vec<u8>> {

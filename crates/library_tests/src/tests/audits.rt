@@ -1,15 +1,12 @@
-//! A key whose disk fails or stops at each call, calls that take no memory, and two tests of `state_file`, its disk in
-//! memory and the texts of its faults: a crate with a test of its own is proved twice, and so that one has none.
+//! A key whose disk fails or stops at each call, and calls that take no memory.
 
-use crate::*;
+use key_audit::{Anchor, AuditFault, Given, GivenFault, audit, check_given};
 use sign_core::{AnyPublic, Signer, Source, SourceFault};
 use state_file::{Disk, FileStore, MemoryDisk, Store, Version};
 use std::alloc::Global;
 use typecodes::{Name, Spec};
 
-mod faults;
 mod fixed;
-mod memory_disk;
 mod room;
 mod script;
 

@@ -6,7 +6,6 @@ ghost use Rattle.state_file.specs.Slot.{FitsVersion, version_begun};
 
 use super::steps::Numbers;
 use super::*;
-use crate::ledger::LedgerFault;
 use lmots::LmOts;
 use typecodes::{LmsType, OtsType};
 

@@ -1,0 +1,8 @@
+mod audits;
+mod documented;
+mod faults;
+mod key;
+mod memory_disk;
+mod migration;
+mod serving;
+mod signer;
