@@ -1,6 +1,6 @@
 -- What a signer over a store is to its callers, and what its calls are: steps of the world.
 use Rattle.std.specs.Prelude.{◌≡◌, ◌⊎◌, ℕ, ◌+◌, ◌<◌, ◌≤◌, Bool, true, false, ◌||◌, IsTrue, List, [], ◌∷◌, ◌++◌}
-use Rattle.std.specs.Prelude.{length}
+use Rattle.std.specs.Prelude.{length, take, zero, suc}
 use Rattle.std.specs.Prelude.{Option, Some, None, Result, Ok, Err}
 use Rattle.std.specs.List.{concat}
 use Rattle.typecodes.specs.declared.message.Message as message
@@ -19,14 +19,14 @@ use Rattle.state_file.specs.declared.record.Version.{Version}
 use Rattle.state_file.specs.declared.store.Store as store
 use Rattle.state_file.specs.Disk.{Counts, LeavesOnly}
 use Rattle.state_file.specs.Laws.{IsLegal, bottom_of}
-use Rattle.state_file.specs.Store.{Collects, IsRecordAt, WhileRunning}
+use Rattle.state_file.specs.Store.{AddsGiven, AddsLoad, Collects, IsRecordAt, WhileRunning}
 pub use Rattle.state_file.specs.Store.{is_fault}
 use Rattle.sign_core.specs.declared.key.AnyPublic.{AnyPublic}
 use Rattle.sign_core.specs.declared.fault.SignFault.{SignFault}
 use Rattle.sign_core.specs.declared.fault.SignFault.TheVariants.{DeviceFailed, NoMemoryToOpen, OutOfMemory}
 use Rattle.sign_core.specs.declared.fault.SignFault.TheVariants.{KeyThere, RandomFailed, StoreFailed}
 use Rattle.sign_core.specs.declared.fault.SignFault.TheVariants.{Changed, Damaged, Exhausted, Illegal, LedgerFull}
-use Rattle.sign_core.specs.declared.fault.SignFault.TheVariants.{LongName, MessageRead, Moved, Stopped, Unreadable}
+use Rattle.sign_core.specs.declared.fault.SignFault.TheVariants.{LongName, MessageRead, Moved, NoKey, Stopped, Unreadable}
 use Rattle.sign_core.specs.declared.source.Source as source
 use Rattle.sign_core.specs.Source.{Provides}
 use Rattle.sign_core.specs.Records.{binding_in, can_follow, deepest, key_in, leaves_of_current, next_at}
@@ -104,6 +104,11 @@ is_random_failed _ = false
 abbrev pub is_out_of_memory : SignFault → Bool
 is_out_of_memory OutOfMemory = true
 is_out_of_memory _ = false
+
+-- a call failed before
+abbrev pub is_stopped : SignFault → Bool
+is_stopped Stopped = true
+is_stopped _ = false
 
 -- the device failed while the records were read
 abbrev pub is_device_failed : SignFault → Bool
@@ -508,6 +513,8 @@ pub record LoadsRecord {S : Type 0} (g : store.Ghosts S) (old new : S) (k : ℕ)
   pub moments : LeavesOld g old new
   pub refusals : Counts is_no_memory (g.refusals old) (g.refusals new) answer
   pub unreadable : Collects unreadable_slot (g.unreadable old) (g.unreadable new) answer
+  pub asked : AddsLoad is_stopped k (g.loads old) (g.loads new) answer
+  pub gave : AddsGiven (g.given old) (g.given new) answer
   pub honest : g.honest new ≡ g.honest old
   pub most : g.most new ≡ g.most old
   pub stays : g.stopped old ≡ true → new ≡ old
@@ -524,7 +531,32 @@ TakesUpLoaded old new entry (Err NoMemoryToOpen) =
     (can_follow (Some old.key) old.records entry ≡ true) × LacksRoom entry old × (new.records ≡ old.records)
 TakesUpLoaded old new entry (Err _) = ⊥
 
--- To load the records of a store is a step of the world, with an outcome that is the answer. It goes over as many
+-- the slots below a number, the last one first
+abbrev pub slots_below : ℕ → List ℕ
+slots_below zero = []
+slots_below (suc n) = n ∷ slots_below n
+
+-- How far an opening goes, by its answer: the loads that it makes, and the records that these give. Ok comes after all
+-- records, and after one load more, which finds their end, unless the store takes no more records. 44 of k comes
+-- after record k; a load's refusal after the records before its slot; and a want of memory that the store doesn't
+-- count, after the record for which there is none.
+abbrev pub GoesTo : {A : Type 0} (most : ℕ) → Opening → List Record → (refusals_before refusals_after : ℕ)
+    → (loads given : ℕ) → Result A SignFault → Type 0
+GoesTo most chance records before after loads given (Ok _) =
+    (given ≡ length records) × ((loads ≡ given + 1) ⊎ ((loads ≡ given) × (given ≡ most)))
+GoesTo most chance records before after loads given (Err NoKey) = (given ≡ 0) × (loads ≡ 1)
+GoesTo most chance records before after loads given (Err Stopped) = (given ≡ 0) × (loads ≡ 0)
+GoesTo most chance records before after loads given (Err (Illegal k)) = (given ≡ k + 1) × (loads ≡ given)
+GoesTo most chance records before after loads given (Err (Unreadable k)) = (given ≡ k) × (loads ≡ given + 1)
+GoesTo most (Some (slot, _)) records before after loads given (Err DeviceFailed) =
+    (given ≡ slot) × (loads ≡ given + 1)
+GoesTo most (Some (slot, _)) records before after loads given (Err NoMemoryToOpen) =
+    ((given ≡ slot) × (loads ≡ given + 1) × (after ≡ before + 1))
+    ⊎ ((given ≡ slot + 1) × (loads ≡ given) × (lacks : RunsOutOfMemory records) × (lacks.place ≡ slot))
+GoesTo most chance records before after loads given (Err _) = ⊥
+
+-- To load the records of a store is a step of the world, with an outcome that is the answer. It asks for slot after
+-- slot from 0 on, and is given these records; it stops at the first that refuses it, of which `GoesTo` says why. It goes over as many
 -- records as the store has, and where the store is honest over its own. The store has stopped where it had before, or
 -- the answer is 45; one that had is as it was; and the store has reported one slot more as unreadable, k, where the
 -- answer is 43 of k.
@@ -544,6 +576,11 @@ pub record LoadsAll {S : Type 0} (g : store.Ghosts S) (old new : S) (IsAnswer : 
   pub failures : Counts is_device_failed (g.failures old) (g.failures new) outcome.answer
   pub refusals : RefusesToOpen records outcome.answer (g.refusals old) (g.refusals new)
   pub unreadable : Collects unreadable_slot (g.unreadable old) (g.unreadable new) outcome.answer
+  pub loads : ℕ
+  pub given : ℕ
+  pub asked : g.loads new ≡ slots_below loads ++ g.loads old
+  pub gave : g.given new ≡ g.given old ++ take given records
+  pub order : GoesTo (g.most old) chance records (g.refusals old) (g.refusals new) loads given outcome.answer
   pub honest : g.honest new ≡ g.honest old
   pub most : g.most new ≡ g.most old
   pub stays : g.stopped old ≡ true → new ≡ old
