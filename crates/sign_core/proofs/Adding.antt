@@ -18,7 +18,7 @@ use Rattle.sign_core.specs.declared.fault.SignFault.TheVariants.{NoMemoryToOpen}
 use Rattle.sign_core.specs.declared.fault.SignFault.TheVariants.{Changed, Exhausted, RandomFailed, StoreFailed, Stopped, Damaged, OutOfMemory, LedgerFull}
 use Rattle.sign_core.specs.declared.fault.SignFault.TheVariants.{Unreadable, KeyThere}
 use Rattle.sign_core.specs.Fault.{closes}
-use Rattle.sign_core.specs.Once.{IsBeginning}
+use Rattle.sign_core.specs.Cuts.{IsBeginning}
 use Rattle.sign_core.specs.Caches.{Cached}
 use Rattle.sign_core.specs.Signer.{IsSigner, view_of, Adds, IsAppended, IsTied, LeavesEither, LeavesOld, UsesMemory, View}
 use Rattle.sign_core.specs.Records.{can_follow, key_in, is_long}

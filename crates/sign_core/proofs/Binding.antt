@@ -32,7 +32,7 @@ use Rattle.sign_core.specs.declared.fault.SignFault.TheVariants.{Damaged, Messag
 use Rattle.sign_core.specs.declared.source.Source as source
 use Rattle.sign_core.specs.declared.links.Link.{Link}
 use Rattle.sign_core.specs.declared.links.Signed.{Signed}
-use Rattle.sign_core.specs.Once.{AreFields, randomizer_sizes}
+use Rattle.sign_core.specs.Events.{AreFields, randomizer_sizes}
 use Rattle.sign_core.specs.Signing.{answered_with}
 use Rattle.sign_core.specs.Source.{DrawsBytes}
 use Rattle.sign_core.specs.Source.{Provides}

@@ -20,7 +20,7 @@ use Rattle.sign_core.specs.declared.fault.SignFault.TheVariants.{Changed, Exhaus
 use Rattle.sign_core.specs.declared.fault.SignFault.TheVariants.{Unreadable, KeyThere}
 use Rattle.sign_core.specs.declared.source.Source as source
 use Rattle.sign_core.specs.Source.{Provides}
-use Rattle.sign_core.specs.Once.{IsBeginning}
+use Rattle.sign_core.specs.Cuts.{IsBeginning}
 use Rattle.sign_core.specs.Signer.{DrawsSecret, IsAppended, IsAnsweredByKey, KeepsStore, LeavesOld, LeavesSource, LoadFails, LooksForKey, MakesKey}
 use Rattle.sign_core.specs.Signer.{is_fault, is_store_failed, is_random_failed, is_out_of_memory, unreadable_slot}
 use Rattle.sign_core.specs.World.{Creation, Fate, Outcome, acked, answered, appended, begun, closed_on, created, cut, cut_new, cut_old, drawing}

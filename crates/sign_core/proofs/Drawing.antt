@@ -12,7 +12,7 @@ use Rattle.sign_core.specs.declared.fault.SignFault.TheVariants.{Unreadable, Key
 use Rattle.sign_core.specs.declared.source.Source as source
 use Rattle.sign_core.specs.Source.{DrawsBytes}
 use Rattle.sign_core.specs.Source.{Provides}
-use Rattle.sign_core.specs.Once.{AreFields, key_sizes}
+use Rattle.sign_core.specs.Events.{AreFields, key_sizes}
 use Rattle.sign_core.specs.Signer.{DrawsSecret}
 use Rattle.sign_core.specs.World.{secret_from}
 

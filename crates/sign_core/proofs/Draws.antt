@@ -10,7 +10,7 @@ use Rattle.sign_core.specs.declared.signer.signing.TreeSeeds.{TreeSeeds}
 use Rattle.sign_core.specs.Source.{DrawsBytes}
 use Rattle.sign_core.specs.Source.{Provides}
 use Rattle.sign_core.specs.Records.{has_identifier}
-use Rattle.sign_core.specs.Once.{AreFields, tree_sizes}
+use Rattle.sign_core.specs.Events.{AreFields, tree_sizes}
 use Rattle.sign_core.specs.Signing.{DrawsTree}
 
 -- two fills, one after the other

@@ -27,7 +27,7 @@ use Rattle.sign_core.specs.declared.signer.signing.TreeSeeds.{TreeSeeds}
 use Rattle.sign_core.specs.Signing.{answered_with}
 use Rattle.sign_core.specs.Source.{Provides}
 use Rattle.sign_core.specs.Records.{has_identifier}
-use Rattle.sign_core.specs.Once.{IsBeginning}
+use Rattle.sign_core.specs.Cuts.{IsBeginning}
 use Rattle.sign_core.specs.Caches.{Cached}
 use Rattle.sign_core.specs.Signer.{Adds, Ends, IsTied, View, added, caching, is_before_draws, is_fault, is_of_append, is_out_of_memory, is_random_failed}
 use Rattle.sign_core.specs.Signer.{is_store_failed, state_of, view_of}

@@ -19,7 +19,7 @@ use Rattle.sign_core.specs.declared.fault.SignFault.TheVariants.{RandomRepeated,
 use Rattle.sign_core.specs.declared.fault.SignFault.TheVariants.{Changed, Exhausted, RandomFailed, StoreFailed, Stopped, Damaged, OutOfMemory, LedgerFull}
 use Rattle.sign_core.specs.declared.fault.SignFault.TheVariants.{Unreadable, KeyThere}
 use Rattle.sign_core.specs.Records.{can_follow, first_illegal, illegal_from, key_in}
-use Rattle.sign_core.specs.Once.{public_of_key}
+use Rattle.sign_core.specs.Headline.{public_of_key}
 use Rattle.sign_core.specs.Signer.{IsTakenUp, IsTied, LeavesOld, LoadsAll, LoadsRecord, RefusesToOpen, StopsOpening, TakesUpLoaded, is_device_failed, unreadable_slot}
 use Rattle.sign_core.specs.Signer.{GoesTo, slots_below}
 use Rattle.sign_core.specs.Ledger.{LacksRoom, RunsOutOfMemory, Table}

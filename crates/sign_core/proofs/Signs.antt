@@ -22,7 +22,7 @@ use Rattle.sign_core.specs.declared.source.Source as source
 use Rattle.sign_core.specs.declared.ledger.Binding.{Binding}
 use Rattle.sign_core.specs.Source.{Provides}
 use Rattle.sign_core.specs.Records.{are_same, binding_in, deepest, has_moved, key_in, wanted_count, is_long}
-use Rattle.sign_core.specs.Once.{IsBeginning}
+use Rattle.sign_core.specs.Cuts.{IsBeginning}
 use Rattle.sign_core.specs.Request.{HasPrepared}
 use Rattle.sign_core.specs.Caches.{Cached}
 use Rattle.sign_core.specs.Signer.{Hinders, IsRead, IsSigner, IsTied, KeepsAll, KeepsForRepeat, KeepsStore, LacksMemory, LacksTree, RefusesMemory, wanted_by, Signs, View, is_out_of_memory}

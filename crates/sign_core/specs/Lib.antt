@@ -3,8 +3,16 @@ pub mod Records
 pub mod Trees
 pub mod Textbook
 pub mod World
+pub mod Events
+pub mod Headline
 pub mod Uses
+pub mod Requests
+pub mod Retirings
+pub mod Openings
 pub mod Once
+pub mod Sound
+pub mod Cuts
+pub mod Lasting
 pub mod Opened
 pub mod Calls
 pub mod SignerCalls

@@ -31,8 +31,10 @@ use Rattle.sign_core.specs.declared.source.Source as source
 use Rattle.sign_core.specs.Source.{Provides}
 use Rattle.sign_core.specs.Records.{binding_in, can_follow, deepest, key_in, leaves_of_current, next_at}
 use Rattle.sign_core.specs.Records.{wanted_count}
-use Rattle.sign_core.specs.Once.{AreDrawsOf, AreFields, IsBeginning, key_sizes}
-use Rattle.sign_core.specs.Once.{public_of_key, reached}
+use Rattle.sign_core.specs.Events.{AreDrawsOf, AreFields, key_sizes}
+use Rattle.sign_core.specs.Cuts.{IsBeginning}
+use Rattle.sign_core.specs.Headline.{public_of_key}
+use Rattle.sign_core.specs.Cuts.{reached}
 use Rattle.sign_core.specs.World.{Chance, Creation, Fate, Opening, Outcome, State}
 use Rattle.sign_core.specs.World.{answered, appended, closed_on, created, open_on, opened, requested}
 use Rattle.sign_core.specs.World.{retired, secret_from}

@@ -20,7 +20,7 @@ use Rattle.sign_core.specs.declared.signer.signing.TreeSeeds.{TreeSeeds}
 use Rattle.sign_core.specs.Source.{Provides}
 use Rattle.sign_core.specs.Records.{binding_in, current, has_identifier, has_moved, is_long, key_in, next_at}
 use Rattle.sign_core.specs.Links.{AreMade, IsMade, signings_of}
-use Rattle.sign_core.specs.Once.{AreDrawsOf, AreFields, IsTreeDraw, randomizer_sizes, tree_sizes}
+use Rattle.sign_core.specs.Events.{AreDrawsOf, AreFields, IsTreeDraw, randomizer_sizes, tree_sizes}
 use Rattle.sign_core.specs.Signer.{Ends, IsRead, KeepsAtRefusal, LacksTree, RefusesAfterDraws}
 use Rattle.sign_core.specs.Signer.{UnlessAppended, UsesMemory}
 use Rattle.sign_core.specs.Signer.{View}

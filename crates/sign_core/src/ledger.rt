@@ -162,7 +162,7 @@ impl Ledger {
     ghost use Rattle.sign_core.specs.declared.ledger.LedgerFault.TheVariants.{Illegal, OutOfMemory};
     ghost use Rattle.sign_core.specs.Trees.{tree_at};
     ghost use Rattle.sign_core.specs.Textbook.{AllHaveSizes, HasSizes};
-    ghost use Rattle.sign_core.specs.Once.{public_of_key};
+    ghost use Rattle.sign_core.specs.Headline.{public_of_key};
     ghost use Rattle.sign_core.specs.Records.{free_counts};
 
     /// That of a key with no record after it.

@@ -4,7 +4,7 @@ ghost use Rattle.std.specs.Prelude.{◌≡◌, ◌<◌, ◌≤◌, ◌-◌, ◌^
 ghost use Rattle.std.specs.Prelude.{IfSome, IsTrue, None, OnOk};
 ghost use Rattle.state_file.specs.Store.{CanFollow, is_key};
 ghost use Rattle.sign_core.specs.Source.{DrawsBytes};
-ghost use Rattle.sign_core.specs.Once.{AreFields};
+ghost use Rattle.sign_core.specs.Events.{AreFields};
 ghost use Rattle.sign_core.specs.Signer.{DrawsSecret, Hinders, IsAnsweredByKey, IsAppended, IsTakenUp};
 ghost use Rattle.sign_core.specs.Signer.{IsTied, LoadsAll, LoadsRecord, LooksForKey, MakesKey, TakesUpLoaded};
 ghost use Rattle.sign_core.specs.Textbook.{HasSizes, SecretHasSizes, lms_secret, root_by};
@@ -273,7 +273,7 @@ fn load_all<S: Store>(alloc: Global, store: &mut S) -> Result<Ledger, SignFault>
 impl<S: Store, R: Source> Signer<S, R> {
     ghost use Rattle.sign_core.specs.Records.{can_follow, free_counts, has_moved, key_in};
     ghost use Rattle.state_file.specs.declared.record.Key.{Key as K};
-    ghost use Rattle.sign_core.specs.Once.{public_of_key};
+    ghost use Rattle.sign_core.specs.Headline.{public_of_key};
     ghost use Rattle.sign_core.specs.Signer.{Adds, Creates, IsBottom, Opens, Retires};
     ghost use Rattle.sign_core.specs.Ledger.{TakesMemory};
     ghost use Rattle.state_file.specs.Slot.{FitsVersion, version_in};
