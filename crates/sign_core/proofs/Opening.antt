@@ -20,9 +20,11 @@ use Rattle.sign_core.specs.declared.fault.SignFault.TheVariants.{Changed, Exhaus
 use Rattle.sign_core.specs.declared.fault.SignFault.TheVariants.{Unreadable, KeyThere}
 use Rattle.sign_core.specs.Records.{can_follow, first_illegal, illegal_from, key_in}
 use Rattle.sign_core.specs.Headline.{public_of_key}
-use Rattle.sign_core.specs.Signer.{IsTakenUp, IsTied, LeavesOld, LoadsAll, LoadsRecord, RefusesToOpen, StopsOpening, TakesUpLoaded, is_device_failed, unreadable_slot}
+use Rattle.sign_core.specs.inner.Signer.{IsTakenUp, LoadsRecord, TakesUpLoaded}
+use Rattle.sign_core.specs.Signer.{IsTied, LeavesOld, LoadsAll, RefusesToOpen, StopsOpening, is_device_failed, unreadable_slot}
 use Rattle.sign_core.specs.Signer.{GoesTo, slots_below}
-use Rattle.sign_core.specs.Ledger.{LacksRoom, RunsOutOfMemory, Table}
+use Rattle.sign_core.specs.inner.Ledger.{LacksRoom}
+use Rattle.sign_core.specs.Ledger.{RunsOutOfMemory, Table}
 use Rattle.sign_core.specs.World.{answered, closed_on, open_on, opened, opened_by, opened_on, published, refused}
 use Rattle.sign_core.specs.Textbook.{HasSizes, SecretHasSizes, public_in}
 use Rattle.sign_core.proofs.Adding.{LeavesItsList, length_one_more, some_records}

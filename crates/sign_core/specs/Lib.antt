@@ -24,9 +24,6 @@ pub mod Signing
 pub mod Signer
 pub mod Key
 pub mod RngSource
-pub mod Links
-pub mod Request
-pub mod Writing
 pub mod Lives
 pub mod RefusalOrder
 pub mod AfterRefusal
@@ -34,3 +31,4 @@ pub mod Caches
 pub mod OldFile
 pub mod Migration
 pub mod Moves
+pub mod inner

@@ -47,7 +47,7 @@ impl Model for LmsCache {
 }
 
 impl LmsCache {
-    ghost use Rattle.sign_core.specs.Links.{IsMade};
+    ghost use Rattle.sign_core.specs.inner.Links.{IsMade};
 
     // Makes each leaf of the tree, once, and keeps the block of this leaf.
     fn new(alloc: Global, secret: LmsSecret, leaf: u32) -> Result<Self, OutOfMemory>
@@ -191,7 +191,7 @@ impl Model for Caches {
 
 impl Caches {
     ghost use Rattle.sign_core.specs.Caches.{HasLevel, LacksLevel, cache_at};
-    ghost use Rattle.sign_core.specs.Links.{AreTreesOf, IsMade};
+    ghost use Rattle.sign_core.specs.inner.Links.{AreTreesOf, IsMade};
     ghost use Rattle.xmss.specs.Secret.{path_in as xmss_path_in, root_in as xmss_root_in};
 
     /// None.

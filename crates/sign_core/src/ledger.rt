@@ -157,7 +157,8 @@ impl Ledger {
     ghost use Rattle.state_file.specs.declared.record.Record.TheVariants.{Key as KeyRecord, Extend as ExtendRecord};
     ghost use Rattle.state_file.specs.declared.record.Record.TheVariants.{Bound as BoundRecord, Retire as RetireRecord};
     ghost use Rattle.state_file.specs.declared.record.Record.TheVariants.{Moved as MovedRecord};
-    ghost use Rattle.sign_core.specs.Ledger.{CanPush, Grows, HasRoomForOne, IsRefused, LacksRoom, Stays, TakesUp};
+    ghost use Rattle.sign_core.specs.inner.Ledger.{CanPush, Grows, HasRoomForOne, LacksRoom, Stays, TakesUp};
+    ghost use Rattle.sign_core.specs.Ledger.{IsRefused};
     ghost use Rattle.sign_core.specs.Ledger.{binding_kept, made_at};
     ghost use Rattle.sign_core.specs.declared.ledger.LedgerFault.TheVariants.{Illegal, OutOfMemory};
     ghost use Rattle.sign_core.specs.Trees.{tree_at};

@@ -29,8 +29,8 @@ impl<'a> KeyTrees<'a> {
     ghost use Rattle.state_file.specs.declared.record.Record.TheVariants.{Extend as ExtendRecord};
     ghost use Rattle.state_file.specs.Laws.{IsLegal};
     ghost use Rattle.sign_core.specs.Records.{key_in};
-    ghost use Rattle.sign_core.specs.Links.{AreMade, AreTreesOf, IsMade, IsTreeAt};
-    ghost use Rattle.sign_core.specs.Links.{signing_with, signings_of, trees_in};
+    ghost use Rattle.sign_core.specs.inner.Links.{AreMade, AreTreesOf, IsMade, IsTreeAt};
+    ghost use Rattle.sign_core.specs.inner.Links.{signing_with, signings_of, trees_in};
     ghost use Rattle.sign_core.specs.Textbook.{damaged_in, is_sound_at, secret_at, secret_by, signings_above};
 
     /// The types of a level's trees; the top tree's, where there is no such level.
@@ -192,7 +192,7 @@ impl Link {
     ghost use Rattle.lms.specs.Secret.{path_in, public_of};
     ghost use Rattle.lms.specs.Writing.{signature_bytes, textbook};
     ghost use Rattle.hss.specs.Secret.{signing_of};
-    ghost use Rattle.sign_core.specs.Links.{IsMade, says_key, signing_of_link};
+    ghost use Rattle.sign_core.specs.inner.Links.{IsMade, says_key, signing_of_link};
 
     /// The tree of a secret, of which a leaf signs. Each leaf is made once.
     pub(crate) fn new(secret: LmsSecret, signed: Signed) -> Self

@@ -1,8 +1,9 @@
 //! `serve`: requests over an input, each of which has its reply on an output.
 
 ghost use Rattle.std.specs.Prelude.{◌≡◌, ◌<◌, ◌^◌, vec_capacity};
-ghost use Rattle.sign_core.specs.Frames.{WasReadOrFailed, said_by};
-ghost use Rattle.sign_core.specs.Serving.{AnswersFrame, Asks, Finishes, Serves, Turns, WritesReply, is_unread};
+ghost use Rattle.sign_core.specs.inner.Frames.{WasReadOrFailed, said_by};
+ghost use Rattle.sign_core.specs.inner.Serving.{AnswersFrame, Asks, Finishes, Turns, WritesReply, is_unread};
+ghost use Rattle.sign_core.specs.Serving.{Serves};
 ghost use Rattle.sign_core.specs.Serving.{reply_bytes, reply_frame};
 ghost use Rattle.sign_core.specs.Signing.{KeepsCapacity};
 
@@ -30,7 +31,7 @@ pub(crate) enum Reply {
 }
 
 impl Reply {
-    ghost use Rattle.sign_core.specs.Serving.{is_unread};
+    ghost use Rattle.sign_core.specs.inner.Serving.{is_unread};
 
     // Whether it says that the message can't be read.
     fn is_unread(&self) -> bool

@@ -3,10 +3,11 @@
 ghost use Rattle.std.specs.Prelude.{◌≡◌, ◌<◌, ◌≤◌, ◌-◌, ◌^◌, ◌∷◌, [], true, false, Some, Ok, Err, length, IfErr, IfOk};
 ghost use Rattle.std.specs.Prelude.{IfSome, IsTrue, None, OnOk};
 ghost use Rattle.state_file.specs.Store.{CanFollow, is_key};
-ghost use Rattle.sign_core.specs.Source.{DrawsBytes};
+ghost use Rattle.sign_core.specs.inner.Source.{DrawsBytes};
 ghost use Rattle.sign_core.specs.Events.{AreFields};
-ghost use Rattle.sign_core.specs.Signer.{DrawsSecret, Hinders, IsAnsweredByKey, IsAppended, IsTakenUp};
-ghost use Rattle.sign_core.specs.Signer.{IsTied, LoadsAll, LoadsRecord, LooksForKey, MakesKey, TakesUpLoaded};
+ghost use Rattle.sign_core.specs.inner.Signer.{DrawsSecret, Hinders, IsAnsweredByKey, IsAppended, IsTakenUp};
+ghost use Rattle.sign_core.specs.Signer.{IsTied, LoadsAll, MakesKey};
+ghost use Rattle.sign_core.specs.inner.Signer.{LoadsRecord, LooksForKey, TakesUpLoaded};
 ghost use Rattle.sign_core.specs.Textbook.{HasSizes, SecretHasSizes, lms_secret, root_by};
 ghost use Rattle.state_file.specs.declared.record.Record.TheVariants.{Key as KeyRecord};
 ghost use Rattle.typecodes.specs.Layout.{AreBytes};
@@ -274,7 +275,8 @@ impl<S: Store, R: Source> Signer<S, R> {
     ghost use Rattle.sign_core.specs.Records.{can_follow, free_counts, has_moved, key_in};
     ghost use Rattle.state_file.specs.declared.record.Key.{Key as K};
     ghost use Rattle.sign_core.specs.Headline.{public_of_key};
-    ghost use Rattle.sign_core.specs.Signer.{Adds, Creates, IsBottom, Opens, Retires};
+    ghost use Rattle.sign_core.specs.inner.Signer.{Adds, IsBottom};
+    ghost use Rattle.sign_core.specs.Signer.{Creates, Opens, Retires};
     ghost use Rattle.sign_core.specs.Ledger.{TakesMemory};
     ghost use Rattle.state_file.specs.Slot.{FitsVersion, version_in};
     ghost use Rattle.state_file.specs.declared.record.Version.TheVariants.{One};

@@ -3,8 +3,8 @@
 ghost use Rattle.std.specs.Prelude.{◌≡◌, ◌<◌, None, Some, length, IfErr, IfOk, OnOk};
 ghost use Rattle.state_file.specs.Laws.{IsLegal, levels_of};
 ghost use Rattle.sign_core.specs.Records.{free_at, key_in};
-ghost use Rattle.sign_core.specs.Links.{AreTreesOf, trees_in};
-ghost use Rattle.sign_core.specs.Signing.{StandsIn};
+ghost use Rattle.sign_core.specs.inner.Links.{AreTreesOf, trees_in};
+ghost use Rattle.sign_core.specs.inner.Signing.{StandsIn};
 ghost use Rattle.sign_core.specs.Textbook.{damaged_in, tree_before};
 
 use crate::caches::Caches;

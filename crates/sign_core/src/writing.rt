@@ -4,10 +4,10 @@ ghost use Rattle.std.specs.Prelude.{◌≡◌, ◌<◌, ◌≤◌, ◌∷◌, []
 ghost use Rattle.hss.specs.Secret.{Signing};
 ghost use Rattle.hss.specs.Signature.{signature_size as hss_signature_size};
 ghost use Rattle.hss.specs.Writing.{signature_bytes as hss_signature_bytes, textbook as hss_textbook};
-ghost use Rattle.sign_core.specs.Links.{AreMade, signings_of};
+ghost use Rattle.sign_core.specs.inner.Links.{AreMade, signings_of};
 ghost use Rattle.sign_core.specs.Signer.{signature_size};
-ghost use Rattle.sign_core.specs.Signing.{WritesChain, pairs_of};
-ghost use Rattle.sign_core.specs.Writing.{types_of};
+ghost use Rattle.sign_core.specs.inner.Signing.{WritesChain, pairs_of};
+ghost use Rattle.sign_core.specs.inner.Writing.{types_of};
 ghost use Rattle.sign_core.specs.Textbook.{Trees, trees_of};
 ghost use Rattle.std.specs.Prelude.{◌^◌, map};
 ghost use Rattle.typecodes.specs.Types.{height_of, lms_signature_len_of, xmss_height_of, xmss_signature_len_of};
@@ -121,7 +121,7 @@ struct LinkLevels<'a> {
 }
 
 impl<'a> LinkLevels<'a> {
-    ghost use Rattle.sign_core.specs.Writing.{AreLevelsOf};
+    ghost use Rattle.sign_core.specs.inner.Writing.{AreLevelsOf};
 
     // Those of 1 to 8 links, in their order.
     fn of(links: &'a [Link]) -> Self

@@ -7,11 +7,13 @@ ghost use Rattle.sign_core.specs.Caches.{HasCurrent, LacksCache};
 ghost use Rattle.sign_core.specs.Textbook.{Trees, trees_of};
 ghost use Rattle.state_file.specs.Laws.{levels_of};
 ghost use Rattle.sign_core.specs.Records.{binding_in, deepest, has_moved, is_long};
-ghost use Rattle.sign_core.specs.Request.{IsScheme, Prepares};
+ghost use Rattle.sign_core.specs.inner.Request.{IsScheme, Prepares};
 ghost use Rattle.sign_core.specs.Signer.{KeepsAll, KeepsForRepeat, Signs, is_before_repeat, is_fault, state_of};
-ghost use Rattle.sign_core.specs.Signing.{Binds, CanBind, IsSomeBinding, IsXmssKey, KeepsCapacity, RepeatsBinding};
-ghost use Rattle.sign_core.specs.Signing.{RepeatsBy, UnderKey, answered_with};
-ghost use Rattle.sign_core.specs.Links.{AreTreesOf};
+ghost use Rattle.sign_core.specs.inner.Signing.{Binds, CanBind, IsSomeBinding, RepeatsBinding};
+ghost use Rattle.sign_core.specs.Signing.{IsXmssKey, KeepsCapacity};
+ghost use Rattle.sign_core.specs.inner.Signing.{RepeatsBy};
+ghost use Rattle.sign_core.specs.Signing.{UnderKey, answered_with};
+ghost use Rattle.sign_core.specs.inner.Links.{AreTreesOf};
 
 use super::Signer;
 use super::signing::make_room;

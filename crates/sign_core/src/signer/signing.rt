@@ -8,9 +8,10 @@ ghost use Rattle.xmss.specs.Digest.{message_digest_of as xmss_digest_of};
 ghost use Rattle.state_file.specs.Laws.{bottom_of, levels_of};
 ghost use Rattle.sign_core.specs.Caches.{LacksCache};
 ghost use Rattle.sign_core.specs.Records.{free_at};
-ghost use Rattle.sign_core.specs.Links.{AreTreesOf, trees_in};
-ghost use Rattle.sign_core.specs.Signing.{Binds, CanBind, ChainStands, DrawsTree, Extends, Fulfils, IsReady};
-ghost use Rattle.sign_core.specs.Signing.{IsSomeBinding, IsXmssKey, RepeatsBy, UnderKey};
+ghost use Rattle.sign_core.specs.inner.Links.{AreTreesOf, trees_in};
+ghost use Rattle.sign_core.specs.inner.Signing.{Binds, CanBind, ChainStands, DrawsTree, Extends, Fulfils, IsReady};
+ghost use Rattle.sign_core.specs.inner.Signing.{IsSomeBinding, RepeatsBy};
+ghost use Rattle.sign_core.specs.Signing.{IsXmssKey, UnderKey};
 ghost use Rattle.sign_core.specs.Signing.{answered_with};
 ghost use Rattle.sign_core.specs.Signer.{signature_size, state_of};
 

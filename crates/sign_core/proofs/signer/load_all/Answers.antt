@@ -1,5 +1,6 @@
 use Rattle.std.proofs.Common.{rules, ◌≡◌, ◌≤◌, ◌+◌, Some, None, Ok, Err, inl, inr, length, refl, sym, subst, arith}
-use Rattle.sign_core.specs.Signer.{IsTakenUp, LoadsAll, LoadsRecord}
+use Rattle.sign_core.specs.inner.Signer.{IsTakenUp, LoadsRecord}
+use Rattle.sign_core.specs.Signer.{LoadsAll}
 use Rattle.sign_core.proofs.Opening.{all_taken, all_tied, end_found, key_taken, taken, unloaded, untaken}
 use Rattle.sign_core.proofs.signer.load_all.Goals as goal
 

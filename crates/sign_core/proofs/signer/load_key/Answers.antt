@@ -1,5 +1,6 @@
 use Rattle.std.proofs.Common.{rules, ◌≡◌, Some, None, Ok, Err, sym, subst, IfErr}
-use Rattle.sign_core.specs.Signer.{IsTakenUp, LoadsAll, LoadsRecord}
+use Rattle.sign_core.specs.inner.Signer.{IsTakenUp, LoadsRecord}
+use Rattle.sign_core.specs.Signer.{LoadsAll}
 use Rattle.sign_core.proofs.Opening.{key_refused, none_loaded, none_there, unloaded}
 use Rattle.sign_core.proofs.signer.load_key.Goals as goal
 

@@ -1,5 +1,5 @@
 use Rattle.std.proofs.Common.{subst, sym}
-use Rattle.sign_core.specs.Links.{AreMade}
+use Rattle.sign_core.specs.inner.Links.{AreMade}
 use Rattle.sign_core.proofs.LinkParts.{more_made}
 use Rattle.sign_core.proofs.links.KeyTrees.push_tree.Goals as goal
 

@@ -9,9 +9,9 @@ use Rattle.sign_core.specs.declared.fault.SignFault.TheVariants.{LedgerFull, Out
 use Rattle.sign_core.specs.declared.signer.request.Scheme.{Scheme}
 use Rattle.sign_core.specs.declared.signer.request.Scheme.TheVariants as scheme
 use Rattle.sign_core.specs.Caches.{LacksCache}
-use Rattle.sign_core.specs.Links.{trees_in}
+use Rattle.sign_core.specs.inner.Links.{trees_in}
 use Rattle.sign_core.specs.Signer.{KeepsAll, View, is_before_caches, is_fault, signature_size}
-use Rattle.sign_core.specs.Signing.{IsReady}
+use Rattle.sign_core.specs.inner.Signing.{IsReady}
 use Rattle.sign_core.specs.Textbook.{trees_of}
 
 -- what signs under a key with this secret
