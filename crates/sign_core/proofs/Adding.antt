@@ -17,12 +17,14 @@ use Rattle.sign_core.specs.declared.fault.SignFault.TheVariants.{RandomRepeated,
 use Rattle.sign_core.specs.declared.fault.SignFault.TheVariants.{NoMemoryToOpen}
 use Rattle.sign_core.specs.declared.fault.SignFault.TheVariants.{Changed, Exhausted, RandomFailed, StoreFailed, Stopped, Damaged, OutOfMemory, LedgerFull}
 use Rattle.sign_core.specs.declared.fault.SignFault.TheVariants.{Unreadable, KeyThere}
-use Rattle.sign_core.specs.Fault.{closes}
-use Rattle.sign_core.specs.Once.{IsBeginning}
+use Rattle.sign_core.specs.inner.Fault.{closes}
+use Rattle.sign_core.specs.Cuts.{IsBeginning}
 use Rattle.sign_core.specs.Caches.{Cached}
-use Rattle.sign_core.specs.Signer.{IsSigner, view_of, Adds, IsAppended, IsTied, LeavesEither, LeavesOld, UsesMemory, View}
+use Rattle.sign_core.specs.Signer.{IsSigner, view_of, IsTied, LeavesOld, UsesMemory, View}
+use Rattle.sign_core.specs.inner.Signer.{Adds, IsAppended, LeavesEither}
 use Rattle.sign_core.specs.Records.{can_follow, key_in, is_long}
-use Rattle.sign_core.specs.Ledger.{Grows, Table, TakesMemory}
+use Rattle.sign_core.specs.inner.Ledger.{Grows}
+use Rattle.sign_core.specs.Ledger.{Table, TakesMemory}
 use Rattle.sign_core.specs.Textbook.{AllHaveSizes, HasSizes, SecretHasSizes}
 use Rattle.state_file.specs.Laws.{levels_of}
 use Rattle.state_file.specs.declared.record.Key.{Key}

@@ -19,7 +19,8 @@ use Rattle.sign_core.specs.declared.fault.SignFault.TheVariants.{LedgerFull, Mov
 use Rattle.sign_core.specs.declared.fault.SignFault.TheVariants.{RetireRange, Stopped}
 use Rattle.sign_core.specs.AfterRefusal.{AfterRefusalLaw, AreDrawnFor, BeginsDrawn, IsDrawnKey, IsNextWanted, IsRefusal}
 use Rattle.sign_core.specs.AfterRefusal.{Leaves, LeavesRequested, LeavesTrees, WantsRecords}
-use Rattle.sign_core.specs.Once.{AreFields, BeginsTree, BindsName, key_sizes}
+use Rattle.sign_core.specs.Events.{AreFields, key_sizes}
+use Rattle.sign_core.specs.Requests.{BeginsTree, BindsName}
 use Rattle.sign_core.specs.Records.{binding_in, binds, first_illegal, has_identifier, has_moved, key_in}
 use Rattle.sign_core.specs.Records.{leaves_of_current, next_at}
 use Rattle.sign_core.specs.Textbook.{Trees, public_in, signature_at, trees_of}

@@ -5,8 +5,9 @@ use Rattle.state_file.specs.declared.record.Record.{Record}
 use Rattle.state_file.specs.declared.store.Store as store
 use Rattle.state_file.specs.Disk.{Counts, LeavesOnly}
 use Rattle.sign_core.specs.declared.fault.SignFault.{SignFault}
-use Rattle.sign_core.specs.Once.{IsBeginning}
-use Rattle.sign_core.specs.Signer.{Adds, Ends, GrowsAlike, UnlessAppended, View, added, is_before_draws, is_fault, is_of_append, is_random_failed}
+use Rattle.sign_core.specs.Cuts.{IsBeginning}
+use Rattle.sign_core.specs.inner.Signer.{Adds, added}
+use Rattle.sign_core.specs.Signer.{Ends, GrowsAlike, UnlessAppended, View, is_before_draws, is_fault, is_of_append, is_random_failed}
 use Rattle.sign_core.specs.Signer.{is_store_failed, state_of}
 use Rattle.sign_core.specs.Signing.{answered_with}
 use Rattle.sign_core.specs.World.{Fate, Outcome, State, acked, cut_new, cut_old, no_memory}

@@ -32,15 +32,17 @@ use Rattle.sign_core.specs.declared.fault.SignFault.TheVariants.{Damaged, Messag
 use Rattle.sign_core.specs.declared.source.Source as source
 use Rattle.sign_core.specs.declared.links.Link.{Link}
 use Rattle.sign_core.specs.declared.links.Signed.{Signed}
-use Rattle.sign_core.specs.Once.{AreFields, randomizer_sizes}
+use Rattle.sign_core.specs.Events.{AreFields, randomizer_sizes}
 use Rattle.sign_core.specs.Signing.{answered_with}
-use Rattle.sign_core.specs.Source.{DrawsBytes}
+use Rattle.sign_core.specs.inner.Source.{DrawsBytes}
 use Rattle.sign_core.specs.Source.{Provides}
 use Rattle.sign_core.specs.Records.{binding_in, can_follow, current, free_at, has_moved, has_randomizer, is_free, key_in, next_at, next_in, next_of}
-use Rattle.sign_core.specs.Links.{AreMade, IsMade, signing_of_link, signings_of}
+use Rattle.sign_core.specs.inner.Links.{AreMade, IsMade, signing_of_link, signings_of}
 use Rattle.sign_core.specs.Caches.{Cached}
-use Rattle.sign_core.specs.Signer.{Adds, Ends, IsRead, IsTied, View, added, is_before_draws, is_of_append, is_out_of_memory, is_random_failed, is_store_failed, signature_size, state_of, view_of}
-use Rattle.sign_core.specs.Signing.{Binds, Does, Fulfils, IsXmssKey, Stands, StandsIn, WritesChain, pairs_of}
+use Rattle.sign_core.specs.inner.Signer.{Adds, added}
+use Rattle.sign_core.specs.Signer.{Ends, IsRead, IsTied, View, is_before_draws, is_of_append, is_out_of_memory, is_random_failed, is_store_failed, signature_size, state_of, view_of}
+use Rattle.sign_core.specs.inner.Signing.{Binds, Does, Fulfils, Stands, StandsIn, WritesChain, pairs_of}
+use Rattle.sign_core.specs.Signing.{IsXmssKey}
 use Rattle.sign_core.specs.Ledger.{Table}
 use Rattle.sign_core.specs.World.{Chance, Fate, Outcome, acked, answered, appended, bound_sound, bound_with, cut_new, cut_old, drawing, fulfilled, new_bound, no_memory}
 use Rattle.sign_core.specs.World.{open_on, randomizer_from, reading}

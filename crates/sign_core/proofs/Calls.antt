@@ -9,7 +9,9 @@ use Rattle.state_file.specs.declared.store.Store as store
 use Rattle.sign_core.specs.declared.key.AnyPublic.{AnyPublic}
 use Rattle.sign_core.specs.Calls.{AreCalls, AreSteps, Call, CallsLaw, IsRun, IsStep, IsStoppedIn, Step, StoppedLaw, after_steps, ends, events_of}
 use Rattle.sign_core.specs.Calls.{reached_by, stepped, stops, store_after_calls}
-use Rattle.sign_core.specs.Once.{AllEvents, AreDraws, AreDrawsOf, AreFields, IsBeginning, IsEvent, IsLeftBy, IsOnce, randomizer_sizes, reached}
+use Rattle.sign_core.specs.Events.{AllEvents, AreDraws, AreDrawsOf, AreFields, IsEvent, randomizer_sizes}
+use Rattle.sign_core.specs.Cuts.{IsBeginning, IsLeftBy, reached}
+use Rattle.sign_core.specs.Once.{IsOnce}
 use Rattle.sign_core.specs.Records.{first_illegal, key_in}
 use Rattle.sign_core.specs.Textbook.{public_in}
 use Rattle.sign_core.specs.World.{Chance, Event, Opening, State, World, after, beginning, create, opened_by, opened_on, published, reopen}

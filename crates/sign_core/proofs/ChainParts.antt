@@ -22,8 +22,9 @@ use Rattle.state_file.specs.declared.record.Secret.{Secret}
 use Rattle.state_file.specs.declared.record.Secret.TheVariants.{Lms, Hss, Xmss}
 use Rattle.sign_core.specs.declared.links.Link.{Link}
 use Rattle.sign_core.specs.Records.{current, key_in}
-use Rattle.sign_core.specs.Links.{IsTreeAt, signings_of}
-use Rattle.sign_core.specs.Signing.{IsXmssKey, pairs_of}
+use Rattle.sign_core.specs.inner.Links.{IsTreeAt, signings_of}
+use Rattle.sign_core.specs.Signing.{IsXmssKey}
+use Rattle.sign_core.specs.inner.Signing.{pairs_of}
 use Rattle.sign_core.specs.Textbook.{Trees, damaged_in, digest_at, digest_by, digest_under, lms_secret, secret_at, secret_by, signature_at, signature_by}
 use Rattle.sign_core.specs.Textbook.{signing_by, signings_above, tree_before, trees_of}
 use Rattle.sign_core.proofs.Keys.{key_stands, legal_key}

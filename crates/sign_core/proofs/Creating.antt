@@ -20,8 +20,9 @@ use Rattle.sign_core.specs.declared.fault.SignFault.TheVariants.{Changed, Exhaus
 use Rattle.sign_core.specs.declared.fault.SignFault.TheVariants.{Unreadable, KeyThere}
 use Rattle.sign_core.specs.declared.source.Source as source
 use Rattle.sign_core.specs.Source.{Provides}
-use Rattle.sign_core.specs.Once.{IsBeginning}
-use Rattle.sign_core.specs.Signer.{DrawsSecret, IsAppended, IsAnsweredByKey, KeepsStore, LeavesOld, LeavesSource, LoadFails, LooksForKey, MakesKey}
+use Rattle.sign_core.specs.Cuts.{IsBeginning}
+use Rattle.sign_core.specs.inner.Signer.{DrawsSecret, IsAppended, IsAnsweredByKey, LooksForKey}
+use Rattle.sign_core.specs.Signer.{KeepsStore, LeavesOld, LeavesSource, LoadFails, MakesKey}
 use Rattle.sign_core.specs.Signer.{is_fault, is_store_failed, is_random_failed, is_out_of_memory, unreadable_slot}
 use Rattle.sign_core.specs.World.{Creation, Fate, Outcome, acked, answered, appended, begun, closed_on, created, cut, cut_new, cut_old, drawing}
 use Rattle.sign_core.specs.World.{new_key, no_memory, open_on, published, refused, secret_from}

@@ -16,8 +16,8 @@ use Rattle.sign_core.specs.declared.links.Link.{Link}
 use Rattle.sign_core.specs.declared.trees.Tree.{Tree}
 use Rattle.sign_core.specs.Records.{current, free_at, key_in, next_at, next_of}
 use Rattle.sign_core.specs.declared.links.Signed.{Signed}
-use Rattle.sign_core.specs.Links.{AreMade, IsTreeAt, signing_of_link, signing_with, signings_of}
-use Rattle.sign_core.specs.Signing.{Stands, pairs_of}
+use Rattle.sign_core.specs.inner.Links.{AreMade, IsTreeAt, signing_of_link, signing_with, signings_of}
+use Rattle.sign_core.specs.inner.Signing.{Stands, pairs_of}
 use Rattle.sign_core.specs.Trees.{tree_at, with_next}
 use Rattle.sign_core.specs.Textbook.{Trees, secret_at, signings_above, tree_before, trees_of}
 use Rattle.sign_core.proofs.Chains.{got_in-take, got_last, named_by}

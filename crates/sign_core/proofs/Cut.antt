@@ -17,7 +17,8 @@ use Rattle.sign_core.specs.World.{bound_with, created, created_after, drawing, r
 use Rattle.sign_core.specs.World.{cut_new, cut_old, extended, extended_by, extended_with, first_draw, fulfilled, new_key, no_memory, open_on}
 use Rattle.sign_core.specs.World.{published, randomizer_from}
 use Rattle.sign_core.specs.World.{refused, repeated, repeated_sound, requested_of, requested_under, retired_under, secret_from}
-use Rattle.sign_core.specs.Once.{CutLaw, IsOther, IsTreeDraw, turned, turned_chance, turned_creation, turned_draw}
+use Rattle.sign_core.specs.Cuts.{CutLaw, IsOther, turned, turned_chance, turned_creation, turned_draw}
+use Rattle.sign_core.specs.Events.{IsTreeDraw}
 
 -- where nothing was cut off, the outcome is the same
 same_outcome : {A : Type 0} (outcome : Outcome A) → outcome.failed ≡ None → IsOther outcome outcome

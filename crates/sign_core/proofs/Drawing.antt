@@ -10,10 +10,10 @@ use Rattle.sign_core.specs.declared.fault.SignFault.TheVariants.{RandomRepeated,
 use Rattle.sign_core.specs.declared.fault.SignFault.TheVariants.{Changed, Exhausted, RandomFailed, StoreFailed, Stopped, Damaged, OutOfMemory, LedgerFull}
 use Rattle.sign_core.specs.declared.fault.SignFault.TheVariants.{Unreadable, KeyThere}
 use Rattle.sign_core.specs.declared.source.Source as source
-use Rattle.sign_core.specs.Source.{DrawsBytes}
+use Rattle.sign_core.specs.inner.Source.{DrawsBytes}
 use Rattle.sign_core.specs.Source.{Provides}
-use Rattle.sign_core.specs.Once.{AreFields, key_sizes}
-use Rattle.sign_core.specs.Signer.{DrawsSecret}
+use Rattle.sign_core.specs.Events.{AreFields, key_sizes}
+use Rattle.sign_core.specs.inner.Signer.{DrawsSecret}
 use Rattle.sign_core.specs.World.{secret_from}
 
 -- a source gives nothing

@@ -17,8 +17,9 @@ use Rattle.sign_core.specs.declared.fault.SignFault.TheVariants.{RandomRepeated,
 use Rattle.sign_core.specs.declared.fault.SignFault.TheVariants.{Moved as MovedAway}
 use Rattle.sign_core.specs.Records.{are_same, binding_in, deepest, has_identifier, has_moved, key_in, next_at, wanted_count, is_long}
 use Rattle.sign_core.specs.AfterRefusal.{WantsRecords}
-use Rattle.sign_core.specs.Once.{AreDrawsOf, AreFields, DrewAgain, IsTreeDraw, bytes_drawn, randomizer_sizes}
-use Rattle.sign_core.specs.Once.{tree_sizes}
+use Rattle.sign_core.specs.Events.{AreDrawsOf, AreFields, IsTreeDraw, randomizer_sizes}
+use Rattle.sign_core.specs.Requests.{DrewAgain, bytes_drawn}
+use Rattle.sign_core.specs.Events.{tree_sizes}
 use Rattle.sign_core.specs.World.{Chance, Draw, Fate, Outcome, State, acked, answered, appended, bound_anew, bound_sound, bound_with}
 use Rattle.sign_core.specs.World.{cut_new, cut_old, drawing, extend_record, extended, extended_by, extended_with}
 use Rattle.sign_core.specs.World.{first_draw, fulfilled, later_draws, no_memory, open_on}

@@ -6,12 +6,12 @@ use Rattle.state_file.specs.declared.record.Record.{Record}
 use Rattle.sign_core.specs.declared.fault.SignFault.{SignFault}
 use Rattle.sign_core.specs.declared.fault.SignFault.TheVariants.{RandomRepeated, MessageRead, Moved, RetireRange, LongName, NoKey, Illegal, DeviceFailed, NoMemoryToOpen}
 use Rattle.sign_core.specs.declared.fault.SignFault.TheVariants.{Changed, Exhausted, RandomFailed, StoreFailed, Stopped, Damaged, OutOfMemory, LedgerFull, Unreadable, KeyThere}
-use Rattle.sign_core.specs.declared.signer.signing.TreeSeeds.{TreeSeeds}
-use Rattle.sign_core.specs.Source.{DrawsBytes}
+use Rattle.sign_core.specs.declared.signer.bind.TreeSeeds.{TreeSeeds}
+use Rattle.sign_core.specs.inner.Source.{DrawsBytes}
 use Rattle.sign_core.specs.Source.{Provides}
 use Rattle.sign_core.specs.Records.{has_identifier}
-use Rattle.sign_core.specs.Once.{AreFields, tree_sizes}
-use Rattle.sign_core.specs.Signing.{DrawsTree}
+use Rattle.sign_core.specs.Events.{AreFields, tree_sizes}
+use Rattle.sign_core.specs.inner.Signing.{DrawsTree}
 
 -- two fills, one after the other
 pub gives_both : (upcoming : Option (List ℕ)) (a : List ℕ) (between : Option (List ℕ)) (b : List ℕ) (left : Option (List ℕ)) → Provides upcoming a between → Provides between b left → Provides upcoming (a ++ b) left

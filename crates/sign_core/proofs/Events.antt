@@ -14,7 +14,7 @@ use Rattle.state_file.specs.declared.record.Secret.{Secret}
 use Rattle.sign_core.specs.declared.key.AnyPublic.{AnyPublic}
 use Rattle.sign_core.specs.declared.fault.SignFault.{SignFault}
 use Rattle.sign_core.specs.Records.{can_follow, current, first_illegal, has_moved, key_in, leaves_of_current, next_at, next_of}
-use Rattle.sign_core.specs.Once.{AllEvents, AreFields, IsEvent, key_sizes}
+use Rattle.sign_core.specs.Events.{AllEvents, AreFields, IsEvent, key_sizes}
 use Rattle.sign_core.specs.World.{Creation, Event, Fate, Handed, Opening, Outcome, State, World, acked, after, appended, beginning, begun}
 use Rattle.sign_core.specs.World.{create, created_after}
 use Rattle.sign_core.specs.World.{cut_new, cut_old, new_key, no_memory, opened_by, opened_on, published, reopen, request, retire, retired_under}

@@ -22,10 +22,13 @@ use Rattle.sign_core.specs.declared.serving.Reply.{Reply}
 use Rattle.sign_core.specs.declared.serving.Reply.TheVariants.{BadName, Refused, Signed}
 use Rattle.sign_core.specs.declared.source.Source as source
 use Rattle.sign_core.specs.Fault.{serve_number_of}
-use Rattle.sign_core.specs.Frames.{CutsField, Ending, FillsBuffer, ReadsInput, ReadsField, ReadsHead, Request, WasReadOrFailed, after_size, broken, bytes_of, ended, given_by, going, head, said_by}
+use Rattle.sign_core.specs.Frames.{CutsField, Ending, ReadsInput, Request, after_size, broken, ended, given_by, going, head}
+use Rattle.sign_core.specs.inner.Frames.{FillsBuffer, ReadsField, ReadsHead, WasReadOrFailed, bytes_of, said_by}
 use Rattle.sign_core.specs.Records.{binding_in}
-use Rattle.sign_core.specs.Serving.{AnswersFrame, AnswersInTurn, AreFrames, Asks, Closes, ComesTo, Exchange, Finishes, Serves, SignsGiven, Turn}
-use Rattle.sign_core.specs.Serving.{Turns, WritesReply, is_unread, reply_bytes, reply_frame, reply_of}
+use Rattle.sign_core.specs.inner.Serving.{AnswersFrame, Asks, ComesTo, Finishes}
+use Rattle.sign_core.specs.Serving.{AnswersInTurn, AreFrames, Closes, Exchange, Serves, SignsGiven, Turn}
+use Rattle.sign_core.specs.inner.Serving.{Turns, WritesReply, is_unread}
+use Rattle.sign_core.specs.Serving.{reply_bytes, reply_frame, reply_of}
 use Rattle.sign_core.specs.Signer.{IsRead, KeepsForRepeat, Signs, View, is_before_repeat, is_fault, state_of}
 use Rattle.sign_core.specs.Signing.{KeepsCapacity}
 use Rattle.sign_core.specs.World.{Outcome}

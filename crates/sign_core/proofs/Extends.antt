@@ -23,15 +23,16 @@ use Rattle.sign_core.specs.Ledger.{Table}
 use Rattle.state_file.specs.declared.record.Record.TheVariants.{Extend as ExtendRecord}
 use Rattle.sign_core.proofs.Adding.{LeavesItsList}
 use Rattle.sign_core.proofs.StandingChain.{entry_is}
-use Rattle.sign_core.specs.declared.signer.signing.TreeSeeds.{TreeSeeds}
+use Rattle.sign_core.specs.declared.signer.bind.TreeSeeds.{TreeSeeds}
 use Rattle.sign_core.specs.Signing.{answered_with}
 use Rattle.sign_core.specs.Source.{Provides}
 use Rattle.sign_core.specs.Records.{has_identifier}
-use Rattle.sign_core.specs.Once.{IsBeginning}
+use Rattle.sign_core.specs.Cuts.{IsBeginning}
 use Rattle.sign_core.specs.Caches.{Cached}
-use Rattle.sign_core.specs.Signer.{Adds, Ends, IsTied, View, added, caching, is_before_draws, is_fault, is_of_append, is_out_of_memory, is_random_failed}
+use Rattle.sign_core.specs.inner.Signer.{Adds, added}
+use Rattle.sign_core.specs.Signer.{Ends, IsTied, View, caching, is_before_draws, is_fault, is_of_append, is_out_of_memory, is_random_failed}
 use Rattle.sign_core.specs.Signer.{is_store_failed, state_of, view_of}
-use Rattle.sign_core.specs.Signing.{DrawsTree, Extends, StandsIn}
+use Rattle.sign_core.specs.inner.Signing.{DrawsTree, Extends, StandsIn}
 use Rattle.sign_core.specs.World.{Fate, Outcome, acked, answered, appended, cut_new, cut_old, drawing, extended, no_memory}
 use Rattle.sign_core.specs.World.{open_on, refused}
 use Rattle.sign_core.specs.Textbook.{Trees, trees_of}

@@ -18,9 +18,9 @@ use Rattle.sign_core.specs.declared.fault.SignFault.{SignFault}
 use Rattle.sign_core.specs.declared.fault.SignFault.TheVariants.{OutOfMemory, RandomFailed, RandomRepeated, StoreFailed}
 use Rattle.sign_core.specs.Source.{Provides}
 use Rattle.sign_core.specs.Records.{binding_in, has_identifier, has_moved, key_in, next_at}
-use Rattle.sign_core.specs.Once.{IsBeginning, reached}
+use Rattle.sign_core.specs.Cuts.{IsBeginning, reached}
 use Rattle.sign_core.specs.Signer.{Ends, GrowsAlike, IsRead, KeepsStore, RefusesAfterDraws, UsesMemory, View, is_out_of_memory, is_random_failed, is_store_failed}
-use Rattle.sign_core.specs.Signing.{Does, Extends, Fulfils, IsReady}
+use Rattle.sign_core.specs.inner.Signing.{Does, Extends, Fulfils, IsReady}
 use Rattle.sign_core.specs.Textbook.{Trees, trees_of}
 use Rattle.sign_core.specs.World.{Chance, Draw, Fate, Outcome, acked, answered, appended, cut_new, cut_old, drawing, no_memory}
 use Rattle.sign_core.specs.World.{extended, extended_by, extended_with, fulfilled, open_on, refused}

@@ -12,7 +12,8 @@ use Rattle.state_file.specs.declared.record.Record.TheVariants.{Key as KeyRecord
 use Rattle.state_file.specs.declared.record.Secret.{Secret}
 use Rattle.state_file.specs.Laws.{bottom_of}
 use Rattle.sign_core.specs.Records.{current, in_tree, next_in, number_in, reaches}
-use Rattle.sign_core.specs.Trees.{AreAbove, FollowsBound, FollowsExtend, FollowsRetire, HasTrees, IsBegun, IsRaised, kept_at, raised, tree_at, with_next}
+use Rattle.sign_core.specs.inner.Trees.{AreAbove, FollowsBound, FollowsExtend, FollowsRetire, IsBegun, IsRaised, raised}
+use Rattle.sign_core.specs.Trees.{HasTrees, kept_at, tree_at, with_next}
 use Rattle.sign_core.specs.declared.trees.Tree.{Tree}
 use Rattle.sign_core.proofs.Leaves.{number_other}
 use Rattle.sign_core.proofs.Append.{current_above, current_cut, current_new, next_kept, next_new, next_raised}

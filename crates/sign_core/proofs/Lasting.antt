@@ -21,7 +21,7 @@ use Rattle.sign_core.specs.World.{later_draws}
 use Rattle.sign_core.specs.World.{new_key, no_memory, open_on, opened, opened_by, opened_on, published, randomizer_from, reopen, repeated}
 use Rattle.sign_core.specs.World.{repeated_sound, request}
 use Rattle.sign_core.specs.World.{requested_of, requested_under, retire, retired, retired_under, run, secret_from, stop, migrate}
-use Rattle.sign_core.specs.Once.{IsCarriedInto, IsNoMigration, LastingLaw, LastsInto, lasting}
+use Rattle.sign_core.specs.Lasting.{IsCarriedInto, IsNoMigration, LastingLaw, LastsInto, lasting}
 use Rattle.sign_core.specs.World.{Migration, carried_over, left_alone, migrated_to, sealed}
 use Rattle.sign_core.proofs.Migrating.{front_of, migrated_has}
 use Rattle.state_file.specs.Carried.{carried, in_version, unmoved, with_moved}

@@ -18,7 +18,7 @@ use Rattle.state_file.specs.declared.record.Secret.TheVariants.{Lms, Hss, Xmss}
 use Rattle.sign_core.specs.declared.ledger.Made.{Made}
 use Rattle.sign_core.specs.declared.links.Link.{Link}
 use Rattle.sign_core.specs.Records.{current, key_in}
-use Rattle.sign_core.specs.Links.{AreMade, IsMade, IsTreeAt}
+use Rattle.sign_core.specs.inner.Links.{AreMade, IsMade, IsTreeAt}
 use Rattle.sign_core.specs.Ledger.{made_at, made_by}
 use Rattle.sign_core.specs.Textbook.{Trees, chain, damaged_in, is_sound_at, secret_at, secret_by, tree_before}
 use Rattle.sign_core.specs.Textbook.{signing_by, signings_above, trees_of}

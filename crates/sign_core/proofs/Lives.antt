@@ -19,7 +19,9 @@ use Rattle.sign_core.specs.declared.fault.SignFault.{SignFault}
 use Rattle.sign_core.specs.Calls.{AreLastingCalls, Call, IsCall, IsLastingCall, IsRun, events_of, reached_by, store_after_calls}
 use Rattle.sign_core.specs.Lives.{AreLives, IsAtStart, IsLeftByRun, IsLife, IsStoreOn, IsTriedOn, Life, LivesLaw, IsServingLife, disk_at_end, fails, handed_by, handed_by_all, CanMigrate, LedTo}
 use Rattle.sign_core.specs.Lives.{left_by, left_by_all, serves, world_after, world_on}
-use Rattle.sign_core.specs.Once.{IsBeginning, IsEvent, IsLeftBy, IsOnce}
+use Rattle.sign_core.specs.Cuts.{IsBeginning, IsLeftBy}
+use Rattle.sign_core.specs.Events.{IsEvent}
+use Rattle.sign_core.specs.Once.{IsOnce}
 use Rattle.sign_core.specs.SignerCalls.{world_of}
 use Rattle.sign_core.specs.World.{Event, Handed, World, after, beginning, closed_on, create, handed_with, reopen, request, requested, retire, run, stop, migrate}
 use Rattle.sign_core.specs.World.{Migration, carried_over, migrated_to, migrated_under, sealed}

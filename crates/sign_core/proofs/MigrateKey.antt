@@ -31,7 +31,8 @@ use Rattle.state_file.proofs.Lists.{pushed_moved}
 use Rattle.state_file.proofs.Moments.{combined, started, weaker}
 use Rattle.state_file.proofs.Moved.{ends_moved, moved_signs_nothing}
 use Rattle.sign_core.specs.Migration.{AnswersNew, AnswersOld, CountsOne, IsFateOf, IsMigration, IsUntouched, LeftAtOld, Migrates}
-use Rattle.sign_core.specs.OldFile.{Keeps, OpensOld, RefusesOld, ReportsOld, SpellsMovable}
+use Rattle.sign_core.specs.inner.OldFile.{Keeps, OpensOld, RefusesOld}
+use Rattle.sign_core.specs.OldFile.{ReportsOld, SpellsMovable}
 use Rattle.sign_core.specs.Records.{can_move, key_in}
 use Rattle.sign_core.specs.World.{Migration, State, carried_over, closed_on, left_alone, migrated, migrated_to, migrated_under, sealed}
 use Rattle.sign_core.proofs.Adding.{version_of_key}

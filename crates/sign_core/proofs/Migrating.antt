@@ -24,7 +24,7 @@ use Rattle.lms.specs.Writing.{public_bytes}
 use Rattle.lmots.specs.Key.{message_digest_of}
 use Rattle.hss.specs.Secret.{Signing}
 use Rattle.hss.specs.Writing.{signature_bytes, textbook}
-use Rattle.sign_core.specs.Once.{IsRecorded}
+use Rattle.sign_core.specs.Headline.{IsRecorded}
 use Rattle.sign_core.specs.Records.{are_same, binding_in, can_follow, can_follow_legal, can_move, has_randomizer, current, first_illegal, has_identifier, has_moved, illegal_from, in_tree}
 use Rattle.sign_core.specs.Records.{is_free, is_moved, is_of, key_in, last_from, next_at, next_in, next_of, number_in, numbers_from, reaches, same_tree, under}
 use Rattle.sign_core.specs.Textbook.{AllHaveSizes, AreSound, HasSizes, Trees, digest_at, digest_by, digest_under, hss_signature_under, is_sound_at, is_sound_extend}

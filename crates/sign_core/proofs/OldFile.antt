@@ -16,9 +16,11 @@ use Rattle.state_file.specs.FileStore.{FindsRecords, disk_of, has_stopped, recor
 use Rattle.state_file.specs.MigrateFault.{is_failed_migration}
 use Rattle.state_file.specs.Store.{IsRecordAt}
 use Rattle.state_file.proofs.Moments.{combined, weaker}
-use Rattle.sign_core.specs.Ledger.{Stays, Table}
+use Rattle.sign_core.specs.inner.Ledger.{Stays}
+use Rattle.sign_core.specs.Ledger.{Table}
 use Rattle.sign_core.specs.declared.ledger.LedgerFault.TheVariants.{Illegal as IllegalRecord, OutOfMemory as NoMemory}
-use Rattle.sign_core.specs.OldFile.{FindsRecord, JudgesRecords, Keeps, OpensOld, ReadsRecords, RefusesOld, RefusesRecords, ReportsOld, SpellsMovable, TakesUpNext}
+use Rattle.sign_core.specs.inner.OldFile.{FindsRecord, JudgesRecords, Keeps, OpensOld, ReadsRecords, RefusesOld, RefusesRecords, TakesUpNext}
+use Rattle.sign_core.specs.OldFile.{ReportsOld, SpellsMovable}
 use Rattle.sign_core.specs.Records.{can_follow}
 use Rattle.sign_core.proofs.Replay.{Holds, holds_all, holds_first, holds_more, holds_refused}
 

@@ -11,7 +11,7 @@ use Rattle.state_file.specs.declared.record.Record.TheVariants.{Bound as BoundRe
 use Rattle.sign_core.specs.declared.fault.SignFault.{SignFault}
 use Rattle.sign_core.specs.declared.fault.SignFault.TheVariants.{OutOfMemory, StoreFailed}
 use Rattle.sign_core.specs.Records.{can_follow, key_in}
-use Rattle.sign_core.specs.Once.{IsRecorded}
+use Rattle.sign_core.specs.Headline.{IsRecorded}
 use Rattle.sign_core.specs.World.{Fate, Handed, Outcome, State, acked, appended, cut_new, cut_old, handed_with, no_memory, refused}
 use Rattle.sign_core.specs.Textbook.{AllHaveSizes, AreSound, HasSizes, is_sound_at, is_sound_record}
 use Rattle.sign_core.proofs.Bindings.{binding_stands, binding_stays}

@@ -18,7 +18,11 @@ use Rattle.sign_core.specs.declared.fault.SignFault.TheVariants.{Changed, Damage
 use Rattle.sign_core.specs.declared.fault.SignFault.TheVariants.{RandomRepeated, RetireRange}
 use Rattle.sign_core.specs.declared.fault.SignFault.TheVariants.{Moved as MovedAway}
 use Rattle.sign_core.specs.Records.{are_same, binding_in, deepest, first_illegal, has_moved, key_in, leaves_of_current, next_at, wanted_count, is_long}
-use Rattle.sign_core.specs.Once.{AreComplete, BeginsKey, BeginsTree, CanStopOpening, IsBoundTo, IsOnce, IsSigned, Reopens}
+use Rattle.sign_core.specs.Requests.{AreComplete, BeginsTree, IsSigned}
+use Rattle.sign_core.specs.Openings.{BeginsKey, Reopens}
+use Rattle.sign_core.specs.Events.{CanStopOpening}
+use Rattle.sign_core.specs.Headline.{IsBoundTo}
+use Rattle.sign_core.specs.Once.{IsOnce}
 use Rattle.sign_core.specs.World.{Chance, Creation, Handed, Opening, Fate, Outcome, State, World, acked, after, answered, appended, bound_anew, bound_sound, cut_new, cut_old, no_memory}
 use Rattle.sign_core.specs.World.{retired, retired_under}
 use Rattle.sign_core.specs.World.{fulfilled, handed_with, new_key, open_on, opened}
@@ -345,40 +349,48 @@ closed_retires limit state upto fate None closed = refl
 
 pub once : (limit : ℕ) (world : World) → IsKept world.state.records world.handed → IsOnce limit world
 once limit world kept = record {
-  one_digest = λ x y uses others u v were. one_digest world x y uses others u v kept were;
-  one_name = λ x y uses others u v were. one_name world x y uses others u v kept were;
-  one_signature = λ x y in_x in_y. one_signature world.state.records x y (kept.recorded x in_x) (kept.recorded y in_y);
-  recorded = kept.recorded;
-  valid = λ x there. handed_valid world x kept there;
-  counted = λ name message signature chance. handed_out limit world name message signature chance;
-  read = λ name signature chance. signed_read limit world.state name signature chance;
-  changed = λ key k bound name message chance. answers_changed limit world.state key k bound name message chance;
-  repeated = λ key k bound name message chance. answers_repeated limit world.state world.handed key k bound name message chance kept;
-  unread = λ key k bound name chance open_now stays keyed named none.
-      open_request limit world.state key name chance (Some (k, bound)) open_now stays keyed named
-      ∙ ap (repeated world.state key k bound chance) none;
-  moved = λ key name chance open_now moved keyed. moved_request limit world.state key name chance open_now moved keyed;
-  begins = λ spec secret chance can empty loaded drawn.
-      let (public, is) = spec_public spec chance.fields secret can drawn in
-      λ room fate. begins_key world.state spec secret chance public empty loaded drawn room fate is;
-  long = λ key name chance. long_request limit world.state key name chance;
-  fresh = λ key level name message chance. fresh_fine limit world.state world.handed key level name message chance kept;
-  again = λ name chance. drawn_again limit world.state name chance;
-  draws = λ key name chance keyed drawn. drawn_most limit world.state key name chance keyed drawn;
-  retires = λ key upto. retires_beyond limit world.state key upto;
-  moved_retiring = λ key upto fate. moved_retires limit world.state key upto fate;
-  outside = λ key upto fate. retires_outside limit world.state key upto fate;
-  no_further = λ key upto fate. retires_before limit world.state key upto fate;
-  full = λ key upto fate. retires_full limit world.state key upto fate;
-  starved = λ key upto. retires_starved limit world.state key upto;
-  unbound = λ name other chance fault. binds_none limit world.state name other chance fault;
-  exhausted = λ key name chance. exhausted_exactly limit world.state key name chance;
-  sound = kept.ground;
-  undamaged = λ name chance slot. answers_whole limit world.state world.handed name chance slot kept;
-  legal = λ chance slot. opens_legal world.state world.handed chance slot kept;
-  reopens = λ key. opens_again world.state world.handed key kept;
-  stops = λ name chance. failed_closes limit world.state name chance;
-  stops_retiring = λ upto fate. retiring_shuts limit world.state upto fate (key_in world.state.records);
-  closed = λ name chance. closed_under limit world.state name chance (key_in world.state.records);
-  closed_retiring = λ upto fate. closed_retires limit world.state upto fate (key_in world.state.records);
+  signatures = record {
+    one_digest = λ x y uses others u v were. one_digest world x y uses others u v kept were;
+    one_name = λ x y uses others u v were. one_name world x y uses others u v kept were;
+    one_signature = λ x y in_x in_y. one_signature world.state.records x y (kept.recorded x in_x) (kept.recorded y in_y);
+    recorded = kept.recorded;
+    valid = λ x there. handed_valid world x kept there;
+  };
+  requests = record {
+    counted = λ name message signature chance. handed_out limit world name message signature chance;
+    read = λ name signature chance. signed_read limit world.state name signature chance;
+    changed = λ key k bound name message chance. answers_changed limit world.state key k bound name message chance;
+    repeated = λ key k bound name message chance. answers_repeated limit world.state world.handed key k bound name message chance kept;
+    unread = λ key k bound name chance open_now stays keyed named none.
+        open_request limit world.state key name chance (Some (k, bound)) open_now stays keyed named
+        ∙ ap (repeated world.state key k bound chance) none;
+    moved = λ key name chance open_now moved keyed. moved_request limit world.state key name chance open_now moved keyed;
+    long = λ key name chance. long_request limit world.state key name chance;
+    fresh = λ key level name message chance. fresh_fine limit world.state world.handed key level name message chance kept;
+    again = λ name chance. drawn_again limit world.state name chance;
+    draws = λ key name chance keyed drawn. drawn_most limit world.state key name chance keyed drawn;
+    unbound = λ name other chance fault. binds_none limit world.state name other chance fault;
+    exhausted = λ key name chance. exhausted_exactly limit world.state key name chance;
+    undamaged = λ name chance slot. answers_whole limit world.state world.handed name chance slot kept;
+    stops = λ name chance. failed_closes limit world.state name chance;
+    closed = λ name chance. closed_under limit world.state name chance (key_in world.state.records);
+  };
+  retirings = record {
+    retires = λ key upto. retires_beyond limit world.state key upto;
+    moved = λ key upto fate. moved_retires limit world.state key upto fate;
+    outside = λ key upto fate. retires_outside limit world.state key upto fate;
+    no_further = λ key upto fate. retires_before limit world.state key upto fate;
+    full = λ key upto fate. retires_full limit world.state key upto fate;
+    starved = λ key upto. retires_starved limit world.state key upto;
+    stops = λ upto fate. retiring_shuts limit world.state upto fate (key_in world.state.records);
+    closed = λ upto fate. closed_retires limit world.state upto fate (key_in world.state.records);
+  };
+  openings = record {
+    begins = λ spec secret chance can empty loaded drawn.
+        let (public, is) = spec_public spec chance.fields secret can drawn in
+        λ room fate. begins_key world.state spec secret chance public empty loaded drawn room fate is;
+    sound = kept.ground;
+    legal = λ chance slot. opens_legal world.state world.handed chance slot kept;
+    reopens = λ key. opens_again world.state world.handed key kept;
+  };
 }

@@ -19,7 +19,9 @@ use Rattle.sign_core.specs.declared.fault.SignFault.TheVariants.{RandomRepeated,
 use Rattle.sign_core.specs.declared.fault.SignFault.TheVariants.{Moved as MovedAway}
 use Rattle.sign_core.specs.Records.{are_same, binding_in, deepest, first_illegal, free_at, has_identifier, has_moved, has_randomizer, key_in, is_long, can_move}
 use Rattle.sign_core.specs.Records.{leaves_of_current, next_at, wanted_count}
-use Rattle.sign_core.specs.Once.{AllEvents, AreDraws, AreFields, IsBoundTo, IsEvent, IsTreeDraw, IsValidUnder, Reopens, public_of_key, tree_sizes}
+use Rattle.sign_core.specs.Events.{AllEvents, AreDraws, AreFields, IsEvent, IsTreeDraw, tree_sizes}
+use Rattle.sign_core.specs.Headline.{IsBoundTo, IsValidUnder, public_of_key}
+use Rattle.sign_core.specs.Openings.{Reopens}
 use Rattle.sign_core.specs.Opened.{AreWellFormed, IsValidOver, OpenedLaw}
 use Rattle.sign_core.specs.World.{Chance, Creation, Draw, Event, Fate, Handed, Opening, Outcome, State, World, acked, after, appended}
 use Rattle.sign_core.specs.World.{begun, bound_anew, bound_sound, bound_with, create, created_after, cut_new, cut_old, drawing, extended, extended_by, extended_with}

@@ -1,8 +1,8 @@
 -- What each end of an opening is: a step of the world.
-use Rattle.std.proofs.Common.{◌≡◌, ℕ, zero, suc, ◌+◌, ◌<◌, ◌≤◌, Bool, true, false, List, [], ◌∷◌, ◌++◌, length, Some, None, Ok, Err, refl, sym}
+use Rattle.std.proofs.Common.{◌≡◌, ◌⊎◌, ℕ, zero, suc, ◌+◌, ◌<◌, ◌≤◌, Bool, true, false, List, [], ◌∷◌, ◌++◌, length, Some, None, Ok, Err, refl, sym}
 use Rattle.std.proofs.Common.{ap, ◌∙◌, subst, arith, inl, inr, IsTrue, true≢false, take, drop, ◌||◌}
 use Rattle.std.proofs.lemmas.Bool.Decides.{nat_tests}
-use Rattle.std.proofs.lemmas.List.{take-append-drop, take_all, take_at}
+use Rattle.std.proofs.lemmas.List.{append-nil, append_assoc, take-append-drop, take_all, take_at}
 use Rattle.std.specs.Option.{ok_or, option_or}
 use Rattle.std.specs.Prelude.{IfErr, Option, cond, nat_lt, slice_get, if◌then◌else◌}
 use Rattle.state_file.specs.declared.record.Key.{Key}
@@ -19,9 +19,12 @@ use Rattle.sign_core.specs.declared.fault.SignFault.TheVariants.{RandomRepeated,
 use Rattle.sign_core.specs.declared.fault.SignFault.TheVariants.{Changed, Exhausted, RandomFailed, StoreFailed, Stopped, Damaged, OutOfMemory, LedgerFull}
 use Rattle.sign_core.specs.declared.fault.SignFault.TheVariants.{Unreadable, KeyThere}
 use Rattle.sign_core.specs.Records.{can_follow, first_illegal, illegal_from, key_in}
-use Rattle.sign_core.specs.Once.{public_of_key}
-use Rattle.sign_core.specs.Signer.{IsTakenUp, IsTied, LeavesOld, LoadsAll, LoadsRecord, RefusesToOpen, StopsOpening, TakesUpLoaded, is_device_failed, unreadable_slot}
-use Rattle.sign_core.specs.Ledger.{LacksRoom, Table}
+use Rattle.sign_core.specs.Headline.{public_of_key}
+use Rattle.sign_core.specs.inner.Signer.{IsTakenUp, LoadsRecord, TakesUpLoaded}
+use Rattle.sign_core.specs.Signer.{IsTied, LeavesOld, LoadsAll, RefusesToOpen, StopsOpening, is_device_failed, unreadable_slot}
+use Rattle.sign_core.specs.Signer.{GoesTo, slots_below}
+use Rattle.sign_core.specs.inner.Ledger.{LacksRoom}
+use Rattle.sign_core.specs.Ledger.{RunsOutOfMemory, Table}
 use Rattle.sign_core.specs.World.{answered, closed_on, open_on, opened, opened_by, opened_on, published, refused}
 use Rattle.sign_core.specs.Textbook.{HasSizes, SecretHasSizes, public_in}
 use Rattle.sign_core.proofs.Adding.{LeavesItsList, length_one_more, some_records}
@@ -51,15 +54,17 @@ pub record Begins {S : Type 0} (g : store.Ghosts S) (old : S) (records : List Re
   pub same : IsTrue (g.honest old) → records ≡ take k (g.list old)
 
 -- They were loaded, each could follow those before it, and nothing failed.
-pub record HasLoaded {S : Type 0} (g : store.Ghosts S) (old now : S) (records : List Record) (k : ℕ) : Type 0 where
+pub record HasLoaded {S : Type 0} (g : store.Ghosts S) (old now : S) (records : List Record) (k loads : ℕ) : Type 0 where
   pub kept : IsUnchanged g old now
   pub begins : Begins g old records k
   pub legal : first_illegal records ≡ None
   pub running : 0 < k → g.stopped old ≡ false
+  pub asked : g.loads now ≡ slots_below loads ++ g.loads old
+  pub gave : g.given now ≡ g.given old ++ records
 
 -- What was taken up: these records, with their key's sizes.
-pub record IsLoadedTo {S : Type 0} (g : store.Ghosts S) (old now : S) (table : Table) (k : ℕ) : Type 0 where
-  pub loaded : HasLoaded g old now table.records k
+pub record IsLoadedTo {S : Type 0} (g : store.Ghosts S) (old now : S) (table : Table) (k loads : ℕ) : Type 0 where
+  pub loaded : HasLoaded g old now table.records k loads
   pub some : 0 < k
   pub keyed : key_in table.records ≡ Some table.key
   pub sizes : SecretHasSizes table.key.secret
@@ -67,7 +72,7 @@ pub record IsLoadedTo {S : Type 0} (g : store.Ghosts S) (old now : S) (table : T
 -- before the first load
 pub none_loaded : {S : Type 0} (g : store.Ghosts S) (old : S)
     → LeavesItsList g old
-    → HasLoaded g old old [] 0
+    → HasLoaded g old old [] 0 0
 none_loaded g old only = record {
   kept = record {
     list = refl;
@@ -83,7 +88,26 @@ none_loaded g old only = record {
   begins = record { long = refl; inside = omega arith; same = λ honest. refl };
   legal = refl;
   running = λ some. absurd (omega (arith, some));
+  asked = refl;
+  gave = sym (append-nil (g.given old));
 }
+
+-- the loads and records with one more
+asked_more : {S : Type 0} (g : store.Ghosts S) (old now next : S) (k : ℕ) → g.loads now ≡ slots_below k ++ g.loads old
+    → g.loads next ≡ k ∷ g.loads now → g.loads next ≡ slots_below (k + 1) ++ g.loads old
+asked_more g old now next k before more =
+    let here : suc k ≡ k + 1 = omega arith in
+    more ∙ ap (λ l. k ∷ l) before ∙ ap (λ n. slots_below n ++ g.loads old) here
+
+gave_more : {S : Type 0} (g : store.Ghosts S) (old now next : S) (records : List Record) (entry : Record) → g.given now ≡ g.given old ++ records
+    → g.given next ≡ g.given now ++ entry ∷ [] → g.given next ≡ g.given old ++ (records ++ entry ∷ [])
+gave_more g old now next records entry before more =
+    more ∙ ap (λ l. l ++ entry ∷ []) before ∙ append_assoc (g.given old) records (entry ∷ [])
+
+-- those that are given are the first of the whole list
+gave_whole : {S : Type 0} (g : store.Ghosts S) (old next : S) (records more : List Record) (k : ℕ) → length records ≡ k → g.given next ≡ g.given old ++ records
+    → g.given next ≡ g.given old ++ take k (records ++ more)
+gave_whole g old next records more k long gave = gave ∙ ap (λ l. g.given old ++ l) (sym (take_at records more k long))
 
 -- the moments of one load more
 later_moments : {S : Type 0} (g : store.Ghosts S) (old now next : S) → IsUnchanged g old now → LeavesOld g now next → LeavesOld g old next
@@ -162,21 +186,23 @@ stops all k fault (Some j) later =
     let not : nat_lt j k ≡ false = grind (arith, nat_tests) in
     ap (λ (b : Bool). refused {A = AnyPublic} (closed_on all) (if b then Illegal j else fault)) not
 
-stopped_step : {S : Type 0} (g : store.Ghosts S) (old now : S) (records : List Record) (k : ℕ) (fault : SignFault) → HasLoaded g old now records k
+stopped_step : {S : Type 0} (g : store.Ghosts S) (old now : S) (records : List Record) (k : ℕ) (fault : SignFault) → HasLoaded g old now records k k
     → opened (closed_on (whole g old records k)) (Some (k, fault)) ≡ refused (closed_on (whole g old records k)) fault
 stopped_step g old now records k fault has =
     stops (whole g old records k) k fault (first_illegal (whole g old records k))
     (λ j is. omega (arith, has.begins.long, illegal_after records (drop k (g.list old)) j has.legal is))
 
 -- an opening that is stopped at a place by a fault
-pub stopped_at : {S : Type 0} (g : store.Ghosts S) (old now next : S) (records : List Record) (k : ℕ) (fault : SignFault) → HasLoaded g old now records k
+pub stopped_at : {S : Type 0} (g : store.Ghosts S) (old now next : S) (records : List Record) (k loads : ℕ) (fault : SignFault) → HasLoaded g old now records k k
     → StopsOpening (Some (k, fault)) (g.list old) (g.stopped old) (g.honest old)
     → g.stopped next ≡ (is_device_failed fault || g.stopped old) → g.list next ≡ g.list old → LeavesOld g old next
     → Counts {A = AnyPublic} is_device_failed (g.failures old) (g.failures next) (Err fault)
     → RefusesToOpen {A = AnyPublic} (whole g old records k) (Err fault) (g.refusals old) (g.refusals next)
     → g.unreadable next ≡ unreadable_slot fault ++ g.unreadable old → g.honest next ≡ g.honest old → g.most next ≡ g.most old
-    → (g.stopped old ≡ true → next ≡ old) → LoadsAll g old next (IsTakenUp (Err fault))
-stopped_at g old now next records k fault has load stopped list moments failures refusals unreadable honest most stays = record {
+    → (g.stopped old ≡ true → next ≡ old) → g.loads next ≡ slots_below loads ++ g.loads old → g.given next ≡ g.given now
+    → GoesTo {A = AnyPublic} (g.most old) (Some (k, fault)) (whole g old records k) (g.refusals old) (g.refusals next) loads k (Err fault)
+    → LoadsAll g old next (IsTakenUp (Err fault))
+stopped_at g old now next records k loads fault has load stopped list moments failures refusals unreadable honest most stays asked gave order = record {
   records = whole g old records k;
   long = whole_long g old records k has.begins;
   same = whole_same g old records k has.begins;
@@ -191,6 +217,11 @@ stopped_at g old now next records k fault has load stopped list moments failures
   failures = failures;
   refusals = refusals;
   unreadable = unreadable;
+  loads = loads;
+  given = k;
+  asked = asked;
+  gave = gave_whole g old next records (drop k (g.list old)) k has.begins.long (gave ∙ has.gave);
+  order = order;
   honest = honest;
   most = most;
   stays = stays;
@@ -201,36 +232,40 @@ later_stays : {S : Type 0} (g : store.Ghosts S) (old now next : S) → IsUnchang
 later_stays g old now next kept stays before = stays (kept.stopped ∙ before) ∙ kept.stays before
 
 -- the first load alone can find a store that has stopped
-first_place : {S : Type 0} (g : store.Ghosts S) (old now : S) (records : List Record) (k : ℕ) → HasLoaded g old now records k → g.stopped now ≡ true → k ≡ 0
+first_place : {S : Type 0} (g : store.Ghosts S) (old now : S) (records : List Record) (k : ℕ) → HasLoaded g old now records k k → g.stopped now ≡ true → k ≡ 0
 first_place g old now records zero has stopped = refl
 first_place g old now records (suc k) has stopped = absurd (true≢false (sym stopped ∙ has.kept.stopped ∙ has.running (omega arith)))
 
 -- a load that fails
-pub unloaded : {S : Type 0} (g : store.Ghosts S) (old now next : S) (records : List Record) (k : ℕ) (fault : SignFault) → HasLoaded g old now records k
+pub unloaded : {S : Type 0} (g : store.Ghosts S) (old now next : S) (records : List Record) (k : ℕ) (fault : SignFault) → HasLoaded g old now records k k
     → LoadsRecord g now next k (Err fault) → LoadsAll g old next (IsTakenUp (Err fault))
 unloaded g old now next records k Stopped has loads =
-    stopped_at g old now next records k Stopped has
+    stopped_at g old now next records k k Stopped has
     (sym has.kept.stopped ∙ loads.loads.0, first_place g old now records k has loads.loads.0) (loads.stopped ∙ has.kept.stopped) (loads.list ∙ has.kept.list)
     (later_moments g old now next has.kept loads.moments) (loads.loads.1 ∙ has.kept.failures) (loads.refusals ∙ has.kept.refusals)
     (loads.unreadable ∙ has.kept.unreadable) (loads.honest ∙ has.kept.honest) (loads.most ∙ has.kept.most)
-    (later_stays g old now next has.kept loads.stays)
+    (later_stays g old now next has.kept loads.stays) (loads.asked ∙ has.asked) loads.gave
+    (first_place g old now records k has loads.loads.0, first_place g old now records k has loads.loads.0)
 unloaded g old now next records k (Unreadable slot) has loads =
-    stopped_at g old now next records k (Unreadable slot) has
+    stopped_at g old now next records k (k + 1) (Unreadable slot) has
     (sym has.kept.stopped ∙ loads.loads.0, sym has.kept.honest ∙ loads.loads.1, loads.loads.2, omega (arith, loads.loads.3, ap length has.kept.list))
     (loads.stopped ∙ has.kept.stopped) (loads.list ∙ has.kept.list)
     (later_moments g old now next has.kept loads.moments) (loads.loads.4 ∙ has.kept.failures) (loads.refusals ∙ has.kept.refusals)
     (loads.unreadable ∙ ap (λ l. slot ∷ l) has.kept.unreadable) (loads.honest ∙ has.kept.honest) (loads.most ∙ has.kept.most)
-    (later_stays g old now next has.kept loads.stays)
+    (later_stays g old now next has.kept loads.stays) (asked_more g old now next k has.asked loads.asked) loads.gave
+    (sym loads.loads.2, refl)
 unloaded g old now next records k DeviceFailed has loads =
-    stopped_at g old now next records k DeviceFailed has (sym has.kept.stopped ∙ loads.loads.0, has.begins.inside) loads.stopped (loads.list ∙ has.kept.list)
+    stopped_at g old now next records k (k + 1) DeviceFailed has (sym has.kept.stopped ∙ loads.loads.0, has.begins.inside) loads.stopped (loads.list ∙ has.kept.list)
     (later_moments g old now next has.kept loads.moments) (loads.loads.1 ∙ ap (λ n. n + 1) has.kept.failures) (loads.refusals ∙ has.kept.refusals)
     (loads.unreadable ∙ has.kept.unreadable) (loads.honest ∙ has.kept.honest) (loads.most ∙ has.kept.most)
-    (later_stays g old now next has.kept loads.stays)
+    (later_stays g old now next has.kept loads.stays) (asked_more g old now next k has.asked loads.asked) loads.gave
+    (refl, refl)
 unloaded g old now next records k NoMemoryToOpen has loads =
-    stopped_at g old now next records k NoMemoryToOpen has (sym has.kept.stopped ∙ loads.loads.0, has.begins.inside) (loads.stopped ∙ has.kept.stopped)
+    stopped_at g old now next records k (k + 1) NoMemoryToOpen has (sym has.kept.stopped ∙ loads.loads.0, has.begins.inside) (loads.stopped ∙ has.kept.stopped)
     (loads.list ∙ has.kept.list) (later_moments g old now next has.kept loads.moments) (loads.loads.1 ∙ has.kept.failures)
     (inl (loads.refusals ∙ ap (λ n. n + 1) has.kept.refusals)) (loads.unreadable ∙ has.kept.unreadable) (loads.honest ∙ has.kept.honest) (loads.most ∙ has.kept.most)
-    (later_stays g old now next has.kept loads.stays)
+    (later_stays g old now next has.kept loads.stays) (asked_more g old now next k has.asked loads.asked) loads.gave
+    (inl (refl, refl, loads.refusals ∙ ap (λ n. n + 1) has.kept.refusals))
 unloaded g old now next records k Changed has loads = absurd loads.loads
 unloaded g old now next records k Exhausted has loads = absurd loads.loads
 unloaded g old now next records k RandomFailed has loads = absurd loads.loads
@@ -258,7 +293,7 @@ illegal_step records more entry k long legal not =
     ap (opened_by (closed_on all) None) (first_illegal_after (records ++ entry ∷ []) more
     ∙ ap (λ o. option_or o (illegal_from all (length (records ++ entry ∷ [])) more)) here)
 
-pub illegal_at : {S : Type 0} (g : store.Ghosts S) (old now next : S) (records : List Record) (k : ℕ) (entry : Record) → HasLoaded g old now records k
+pub illegal_at : {S : Type 0} (g : store.Ghosts S) (old now next : S) (records : List Record) (k : ℕ) (entry : Record) → HasLoaded g old now records k k
     → LoadsRecord g now next k (Ok (Some entry)) → can_follow (key_in records) records entry ≡ false → LoadsAll g old next (IsTakenUp (Err (Illegal k)))
 illegal_at g old now next records k entry has loads not =
     let begins = begins_more g old now next records k entry has.kept has.begins loads in
@@ -277,6 +312,11 @@ illegal_at g old now next records k entry has loads not =
       failures = kept.failures;
       refusals = kept.refusals;
       unreadable = kept.unreadable;
+      loads = k + 1;
+      given = k + 1;
+      asked = asked_more g old now next k has.asked loads.asked;
+      gave = gave_whole g old next (records ++ entry ∷ []) (drop (k + 1) (g.list old)) (k + 1) begins.long (gave_more g old now next records entry has.gave loads.gave);
+      order = (refl, refl);
       honest = kept.honest;
       most = kept.most;
       stays = kept.stays;
@@ -300,7 +340,7 @@ legal_with records entry legal follows =
     first_illegal_appended records entry ∙ (λ i. option_or (legal i) (cond (follows i) None (Some (length records))))
 
 -- a record that could follow, and for which there is no memory
-unroomed : {S : Type 0} (g : store.Ghosts S) (old now next : S) (table : Table) (k : ℕ) (entry : Record) → IsLoadedTo g old now table k
+unroomed : {S : Type 0} (g : store.Ghosts S) (old now next : S) (table : Table) (k : ℕ) (entry : Record) → IsLoadedTo g old now table k k
     → LoadsRecord g now next k (Ok (Some entry)) → can_follow (key_in table.records) table.records entry ≡ true → LacksRoom entry table
     → LoadsAll g old next (IsTakenUp (Err NoMemoryToOpen))
 unroomed g old now next table k entry is loads follows lacking =
@@ -308,7 +348,15 @@ unroomed g old now next table k entry is loads follows lacking =
     let records = table.records ++ entry ∷ [] in
     let begins = begins_more g old now next table.records k entry is.loaded.kept is.loaded.begins loads in
     let legal = legal_with table.records entry is.loaded.legal follows in
-    let kept = kept_some g old now next k entry is.loaded.kept loads in record {
+    let kept = kept_some g old now next k entry is.loaded.kept loads in
+    let lacks : RunsOutOfMemory (whole g old records (k + 1)) = record {
+      place = k;
+      entry = entry;
+      stands = record_there table.records more entry k is.loaded.begins.long;
+      legal = subst IsLegal (sym (take_at records more (k + 1) begins.long)) (legal_from_none records (omega (arith, begins.long)) legal);
+      later = is.some;
+      lacking = elim lacking [ inl (takes, none) ↦ inl takes | inr full ↦ inr (sym is.loaded.begins.long ∙ full) ];
+    } in record {
       records = whole g old records (k + 1);
       long = whole_long g old records (k + 1) begins;
       same = whole_same g old records (k + 1) begins;
@@ -322,18 +370,13 @@ unroomed g old now next table k entry is loads follows lacking =
       list = kept.list;
       moments = kept.moments;
       failures = kept.failures;
-      refusals = inr (
-        kept.refusals,
-        record {
-          place = k;
-          entry = entry;
-          stands = record_there table.records more entry k is.loaded.begins.long;
-          legal = subst IsLegal (sym (take_at records more (k + 1) begins.long)) (legal_from_none records (omega (arith, begins.long)) legal);
-          later = is.some;
-          lacking = elim lacking [ inl (takes, none) ↦ inl takes | inr full ↦ inr (sym is.loaded.begins.long ∙ full) ];
-        },
-      );
+      refusals = inr (kept.refusals, lacks);
       unreadable = kept.unreadable;
+      loads = k + 1;
+      given = k + 1;
+      asked = asked_more g old now next k is.loaded.asked loads.asked;
+      gave = gave_whole g old next records more (k + 1) begins.long (gave_more g old now next table.records entry is.loaded.gave loads.gave);
+      order = inr (refl, refl, lacks, refl);
       honest = kept.honest;
       most = kept.most;
       stays = kept.stays;
@@ -341,7 +384,7 @@ unroomed g old now next table k entry is loads follows lacking =
 
 -- a record that isn't taken up
 pub untaken : {S : Type 0} (g : store.Ghosts S) (old now next : S) (table left : Table) (k : ℕ) (entry : Record) (fault : SignFault)
-    → IsLoadedTo g old now table k → LoadsRecord g now next k (Ok (Some entry)) → TakesUpLoaded {A = Unit {0}} table left entry (Err fault)
+    → IsLoadedTo g old now table k k → LoadsRecord g now next k (Ok (Some entry)) → TakesUpLoaded {A = Unit {0}} table left entry (Err fault)
     → LoadsAll g old next (IsTakenUp (Err fault))
 untaken g old now next table left k entry (Illegal slot) is loads takes =
     let same : k ≡ slot = sym is.loaded.begins.long ∙ sym takes.1 in
@@ -367,15 +410,17 @@ untaken g old now next table left k entry NoKey is loads takes = absurd takes
 untaken g old now next table left k entry (Damaged slot) is loads takes = absurd takes
 untaken g old now next table left k entry (Unreadable slot) is loads takes = absurd takes
 
-pub taken : {S : Type 0} (g : store.Ghosts S) (old now next : S) (table after : Table) (k : ℕ) (entry : Record) → IsLoadedTo g old now table k
-    → LoadsRecord g now next k (Ok (Some entry)) → TakesUpLoaded {A = Unit {0}} table after entry (Ok tt) → IsLoadedTo g old next after (k + 1)
+pub taken : {S : Type 0} (g : store.Ghosts S) (old now next : S) (table after : Table) (k : ℕ) (entry : Record) → IsLoadedTo g old now table k k
+    → LoadsRecord g now next k (Ok (Some entry)) → TakesUpLoaded {A = Unit {0}} table after entry (Ok tt) → IsLoadedTo g old next after (k + 1) (k + 1)
 taken g old now next table after k entry is loads takes =
     let follows = key_follows table entry true is.keyed takes.0 in record {
-      loaded = subst (λ l. HasLoaded g old next l (k + 1)) (sym takes.2) (record {
+      loaded = subst (λ l. HasLoaded g old next l (k + 1) (k + 1)) (sym takes.2) (record {
         kept = kept_some g old now next k entry is.loaded.kept loads;
         begins = begins_more g old now next table.records k entry is.loaded.kept is.loaded.begins loads;
         legal = legal_with table.records entry is.loaded.legal follows;
         running = λ _. is.loaded.running is.some;
+        asked = asked_more g old now next k is.loaded.asked loads.asked;
+        gave = gave_more g old now next table.records entry is.loaded.gave loads.gave;
       });
       some = omega arith;
       keyed = ap key_in takes.2 ∙ key_stays table.records (entry ∷ []) (some_records table.records table.key is.keyed) ∙ is.keyed ∙ ap Some (sym takes.1);
@@ -386,14 +431,16 @@ taken g old now next table after k entry is loads takes =
 pub key_taken : {S : Type 0} (g : store.Ghosts S) (old next : S) (table : Table) (key : Key)
     → LeavesItsList g old
     → LoadsRecord g old next 0 (Ok (Some (KeyRecord key))) → HasSizes (KeyRecord key) → table.key ≡ key → table.records ≡ KeyRecord key ∷ []
-    → IsLoadedTo g old next table 1
+    → IsLoadedTo g old next table 1 1
 key_taken g old next table key only loads sizes same records =
     let start = none_loaded g old only in record {
-      loaded = subst (λ l. HasLoaded g old next l 1) (sym records) (record {
+      loaded = subst (λ l. HasLoaded g old next l 1 1) (sym records) (record {
         kept = kept_some g old old next 0 (KeyRecord key) start.kept loads;
         begins = begins_more g old old next [] 0 (KeyRecord key) start.kept start.begins loads;
         legal = refl;
         running = λ _. loads.loads.0;
+        asked = loads.asked;
+        gave = loads.gave;
       });
       some = omega arith;
       keyed = ap key_in records ∙ ap Some (sym same);
@@ -407,9 +454,9 @@ published_step : (records : List Record) (key : Key) (public : AnyPublic) → fi
 published_step records key public legal keyed is =
     ap (opened_by (closed_on records) None) legal ∙ ap (opened_on records) keyed ∙ ap (published records) is
 
-pub all_taken : {S : Type 0} (g : store.Ghosts S) (old now : S) (table : Table) (k : ℕ) → IsLoadedTo g old now table k → length (g.list old) ≤ k
-    → LoadsAll g old now (IsTakenUp (Ok table))
-all_taken g old now table k is end =
+pub all_taken : {S : Type 0} (g : store.Ghosts S) (old now : S) (table : Table) (k loads : ℕ) → IsLoadedTo g old now table k loads → length (g.list old) ≤ k
+    → (loads ≡ k + 1) ⊎ ((loads ≡ k) × (k ≡ g.most old)) → LoadsAll g old now (IsTakenUp (Ok table))
+all_taken g old now table k loads is end last =
     let (public, made) = public_made table.key.secret table.key.root is.sizes in
     let begins = is.loaded.begins in
     let kept = is.loaded.kept in record {
@@ -427,14 +474,19 @@ all_taken g old now table k is end =
       failures = kept.failures;
       refusals = kept.refusals;
       unreadable = kept.unreadable;
+      loads = loads;
+      given = k;
+      asked = is.loaded.asked;
+      gave = is.loaded.gave ∙ ap (λ l. g.given old ++ l) (sym (take_all k table.records (omega (arith, begins.long))));
+      order = (sym begins.long, last);
       honest = kept.honest;
       most = kept.most;
       stays = kept.stays;
     }
 
-pub all_tied : {S : Type 0} (g : store.Ghosts S) (old now : S) (table : Table) (k : ℕ) → IsLoadedTo g old now table k → length (g.list old) ≤ k
+pub all_tied : {S : Type 0} (g : store.Ghosts S) (old now : S) (table : Table) (k loads : ℕ) → IsLoadedTo g old now table k loads → length (g.list old) ≤ k
     → IsTied g now table.records
-all_tied g old now table k is end =
+all_tied g old now table k loads is end =
     let begins = is.loaded.begins in
     let kept = is.loaded.kept in record {
       running = kept.stopped ∙ is.loaded.running is.some;
@@ -443,8 +495,8 @@ all_tied g old now table k is end =
     }
 
 -- the end of the list was found
-pub end_found : {S : Type 0} (g : store.Ghosts S) (old now next : S) (table : Table) (k : ℕ) → IsLoadedTo g old now table k
-    → LoadsRecord g now next k (Ok None) → IsLoadedTo g old next table k × (length (g.list old) ≤ k)
+pub end_found : {S : Type 0} (g : store.Ghosts S) (old now next : S) (table : Table) (k : ℕ) → IsLoadedTo g old now table k k
+    → LoadsRecord g now next k (Ok None) → IsLoadedTo g old next table k (k + 1) × (length (g.list old) ≤ k)
 end_found g old now next table k is loads = (
   record {
     loaded = record {
@@ -452,6 +504,8 @@ end_found g old now next table k is loads = (
       begins = is.loaded.begins;
       legal = is.loaded.legal;
       running = is.loaded.running;
+      asked = asked_more g old now next k is.loaded.asked loads.asked;
+      gave = loads.gave ∙ is.loaded.gave;
     };
     some = is.some;
     keyed = is.keyed;
@@ -477,3 +531,37 @@ pub key_refused : {S : Type 0} (g : store.Ghosts S) (old next : S) (entry : Reco
 key_refused g old next entry (Some key) only loads other = tt
 key_refused g old next entry None only loads other =
     illegal_at g old old next [] 0 entry (none_loaded g old only) loads (not_first entry (other refl))
+
+-- no record is there
+no_records : (list : List Record) → length list ≤ 0 → [] ≡ list
+no_records [] few = refl
+no_records (entry ∷ entries) few = absurd (omega (arith, few))
+
+pub none_there : {S : Type 0} (g : store.Ghosts S) (old next : S) → LeavesItsList g old → LoadsRecord g old next 0 (Ok None)
+    → LoadsAll g old next (IsTakenUp (Err NoKey))
+none_there g old next only loads =
+    let kept = kept_none g old old next 0 (none_loaded g old only).kept loads in
+    let empty = no_records (g.list old) loads.loads.1 in record {
+      records = [];
+      long = ap length empty;
+      same = λ honest. empty;
+      chance = None;
+      outcome = refused (closed_on []) NoKey;
+      step = refl;
+      answer = refl;
+      load = loads.loads.0;
+      stopped = kept.stopped;
+      list = kept.list;
+      moments = kept.moments;
+      failures = kept.failures;
+      refusals = kept.refusals;
+      unreadable = kept.unreadable;
+      loads = 1;
+      given = 0;
+      asked = loads.asked;
+      gave = loads.gave ∙ sym (append-nil (g.given old));
+      order = (refl, refl);
+      honest = kept.honest;
+      most = kept.most;
+      stays = kept.stays;
+    }

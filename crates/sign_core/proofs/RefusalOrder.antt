@@ -23,7 +23,7 @@ use Rattle.sign_core.specs.declared.fault.SignFault.TheVariants.{OutOfMemory, Ra
 use Rattle.sign_core.specs.Records.{are_same, binding_in, deepest, first_illegal, has_identifier, has_moved, is_of, key_in, leaves_of_current, next_at, is_long}
 use Rattle.sign_core.specs.Records.{wanted_count}
 use Rattle.sign_core.specs.Textbook.{AllHaveSizes, Trees, damaged_in, digest_at, lms_secret, public_in, signature_at, tree_before, trees_of}
-use Rattle.sign_core.specs.Once.{AreDrawsOf, AreFields, IsTreeDraw, key_sizes, randomizer_sizes, tree_sizes}
+use Rattle.sign_core.specs.Events.{AreDrawsOf, AreFields, IsTreeDraw, key_sizes, randomizer_sizes, tree_sizes}
 use Rattle.sign_core.specs.World.{Chance, Creation, Draw, Fate, Opening, Outcome, State, acked, answered, appended, begun, bound_anew, bound_sound, bound_with, drawing}
 use Rattle.sign_core.specs.World.{new_bound}
 use Rattle.sign_core.specs.World.{created_after, cut_new, cut_old, extend_record, extended, extended_by, extended_with, first_draw, fulfilled}

@@ -8,7 +8,8 @@ use Rattle.sign_core.specs.declared.fault.SignFault.TheVariants.{Changed, Damage
 use Rattle.sign_core.specs.declared.fault.SignFault.TheVariants.{NoMemoryToOpen, OutOfMemory, RandomFailed, RandomRepeated, RetireRange, LongName, Stopped, StoreFailed, Unreadable}
 use Rattle.sign_core.specs.declared.source.Source as source
 use Rattle.sign_core.specs.Signer.{KeepsAll, KeepsAtRefusal, LacksTree, View, is_before_caches, is_before_draws, is_before_repeat, is_fault, is_out_of_memory}
-use Rattle.sign_core.specs.Signing.{Does, answered_with}
+use Rattle.sign_core.specs.inner.Signing.{Does}
+use Rattle.sign_core.specs.Signing.{answered_with}
 use Rattle.sign_core.specs.World.{Outcome}
 
 -- A refusal for want of memory that the store counts is none of a new tree.

@@ -11,7 +11,7 @@ use Rattle.state_file.specs.declared.record.Secret.{Secret}
 use Rattle.state_file.specs.declared.record.Secret.TheVariants.{Lms, Hss, Xmss}
 use Rattle.sign_core.specs.declared.fault.SignFault.TheVariants.{RandomRepeated}
 use Rattle.sign_core.specs.AfterRefusal.{AreDrawnFor, IsRefusal}
-use Rattle.sign_core.specs.Once.{bytes_drawn}
+use Rattle.sign_core.specs.Requests.{bytes_drawn}
 use Rattle.sign_core.specs.Records.{has_identifier, next_at}
 use Rattle.sign_core.specs.Textbook.{Trees, lms_secret, trees_of}
 use Rattle.sign_core.specs.World.{Chance, Draw, Fate, Outcome, acked, appended, bound_with, cut_new, cut_old, drawing}

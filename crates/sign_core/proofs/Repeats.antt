@@ -22,11 +22,12 @@ use Rattle.sign_core.specs.declared.fault.SignFault.{SignFault}
 use Rattle.sign_core.specs.declared.fault.SignFault.TheVariants.{Changed, Damaged, MessageRead, OutOfMemory}
 use Rattle.sign_core.specs.declared.ledger.Binding.{Binding}
 use Rattle.sign_core.specs.declared.links.Link.{Link}
-use Rattle.sign_core.specs.Links.{AreMade, IsTreeAt, signing_with, signings_of}
+use Rattle.sign_core.specs.inner.Links.{AreMade, IsTreeAt, signing_with, signings_of}
 use Rattle.sign_core.specs.Records.{are_same, binding_in, key_in}
 use Rattle.sign_core.specs.Caches.{Cached, LacksCache}
 use Rattle.sign_core.specs.Signer.{View, is_before_repeat, is_fault, signature_size, state_of}
-use Rattle.sign_core.specs.Signing.{IsBindingOf, IsXmssKey, Repeats, WritesChain, repeat_chance}
+use Rattle.sign_core.specs.inner.Signing.{IsBindingOf, Repeats, WritesChain, repeat_chance}
+use Rattle.sign_core.specs.Signing.{IsXmssKey}
 use Rattle.sign_core.specs.Ledger.{kept_of}
 use Rattle.sign_core.specs.World.{Outcome, State, refused, repeated_sound, requested_of}
 use Rattle.sign_core.specs.Textbook.{Trees, damaged_in, digest_at, secret_at, signature_at, signings_above, tree_before, trees_of}

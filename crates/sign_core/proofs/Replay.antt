@@ -12,7 +12,8 @@ use Rattle.state_file.specs.Laws.{IsLegal}
 use Rattle.sign_core.specs.declared.ledger.LedgerFault.{LedgerFault}
 use Rattle.sign_core.specs.declared.ledger.LedgerFault.TheVariants.{Empty, Illegal, OutOfMemory}
 use Rattle.sign_core.specs.Records.{can_follow, first_illegal, illegal_from, key_in}
-use Rattle.sign_core.specs.Ledger.{IsRefused, Table, TakesUp}
+use Rattle.sign_core.specs.Ledger.{IsRefused, Table}
+use Rattle.sign_core.specs.inner.Ledger.{TakesUp}
 use Rattle.sign_core.proofs.Follow.{key_stays}
 use Rattle.sign_core.proofs.Illegal.{first_illegal_appended, illegal_append, illegal_front, legal_alone, none_from_legal}
 use Rattle.sign_core.proofs.Keys.{key_stands}

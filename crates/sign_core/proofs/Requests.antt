@@ -23,7 +23,8 @@ use Rattle.sign_core.specs.declared.fault.SignFault.TheVariants.{Moved as MovedA
 use Rattle.sign_core.specs.Records.{are_same, binding_in, can_follow, current, deepest, free_at, has_identifier, has_moved, has_randomizer, is_long}
 use Rattle.sign_core.specs.Records.{is_free, key_in, next_at, next_in, next_of}
 use Rattle.sign_core.specs.Records.{wanted_count}
-use Rattle.sign_core.specs.Once.{AreDraws, AreFields, IsBoundTo, IsRecorded, IsTreeDraw, tree_sizes}
+use Rattle.sign_core.specs.Events.{AreDraws, AreFields, IsTreeDraw, tree_sizes}
+use Rattle.sign_core.specs.Headline.{IsBoundTo, IsRecorded}
 use Rattle.sign_core.specs.World.{Chance, Draw, Fate, Handed, Outcome, State, bound_anew, bound_sound, bound_with, extend_record, extended}
 use Rattle.sign_core.specs.World.{extended_by, extended_with, first_draw, fulfilled}
 use Rattle.sign_core.specs.World.{later_draws, new_bound, open_on, randomizer_from, repeated, repeated_sound, requested, requested_of, requested_under}

@@ -16,8 +16,9 @@ use Rattle.sign_core.specs.declared.fault.SignFault.TheVariants.{RandomRepeated,
 use Rattle.sign_core.specs.declared.fault.SignFault.TheVariants.{Changed, Exhausted, RandomFailed, StoreFailed, Stopped, Damaged, OutOfMemory, LedgerFull}
 use Rattle.sign_core.specs.declared.fault.SignFault.TheVariants.{Unreadable, KeyThere}
 use Rattle.sign_core.specs.Records.{has_moved, key_in, leaves_of_current, next_at}
-use Rattle.sign_core.specs.Once.{IsBeginning}
-use Rattle.sign_core.specs.Signer.{Hinders, IsSigner, IsTied, Retires, View, added, is_out_of_memory, is_store_failed, state_of}
+use Rattle.sign_core.specs.Cuts.{IsBeginning}
+use Rattle.sign_core.specs.inner.Signer.{Hinders, added}
+use Rattle.sign_core.specs.Signer.{IsSigner, IsTied, Retires, View, is_out_of_memory, is_store_failed, state_of}
 use Rattle.sign_core.specs.World.{Fate, Outcome, State, acked, answered, refused, retired, retired_under}
 use Rattle.sign_core.proofs.Adding.{LeavesItsList}
 

@@ -25,7 +25,8 @@ use Rattle.sign_core.specs.declared.fault.SignFault.TheVariants.{Stopped, StoreF
 use Rattle.sign_core.specs.declared.fault.SignFault.TheVariants.{Moved as MovedAway}
 use Rattle.sign_core.specs.declared.source.Source as source
 use Rattle.sign_core.specs.Calls.{IsLastingCall}
-use Rattle.sign_core.specs.Once.{CanFailLoad, CanStopOpening, IsBeginning, IsEvent, reached}
+use Rattle.sign_core.specs.Events.{CanFailLoad, CanStopOpening, IsEvent}
+use Rattle.sign_core.specs.Cuts.{IsBeginning, reached}
 use Rattle.sign_core.specs.Records.{first_illegal, key_in}
 use Rattle.sign_core.specs.Signer.{Creates, IsAnswered, IsRead, IsSigner, LoadFails, Opens, Retires, Signs, StopsOpening, View, is_before_draws, is_fault, is_of_append}
 use Rattle.sign_core.specs.Signer.{state_of, store_after}

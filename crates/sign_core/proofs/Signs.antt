@@ -22,12 +22,13 @@ use Rattle.sign_core.specs.declared.source.Source as source
 use Rattle.sign_core.specs.declared.ledger.Binding.{Binding}
 use Rattle.sign_core.specs.Source.{Provides}
 use Rattle.sign_core.specs.Records.{are_same, binding_in, deepest, has_moved, key_in, wanted_count, is_long}
-use Rattle.sign_core.specs.Once.{IsBeginning}
-use Rattle.sign_core.specs.Request.{HasPrepared}
+use Rattle.sign_core.specs.Cuts.{IsBeginning}
+use Rattle.sign_core.specs.inner.Request.{HasPrepared}
 use Rattle.sign_core.specs.Caches.{Cached}
-use Rattle.sign_core.specs.Signer.{Hinders, IsRead, IsSigner, IsTied, KeepsAll, KeepsForRepeat, KeepsStore, LacksMemory, LacksTree, RefusesMemory, wanted_by, Signs, View, is_out_of_memory}
+use Rattle.sign_core.specs.inner.Signer.{Hinders}
+use Rattle.sign_core.specs.Signer.{IsRead, IsSigner, IsTied, KeepsAll, KeepsForRepeat, KeepsStore, LacksMemory, LacksTree, RefusesMemory, wanted_by, Signs, View, is_out_of_memory}
 use Rattle.sign_core.specs.Signer.{is_before_caches, is_before_repeat, is_fault, is_random_failed, is_store_failed, state_of}
-use Rattle.sign_core.specs.Signing.{Binds, Fulfils, IsBindingOf, IsReady, Repeats, repeat_chance}
+use Rattle.sign_core.specs.inner.Signing.{Binds, Fulfils, IsBindingOf, IsReady, Repeats, repeat_chance}
 use Rattle.sign_core.specs.Ledger.{kept_of}
 use Rattle.sign_core.specs.World.{Chance, Outcome, State, bound_anew, bound_sound, reading, refused, repeated, repeated_sound, requested, requested_of, requested_under}
 use Rattle.sign_core.specs.Textbook.{damaged_in, digest_at, tree_before}

@@ -23,7 +23,7 @@ use Rattle.state_file.specs.declared.record.Secret.TheVariants.{Lms, Hss, Xmss}
 use Rattle.sign_core.specs.declared.key.AnyPublic.{AnyPublic}
 use Rattle.sign_core.proofs.Keys.{key_stands}
 use Rattle.sign_core.specs.Records.{has_randomizer, key_in}
-use Rattle.sign_core.specs.Once.{AreFields, key_sizes}
+use Rattle.sign_core.specs.Events.{AreFields, key_sizes}
 use Rattle.sign_core.specs.World.{randomizer_from, secret_from}
 use Rattle.sign_core.specs.Textbook.{AllHaveSizes, SecretHasSizes, Trees, digest_by, public_by, root_by, trees_of, xmss_secret}
 

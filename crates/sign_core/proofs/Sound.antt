@@ -4,7 +4,9 @@ use Rattle.typecodes.specs.declared.spec.Spec.{Spec}
 use Rattle.state_file.specs.declared.record.Key.{Key}
 use Rattle.state_file.specs.declared.record.Record.{Record}
 use Rattle.sign_core.specs.Records.{key_in}
-use Rattle.sign_core.specs.Once.{AreWhole, IsEvent, SoundLaw, lasting}
+use Rattle.sign_core.specs.Sound.{AreWhole, SoundLaw}
+use Rattle.sign_core.specs.Events.{IsEvent}
+use Rattle.sign_core.specs.Lasting.{lasting}
 use Rattle.sign_core.specs.Textbook.{AllHaveSizes, AreSound}
 use Rattle.sign_core.specs.World.{Creation, Event, State, World, after, create, created}
 use Rattle.sign_core.proofs.Events.{kept_after}

@@ -9,7 +9,8 @@ use Rattle.state_file.specs.declared.record.Key.{Key}
 use Rattle.state_file.specs.declared.record.Record.{Record}
 use Rattle.state_file.specs.declared.record.Record.TheVariants.{Bound as BoundRecord, Extend as ExtendRecord}
 use Rattle.sign_core.specs.Records.{binding_in, can_follow, current, free_at, has_identifier, has_moved, has_randomizer, key_in, next_at}
-use Rattle.sign_core.specs.Once.{AreFields, IsBoundTo, tree_sizes}
+use Rattle.sign_core.specs.Events.{AreFields, tree_sizes}
+use Rattle.sign_core.specs.Headline.{IsBoundTo}
 use Rattle.sign_core.specs.World.{extend_record, new_bound}
 use Rattle.sign_core.specs.Textbook.{AllHaveSizes, HasSizes, Trees, chain, damaged_in, is_sound_at, is_sound_extend, is_sound_record}
 use Rattle.sign_core.specs.Textbook.{lms_secret, tree_before, trees_of}

@@ -20,8 +20,8 @@ use Rattle.state_file.specs.declared.record.Secret.{Secret}
 use Rattle.state_file.specs.declared.record.Secret.TheVariants.{Lms, Hss, Xmss}
 use Rattle.sign_core.specs.declared.links.Link.{Link}
 use Rattle.sign_core.specs.Records.{can_follow, current, has_identifier, has_moved, is_free, key_in, next_at}
-use Rattle.sign_core.specs.Links.{IsMade, signing_of_link, signings_of}
-use Rattle.sign_core.specs.Signing.{Stands, pairs_of}
+use Rattle.sign_core.specs.inner.Links.{IsMade, signing_of_link, signings_of}
+use Rattle.sign_core.specs.inner.Signing.{Stands, pairs_of}
 use Rattle.sign_core.specs.Textbook.{Trees, lms_secret, secret_at, secret_by, signing_by, signings_above, tree_before, trees_of}
 use Rattle.sign_core.proofs.Append.{current_new, next_at_new, some_leaves, tree_within}
 use Rattle.sign_core.proofs.Fulfilled.{next_extend}

@@ -20,7 +20,8 @@ use Rattle.sign_core.specs.World.{bound_with, closed_on, created, created_after,
 use Rattle.sign_core.specs.World.{cut_new, cut_old, extended, extended_by, extended_with, first_draw, fulfilled, new_key, no_memory, open_on}
 use Rattle.sign_core.specs.World.{published, randomizer_from}
 use Rattle.sign_core.specs.World.{refused, repeated, repeated_sound, requested_of, requested_under, retired_under, secret_from}
-use Rattle.sign_core.specs.Once.{IsBeginning, IsLeftBy, IsTreeDraw, StopLaw, reached}
+use Rattle.sign_core.specs.Cuts.{IsBeginning, IsLeftBy, StopLaw, reached}
+use Rattle.sign_core.specs.Events.{IsTreeDraw}
 use Rattle.sign_core.specs.World.{World, create, handed_with, request, requested, retire, retired, stop}
 
 -- the append was cut off, and left these records

@@ -10,7 +10,7 @@ use Rattle.state_file.specs.declared.record.Record.TheVariants.{Retire}
 use Rattle.sign_core.specs.declared.fault.SignFault.{SignFault}
 use Rattle.sign_core.specs.declared.fault.SignFault.TheVariants.{LedgerFull, OutOfMemory, RetireRange, Stopped, StoreFailed}
 use Rattle.sign_core.specs.declared.fault.SignFault.TheVariants.{Moved as MovedAway}
-use Rattle.sign_core.specs.Once.{IsActive, IsBeyondNext}
+use Rattle.sign_core.specs.Retirings.{IsActive, IsBeyondNext}
 use Rattle.sign_core.specs.Records.{binding_in, has_identifier, has_moved, key_in, leaves_of_current, next_at}
 use Rattle.sign_core.specs.Textbook.{Trees, lms_secret, trees_of}
 use Rattle.sign_core.specs.World.{Chance, Draw, Fate, Outcome, State, acked, answered, appended, bound_with, cut_new, cut_old, extend_record}

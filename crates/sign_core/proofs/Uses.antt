@@ -40,8 +40,8 @@ use Rattle.state_file.specs.declared.record.Version.{Version}
 use Rattle.sign_core.specs.declared.key.AnyPublic.{AnyPublic}
 use Rattle.sign_core.specs.declared.key.AnyPublic.TheVariants.{Lms as AnyLms, Hss as AnyHss, Xmss as AnyXmss}
 use Rattle.sign_core.specs.Records.{current}
-use Rattle.sign_core.specs.Once.{IsBoundTo, IsLast}
-use Rattle.sign_core.specs.Uses.{LeafUse, MakesUses, lms_use}
+use Rattle.sign_core.specs.Headline.{IsBoundTo, IsLast}
+use Rattle.sign_core.specs.Headline.{LeafUse, MakesUses, lms_use}
 use Rattle.sign_core.specs.Textbook.{AllHaveSizes, AreSound, Trees, damaged_in, lms_public_in, lms_secret, public_by, public_in, secret_at, secret_by}
 use Rattle.sign_core.specs.Textbook.{signature_at, signing_of_bound, signings_above, tree_before, xmss_secret}
 use Rattle.sign_core.proofs.Chains.{SignsNext, current_made}

@@ -34,7 +34,7 @@ use Rattle.state_file.specs.declared.record.Secret.TheVariants.{Lms, Hss, Xmss}
 use Rattle.sign_core.specs.declared.key.AnyPublic.{AnyPublic}
 use Rattle.sign_core.specs.declared.key.AnyPublic.TheVariants.{Lms as AnyLms, Hss as AnyHss, Xmss as AnyXmss}
 use Rattle.sign_core.specs.Records.{current, key_in}
-use Rattle.sign_core.specs.Once.{IsBoundTo, IsValidUnder}
+use Rattle.sign_core.specs.Headline.{IsBoundTo, IsValidUnder}
 use Rattle.sign_core.specs.Textbook.{AllHaveSizes, AreSound, Trees, chain, damaged_in, digest_at, is_sound_at, is_sound_record, lms_public_in}
 use Rattle.sign_core.specs.Textbook.{lms_secret, public_by, public_in, root_by, signature_at, signing_of_bound, signings_above, tree_before}
 use Rattle.sign_core.specs.Textbook.{xmss_secret}

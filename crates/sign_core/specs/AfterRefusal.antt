@@ -14,7 +14,9 @@ use Rattle.state_file.specs.declared.record.Secret.{Secret}
 use Rattle.state_file.specs.declared.record.Version.{Version}
 use Rattle.sign_core.specs.declared.fault.SignFault.{SignFault}
 use Rattle.sign_core.specs.declared.fault.SignFault.TheVariants.{RandomRepeated, StoreFailed}
-use Rattle.sign_core.specs.Once.{AreFields, BeginsTree, BindsName, IsActive, bytes_drawn, key_sizes}
+use Rattle.sign_core.specs.Events.{AreFields, key_sizes}
+use Rattle.sign_core.specs.Requests.{BeginsTree, BindsName, bytes_drawn}
+use Rattle.sign_core.specs.Retirings.{IsActive}
 use Rattle.sign_core.specs.Records.{binding_in, deepest}
 use Rattle.sign_core.specs.World.{Chance, Creation, Draw, Fate, Opening, Outcome, State, created, new_key, opened}
 use Rattle.sign_core.specs.World.{requested, retired, secret_from}

@@ -4,7 +4,9 @@ use Rattle.state_file.specs.declared.record.Record.{Record}
 use Rattle.state_file.specs.declared.record.Secret.{Secret}
 use Rattle.state_file.specs.declared.store.Store as store
 use Rattle.state_file.specs.Disk.{LeavesOnly}
-use Rattle.sign_core.specs.Once.{AllEvents, AreDraws, AreDrawsOf, IsBeginning, IsEvent, IsLeftBy, IsOnce, reached}
+use Rattle.sign_core.specs.Events.{AllEvents, AreDraws, AreDrawsOf, IsEvent}
+use Rattle.sign_core.specs.Cuts.{IsBeginning, IsLeftBy, reached}
+use Rattle.sign_core.specs.Once.{IsOnce}
 use Rattle.sign_core.specs.World.{Chance, Event, World, after, beginning, closed_on, create, created, opened, reopen}
 use Rattle.sign_core.specs.World.{migrate, migrated, request, requested, retire, retired, run, stop}
 

@@ -1,5 +1,5 @@
 -- What the faults of a signer and of a serving say.
-use Rattle.std.specs.Prelude.{ℕ, Bool, true, false, Option, Some, None, Result, Ok, Err}
+use Rattle.std.specs.Prelude.{ℕ}
 use Rattle.sign_core.specs.declared.fault.ServeFault.{ServeFault}
 use Rattle.sign_core.specs.declared.fault.ServeFault.TheVariants as serving
 use Rattle.sign_core.specs.declared.fault.SignFault.{SignFault}
@@ -8,16 +8,6 @@ use Rattle.sign_core.specs.declared.fault.SignFault.TheVariants.{KeyThere, Ledge
 use Rattle.sign_core.specs.declared.fault.SignFault.TheVariants.{NoKey, NoMemoryToOpen, OutOfMemory, RandomFailed}
 use Rattle.sign_core.specs.declared.fault.SignFault.TheVariants.{RandomRepeated, RetireRange, Stopped, StoreFailed}
 use Rattle.sign_core.specs.declared.fault.SignFault.TheVariants.{Unreadable}
-
--- the fault of an answer
-abbrev pub fault_of : {A E : Type 0} → Result A E → Option E
-fault_of (Ok _) = None
-fault_of (Err fault) = Some fault
-
--- whether a signer that answers it is closed from then on
-abbrev pub closes : SignFault → Bool
-closes StoreFailed = true
-closes _ = false
 
 -- the number that reports a signer's fault
 abbrev pub number_of : SignFault → ℕ

@@ -1,6 +1,6 @@
 -- What a ledger keeps of the records in memory, and that it is theirs.
-use Rattle.std.specs.Prelude.{◌≡◌, ◌⊎◌, ℕ, ◌+◌, ◌-◌, ◌^◌, ◌<◌, ◌≤◌, Bool, true, false, List, [], ◌∷◌, ◌++◌, length}
-use Rattle.std.specs.Prelude.{take, drop, slice_get, nat_eq, Option, Some, None, option_map, is_some, Result, Ok, Err}
+use Rattle.std.specs.Prelude.{◌≡◌, ◌⊎◌, ℕ, ◌+◌, ◌-◌, ◌^◌, ◌<◌, Bool, List, [], length, take, drop, slice_get, nat_eq}
+use Rattle.std.specs.Prelude.{Option, Some, None, option_map, is_some}
 use Rattle.std.specs.Cmp.Lexicographic.{pointwise}
 use Rattle.std.specs.declared.hash.FoldHasher.{FoldHasher}
 use Rattle.std.specs.declared.hash.BuildHasherDefault.{BuildHasherDefault}
@@ -17,9 +17,9 @@ use Rattle.sign_core.specs.declared.ledger.Made.{Made}
 use Rattle.sign_core.specs.declared.ledger.LedgerFault.{LedgerFault}
 use Rattle.sign_core.specs.declared.ledger.LedgerFault.TheVariants.{Empty, Illegal, OutOfMemory}
 use Rattle.sign_core.specs.declared.trees.Tree.{Tree}
-use Rattle.sign_core.specs.Records.{binding_in, can_follow, first_illegal, has_identifier, has_moved, key_in}
+use Rattle.sign_core.specs.Records.{binding_in, first_illegal, has_identifier, has_moved, key_in}
 use Rattle.sign_core.specs.Trees.{HasTrees}
-use Rattle.sign_core.specs.Textbook.{AllHaveSizes, HasSizes, tree_before}
+use Rattle.sign_core.specs.Textbook.{AllHaveSizes, tree_before}
 
 -- What callers see of a ledger: its key, its records, the Key's first, and for how many more records it has memory.
 pub record Table : Type 0 where
@@ -96,13 +96,6 @@ TakesMemory (KeyRecord key) = ⊥
 TakesMemory (Retire upto) = ⊥
 TakesMemory Moved = ⊥
 
--- A record was added: the key stays, and the memory for one more record may be used, if it takes any.
-pub record Grows (entry : Record) (old new : Table) : Type 0 where
-  pub key : new.key ≡ old.key
-  pub records : new.records ≡ old.records ++ entry ∷ []
-  pub spare : old.spare ≤ new.spare + 1
-  pub untaken : (TakesMemory entry → ⊥) → new.spare ≡ old.spare
-
 -- ---- records that are taken up
 
 -- the number that reports a fault
@@ -110,36 +103,6 @@ abbrev pub fault_number : LedgerFault → ℕ
 fault_number Empty = 40
 fault_number (Illegal k) = 44
 fault_number OutOfMemory = 46
-
--- Nothing changed, but that there may be more memory.
-pub record Stays (old new : Table) : Type 0 where
-  pub key : new.key ≡ old.key
-  pub records : new.records ≡ old.records
-  pub spare : old.spare ≤ new.spare
-
--- One more record can be counted, and there is memory for it.
-pub record HasRoomForOne (entry : Record) (table : Table) : Type 0 where
-  pub few : length table.records < 2 ^ 32 - 1
-  pub room : TakesMemory entry → 0 < table.spare
-
--- A record can be added: it can stand after the others, its fields have their sizes, and there is room for it.
-pub record CanPush (entry : Record) (table : Table) : Type 0 where
-  pub follows : can_follow (Some table.key) table.records entry ≡ true
-  pub sizes : HasSizes entry
-  pub room : HasRoomForOne entry table
-
--- It takes memory and there was none, or there are as many records as can be counted.
-abbrev pub LacksRoom : (entry : Record) → Table → Type 0
-LacksRoom entry table = (TakesMemory entry × (table.spare ≡ 0)) ⊎ (length table.records ≡ 2 ^ 32 - 1)
-
--- A record was taken up, by the answer: it was added, or it can't stand after these, or there is no room for it.
-abbrev pub TakesUp : (old new : Table) → Record → Result (Unit {0}) LedgerFault → Type 0
-TakesUp old new entry (Ok done) = (can_follow (Some old.key) old.records entry ≡ true) × Grows entry old new
-TakesUp old new entry (Err Empty) = ⊥
-TakesUp old new entry (Err (Illegal k)) =
-    (can_follow (Some old.key) old.records entry ≡ false) × (k ≡ length old.records) × Stays old new
-TakesUp old new entry (Err OutOfMemory) =
-    (can_follow (Some old.key) old.records entry ≡ true) × LacksRoom entry old × Stays old new
 
 -- ---- a list of records that is taken up
 

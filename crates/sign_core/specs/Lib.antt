@@ -3,8 +3,16 @@ pub mod Records
 pub mod Trees
 pub mod Textbook
 pub mod World
+pub mod Events
+pub mod Headline
 pub mod Uses
+pub mod Requests
+pub mod Retirings
+pub mod Openings
 pub mod Once
+pub mod Sound
+pub mod Cuts
+pub mod Lasting
 pub mod Opened
 pub mod Calls
 pub mod SignerCalls
@@ -16,9 +24,6 @@ pub mod Signing
 pub mod Signer
 pub mod Key
 pub mod RngSource
-pub mod Links
-pub mod Request
-pub mod Writing
 pub mod Lives
 pub mod RefusalOrder
 pub mod AfterRefusal
@@ -26,3 +31,4 @@ pub mod Caches
 pub mod OldFile
 pub mod Migration
 pub mod Moves
+pub mod inner

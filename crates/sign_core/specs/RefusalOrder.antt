@@ -19,7 +19,7 @@ use Rattle.sign_core.specs.declared.fault.SignFault.TheVariants.{StoreFailed}
 use Rattle.sign_core.specs.Records.{binding_in, deepest, first_illegal, free_at, has_identifier, has_moved, key_in}
 use Rattle.sign_core.specs.Records.{leaves_of_current, next_at, wanted_count}
 use Rattle.sign_core.specs.Textbook.{AllHaveSizes, damaged_in, digest_at, tree_before}
-use Rattle.sign_core.specs.Once.{AreDrawsOf, AreFields, key_sizes, randomizer_sizes}
+use Rattle.sign_core.specs.Events.{AreDrawsOf, AreFields, key_sizes, randomizer_sizes}
 use Rattle.sign_core.specs.World.{Chance, Creation, Draw, Fate, Opening, State, cut_new, cut_old, no_memory}
 use Rattle.sign_core.specs.World.{created, first_draw, later_draws, opened, requested, retired}
 

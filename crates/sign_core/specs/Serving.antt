@@ -1,17 +1,15 @@
 -- What serving requests over an input comes to: their answers, the replies that are written, and what it ends with.
-use Rattle.std.specs.Prelude.{◌≡◌, ◌⊎◌, ℕ, ◌<◌, ◌≤◌, ◌^◌, Bool, true, false, List, [], ◌∷◌, ◌++◌, length, map}
-use Rattle.std.specs.Prelude.{Option, Some, None, Result, Ok, Err, IsSome}
+use Rattle.std.specs.Prelude.{◌≡◌, ◌⊎◌, ℕ, ◌<◌, ◌≤◌, ◌^◌, Bool, true, false, List, [], ◌∷◌, ◌++◌, length, map, Option}
+use Rattle.std.specs.Prelude.{Some, None, Result, Ok, Err, IsSome}
 use Rattle.std.specs.List.{concat}
 use Rattle.std.specs.Io.KnownBytes.{Appends}
 use Rattle.byteorder.specs.Endian.{big_bytes}
 use Rattle.typecodes.specs.declared.message.Message as message
-use Rattle.typecodes.specs.Message.{CantBeRead, ReadWhole}
 use Rattle.typecodes.specs.Name.{IsName}
 use Rattle.state_file.specs.declared.store.Store as store
 use Rattle.sign_core.specs.declared.fault.ServeFault.{ServeFault}
 use Rattle.sign_core.specs.declared.fault.ServeFault.TheVariants.{FrameCut, MessageRead, WriteFailed}
 use Rattle.sign_core.specs.declared.fault.SignFault.{SignFault}
-use Rattle.sign_core.specs.declared.fault.SignFault.TheVariants as refused
 use Rattle.sign_core.specs.declared.fault.SignFault.TheVariants.{Damaged}
 use Rattle.sign_core.specs.declared.serving.Reply.{Reply}
 use Rattle.sign_core.specs.declared.serving.Reply.TheVariants.{BadName, Refused, Signed}
@@ -20,7 +18,7 @@ use Rattle.sign_core.specs.Fault.{number_of}
 use Rattle.sign_core.specs.Frames.{CutsField, Ending, IsCut, IsFrame, IsWholeMessage, ReadsInput, Request, broken}
 use Rattle.sign_core.specs.Frames.{ended, given_by, going, head}
 use Rattle.sign_core.specs.Records.{binding_in}
-use Rattle.sign_core.specs.Signer.{AnswersRequest, KeepsForRepeat, Signs, View, is_before_repeat, is_fault}
+use Rattle.sign_core.specs.Signer.{AnswersRequest, KeepsForRepeat, View, is_before_repeat, is_fault}
 use Rattle.sign_core.specs.Signing.{KeepsCapacity}
 
 -- ---- replies
@@ -153,71 +151,3 @@ pub record Serves {S R I : Type 0} (g : store.Ghosts S) (r : source.Ghosts R) (m
   pub capacity : ℕ
   pub answers : AnswersInTurn g r exchanges old new 0 capacity
   pub writes : Appends contents left output
-
--- ---- its parts
-
--- A turn: the next bytes of the input, their answer and what was written.
-pub record Turns {S R I : Type 0} (g : store.Ghosts S) (r : source.Ghosts R) (m : message.Ghosts I)
-    (old new : View S R) (before after : I) (contents left : Option (List ℕ)) (capacity room : ℕ)
-    (result : Result Bool ServeFault) : Type 0 where
-  pub bytes : List ℕ
-  pub ending : Ending
-  pub exchanges : List Exchange
-  pub written : List ℕ
-  pub ends : TurnEnds bytes ending exchanges written result
-  pub reads : ReadsInput m bytes ending before after
-  pub answers : AnswersInTurn g r exchanges old new capacity room
-  pub writes : Appends contents left written
-
--- Some bytes were written, or a part of them.
-abbrev pub WritesReply : (bytes : List ℕ) → (old new : Option (List ℕ)) → Result (Unit {0}) ServeFault → Type 0
-WritesReply bytes old new (Ok _) = Appends old new bytes
-WritesReply bytes old new (Err WriteFailed) =
-    (part : List ℕ) × (lost : List ℕ) × (bytes ≡ part ++ lost) × Appends old new part
-WritesReply bytes old new (Err _) = ⊥
-
--- How a frame's message ends: it came whole, or was cut.
-abbrev pub ComesTo : Ending → Request → (is_whole : Bool) → Type 0
-ComesTo ending request true = (ending ≡ going) × IsWholeMessage request
-ComesTo ending request false = IsCut ending request
-
--- A request whose head was read is answered: its message is read as far as it comes.
-pub record AnswersFrame {S R I : Type 0} (g : store.Ghosts S) (r : source.Ghosts R) (m : message.Ghosts I)
-    (said : List ℕ × ℕ) (old new : View S R) (before after : I) (capacity room : ℕ) (signature : List ℕ)
-    (result : Reply × Bool) : Type 0 where
-  pub request : Request
-  pub name : request.name ≡ said.0
-  pub announced : request.announced ≡ said.1
-  pub ending : Ending
-  pub comes : ComesTo ending request result.1
-  pub reads : ReadsInput m request.message ending before after
-  pub room_kept : KeepsCapacity old.records capacity room
-  pub answers : AnswersBy g r result.0 signature request old new capacity
-
--- a refusal that says so
-abbrev pub is_message_read : SignFault → Bool
-is_message_read refused.MessageRead = true
-is_message_read _ = false
-
--- A name that is one signs the message, and what is replied is the signer's answer.
-abbrev pub Asks : {S R M : Type 0} → store.Ghosts S → source.Ghosts R → message.Ghosts M → (name : List ℕ)
-    → (old new : View S R) → (before after : M) → (capacity : ℕ) → (signature : List ℕ) → Reply → Type 0
-Asks g r m name old new before after capacity signature Signed = IsName name
-    × Signs g r m old new name before after capacity (Ok signature)
-    × (IsSome (binding_in old.records name) → KeepsForRepeat old new false)
-Asks g r m name old new before after capacity signature (Refused fault) = IsName name
-    × Signs g r m old new name before after capacity (Err fault)
-    × (IsSome (binding_in old.records name) → KeepsForRepeat old new (is_before_repeat fault))
-Asks g r m name old new before after capacity signature BadName =
-    (IsName name → ⊥) × (new ≡ old) × (after ≡ before)
-
--- whether a reply says that the message can't be read
-abbrev pub is_unread : Reply → Bool
-is_unread (Refused fault) = is_message_read fault
-is_unread _ = false
-
--- What is left of a message is read, unless it couldn't be read before: whether all of it came.
-abbrev pub Finishes : {M : Type 0} → message.Ghosts M → (unread : Bool) → (old new : M) → (is_whole : Bool) → Type 0
-Finishes m true old new is_whole = (is_whole ≡ false) × (new ≡ old)
-Finishes m false old new true = (text : List ℕ) × ReadWhole m.transition m.remaining text old new
-Finishes m false old new false = CantBeRead m.transition old new

@@ -1,8 +1,6 @@
 -- What a signer over a store is to its callers, and what its calls are: steps of the world.
-use Rattle.std.specs.Prelude.{◌≡◌, ◌⊎◌, ℕ, ◌+◌, ◌<◌, ◌≤◌, Bool, true, false, ◌||◌, IsTrue, List, [], ◌∷◌, ◌++◌}
-use Rattle.std.specs.Prelude.{length}
-use Rattle.std.specs.Prelude.{Option, Some, None, Result, Ok, Err}
-use Rattle.std.specs.List.{concat}
+use Rattle.std.specs.Prelude.{◌≡◌, ◌⊎◌, ℕ, ◌+◌, ◌<◌, ◌≤◌, Bool, true, false, ◌||◌, IsTrue, List, [], ◌∷◌, ◌++◌, length}
+use Rattle.std.specs.Prelude.{take, zero, suc, Option, Some, None, Result, Ok, Err}
 use Rattle.typecodes.specs.declared.message.Message as message
 use Rattle.typecodes.specs.declared.spec.Spec.{Spec}
 use Rattle.typecodes.specs.Message.{CantBeRead, ReadWhole}
@@ -12,33 +10,31 @@ use Rattle.state_file.specs.declared.refused.Refused.{Refused}
 use Rattle.state_file.specs.declared.record.Bound.{Bound}
 use Rattle.state_file.specs.declared.record.Key.{Key}
 use Rattle.state_file.specs.declared.record.Record.{Record}
-use Rattle.state_file.specs.declared.record.Record.TheVariants.{Key as KeyRecord}
 use Rattle.state_file.specs.declared.record.Secret.{Secret}
 use Rattle.state_file.specs.declared.record.Secret.TheVariants.{Lms, Hss, Xmss}
 use Rattle.state_file.specs.declared.record.Version.{Version}
 use Rattle.state_file.specs.declared.store.Store as store
 use Rattle.state_file.specs.Disk.{Counts, LeavesOnly}
 use Rattle.state_file.specs.Laws.{IsLegal, bottom_of}
-use Rattle.state_file.specs.Store.{Collects, IsRecordAt, WhileRunning}
+use Rattle.state_file.specs.Store.{Collects, WhileRunning}
 pub use Rattle.state_file.specs.Store.{is_fault}
 use Rattle.sign_core.specs.declared.key.AnyPublic.{AnyPublic}
 use Rattle.sign_core.specs.declared.fault.SignFault.{SignFault}
 use Rattle.sign_core.specs.declared.fault.SignFault.TheVariants.{DeviceFailed, NoMemoryToOpen, OutOfMemory}
-use Rattle.sign_core.specs.declared.fault.SignFault.TheVariants.{KeyThere, RandomFailed, StoreFailed}
-use Rattle.sign_core.specs.declared.fault.SignFault.TheVariants.{Changed, Damaged, Exhausted, Illegal, LedgerFull}
-use Rattle.sign_core.specs.declared.fault.SignFault.TheVariants.{LongName, MessageRead, Moved, Stopped, Unreadable}
+use Rattle.sign_core.specs.declared.fault.SignFault.TheVariants.{RandomFailed, StoreFailed, Changed, Damaged, Exhausted}
+use Rattle.sign_core.specs.declared.fault.SignFault.TheVariants.{Illegal, LedgerFull, LongName, MessageRead, Moved}
+use Rattle.sign_core.specs.declared.fault.SignFault.TheVariants.{NoKey, Stopped, Unreadable}
 use Rattle.sign_core.specs.declared.source.Source as source
 use Rattle.sign_core.specs.Source.{Provides}
-use Rattle.sign_core.specs.Records.{binding_in, can_follow, deepest, key_in, leaves_of_current, next_at}
-use Rattle.sign_core.specs.Records.{wanted_count}
-use Rattle.sign_core.specs.Once.{AreDrawsOf, AreFields, IsBeginning, key_sizes}
-use Rattle.sign_core.specs.Once.{public_of_key, reached}
-use Rattle.sign_core.specs.World.{Chance, Creation, Fate, Opening, Outcome, State}
-use Rattle.sign_core.specs.World.{answered, appended, closed_on, created, open_on, opened, requested}
-use Rattle.sign_core.specs.World.{retired, secret_from}
+use Rattle.sign_core.specs.Records.{binding_in, deepest, key_in, wanted_count}
+use Rattle.sign_core.specs.Events.{AreDrawsOf, AreFields, key_sizes}
+use Rattle.sign_core.specs.Cuts.{IsBeginning, reached}
+use Rattle.sign_core.specs.Headline.{public_of_key}
+use Rattle.sign_core.specs.World.{Chance, Creation, Fate, Opening, Outcome, State, closed_on, created, opened}
+use Rattle.sign_core.specs.World.{requested, retired}
 use Rattle.sign_core.specs.Caches.{Cached, LacksCache}
-use Rattle.sign_core.specs.Ledger.{LacksRoom, RunsOutOfMemory, Table, TakesMemory}
-use Rattle.sign_core.specs.Textbook.{AllHaveSizes, public_in}
+use Rattle.sign_core.specs.Ledger.{RunsOutOfMemory, Table}
+use Rattle.sign_core.specs.Textbook.{AllHaveSizes}
 
 -- ---- a signer
 
@@ -110,11 +106,6 @@ abbrev pub is_device_failed : SignFault → Bool
 is_device_failed DeviceFailed = true
 is_device_failed _ = false
 
--- memory was refused while the records were read
-abbrev pub is_no_memory : SignFault → Bool
-is_no_memory NoMemoryToOpen = true
-is_no_memory _ = false
-
 -- the slot that an answer 43 names
 abbrev pub unreadable_slot : SignFault → List ℕ
 unreadable_slot (Unreadable k) = k ∷ []
@@ -140,43 +131,10 @@ pub record Ends {S R A : Type 0} (g : store.Ghosts S) (old new : View S R) (outc
   pub store : KeepsStore g old.store new.store old.records outcome
   pub unreadable : g.unreadable new.store ≡ g.unreadable old.store
 
--- What an append does to a store that runs and has room, by its answer: to the list, to whether the store has stopped,
--- and to the count of its device's failures.
-abbrev pub AppendsTo : {A : Type 0} (old : List Record) (entry : Record) (new : List Record) (stopped : Bool)
-    (failures_before failures_after : ℕ) → Result A SignFault → Type 0
-AppendsTo old entry new stopped before after (Ok _) =
-    (new ≡ old ++ entry ∷ []) × (stopped ≡ false) × (after ≡ before)
-AppendsTo old entry new stopped before after (Err StoreFailed) =
-    ((new ≡ old) ⊎ (new ≡ old ++ entry ∷ [])) × (stopped ≡ true) × (after ≡ before + 1)
-AppendsTo old entry new stopped before after (Err OutOfMemory) =
-    (new ≡ old) × (stopped ≡ false) × (after ≡ before)
-AppendsTo old entry new stopped before after (Err _) = ⊥
-
--- a stop at any moment of it leaves the old list, or the new record as well
-abbrev pub LeavesEither : {S : Type 0} → store.Ghosts S → (old new : S) → Record → Type 0
-LeavesEither g old new entry = WhileRunning (g.honest old) (g.stopped old)
-    (LeavesOnly g.moment g.left_since old new (λ left. (left ≡ g.list old) ⊎ (left ≡ g.list old ++ entry ∷ [])))
-
 -- .. or of a call that adds nothing, the old list
 abbrev pub LeavesOld : {S : Type 0} → store.Ghosts S → (old new : S) → Type 0
 LeavesOld g old new = WhileRunning (g.honest old) (g.stopped old)
     (LeavesOnly g.moment g.left_since old new (λ left. left ≡ g.list old))
-
--- all that an append comes to
-pub record IsAppended {S A : Type 0} (g : store.Ghosts S) (old new : S) (entry : Record) (answer : Result A SignFault)
-    : Type 0 where
-  pub running : g.stopped old ≡ false
-  pub stored : AppendsTo (g.list old) entry (g.list new) (g.stopped new) (g.failures old) (g.failures new) answer
-  pub moments : LeavesEither g old new entry
-  pub refused : answer ≡ Err OutOfMemory → LeavesOld g old new
-  pub refusals : Counts is_out_of_memory (g.refusals old) (g.refusals new) answer
-  pub unreadable : g.unreadable new ≡ g.unreadable old
-  pub honest : g.honest new ≡ g.honest old
-  pub most : g.most new ≡ g.most old
-
--- a record is added, and nothing answered
-abbrev pub added : State → Record → Fate → Outcome (Unit {0})
-added state entry fate = appended state entry fate (λ records. answered (open_on records) tt)
 
 -- The memory falls by no more than that for the records that are added.
 abbrev pub UsesMemory : {S R : Type 0} → (old new : View S R) → Type 0
@@ -198,22 +156,6 @@ is_of_append _ = false
 -- It is so unless a record was added, or its append failed.
 abbrev pub UnlessAppended : {S R A : Type 0} → (old new : View S R) → Result A SignFault → Type 0 → Type 0
 UnlessAppended old new answer Kept = new.records ≡ old.records → is_fault is_of_append answer ≡ false → Kept
-
--- A signer appends a record, with some fate, and takes it up where the append is acknowledged.
-pub record Adds {S R : Type 0} (g : store.Ghosts S) (old new : View S R) (entry : Record)
-    (answer : Result (Unit {0}) SignFault) : Type 0 where
-  pub fate : Fate
-  pub ends : Ends g old new (added (state_of old) entry fate) answer
-  pub random : new.random ≡ old.random
-  pub refusals : Counts is_out_of_memory (g.refusals old.store) (g.refusals new.store) answer
-  pub memory : UsesMemory old new
-  pub untaken : (TakesMemory entry → ⊥) → new.spare ≡ old.spare
-
--- why a signer is hindered at once: it is closed, or its records go on elsewhere
-abbrev pub Hinders : (is_open has_moved : Bool) → SignFault → Type 0
-Hinders is_open has_moved Stopped = is_open ≡ false
-Hinders is_open has_moved Moved = (is_open ≡ true) × (has_moved ≡ true)
-Hinders is_open has_moved _ = ⊥
 
 -- ---- sign
 
@@ -255,8 +197,8 @@ abbrev pub RefusesMemory : {A : Type 0} → (has_room : Bool) → Result A SignF
 RefusesMemory true answer before after = RefusesAfterDraws answer before after
 RefusesMemory false answer before after = after ≡ before
 
--- A refusal for want of memory after draws that the store doesn't count comes where not all new trees are recorded that
--- are wanted: more records than one are, of so many, the binding and the next tree, whose cache isn't there.
+-- If memory ran out after a draw, and not in the store, the cache of a new tree was to be made: at least one tree and
+-- the binding weren't recorded yet.
 abbrev pub LacksTree : {S R A : Type 0} → store.Ghosts S → (wanted : ℕ) → (old new : View S R) → Result A SignFault
     → Type 0
 LacksTree g wanted old new answer = answer ≡ Err OutOfMemory → g.refusals new.store ≡ g.refusals old.store
@@ -331,12 +273,6 @@ pub record Signs {S R M : Type 0} (g : store.Ghosts S) (r : source.Ghosts R) (m 
 
 -- ---- retire
 
--- The next leaf of the current bottom tree, and how many leaves that has.
-abbrev pub IsBottom : List Record → ℕ × ℕ → Type 0
-IsBottom records bottom = (key : Key) → key_in records ≡ Some key
-    → (bottom.0 ≡ next_at key.secret records (bottom_of key.secret))
-    × (bottom.1 ≡ leaves_of_current key.secret records (bottom_of key.secret))
-
 -- A call of retire is a step of the world; it draws nothing, and memory and caches are as they were. Unless a record
 -- was added or its append failed, so is all of the signer.
 pub record Retires {S R : Type 0} (g : store.Ghosts S) (old new : View S R) (upto : ℕ)
@@ -380,50 +316,6 @@ LoadFails (Some StoreFailed) list stopped honest = stopped ≡ false
 LoadFails (Some OutOfMemory) list stopped honest = stopped ≡ false
 LoadFails (Some _) list stopped honest = ⊥
 
--- What looking for a key in a store finds, by the answer: none is there, one is, or the load failed.
-abbrev pub FindsNone : {A : Type 0} (list : List Record) (honest old_stopped new_stopped : Bool)
-    (failures_before failures_after : ℕ) → Result A SignFault → Type 0
-FindsNone list honest old_stopped new_stopped before after (Ok _) =
-    (old_stopped ≡ false) × (length list ≡ 0) × (new_stopped ≡ false) × (after ≡ before)
-FindsNone list honest old_stopped new_stopped before after (Err KeyThere) =
-    (old_stopped ≡ false) × (1 ≤ length list) × (after ≡ before)
-FindsNone list honest old_stopped new_stopped before after (Err Stopped) = (old_stopped ≡ true) × (after ≡ before)
-FindsNone list honest old_stopped new_stopped before after (Err (Unreadable slot)) =
-    (old_stopped ≡ false) × (honest ≡ false) × (slot ≡ 0) × (0 < length list) × (after ≡ before)
-FindsNone list honest old_stopped new_stopped before after (Err StoreFailed) =
-    (old_stopped ≡ false) × (after ≡ before + 1)
-FindsNone list honest old_stopped new_stopped before after (Err OutOfMemory) =
-    (old_stopped ≡ false) × (after ≡ before)
-FindsNone list honest old_stopped new_stopped before after (Err _) = ⊥
-
--- all that it comes to
-pub record LooksForKey {S A : Type 0} (g : store.Ghosts S) (old new : S) (answer : Result A SignFault) : Type 0 where
-  pub finds : FindsNone (g.list old) (g.honest old) (g.stopped old) (g.stopped new) (g.failures old) (g.failures new)
-      answer
-  pub stopped : g.stopped new ≡ (is_fault is_store_failed answer || g.stopped old)
-  pub list : g.list new ≡ g.list old
-  pub moments : LeavesOld g old new
-  pub refusals : Counts is_out_of_memory (g.refusals old) (g.refusals new) answer
-  pub unreadable : Collects unreadable_slot (g.unreadable old) (g.unreadable new) answer
-  pub honest : g.honest new ≡ g.honest old
-  pub most : g.most new ≡ g.most old
-  pub stays : g.stopped old ≡ true → new ≡ old
-
--- What is drawn makes the secret; or it is less, where the source fails.
-abbrev pub IsDrawn : Spec → (fields : List (List ℕ)) → Result Secret SignFault → Type 0
-IsDrawn spec fields (Ok secret) = secret_from spec fields ≡ Some secret
-IsDrawn spec fields (Err RandomFailed) = secret_from spec fields ≡ None
-IsDrawn spec fields (Err _) = ⊥
-
--- what drawing a secret does
-pub record DrawsSecret {R : Type 0} (r : source.Ghosts R) (spec : Spec) (old new : R) (answer : Result Secret SignFault)
-    : Type 0 where
-  pub fields : List (List ℕ)
-  pub drawn : IsDrawn spec fields answer
-  pub possible : AreFields (key_sizes spec) fields
-  pub source : Provides (r.upcoming old) (concat fields) (r.upcoming new)
-  pub failures : Counts is_random_failed (r.failures old) (r.failures new) answer
-
 -- Where record 0 can't be loaded, or is there, the source is as it was.
 abbrev pub LeavesSource : {R : Type 0} → (failed_load : Option SignFault) → List Record → (old new : R) → Type 0
 LeavesSource (Some fault) list old new = new ≡ old
@@ -452,12 +344,6 @@ pub record MakesKey {S R : Type 0} (g : store.Ghosts S) (r : source.Ghosts R) (v
   pub unreadable : Collects unreadable_slot (g.unreadable old) (g.unreadable new) outcome.answer
   pub stays : g.stopped old ≡ true → new ≡ old
 
--- A key is made, with its public key, and its record is the only one; or the fault is answered.
-abbrev pub IsAnsweredByKey : Result Key SignFault → Outcome AnyPublic → Type 0
-IsAnsweredByKey (Ok key) outcome = (public : AnyPublic) × (outcome.answer ≡ Ok public) × (public_in key ≡ Some public)
-    × (outcome.acknowledged ≡ KeyRecord key ∷ [])
-IsAnsweredByKey (Err fault) outcome = outcome.answer ≡ Err fault
-
 -- A call of create makes a key of a version.
 abbrev pub Creates : {S R : Type 0} → store.Ghosts S → source.Ghosts R → Version → Spec → (kept_in : S) → (random : R)
     → Result (View S R) (Refused (S × R) SignFault) → Type 0
@@ -481,50 +367,32 @@ RefusesToOpen records (Err NoMemoryToOpen) before after =
     (after ≡ before + 1) ⊎ ((after ≡ before) × RunsOutOfMemory records)
 RefusesToOpen records answer before after = after ≡ before
 
--- What the load of record k gives in an opening, by the answer.
-abbrev pub LoadsAt : (honest : Bool) (list : List Record) (old_stopped : Bool) (k : ℕ) (new_stopped : Bool)
-    (failures_before failures_after : ℕ) → Result (Option Record) SignFault → Type 0
-LoadsAt honest list old_stopped k new_stopped before after (Ok None) =
-    (old_stopped ≡ false) × (length list ≤ k) × (new_stopped ≡ false) × (after ≡ before)
-LoadsAt honest list old_stopped k new_stopped before after (Ok (Some entry)) =
-    (old_stopped ≡ false) × (k < length list) × IsRecordAt honest list k entry × (new_stopped ≡ false)
-    × (after ≡ before)
-LoadsAt honest list old_stopped k new_stopped before after (Err Stopped) = (old_stopped ≡ true) × (after ≡ before)
-LoadsAt honest list old_stopped k new_stopped before after (Err (Unreadable slot)) =
-    (old_stopped ≡ false) × (honest ≡ false) × (slot ≡ k) × (k < length list) × (after ≡ before)
-LoadsAt honest list old_stopped k new_stopped before after (Err DeviceFailed) =
-    (old_stopped ≡ false) × (after ≡ before + 1)
-LoadsAt honest list old_stopped k new_stopped before after (Err NoMemoryToOpen) =
-    (old_stopped ≡ false) × (after ≡ before)
-LoadsAt honest list old_stopped k new_stopped before after (Err _) = ⊥
+-- the slots below a number, the last one first
+abbrev pub slots_below : ℕ → List ℕ
+slots_below zero = []
+slots_below (suc n) = n ∷ slots_below n
 
--- all that it comes to
-pub record LoadsRecord {S : Type 0} (g : store.Ghosts S) (old new : S) (k : ℕ)
-    (answer : Result (Option Record) SignFault) : Type 0 where
-  pub loads : LoadsAt (g.honest old) (g.list old) (g.stopped old) k (g.stopped new) (g.failures old) (g.failures new)
-      answer
-  pub stopped : g.stopped new ≡ (is_fault is_device_failed answer || g.stopped old)
-  pub list : g.list new ≡ g.list old
-  pub moments : LeavesOld g old new
-  pub refusals : Counts is_no_memory (g.refusals old) (g.refusals new) answer
-  pub unreadable : Collects unreadable_slot (g.unreadable old) (g.unreadable new) answer
-  pub honest : g.honest new ≡ g.honest old
-  pub most : g.most new ≡ g.most old
-  pub stays : g.stopped old ≡ true → new ≡ old
+-- How far an opening goes, by its answer: the loads that it makes, and the records that these give. Ok comes after all
+-- records, and after one load more, which finds their end, unless the store takes no more records. 44 of k comes
+-- after record k; a load's refusal after the records before its slot; and a want of memory that the store doesn't
+-- count, after the record for which there is none.
+abbrev pub GoesTo : {A : Type 0} (most : ℕ) → Opening → List Record → (refusals_before refusals_after : ℕ)
+    → (loads given : ℕ) → Result A SignFault → Type 0
+GoesTo most chance records before after loads given (Ok _) =
+    (given ≡ length records) × ((loads ≡ given + 1) ⊎ ((loads ≡ given) × (given ≡ most)))
+GoesTo most chance records before after loads given (Err NoKey) = (given ≡ 0) × (loads ≡ 1)
+GoesTo most chance records before after loads given (Err Stopped) = (given ≡ 0) × (loads ≡ 0)
+GoesTo most chance records before after loads given (Err (Illegal k)) = (given ≡ k + 1) × (loads ≡ given)
+GoesTo most chance records before after loads given (Err (Unreadable k)) = (given ≡ k) × (loads ≡ given + 1)
+GoesTo most (Some (slot, _)) records before after loads given (Err DeviceFailed) =
+    (given ≡ slot) × (loads ≡ given + 1)
+GoesTo most (Some (slot, _)) records before after loads given (Err NoMemoryToOpen) =
+    ((given ≡ slot) × (loads ≡ given + 1) × (after ≡ before + 1))
+    ⊎ ((given ≡ slot + 1) × (loads ≡ given) × (lacks : RunsOutOfMemory records) × (lacks.place ≡ slot))
+GoesTo most chance records before after loads given (Err _) = ⊥
 
--- What taking up the next record comes to, by the answer: it can follow those before it, and stands after them; or it
--- can't, and its place is answered; or it could, and there is no memory for it.
-abbrev pub TakesUpLoaded : {A : Type 0} (old new : Table) (entry : Record) → Result A SignFault → Type 0
-TakesUpLoaded old new entry (Ok _) =
-    (can_follow (Some old.key) old.records entry ≡ true) × (new.key ≡ old.key)
-    × (new.records ≡ old.records ++ entry ∷ [])
-TakesUpLoaded old new entry (Err (Illegal k)) =
-    (can_follow (Some old.key) old.records entry ≡ false) × (k ≡ length old.records) × (new.records ≡ old.records)
-TakesUpLoaded old new entry (Err NoMemoryToOpen) =
-    (can_follow (Some old.key) old.records entry ≡ true) × LacksRoom entry old × (new.records ≡ old.records)
-TakesUpLoaded old new entry (Err _) = ⊥
-
--- To load the records of a store is a step of the world, with an outcome that is the answer. It goes over as many
+-- To load the records of a store is a step of the world, with an outcome that is the answer. It asks for slot after
+-- slot from 0 on, and is given these records; it stops at the first that refuses it, of which `GoesTo` says why. It goes over as many
 -- records as the store has, and where the store is honest over its own. The store has stopped where it had before, or
 -- the answer is 45; one that had is as it was; and the store has reported one slot more as unreadable, k, where the
 -- answer is 43 of k.
@@ -544,15 +412,14 @@ pub record LoadsAll {S : Type 0} (g : store.Ghosts S) (old new : S) (IsAnswer : 
   pub failures : Counts is_device_failed (g.failures old) (g.failures new) outcome.answer
   pub refusals : RefusesToOpen records outcome.answer (g.refusals old) (g.refusals new)
   pub unreadable : Collects unreadable_slot (g.unreadable old) (g.unreadable new) outcome.answer
+  pub loads : ℕ
+  pub given : ℕ
+  pub asked : g.loads new ≡ slots_below loads ++ g.loads old
+  pub gave : g.given new ≡ g.given old ++ take given records
+  pub order : GoesTo (g.most old) chance records (g.refusals old) (g.refusals new) loads given outcome.answer
   pub honest : g.honest new ≡ g.honest old
   pub most : g.most new ≡ g.most old
   pub stays : g.stopped old ≡ true → new ≡ old
-
--- The records are taken up, and their key has a public one; or the fault is answered.
-abbrev pub IsTakenUp : Result Table SignFault → Outcome AnyPublic → Type 0
-IsTakenUp (Ok table) outcome = (public : AnyPublic) × (outcome.answer ≡ Ok public)
-    × (public_of_key (key_in table.records) ≡ Some public) × (table.records ≡ outcome.acknowledged)
-IsTakenUp (Err fault) outcome = outcome.answer ≡ Err fault
 
 -- A call of open loads the records, and draws nothing.
 pub record Opens {S R : Type 0} (g : store.Ghosts S) (kept_in : S) (random : R)

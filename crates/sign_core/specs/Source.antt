@@ -1,7 +1,5 @@
 -- What a source of random bytes does, and what callers see of one of given bytes.
 use Rattle.std.specs.Prelude.{◌≡◌, ℕ, ◌+◌, List, ◌++◌, Option, Some, None, Result, Ok, Err}
-use Rattle.sign_core.specs.declared.fault.SignFault.{SignFault}
-use Rattle.sign_core.specs.declared.fault.SignFault.TheVariants.{RandomFailed}
 use Rattle.sign_core.specs.declared.source.TapeSource.{TapeSource}
 
 -- What a source has still to give, where that is known, before and after it gives these bytes: these come first.
@@ -16,13 +14,6 @@ abbrev pub Fills : {A E : Type 0} (failures_before failures_after : ℕ) (upcomi
     (bytes : List ℕ) → Result A E → Type 0
 Fills before after upcoming left bytes (Ok _) = (after ≡ before) × Provides upcoming bytes left
 Fills before after upcoming left bytes (Err _) = (after ≡ before + 1) × (left ≡ upcoming)
-
--- What a draw does to the count of the source's failures, and to what it has still to give.
-abbrev pub DrawsBytes : (failures_before failures_after : ℕ) (upcoming left : Option (List ℕ))
-    → Result (List ℕ) SignFault → Type 0
-DrawsBytes before after upcoming left (Ok bytes) = (after ≡ before) × Provides upcoming bytes left
-DrawsBytes before after upcoming left (Err RandomFailed) = (after ≡ before + 1) × (left ≡ upcoming)
-DrawsBytes before after upcoming left (Err _) = ⊥
 
 -- ---- a source of given bytes
 

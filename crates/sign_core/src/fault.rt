@@ -96,7 +96,8 @@ impl ServeFault {
 }
 
 impl SignFault {
-    ghost use Rattle.sign_core.specs.Fault.{closes, number_of};
+    ghost use Rattle.sign_core.specs.inner.Fault.{closes};
+    ghost use Rattle.sign_core.specs.Fault.{number_of};
 
     /// The number by which the fault is reported.
     pub fn number(self) -> u8

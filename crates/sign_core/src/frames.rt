@@ -1,7 +1,8 @@
 //! Frames of requests, as reads of an input give them: what stands before a message, and the message.
 
 ghost use Rattle.std.specs.Prelude.{◌≡◌, ◌<◌, length, OnErr, OnOk};
-ghost use Rattle.sign_core.specs.Frames.{FillsBuffer, ReadsField, ReadsHead, Skips, after_size, bytes_of, said_by};
+ghost use Rattle.sign_core.specs.inner.Frames.{FillsBuffer, ReadsField, ReadsHead, Skips, bytes_of, said_by};
+ghost use Rattle.sign_core.specs.Frames.{after_size};
 ghost use Rattle.typecodes.specs.Fields.{block};
 
 use crate::fault::ServeFault;

@@ -13,7 +13,11 @@ ghost use Rattle.state_file.specs.Laws.{IsCurrent, IsLegal, bottom_of, identifie
 ghost use Rattle.sign_core.specs.declared.key.AnyPublic.{AnyPublic};
 ghost use Rattle.sign_core.specs.Records.{IsNext, binding_in, current, deepest, first_illegal, free_at};
 ghost use Rattle.sign_core.specs.Records.{has_identifier, key_in, next_in};
-ghost use Rattle.sign_core.specs.Once.{CutLaw, IsBoundTo, IsValidUnder, LastingLaw, OnceLaw, SoundLaw, StopLaw};
+ghost use Rattle.sign_core.specs.Cuts.{CutLaw, StopLaw};
+ghost use Rattle.sign_core.specs.Headline.{HeadlineLaw, IsBoundTo, IsValidUnder};
+ghost use Rattle.sign_core.specs.Lasting.{LastingLaw};
+ghost use Rattle.sign_core.specs.Once.{OnceLaw};
+ghost use Rattle.sign_core.specs.Sound.{SoundLaw};
 ghost use Rattle.sign_core.specs.AfterRefusal.{AfterRefusalLaw};
 ghost use Rattle.sign_core.specs.Calls.{CallsLaw, StoppedLaw};
 ghost use Rattle.sign_core.specs.Lives.{LivesLaw};
@@ -100,9 +104,12 @@ pub fn textbook_laws()
 ///   Any other changes nothing, unless the device failed, and the law says what it answers.
 /// - The recorded root is that of the recorded secret, so no request is answered that a record is damaged.
 ///
-/// The clauses stand in `specs/Once.antt`, the events in `specs/World.antt`. The law speaks of digests: two messages of
-/// one digest are one to it.
+/// The headline is the clause `headline`: no leaf signs two digests or under two names, one name has one signature, and
+/// each signature is recorded and valid (`specs/Headline.antt`). `once` has it, too, and the other clauses by their
+/// subjects (`specs/Requests.antt`, `Retirings.antt`, `Openings.antt`). The events stand in `specs/Events.antt` and
+/// `World.antt`. The law speaks of digests: two messages of one digest are one to it.
 pub fn once_law()
+    ensures headline { HeadlineLaw }
     ensures once { OnceLaw }
 {}
 
@@ -175,8 +182,8 @@ pub fn cut_law()
     ensures cut { CutLaw }
 {}
 
-/// What a stop at any moment of an event leaves is what events leave that can come: one whose append is cut off
-/// there, or none and a stop.
+/// What a stop inside of an event leaves is what some whole events leave: the event with its append cut off there, or a
+/// stop alone.
 pub fn stop_law()
     ensures stops { StopLaw }
 {}

@@ -157,15 +157,16 @@ impl Ledger {
     ghost use Rattle.state_file.specs.declared.record.Record.TheVariants.{Key as KeyRecord, Extend as ExtendRecord};
     ghost use Rattle.state_file.specs.declared.record.Record.TheVariants.{Bound as BoundRecord, Retire as RetireRecord};
     ghost use Rattle.state_file.specs.declared.record.Record.TheVariants.{Moved as MovedRecord};
-    ghost use Rattle.sign_core.specs.Ledger.{CanPush, Grows, HasRoomForOne, IsRefused, LacksRoom, Stays, TakesUp};
+    ghost use Rattle.sign_core.specs.inner.Ledger.{CanPush, Grows, HasRoomForOne, LacksRoom, Stays, TakesUp};
+    ghost use Rattle.sign_core.specs.Ledger.{IsRefused};
     ghost use Rattle.sign_core.specs.Ledger.{binding_kept, made_at};
     ghost use Rattle.sign_core.specs.declared.ledger.LedgerFault.TheVariants.{Illegal, OutOfMemory};
     ghost use Rattle.sign_core.specs.Trees.{tree_at};
     ghost use Rattle.sign_core.specs.Textbook.{AllHaveSizes, HasSizes};
-    ghost use Rattle.sign_core.specs.Once.{public_of_key};
+    ghost use Rattle.sign_core.specs.Headline.{public_of_key};
     ghost use Rattle.sign_core.specs.Records.{free_counts};
 
-    /// That of a key with no record after it.
+    /// A ledger that holds only the key.
     pub(crate) fn new(alloc: Global, key: Key) -> Self
         requires { HasSizes (KeyRecord key) }
         ensures key { result.key ≡ key }

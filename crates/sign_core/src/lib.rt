@@ -26,15 +26,17 @@
 //! The contract for the crates above: each call of `create`, `open`, `sign` and `retire` is a step of the world of one
 //! key, by a chance that the store, the source and the message decide (`specs/Signer.antt`, `specs/World.antt`). Over
 //! every list of such steps, and of stops at any moment, no leaf signs two digests, a name has one signature, and each
-//! signature that was handed out is valid (`once_law`, `specs/Once.antt`). `migrate_key` moves a key to one new state
-//! file, and no stop leaves two files that can sign (`specs/Migration.antt`); across it the runs of the old file go on
-//! (`moves_law`). `AnyPublic` and `verify_any` are the keys of the three schemes by their lengths (`specs/Key.antt`).
+//! signature that was handed out is valid (`once_law`, `specs/Headline.antt`). `migrate_key` moves a key to one new
+//! state file, and no stop leaves two files that can sign (`specs/Migration.antt`); across it the runs of the old file
+//! go on (`moves_law`). `AnyPublic` and `verify_any` are the keys of the three schemes by their lengths
+//! (`specs/Key.antt`).
 #![tactic(auto)]
 
 mod caches;
 mod fault;
 mod frames;
 mod key;
+mod key_trees;
 mod laws;
 mod ledger;
 mod links;
@@ -44,7 +46,6 @@ mod roots;
 mod serving;
 mod signer;
 mod source;
-mod standing;
 mod trees;
 mod writing;
 

@@ -3,18 +3,21 @@
 ghost use Rattle.std.specs.Prelude.{◌≡◌, ◌<◌, ◌≤◌, ◌-◌, ◌^◌, ◌∷◌, [], true, false, Some, Ok, Err, length, IfErr, IfOk};
 ghost use Rattle.std.specs.Prelude.{IfSome, IsTrue, None, OnOk};
 ghost use Rattle.state_file.specs.Store.{CanFollow, is_key};
-ghost use Rattle.sign_core.specs.Source.{DrawsBytes};
-ghost use Rattle.sign_core.specs.Once.{AreFields};
-ghost use Rattle.sign_core.specs.Signer.{DrawsSecret, Hinders, IsAnsweredByKey, IsAppended, IsTakenUp};
-ghost use Rattle.sign_core.specs.Signer.{IsTied, LoadsAll, LoadsRecord, LooksForKey, MakesKey, TakesUpLoaded};
+ghost use Rattle.sign_core.specs.inner.Source.{DrawsBytes};
+ghost use Rattle.sign_core.specs.Events.{AreFields};
+ghost use Rattle.sign_core.specs.inner.Signer.{DrawsSecret, Hinders, IsAnsweredByKey, IsAppended, IsTakenUp};
+ghost use Rattle.sign_core.specs.Signer.{IsTied, LoadsAll, MakesKey};
+ghost use Rattle.sign_core.specs.inner.Signer.{LoadsRecord, LooksForKey, TakesUpLoaded};
 ghost use Rattle.sign_core.specs.Textbook.{HasSizes, SecretHasSizes, lms_secret, root_by};
 ghost use Rattle.state_file.specs.declared.record.Record.TheVariants.{Key as KeyRecord};
 ghost use Rattle.typecodes.specs.Layout.{AreBytes};
 ghost use Rattle.typecodes.specs.Spec.{IsSpec};
 ghost use Rattle.lms.specs.Secret.{root_in};
 
-mod request;
-mod signing;
+mod bind;
+mod repeat;
+mod scheme;
+mod sign;
 
 use crate::caches::Caches;
 use crate::fault::SignFault;
@@ -82,7 +85,7 @@ fn load_first<S: Store>(store: &mut S) -> Result<(), SignFault>
     }
 }
 
-// The same bytes; each is below 256.
+// For the prover: the same bytes, each of which is below 256.
 fn bytes_of<const N: usize>(bytes: [u8; N]) -> [u8; N]
     ensures same { result ≡ bytes.entry }
     ensures range { AreBytes result }
@@ -195,7 +198,7 @@ fn create_key<S: Store, R: Source>(
 {
     load_first(store)?;
     let secret = draw_secret(spec, random)?;
-    // Its levels are 1 to 8.
+    // For the prover: its levels are 1 to 8.
     prove!(level_count(spec) <= 8);
     let key = Key {
         version,
@@ -271,8 +274,9 @@ fn load_all<S: Store>(alloc: Global, store: &mut S) -> Result<Ledger, SignFault>
 impl<S: Store, R: Source> Signer<S, R> {
     ghost use Rattle.sign_core.specs.Records.{can_follow, free_counts, has_moved, key_in};
     ghost use Rattle.state_file.specs.declared.record.Key.{Key as K};
-    ghost use Rattle.sign_core.specs.Once.{public_of_key};
-    ghost use Rattle.sign_core.specs.Signer.{Adds, Creates, IsBottom, Opens, Retires};
+    ghost use Rattle.sign_core.specs.Headline.{public_of_key};
+    ghost use Rattle.sign_core.specs.inner.Signer.{Adds, IsBottom};
+    ghost use Rattle.sign_core.specs.Signer.{Creates, Opens, Retires};
     ghost use Rattle.sign_core.specs.Ledger.{TakesMemory};
     ghost use Rattle.state_file.specs.Slot.{FitsVersion, version_in};
     ghost use Rattle.state_file.specs.declared.record.Version.TheVariants.{One};

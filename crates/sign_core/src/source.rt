@@ -2,7 +2,8 @@
 
 ghost use Rattle.std.specs.Prelude.{◌≡◌, ◌<◌, ◌↔◌, ℕ, List, Option, Some, IsErr, length};
 ghost use Rattle.std.specs.Prelude.{IfOk};
-ghost use Rattle.sign_core.specs.Source.{DrawsBytes, Fills};
+ghost use Rattle.sign_core.specs.inner.Source.{DrawsBytes};
+ghost use Rattle.sign_core.specs.Source.{Fills};
 
 use crate::fault::SignFault;
 use thiserror::Error;

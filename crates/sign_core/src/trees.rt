@@ -19,8 +19,10 @@ pub(crate) struct CurrentTrees {
 }
 
 impl CurrentTrees {
-    ghost use Rattle.sign_core.specs.Trees.{AreAbove, IsBegun, IsRaised, kept_at};
-    ghost use Rattle.sign_core.specs.Trees.{FollowsBound, FollowsExtend, FollowsRetire, HasTrees};
+    ghost use Rattle.sign_core.specs.inner.Trees.{AreAbove, IsBegun, IsRaised};
+    ghost use Rattle.sign_core.specs.Trees.{kept_at};
+    ghost use Rattle.sign_core.specs.inner.Trees.{FollowsBound, FollowsExtend, FollowsRetire};
+    ghost use Rattle.sign_core.specs.Trees.{HasTrees};
 
     /// Those of a Key alone: its own tree, with no leaf used.
     pub(crate) fn of_key() -> Self

@@ -53,6 +53,14 @@ LeavesLists d old new P =
 abbrev pub unreadable_of : {D : Type 0} {bound : _} → FileStore D bound → List ℕ
 unreadable_of store = store.unreadable
 
+-- the slots that load was asked for, the last one first
+abbrev pub loads_of : {D : Type 0} {bound : _} → FileStore D bound → List ℕ
+loads_of store = store.loads
+
+-- the records that load gave, in the order in which it gave them
+abbrev pub given_of : {D : Type 0} {bound : _} → FileStore D bound → List Record
+given_of store = store.given
+
 -- the disk afterwards: the store's, or the one that a refusal hands back
 abbrev pub disk_after : {D F : Type 0} {bound : _} → Result (FileStore D bound) (Refused D F) → D
 disk_after (Ok store) = store.disk

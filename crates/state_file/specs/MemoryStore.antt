@@ -35,11 +35,24 @@ failures_of store = store.failures
 abbrev pub refusals_of : MemoryStore → ℕ
 refusals_of store = store.refusals
 
+-- the slots that load was asked for, the last one first
+abbrev pub loads_in : MemoryStore → List ℕ
+loads_in store = store.loads
+
+-- the records that load gave, in the order in which it gave them
+abbrev pub given_in : MemoryStore → List Record
+given_in store = store.given
+
 -- It has the same records, takes as many, and was refused memory as often.
 pub record KeepsRecords (old new : MemoryStore) : Type 0 where
   pub records : records_in new ≡ records_in old
   pub limit : limit_of new ≡ limit_of old
   pub refusals : refusals_of new ≡ refusals_of old
+
+-- It was asked to load no slot more, and gave no record.
+pub record KeepsLoads (old new : MemoryStore) : Type 0 where
+  pub loads : loads_in new ≡ loads_in old
+  pub given : given_in new ≡ given_in old
 
 -- there is room for one record more in the memory that it has
 abbrev pub HasRoom : MemoryStore → Type 0

@@ -1,6 +1,6 @@
 -- What the calls of a store do.
 use Rattle.std.specs.Prelude.{◌≡◌, ◌⊎◌, ℕ, ◌+◌, ◌<◌, ◌≤◌, Bool, true, false, IsTrue, List, [], ◌∷◌, ◌++◌, length}
-use Rattle.std.specs.Prelude.{slice_get, Option, Some, None, Result, Ok, Err}
+use Rattle.std.specs.Prelude.{slice_get, Option, Some, None, Result, Ok, Err, if◌then◌else◌}
 use Rattle.state_file.specs.declared.record.Record.{Record}
 use Rattle.state_file.specs.declared.record.Record.TheVariants.{Key as KeyRecord, Extend, Bound, Retire, Moved}
 use Rattle.state_file.specs.Slot.{FitsVersion, version_in}
@@ -48,6 +48,14 @@ Appends most old old_stopped entry new new_stopped before after (Err OutOfMemory
 Appends most old old_stopped entry new new_stopped before after (Err Full) =
     (old_stopped ≡ false) × (most ≤ length old) × (new ≡ old) × (new_stopped ≡ false) × (after ≡ before)
 
+-- the answer 26
+abbrev pub is_stopped : StoreFault → Bool
+is_stopped Stopped = true
+is_stopped (Damaged k) = false
+is_stopped DeviceFailed = false
+is_stopped OutOfMemory = false
+is_stopped Full = false
+
 -- An answer 46 counts as a refusal of memory, and no other does.
 abbrev pub is_out_of_memory : StoreFault → Bool
 is_out_of_memory Stopped = false
@@ -81,6 +89,17 @@ is_fault is_kind (Err fault) = is_kind fault
 abbrev pub Collects : {A E T : Type 0} (named_by : E → List T) (before after : List T) → Result A E → Type 0
 Collects named_by before after (Ok _) = after ≡ before
 Collects named_by before after (Err fault) = after ≡ named_by fault ++ before
+
+-- The slot of a load is added at the head of a list, unless the answer is of such a kind.
+abbrev pub AddsLoad : {A E : Type 0} (had_stopped : E → Bool) (k : ℕ) (before after : List ℕ) → Result A E → Type 0
+AddsLoad had_stopped k before after (Ok _) = after ≡ k ∷ before
+AddsLoad had_stopped k before after (Err fault) = after ≡ (if had_stopped fault then before else k ∷ before)
+
+-- The record that a load gives is added at the end of a list, and nothing else is.
+abbrev pub AddsGiven : {E : Type 0} (before after : List Record) → Result (Option Record) E → Type 0
+AddsGiven before after (Ok (Some entry)) = after ≡ before ++ entry ∷ []
+AddsGiven before after (Ok None) = after ≡ before
+AddsGiven before after (Err fault) = after ≡ before
 
 -- the record that load may give: record k, where the store is honest
 abbrev pub IsRecordAt : Bool → List Record → ℕ → Record → Type 0

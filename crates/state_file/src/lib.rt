@@ -34,4 +34,4 @@ pub use crate::laws::{content_laws, legal_laws, migration_laws, slot_laws};
 pub use crate::migration::{MigrateFault, Place, Sealed, fill, seal};
 pub use crate::record::{Bound, Extend, Key, Record, RecordList, Secret, Version};
 pub use crate::refused::Refused;
-pub use crate::store::{Cut, FileStore, MemoryStore, Store, StoreFault};
+pub use crate::store::{Cut, FileStore, MemoryStore, SlotList, Store, StoreFault};

@@ -38,7 +38,7 @@ pub enum StoreFault {
 pub trait Store {
     ghost use Rattle.state_file.specs.declared.record.Record.{Record as R};
     ghost use Rattle.state_file.specs.Store.{Appends, CanFollow, Collects, Loads, WhileRunning, is_out_of_memory};
-    ghost use Rattle.state_file.specs.Store.{unreadable_slot};
+    ghost use Rattle.state_file.specs.Store.{AddsGiven, AddsLoad, is_stopped, unreadable_slot};
 
     // its records
     ghost list: { Self → List R };
@@ -55,6 +55,12 @@ pub trait Store {
     // the slots that `load` has reported as unreadable, the last one first
     ghost unreadable: { Self → List ℕ };
 
+    // the slots that `load` was asked for before the store stopped, the last one first
+    ghost loads: { Self → List ℕ };
+
+    // the records that `load` gave, in the order in which it gave them
+    ghost given: { Self → List R };
+
     // whether its device keeps what was synced
     ghost honest: { Self → Bool };
 
@@ -64,8 +70,8 @@ pub trait Store {
     // this moment, as a number that doesn't fall
     ghost moment: { Self → ℕ };
 
-    // The lists that a stop at some moment from that one on might have left, in a call or between two. Where
-    // what it leaves spells no list, that counts as every list.
+    // The lists that a stop at some moment from that one on might have left, in a call or between two. Where what it
+    // leaves spells no list, every list counts as left: so a clause that bounds these lists excludes that.
     ghost left_since: { Self → ℕ → List R → Type 0 };
 
     /// Record k, or None after the last.
@@ -75,6 +81,8 @@ pub trait Store {
             (failures self.new) result }
         ensures refusals { Counts is_out_of_memory (refusals self.old) (refusals self.new) result }
         ensures unreadable { Collects unreadable_slot (unreadable self.old) (unreadable self.new) result }
+        ensures loads { AddsLoad is_stopped k (loads self.old) (loads self.new) result }
+        ensures given { AddsGiven (given self.old) (given self.new) result }
         ensures same { list self.new ≡ list self.old }
         ensures any_moment { WhileRunning (honest self.old) (stopped self.old)
             (LeavesOnly moment left_since self.old self.new (λ left. left ≡ list self.old)) }
@@ -99,6 +107,8 @@ pub trait Store {
             (failures self.old) (failures self.new) result }
         ensures refusals { Counts is_out_of_memory (refusals self.old) (refusals self.new) result }
         ensures unreadable { unreadable self.new ≡ unreadable self.old }
+        ensures loads { loads self.new ≡ loads self.old }
+        ensures given { given self.new ≡ given self.old }
         ensures honest { honest self.new ≡ honest self.old }
         ensures most { most self.new ≡ most self.old };
 

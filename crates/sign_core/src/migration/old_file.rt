@@ -3,8 +3,8 @@
 ghost use Rattle.std.specs.Prelude.{◌≡◌, ◌∷◌, [], false, slice_get, IsTrue, IfErr, IfOk, Some};
 ghost use Rattle.state_file.specs.FileStore.{disk_of, has_stopped, records_of};
 ghost use Rattle.state_file.specs.declared.record.Record.TheVariants.{Key as KeyRecord};
-ghost use Rattle.sign_core.specs.OldFile.{FindsRecord, JudgesRecords, OpensOld, ReadsRecords};
-ghost use Rattle.sign_core.specs.OldFile.{RefusesOld, RefusesRecords, TakesUpNext, opening_fault};
+ghost use Rattle.sign_core.specs.inner.OldFile.{FindsRecord, JudgesRecords, OpensOld, ReadsRecords};
+ghost use Rattle.sign_core.specs.inner.OldFile.{RefusesOld, RefusesRecords, TakesUpNext, opening_fault};
 
 use crate::ledger::{Ledger, LedgerFault};
 use state_file::{

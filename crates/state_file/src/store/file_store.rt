@@ -7,10 +7,11 @@ ghost use Rattle.state_file.specs.DiskCalls.{CountsFailures, OnlyReads};
 ghost use Rattle.state_file.specs.File.{IsSyncedFile, IsSyncedFile-prop, LeftLists, StandsFor, most_records, tag_at};
 ghost use Rattle.state_file.specs.Gates.{AddsSlot, slot_and_gate};
 ghost use Rattle.std.proofs.Common.{inl};
-ghost use Rattle.state_file.specs.Store.{Appends, CanFollow, Collects, Loads, ReadsTag, WhileRunning};
+ghost use Rattle.state_file.specs.Store.{AddsGiven, AddsLoad, Appends, CanFollow, Collects, Loads, ReadsTag};
+ghost use Rattle.state_file.specs.Store.{WhileRunning};
 ghost use Rattle.state_file.specs.Laws.{has_moved};
 ghost use Rattle.state_file.specs.Slot.{version_code, version_in};
-ghost use Rattle.state_file.specs.Store.{is_device_failed, is_out_of_memory, unreadable_slot};
+ghost use Rattle.state_file.specs.Store.{is_device_failed, is_out_of_memory, is_stopped, unreadable_slot};
 
 use crate::disk::Disk;
 use crate::file::{
@@ -36,6 +37,9 @@ pub struct FileStore<D: Disk> {
     records: RecordList,
     // the slots that load has reported as unreadable
     unreadable: SlotList,
+    // the slots that load was asked for, and the records that it gave
+    loads: SlotList,
+    given: RecordList,
     ghost counted: { count ≡ length records },
     ghost few: { length records ≤ most_records },
     ghost moved_is: { moved ≡ has_moved records },
@@ -93,6 +97,8 @@ impl<D: Disk + Drop> FileStore<D> {
                 moved: false,
                 records: RecordList::new(),
                 unreadable: SlotList::new(),
+                loads: SlotList::new(),
+                given: RecordList::new(),
             }),
             Err(fault) => Err(Refused { fault, given: disk }),
         }
@@ -117,6 +123,8 @@ impl<D: Disk + Drop> FileStore<D> {
                     moved: found.moved,
                     records: found.records,
                     unreadable: SlotList::new(),
+                    loads: SlotList::new(),
+                    given: RecordList::new(),
                 })
             }
             Err(fault) => Err(Refused { fault, given: disk }),
@@ -159,7 +167,7 @@ impl<D: Disk + Drop> FileStore<D> {
 impl<D: Disk + Drop> Store for FileStore<D> {
     ghost use Rattle.state_file.specs.FileStore.{LeavesLists, WhileStoreRuns, disk_of, has_stopped, kept_list};
     ghost use Rattle.state_file.specs.FileStore.{kept_stands};
-    ghost use Rattle.state_file.specs.FileStore.{records_of, unreadable_of};
+    ghost use Rattle.state_file.specs.FileStore.{given_of, loads_of, records_of, unreadable_of};
 
     ghost list = { λ store. records_of store };
 
@@ -171,6 +179,10 @@ impl<D: Disk + Drop> Store for FileStore<D> {
     ghost refusals = { λ _. 0 };
 
     ghost unreadable = { unreadable_of };
+
+    ghost loads = { loads_of };
+
+    ghost given = { given_of };
 
     ghost honest = { λ store. D.honest (disk_of store) };
 
@@ -201,6 +213,8 @@ impl<D: Disk + Drop> Store for FileStore<D> {
         ensures refusals { Counts is_out_of_memory 0 0 result }
         ensures memory { result ≢ Err StoreFault.OutOfMemory }
         ensures unreadable { Collects unreadable_slot (unreadable_of self.old) (unreadable_of self.new) result }
+        ensures loads { AddsLoad is_stopped k (loads_of self.old) (loads_of self.new) result }
+        ensures given { AddsGiven (given_of self.old) (given_of self.new) result }
         ensures same { records_of self.new ≡ records_of self.old }
         ensures reads { WhileStoreRuns D.Disk self.old
             (OnlyReads D.state D.moment D.left_since (disk_of self.old) (disk_of self.new)) }
@@ -212,12 +226,16 @@ impl<D: Disk + Drop> Store for FileStore<D> {
         if self.stopped {
             return Err(StoreFault::Stopped);
         }
+        self.loads.push(k);
         if k >= self.count {
             return Ok(None);
         }
         match read_entry(&mut self.disk, self.version, k) {
             Ok(found) => match found {
-                Some(record) => Ok(Some(record)),
+                Some(record) => {
+                    self.given.push(&record);
+                    Ok(Some(record))
+                }
                 None => {
                     self.unreadable.push(k);
                     Err(StoreFault::Damaged(k))
@@ -253,6 +271,8 @@ impl<D: Disk + Drop> Store for FileStore<D> {
         ensures refusals { Counts is_out_of_memory 0 0 result }
         ensures memory { result ≢ Err StoreFault.OutOfMemory }
         ensures unreadable { unreadable_of self.new ≡ unreadable_of self.old }
+        ensures loads { loads_of self.new ≡ loads_of self.old }
+        ensures given { given_of self.new ≡ given_of self.old }
         ensures full { result ≡ Err StoreFault.Full → self.new ≡ self.old }
         ensures adds { IsTrue (D.honest (disk_of self.old)) →
             OnOk result

@@ -3,10 +3,11 @@
 ghost use Rattle.std.specs.Prelude.{◌⊎◌, length, ◌≡◌, ◌≢◌, ◌≤◌, ◌<◌, ◌+◌, true, false, [], ◌∷◌, ◌++◌, IfErr};
 ghost use Rattle.std.specs.Prelude.{OnOk, OnErr, if◌then◌else◌, slice_get, vec_len, vec_capacity};
 ghost use Rattle.state_file.specs.Disk.{Counts};
-ghost use Rattle.state_file.specs.Store.{Appends, Collects, Loads, is_out_of_memory, unreadable_slot};
+ghost use Rattle.state_file.specs.Store.{AddsGiven, AddsLoad, Appends, Collects, Loads, is_out_of_memory};
+ghost use Rattle.state_file.specs.Store.{is_stopped as is_stopped_fault, unreadable_slot};
 
-use crate::record::Record;
-use crate::store::{Store, StoreFault};
+use crate::record::{Record, RecordList};
+use crate::store::{SlotList, Store, StoreFault};
 use std::alloc::Global;
 use typecodes::Count;
 
@@ -27,12 +28,15 @@ pub struct MemoryStore {
     stopped: bool,
     failures: Count,
     refusals: Count,
+    // the slots that load was asked for, and the records that it gave
+    loads: SlotList,
+    given: RecordList,
     ghost few: { length records.items ≤ limit },
 }
 
 impl MemoryStore {
-    ghost use Rattle.state_file.specs.MemoryStore.{KeepsRecords, cut_of, cut_of_append, failures_of, is_stopped};
-    ghost use Rattle.state_file.specs.MemoryStore.{limit_of, records_in, refusals_of};
+    ghost use Rattle.state_file.specs.MemoryStore.{KeepsLoads, KeepsRecords, cut_of, cut_of_append, failures_of};
+    ghost use Rattle.state_file.specs.MemoryStore.{is_stopped, limit_of, records_in, refusals_of};
 
     /// An empty store that takes `limit` records.
     pub fn with_limit(alloc: Global, limit: u32) -> Self
@@ -50,6 +54,8 @@ impl MemoryStore {
             stopped: false,
             failures: Count::new(),
             refusals: Count::new(),
+            loads: SlotList::new(),
+            given: RecordList::new(),
         }
     }
 
@@ -62,6 +68,7 @@ impl MemoryStore {
         ensures stopped { is_stopped self.new ≡ is_stopped self.old }
         ensures failures { failures_of self.new ≡ failures_of self.old }
         ensures records { KeepsRecords self.old self.new }
+        ensures loads { KeepsLoads self.old self.new }
     {
         self.cut = n.checked_sub(1).map(|before| (before, cut));
     }
@@ -72,6 +79,7 @@ impl MemoryStore {
         ensures cut { cut_of self.new ≡ cut_of self.old }
         ensures failures { failures_of self.new ≡ failures_of self.old }
         ensures records { KeepsRecords self.old self.new }
+        ensures loads { KeepsLoads self.old self.new }
     {
         self.stopped = false;
     }
@@ -82,6 +90,7 @@ impl MemoryStore {
         ensures stopped { is_stopped self.new ≡ true }
         ensures failures { failures_of self.new ≡ failures_of self.old + 1 }
         ensures records { KeepsRecords self.old self.new }
+        ensures loads { KeepsLoads self.old self.new }
         ensures cut { cut_of self.new ≡ None }
     {
         self.cut = None;
@@ -92,9 +101,9 @@ impl MemoryStore {
 }
 
 impl Store for MemoryStore {
-    ghost use Rattle.state_file.specs.MemoryStore.{Cuts, HadBeen, HasRoom, LeavesInMemory, had_been_all, had_been_only};
-    ghost use Rattle.state_file.specs.MemoryStore.{cut_of, failures_of, is_stopped, limit_of};
-    ghost use Rattle.state_file.specs.MemoryStore.{records_in, refusals_of};
+    ghost use Rattle.state_file.specs.MemoryStore.{Cuts, HadBeen, HasRoom, KeepsRecords, LeavesInMemory, had_been_all};
+    ghost use Rattle.state_file.specs.MemoryStore.{cut_of, failures_of, given_in, had_been_only, is_stopped, limit_of};
+    ghost use Rattle.state_file.specs.MemoryStore.{loads_in, records_in, refusals_of};
 
     ghost list = { records_in };
 
@@ -106,6 +115,10 @@ impl Store for MemoryStore {
 
     // Each of its records can be read.
     ghost unreadable = { λ _. [] };
+
+    ghost loads = { loads_in };
+
+    ghost given = { given_in };
 
     ghost honest = { λ _. true };
 
@@ -128,17 +141,31 @@ impl Store for MemoryStore {
             (failures_of self.new) result }
         ensures refusals { Counts is_out_of_memory (refusals_of self.old) (refusals_of self.new) result }
         ensures unreadable { Collects unreadable_slot [] [] result }
+        ensures loads { AddsLoad is_stopped_fault k (loads_in self.old) (loads_in self.new) result }
+        ensures given { AddsGiven (given_in self.old) (given_in self.new) result }
         ensures same { records_in self.new ≡ records_in self.old }
         ensures any_moment { is_stopped self.old ≡ false →
             LeavesInMemory self.old self.new (λ left. left ≡ records_in self.old) }
-        ensures stays { self.new ≡ self.old }
+        ensures stays { is_stopped self.old ≡ true → self.new ≡ self.old }
+        ensures records { KeepsRecords self.old self.new }
+        ensures cut { cut_of self.new ≡ cut_of self.old }
+        ensures stopped { is_stopped self.new ≡ is_stopped self.old }
+        ensures failures { failures_of self.new ≡ failures_of self.old }
+        ensures room { HasRoom self.old → HasRoom self.new }
         ensures value { result ≡
             (if is_stopped self.old then Err StoreFault.Stopped else Ok (slice_get (records_in self.old) k)) }
     {
         if self.stopped {
             Err(StoreFault::Stopped)
         } else {
-            Ok(self.records.get(k as usize).map(Record::copied))
+            self.loads.push(k);
+            match self.records.get(k as usize) {
+                Some(record) => {
+                    self.given.push(record);
+                    Ok(Some(record.copied()))
+                }
+                None => Ok(None),
+            }
         }
     }
 
@@ -157,6 +184,8 @@ impl Store for MemoryStore {
             fault ≢ StoreFault.DeviceFailed →
             LeavesInMemory self.old self.new (λ left. left ≡ records_in self.old)) }
         ensures stays { is_stopped self.old ≡ true → self.new ≡ self.old }
+        ensures loads { loads_in self.new ≡ loads_in self.old }
+        ensures given { given_in self.new ≡ given_in self.old }
         ensures limit { limit_of self.new ≡ limit_of self.old }
         ensures cut { Cuts (cut_of self.old) (records_in self.old) new.now (records_in self.new) (cut_of self.new)
             result }

@@ -1,4 +1,5 @@
-//! A list of slots that contracts alone see, for a store that says which slots it reported as unreadable.
+//! A list of slots that contracts alone see, for a store that says which slots it was asked for, and which ones it
+//! reported as unreadable.
 ghost use Rattle.std.specs.Prelude.{◌≡◌, ℕ, List, [], ◌∷◌};
 ghost use Rattle.std.specs.Borrow.{ftrue};
 

@@ -4,6 +4,7 @@
 ghost use Rattle.std.specs.Prelude.{false, ◌≤◌, length};
 
 use super::*;
+use state_file::{RecordList, SlotList};
 use typecodes::Count;
 
 // A store in memory that refuses one append, or one load, for want of memory. It isn't honest: of such a store only the
@@ -15,6 +16,8 @@ struct Scarce {
     // how many appends, and how many loads, come before the one that is refused
     appends: Option<u32>,
     loads: Option<u32>,
+    asked: SlotList,
+    given: RecordList,
     ghost few: { length records.items ≤ 100 },
 }
 
@@ -41,6 +44,10 @@ impl Store for Scarce {
 
     ghost unreadable = { λ _. [] };
 
+    ghost loads = { λ store. store.asked };
+
+    ghost given = { λ store. store.given };
+
     ghost honest = { λ _. false };
 
     ghost most = { λ _. 100 };
@@ -58,12 +65,15 @@ impl Store for Scarce {
     fn load(&mut self, k: u32) -> Result<Option<Record>, StoreFault> {
         let (is_refused, before) = refuses(self.loads);
         self.loads = before;
+        self.asked.push(k);
         if is_refused {
             self.refusals.add_one();
             return Err(StoreFault::OutOfMemory);
         }
         if (k as usize) < self.records.len() {
-            return Ok(Some(self.records[k as usize].copied()));
+            let record = self.records[k as usize].copied();
+            self.given.push(&record);
+            return Ok(Some(record));
         }
         Ok(None)
     }
@@ -99,6 +109,8 @@ fn empty_store(alloc: Global, appends: Option<u32>, loads: Option<u32>) -> Scarc
         refusals: Count::new(),
         appends,
         loads,
+        asked: SlotList::new(),
+        given: RecordList::new(),
     }
 }
 

@@ -1,6 +1,6 @@
 use Rattle.std.proofs.Common.{rules, ◌≡◌, Err, Ok, Some, refl, subst}
-use Rattle.sign_core.specs.Frames.{ReadsHead}
-use Rattle.sign_core.specs.Serving.{WritesReply}
+use Rattle.sign_core.specs.inner.Frames.{ReadsHead}
+use Rattle.sign_core.specs.inner.Serving.{WritesReply}
 use Rattle.sign_core.proofs.Exchanges.{frame_cut, frame_goes, frame_lost, head_failed, head_lost}
 use Rattle.sign_core.proofs.serving.take_turn.Goals as goal
 

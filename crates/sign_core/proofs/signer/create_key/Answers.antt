@@ -1,6 +1,7 @@
 use Rattle.std.proofs.Common.{rules, ◌≡◌, ◌∙◌, Ok, Err, length, sym, ap, subst}
 use Rattle.state_file.specs.declared.record.Record.TheVariants.{Key as KeyRecord}
-use Rattle.sign_core.specs.Signer.{IsAppended, IsAnsweredByKey, MakesKey}
+use Rattle.sign_core.specs.inner.Signer.{IsAppended, IsAnsweredByKey}
+use Rattle.sign_core.specs.Signer.{MakesKey}
 use Rattle.sign_core.specs.World.{new_key}
 use Rattle.sign_core.proofs.Adding.{follows_none}
 use Rattle.sign_core.proofs.Creating.{looked, made, undrawn, unmade}

@@ -1,5 +1,6 @@
-use Rattle.std.proofs.Common.{rules, ◌≡◌, ◌≤◌, Some, None, Ok, Err, length, sym, subst, arith}
-use Rattle.sign_core.specs.Signer.{IsTakenUp, LoadsAll, LoadsRecord}
+use Rattle.std.proofs.Common.{rules, ◌≡◌, ◌≤◌, ◌+◌, Some, None, Ok, Err, inl, inr, length, refl, sym, subst, arith}
+use Rattle.sign_core.specs.inner.Signer.{IsTakenUp, LoadsRecord}
+use Rattle.sign_core.specs.Signer.{LoadsAll}
 use Rattle.sign_core.proofs.Opening.{all_taken, all_tied, end_found, key_taken, taken, unloaded, untaken}
 use Rattle.sign_core.proofs.signer.load_all.Goals as goal
 
@@ -32,14 +33,14 @@ returns-in-None-clause-loads g c =
     let loads : LoadsRecord g.S.Store c.loop-slot.store c.load_at.new.store c.loop-slot.slot (Ok None) =
     subst (λ found. LoadsRecord g.S.Store c.loop-slot.store c.load_at.new.store c.loop-slot.slot (Ok found)) c.in-None.is c.in_ok-entry.ensures in
     let ended = end_found g.S.Store c.args.store.now c.loop-slot.store c.load_at.new.store c.loop-slot.ledger c.loop-slot.slot c.loop-slot.invariant loads in
-    all_taken g.S.Store c.args.store.now c.load_at.new.store c.loop-slot.ledger c.loop-slot.slot ended.0 ended.1
+    all_taken g.S.Store c.args.store.now c.load_at.new.store c.loop-slot.ledger c.loop-slot.slot (c.loop-slot.slot + 1) ended.0 ended.1 (inl refl)
 
 pub returns-in-None-clause-tied : goal.returns-in-None-clause-tied
 returns-in-None-clause-tied g c =
     let loads : LoadsRecord g.S.Store c.loop-slot.store c.load_at.new.store c.loop-slot.slot (Ok None) =
     subst (λ found. LoadsRecord g.S.Store c.loop-slot.store c.load_at.new.store c.loop-slot.slot (Ok found)) c.in-None.is c.in_ok-entry.ensures in
     let ended = end_found g.S.Store c.args.store.now c.loop-slot.store c.load_at.new.store c.loop-slot.ledger c.loop-slot.slot c.loop-slot.invariant loads in
-    all_tied g.S.Store c.args.store.now c.load_at.new.store c.loop-slot.ledger c.loop-slot.slot ended.0 ended.1
+    all_tied g.S.Store c.args.store.now c.load_at.new.store c.loop-slot.ledger c.loop-slot.slot (c.loop-slot.slot + 1) ended.0 ended.1
 
 pub loop-slot-preserved : goal.loop-slot-preserved
 loop-slot-preserved g c =
@@ -53,11 +54,13 @@ returns-clause-loads g c =
     let few = g.met.S.Store.few c.args.store.now in
     let end : length (g.S.Store.list c.args.store.now) ≤ c.loop-slot.slot =
     omega (arith, few, c.in_ok-load_key.ensures.loads.most, c.limit-slot-end.ensures, c.loop-slot-test.false) in
-    all_taken g.S.Store c.args.store.now c.loop-slot.store c.loop-slot.ledger c.loop-slot.slot c.loop-slot.invariant end
+    let most : c.loop-slot.slot ≡ g.S.Store.most c.args.store.now =
+    omega (arith, few, c.in_ok-load_key.ensures.loads.most, c.limit-slot-end.ensures, c.loop-slot-test.false, c.loop-slot.invariant.loaded.begins.inside) in
+    all_taken g.S.Store c.args.store.now c.loop-slot.store c.loop-slot.ledger c.loop-slot.slot c.loop-slot.slot c.loop-slot.invariant end (inr (refl, most))
 
 pub returns-clause-tied : goal.returns-clause-tied
 returns-clause-tied g c =
     let few = g.met.S.Store.few c.args.store.now in
     let end : length (g.S.Store.list c.args.store.now) ≤ c.loop-slot.slot =
     omega (arith, few, c.in_ok-load_key.ensures.loads.most, c.limit-slot-end.ensures, c.loop-slot-test.false) in
-    all_tied g.S.Store c.args.store.now c.loop-slot.store c.loop-slot.ledger c.loop-slot.slot c.loop-slot.invariant end
+    all_tied g.S.Store c.args.store.now c.loop-slot.store c.loop-slot.ledger c.loop-slot.slot c.loop-slot.slot c.loop-slot.invariant end

@@ -2,4 +2,4 @@ use Rattle.sign_core.proofs.Opening.{IsLoadedTo}
 use Rattle.sign_core.proofs.signer.load_all.Given as goal
 
 abbrev pub invariant-loop-slot : goal.invariant-loop-slot
-invariant-loop-slot g l = IsLoadedTo g.S.Store l.fn.store l.store l.ledger l.slot
+invariant-loop-slot g l = IsLoadedTo g.S.Store l.fn.store l.store l.ledger l.slot l.slot

@@ -1,6 +1,7 @@
-use Rattle.std.proofs.Common.{rules, ◌≡◌, Some, Ok, Err, sym, subst, IfErr}
-use Rattle.sign_core.specs.Signer.{IsTakenUp, LoadsAll, LoadsRecord}
-use Rattle.sign_core.proofs.Opening.{key_refused, none_loaded, unloaded}
+use Rattle.std.proofs.Common.{rules, ◌≡◌, Some, None, Ok, Err, sym, subst, IfErr}
+use Rattle.sign_core.specs.inner.Signer.{IsTakenUp, LoadsRecord}
+use Rattle.sign_core.specs.Signer.{LoadsAll}
+use Rattle.sign_core.proofs.Opening.{key_refused, none_loaded, none_there, unloaded}
 use Rattle.sign_core.proofs.signer.load_key.Goals as goal
 
 pub returns-in_err-entry-clause-refuses : goal.returns-in_err-entry-clause-refuses
@@ -19,3 +20,10 @@ returns-in-Some-clause-refuses g c =
     subst (λ a. IfErr a (λ fault. LoadsAll g.S.Store store c.load_at.new.store (IsTakenUp (Err fault)))) (sym c.ok_or.ensures.value)
     (key_refused g.S.Store store c.load_at.new.store c.in-Some.entry c.key_of.result
     (λ left honest running since. g.met.S.Store.leaves_nothing_else store left honest running since) loads c.key_of.ensures.other)
+
+pub returns-in-None-clause-refuses : goal.returns-in-None-clause-refuses
+returns-in-None-clause-refuses g c =
+    let store = c.args.store.now in
+    let loads : LoadsRecord g.S.Store store c.load_at.new.store 0 (Ok None) =
+    subst (λ found. LoadsRecord g.S.Store store c.load_at.new.store 0 (Ok found)) c.in-None.is c.in_ok-entry.ensures in
+    none_there g.S.Store store c.load_at.new.store (λ left honest running since. g.met.S.Store.leaves_nothing_else store left honest running since) loads

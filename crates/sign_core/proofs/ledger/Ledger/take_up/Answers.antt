@@ -1,6 +1,6 @@
 use Rattle.std.proofs.Common.{rules, ◌≡◌, ◌∙◌, ◌++◌, ◌∷◌, [], Some, true, ap, subst, arith}
 use Rattle.sign_core.specs.Records.{can_follow}
-use Rattle.sign_core.specs.Ledger.{Grows}
+use Rattle.sign_core.specs.inner.Ledger.{Grows}
 use Rattle.sign_core.proofs.ledger.Ledger.take_up.Goals as goal
 
 pub returns : goal.returns

@@ -1,7 +1,7 @@
 use Rattle.std.proofs.Common.{rules, ◌≡◌, ◌≤◌, Ok, Err, IsTrue, length, refl, sym, subst, arith}
 use Rattle.std.specs.Prelude.{IfErr}
 use Rattle.state_file.specs.FileStore.{disk_of, records_of}
-use Rattle.sign_core.specs.OldFile.{FindsRecord, ReadsRecords, RefusesOld, RefusesRecords}
+use Rattle.sign_core.specs.inner.OldFile.{FindsRecord, ReadsRecords, RefusesOld, RefusesRecords}
 use Rattle.sign_core.proofs.OldFile.{all_taken, answered, is_read, key_taken, reads_after, refused_after, refuses_load, refuses_next, taken, unloaded, untaken, untaken_is_no_failure}
 use Rattle.sign_core.proofs.migration.old_file.load_ledger.Goals as goal
 

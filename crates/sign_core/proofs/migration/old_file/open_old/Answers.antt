@@ -1,5 +1,5 @@
 use Rattle.std.proofs.Common.{Err, sym, subst}
-use Rattle.sign_core.specs.OldFile.{OpensOld}
+use Rattle.sign_core.specs.inner.OldFile.{OpensOld}
 use Rattle.sign_core.proofs.OldFile.{judged_movable, judged_refused}
 use Rattle.sign_core.proofs.migration.old_file.open_old.Goals as goal
 

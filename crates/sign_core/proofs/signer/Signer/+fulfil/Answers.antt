@@ -5,9 +5,9 @@ use Rattle.state_file.specs.declared.record.Key.{Key}
 use Rattle.sign_core.specs.declared.fault.SignFault.{SignFault}
 use Rattle.sign_core.specs.Signing.{answered_with}
 use Rattle.sign_core.specs.Records.{key_in, is_long}
-use Rattle.sign_core.specs.Links.{trees_in}
+use Rattle.sign_core.specs.inner.Links.{trees_in}
 use Rattle.sign_core.specs.Signer.{signature_size}
-use Rattle.sign_core.specs.Signing.{CanBind, Extends, Fulfils}
+use Rattle.sign_core.specs.inner.Signing.{CanBind, Extends, Fulfils}
 use Rattle.sign_core.proofs.Adding.{levels_range}
 use Rattle.sign_core.proofs.Fulfils.{Recorded, fulfils_after, fulfils_refused, is_recorded, key_after, ready_after, unbound_after}
 use Rattle.sign_core.proofs.StandingChain.{few_levels}

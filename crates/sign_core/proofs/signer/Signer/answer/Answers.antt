@@ -3,7 +3,7 @@ use Rattle.std.specs.Prelude.{vec_capacity}
 use Rattle.sign_core.specs.Signing.{answered_with}
 use Rattle.sign_core.specs.Records.{binding_in, key_in}
 use Rattle.sign_core.specs.Signer.{IsSigner, KeepsForRepeat, Signs, is_before_repeat}
-use Rattle.sign_core.specs.Signing.{IsBindingOf}
+use Rattle.sign_core.specs.inner.Signing.{IsBindingOf}
 use Rattle.sign_core.specs.Ledger.{binding_kept, kept_of}
 use Rattle.sign_core.proofs.Refusals.{same_kind}
 use Rattle.sign_core.proofs.Signs.{hindered_signs, long_signs, none_mapped, repeats_signs}

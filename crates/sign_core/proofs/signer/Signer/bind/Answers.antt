@@ -5,7 +5,7 @@ use Rattle.state_file.specs.Laws.{levels_of}
 use Rattle.sign_core.specs.Signing.{answered_with}
 use Rattle.sign_core.specs.Records.{deepest, key_in}
 use Rattle.sign_core.specs.Signer.{IsSigner, Signs}
-use Rattle.sign_core.specs.Signing.{Binds}
+use Rattle.sign_core.specs.inner.Signing.{Binds}
 use Rattle.sign_core.proofs.ChainParts.{same_key}
 use Rattle.sign_core.proofs.Leaves.{deepest_is}
 use Rattle.sign_core.proofs.Signs.{binds_signs, exhausted_signs, none_fault, some_level, unprepared_signs}

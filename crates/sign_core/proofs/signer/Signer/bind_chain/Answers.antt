@@ -3,7 +3,8 @@ use Rattle.state_file.specs.Laws.{bottom_of, levels_of}
 use Rattle.sign_core.specs.Signing.{answered_with}
 use Rattle.sign_core.specs.Records.{deepest, key_in}
 use Rattle.sign_core.specs.Signer.{IsSigner, view_of}
-use Rattle.sign_core.specs.Signing.{Binds, CanBind, Fulfils, UnderKey}
+use Rattle.sign_core.specs.inner.Signing.{Binds, CanBind, Fulfils}
+use Rattle.sign_core.specs.Signing.{UnderKey}
 use Rattle.sign_core.specs.Textbook.{damaged_in, tree_before}
 use Rattle.sign_core.proofs.ChainParts.{same_key}
 use Rattle.sign_core.proofs.Leaves.{deepest_is}

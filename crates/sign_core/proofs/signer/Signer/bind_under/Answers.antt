@@ -5,9 +5,10 @@ use Rattle.state_file.specs.declared.record.Bound.{Bound}
 use Rattle.state_file.specs.declared.record.Record.TheVariants.{Bound as BoundRecord}
 use Rattle.sign_core.specs.Signing.{answered_with}
 use Rattle.sign_core.specs.Records.{binding_in, has_moved, key_in}
-use Rattle.sign_core.specs.Links.{trees_in}
+use Rattle.sign_core.specs.inner.Links.{trees_in}
 use Rattle.sign_core.specs.Signer.{view_of}
-use Rattle.sign_core.specs.Signing.{Fulfils, Stands, StandsIn, UnderKey}
+use Rattle.sign_core.specs.inner.Signing.{Fulfils, Stands, StandsIn}
+use Rattle.sign_core.specs.Signing.{UnderKey}
 use Rattle.sign_core.specs.Textbook.{signature_at, trees_of}
 use Rattle.sign_core.proofs.Binding.{bound_below, chain_follows_bound, key_of_added, standing_made, standing_pairs, standing_signs, undrawn, unread_bound}
 use Rattle.sign_core.proofs.LedgerReading.{key_levels}

@@ -6,8 +6,9 @@ use Rattle.state_file.specs.declared.record.Bound.{Bound}
 use Rattle.state_file.specs.declared.record.Record.TheVariants.{Bound as BoundRecord}
 use Rattle.sign_core.specs.Signing.{answered_with}
 use Rattle.sign_core.specs.Records.{can_follow, key_in}
-use Rattle.sign_core.specs.Signer.{Adds, IsSigner, view_of}
-use Rattle.sign_core.specs.Signing.{Binds}
+use Rattle.sign_core.specs.inner.Signer.{Adds}
+use Rattle.sign_core.specs.Signer.{IsSigner, view_of}
+use Rattle.sign_core.specs.inner.Signing.{Binds}
 use Rattle.sign_core.specs.Textbook.{signature_at}
 use Rattle.sign_core.proofs.Binding.{added_binds, bound_of_xmss, damaged_binds, unread_binds, xmss_follows, xmss_next_inside, xmss_room}
 use Rattle.sign_core.proofs.ChainParts.{same_key, xmss_signed}

@@ -11,9 +11,9 @@ use Rattle.sign_core.specs.declared.fault.SignFault.TheVariants.{OutOfMemory}
 use Rattle.sign_core.specs.declared.links.Link.{Link}
 use Rattle.sign_core.specs.Signing.{answered_with}
 use Rattle.sign_core.specs.Records.{has_moved, key_in}
-use Rattle.sign_core.specs.Links.{trees_in}
+use Rattle.sign_core.specs.inner.Links.{trees_in}
 use Rattle.sign_core.specs.Signer.{View, view_of}
-use Rattle.sign_core.specs.Signing.{Extends, Stands, StandsIn}
+use Rattle.sign_core.specs.inner.Signing.{Extends, Stands, StandsIn}
 use Rattle.sign_core.specs.Textbook.{lms_secret}
 use Rattle.sign_core.proofs.Adding.{levels_range}
 use Rattle.sign_core.proofs.Appended.{added_records}

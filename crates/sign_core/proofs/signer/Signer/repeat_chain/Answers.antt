@@ -5,8 +5,9 @@ use Rattle.lmots.specs.Key.{message_digest_of}
 use Rattle.state_file.specs.Laws.{bottom_of}
 use Rattle.sign_core.specs.Records.{key_in}
 use Rattle.sign_core.specs.Signer.{is_before_repeat, state_of}
-use Rattle.sign_core.specs.Links.{AreMade, IsTreeAt, trees_in}
-use Rattle.sign_core.specs.Signing.{IsBindingOf, Repeats, UnderKey, WritesChain}
+use Rattle.sign_core.specs.inner.Links.{AreMade, IsTreeAt, trees_in}
+use Rattle.sign_core.specs.inner.Signing.{IsBindingOf, Repeats, WritesChain}
+use Rattle.sign_core.specs.Signing.{UnderKey}
 use Rattle.sign_core.specs.Signing.{answered_with}
 use Rattle.sign_core.specs.Textbook.{trees_of}
 use Rattle.sign_core.proofs.Capacities.{capacity_grows, capacity_stays}

@@ -4,7 +4,7 @@ use Rattle.std.proofs.lemmas.List.{take_at}
 use Rattle.xmss.specs.Digest.{message_digest_of}
 use Rattle.sign_core.specs.Records.{key_in}
 use Rattle.sign_core.specs.Signer.{IsSigner, is_before_repeat, state_of}
-use Rattle.sign_core.specs.Signing.{Repeats}
+use Rattle.sign_core.specs.inner.Signing.{Repeats}
 use Rattle.sign_core.specs.Signing.{answered_with}
 use Rattle.sign_core.proofs.Capacities.{capacity_grows, capacity_stays}
 use Rattle.sign_core.proofs.ChainParts.{same_key}

@@ -1,7 +1,7 @@
 use Rattle.std.proofs.Common.{length, arith, refl, subst}
 use Rattle.std.proofs.lemmas.List.{length-set, take_all}
 use Rattle.std.proofs.lemmas.Option.{slice_get_read}
-use Rattle.sign_core.specs.Writing.{AreLevelsOf, IsLevelOf}
+use Rattle.sign_core.specs.inner.Writing.{AreLevelsOf, IsLevelOf}
 use Rattle.sign_core.proofs.WritingParts.{more_levels, no_link}
 use Rattle.sign_core.proofs.writing.LinkLevels.of.Goals as goal
 

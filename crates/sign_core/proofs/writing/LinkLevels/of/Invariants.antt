@@ -1,5 +1,5 @@
 use Rattle.std.proofs.Common.{◌≡◌, length, take}
-use Rattle.sign_core.specs.Writing.{AreLevelsOf}
+use Rattle.sign_core.specs.inner.Writing.{AreLevelsOf}
 use Rattle.sign_core.proofs.writing.LinkLevels.of.Given as goal
 
 -- The levels so far are those of the first links.

@@ -9,7 +9,7 @@ use Rattle.hss.specs.Writing.{signature_bytes as hss_signature_bytes, textbook a
 use Rattle.state_file.specs.declared.record.Secret.{Secret}
 use Rattle.state_file.specs.declared.record.Secret.TheVariants.{Lms, Hss, Xmss}
 use Rattle.sign_core.specs.declared.links.Link.{Link}
-use Rattle.sign_core.specs.Links.{signing_of_link}
+use Rattle.sign_core.specs.inner.Links.{signing_of_link}
 
 -- the types of the trees that sign
 abbrev pub types_of : List Signing → List LmsPair

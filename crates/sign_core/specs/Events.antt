@@ -1,0 +1,73 @@
+-- Which events can come: what may be drawn in them, and what a load may fail with.
+use Rattle.std.specs.Prelude.{◌≡◌, ℕ, List, [], ◌∷◌, length, ◌⊎◌, Option, Some, None}
+use Rattle.typecodes.specs.declared.spec.Spec.TheVariants.{Lms, Hss, Xmss}
+use Rattle.std.specs.List.{AllByRecursion}
+use Rattle.typecodes.specs.declared.spec.Spec.{Spec}
+use Rattle.typecodes.specs.Spec.{IsSpec}
+use Rattle.typecodes.specs.Name.{IsName}
+use Rattle.typecodes.specs.Layout.{AreBytes}
+use Rattle.state_file.specs.declared.record.Secret.{Secret}
+use Rattle.state_file.specs.declared.record.Secret.TheVariants.{Lms as LmsSecret, Hss as HssSecret, Xmss as XmssSecret}
+use Rattle.sign_core.specs.declared.fault.SignFault.{SignFault}
+use Rattle.sign_core.specs.declared.fault.SignFault.TheVariants.{OutOfMemory, Stopped, StoreFailed, Unreadable}
+use Rattle.sign_core.specs.declared.fault.SignFault.TheVariants.{DeviceFailed, NoMemoryToOpen}
+use Rattle.sign_core.specs.World.{Chance, Draw, Event, Opening, create, reopen, request, retire, migrate, stop}
+
+-- the fields of a draw have their sizes in bytes; the last of them may be missing
+abbrev pub AreFields : (sizes : List ℕ) → (fields : List (List ℕ)) → Type 0
+AreFields sizes [] = Unit {0}
+AreFields [] (field ∷ fields) = ⊥
+AreFields (size ∷ sizes) (field ∷ fields) = (length field ≡ size) × AreBytes field × AreFields sizes fields
+
+-- what a create draws: I and SEED, or the three seeds of XMSS
+abbrev pub key_sizes : Spec → List ℕ
+key_sizes (Lms pair) = 16 ∷ 32 ∷ []
+key_sizes (Hss levels) = 16 ∷ 32 ∷ []
+key_sizes (Xmss tree) = 32 ∷ 32 ∷ 32 ∷ []
+
+-- what a new tree draws: I, SEED and C
+abbrev pub tree_sizes : List ℕ
+tree_sizes = 16 ∷ 32 ∷ 32 ∷ []
+
+abbrev pub IsTreeDraw : Draw → Type 0
+IsTreeDraw draw = AreFields tree_sizes draw.fields
+
+-- what a binding draws: C, but nothing for XMSS
+abbrev pub randomizer_sizes : Secret → List ℕ
+randomizer_sizes (LmsSecret pair identifier seed) = 32 ∷ []
+randomizer_sizes (HssSecret levels identifier seed) = 32 ∷ []
+randomizer_sizes (XmssSecret tree secret_seed prf_key public_seed) = []
+
+-- The draws of a request: those of trees, and C for the binding.
+pub record AreDraws (chance : Chance) : Type 0 where
+  pub trees : AllByRecursion IsTreeDraw chance.trees
+  pub bound : AreFields (32 ∷ []) chance.bound.fields
+
+-- The draws of a request under a key: for the binding C, but nothing for XMSS.
+pub record AreDrawsOf (secret : Secret) (chance : Chance) : Type 0 where
+  pub trees : AllByRecursion IsTreeDraw chance.trees
+  pub bound : AreFields (randomizer_sizes secret) chance.bound.fields
+
+-- what the load of record 0 can fail with in a create, and what stops an opening at a slot
+abbrev pub CanFailLoad : Option SignFault → Type 0
+CanFailLoad None = Unit {0}
+CanFailLoad (Some fault) =
+    (fault ≡ Stopped) ⊎ (fault ≡ Unreadable 0) ⊎ (fault ≡ StoreFailed) ⊎ (fault ≡ OutOfMemory)
+
+abbrev pub CanStopOpening : Opening → Type 0
+CanStopOpening None = Unit {0}
+CanStopOpening (Some (slot, fault)) =
+    (fault ≡ Stopped) ⊎ (fault ≡ Unreadable slot) ⊎ (fault ≡ DeviceFailed) ⊎ (fault ≡ NoMemoryToOpen)
+
+abbrev pub IsEvent : Event → Type 0
+IsEvent (create spec chance) =
+    IsSpec spec × CanFailLoad chance.failed_load × AreFields (key_sizes spec) chance.fields
+IsEvent (reopen chance) = CanStopOpening chance
+IsEvent (request name chance) = IsName name × AreDraws chance
+IsEvent (retire upto fate) = Unit {0}
+IsEvent (migrate fate) = Unit {0}
+IsEvent stop = Unit {0}
+
+-- each event is one that can come
+abbrev pub AllEvents : List Event → Type 0
+AllEvents events = AllByRecursion IsEvent events

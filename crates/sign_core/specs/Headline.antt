@@ -1,0 +1,120 @@
+-- The headline: in every run no leaf signs two digests, and each signature handed out is recorded and valid.
+use Rattle.std.specs.Prelude.{◌≡◌, ℕ, ◌+◌, List, [], ◌∷◌, ◌++◌, Contains, length, map, Option, Some, None, Ok}
+use Rattle.std.specs.List.{range_with_len}
+use Rattle.typecodes.specs.Layout.{Spells}
+use Rattle.lmots.specs.Key.{message_digest_of as q_of}
+use Rattle.lms.specs.declared.key.LmsPublic.{LmsPublic}
+use Rattle.lms.specs.Signature.{Signature as LmsSignature, signature as lms_signature}
+use Rattle.xmss.specs.Digest.{message_digest_of as m_of}
+use Rattle.xmss.specs.Signature.{Signature as XmssSignature, signature as xmss_signature}
+use Rattle.xmss.specs.Writing.{public_bytes as xmss_public_bytes}
+use Rattle.hss.specs.Signature.{Signature as HssSignature, signature as hss_signature}
+use Rattle.hss.specs.Signature.{key_at, message_at, signature_at as hss_signature_at}
+use Rattle.sign_core.specs.Textbook.{digest_at, public_in, signature_at}
+use Rattle.sign_core.specs.declared.key.AnyPublic.{AnyPublic}
+use Rattle.sign_core.specs.declared.key.AnyPublic.TheVariants.{Lms, Hss, Xmss}
+use Rattle.state_file.specs.declared.record.Bound.{Bound}
+use Rattle.state_file.specs.declared.record.Key.{Key}
+use Rattle.state_file.specs.declared.record.Record.{Record}
+use Rattle.sign_core.specs.Key.{KeyVerdict}
+use Rattle.sign_core.specs.Records.{binding_in, key_in}
+use Rattle.sign_core.specs.Events.{AllEvents}
+use Rattle.sign_core.specs.World.{Event, Handed, World, beginning, run}
+
+-- ---- the leaves that a signature uses: read off its bytes, its message and the public key alone
+
+-- A leaf of a tree signs this digest. A tree goes by its I, that of XMSS by the public key.
+pub record LeafUse : Type 0 where
+  pub identifier : List ℕ
+  pub leaf : ℕ
+  pub digest : List ℕ
+
+-- the use that an LMS signature makes
+abbrev pub lms_use : LmsPublic → (message : List ℕ) → LmsSignature → LeafUse
+lms_use key message s =
+    record { identifier = key.identifier; leaf = s.q; digest = q_of key.identifier s.q s.randomizer message }
+
+-- The signature of these bytes makes these uses: one at each level, from the top down.
+abbrev pub MakesUses : AnyPublic → (message bytes : List ℕ) → List LeafUse → Type 0
+MakesUses (Lms key) message bytes uses =
+    (s : LmsSignature) × Spells lms_signature s bytes × (uses ≡ lms_use key message s ∷ [])
+MakesUses (Hss key) message bytes uses =
+    (s : HssSignature) × Spells hss_signature s bytes
+    × (uses ≡ map (λ i. lms_use (key_at key.top s i) (message_at message s i) (hss_signature_at s i))
+    (range_with_len 0 (length s.signed + 1)))
+MakesUses (Xmss key) message bytes uses =
+    (s : XmssSignature) × Spells (xmss_signature key.tree) s bytes
+    × (uses ≡ record {
+      identifier = xmss_public_bytes key;
+      leaf = s.index;
+      digest = m_of s.randomizer key.root s.index message;
+    } ∷ [])
+
+-- ---- what was handed out
+
+-- The bytes are a valid signature of the message under the key.
+abbrev pub IsValidUnder : AnyPublic → (message bytes : List ℕ) → Type 0
+IsValidUnder public message bytes = KeyVerdict {A = Unit {0}} public message bytes (Ok tt)
+
+-- A name is bound to the digest of this message under the bound leaf and C.
+pub record IsBoundTo (records : List Record) (key : Key) (name message : List ℕ) (k : ℕ) (bound : Bound) : Type 0 where
+  pub keyed : key_in records ≡ Some key
+  pub named : binding_in records name ≡ Some (k, bound)
+  pub digest : digest_at key records k bound.leaf bound.randomizer message ≡ bound.digest
+
+-- A signature that was handed out is the textbook signature of its name's binding, to the digest of its message.
+pub record IsRecorded (records : List Record) (x : Handed) : Type 0 where
+  pub key : Key
+  pub k : ℕ
+  pub bound : Bound
+  pub is_bound : IsBoundTo records key x.name x.message k bound
+  pub signature : x.signature ≡ signature_at key records k bound
+
+-- the public key of the world's record 0
+abbrev pub public_of_key : Option Key → Option AnyPublic
+public_of_key None = None
+public_of_key (Some key) = public_in key
+
+abbrev pub public_in_world : World → Option AnyPublic
+public_in_world world = public_of_key (key_in world.state.records)
+
+-- Two signatures were handed out, and by their bytes they make these uses.
+pub record WereHanded (world : World) (x y : Handed) (uses others : List LeafUse) : Type 0 where
+  pub public : AnyPublic
+  pub keyed : public_in_world world ≡ Some public
+  pub first : Contains world.handed x
+  pub second : Contains world.handed y
+  pub first_uses : MakesUses public x.message x.signature uses
+  pub second_uses : MakesUses public y.message y.signature others
+
+-- Two uses are of one leaf of one tree.
+pub record IsOneLeaf (u v : LeafUse) : Type 0 where
+  pub identifier : u.identifier ≡ v.identifier
+  pub leaf : u.leaf ≡ v.leaf
+
+-- the use of the bottom level is the last one
+abbrev pub IsLast : LeafUse → List LeafUse → Type 0
+IsLast u uses = (above : List LeafUse) × (uses ≡ above ++ u ∷ [])
+
+-- ---- the law
+
+-- What holds of all signatures that were handed out.
+pub record SignsOnce (world : World) : Type 0 where
+  -- no leaf at any level signs two digests
+  pub one_digest : (x y : Handed) (uses others : List LeafUse) (u v : LeafUse) → WereHanded world x y uses others
+      → Contains uses u → Contains others v → IsOneLeaf u v → u.digest ≡ v.digest
+  -- no leaf of a bottom tree signs under two names
+  pub one_name : (x y : Handed) (uses others : List LeafUse) (u v : LeafUse) → WereHanded world x y uses others
+      → IsLast u uses → IsLast v others → IsOneLeaf u v → x.name ≡ y.name
+  -- one name has one signature
+  pub one_signature : (x y : Handed) → Contains world.handed x → Contains world.handed y → x.name ≡ y.name
+      → x.signature ≡ y.signature
+  -- every signature that was handed out is recorded
+  pub recorded : (x : Handed) → Contains world.handed x → IsRecorded world.state.records x
+  -- and is valid for its message under the key
+  pub valid : (x : Handed) → Contains world.handed x
+      → (public : AnyPublic) × (public_in_world world ≡ Some public) × IsValidUnder public x.message x.signature
+
+-- it holds after every list of events from the beginning
+abbrev pub HeadlineLaw : Type 0
+HeadlineLaw = (limit : ℕ) (events : List Event) → AllEvents events → SignsOnce (run limit beginning events)

@@ -1,0 +1,44 @@
+-- What the law over all runs says of creates and openings.
+use Rattle.std.specs.Prelude.{◌≡◌, [], ℕ, ◌∷◌, ◌≢◌, ◌⊎◌, true, Some, None, Err}
+use Rattle.sign_core.specs.declared.key.AnyPublic.{AnyPublic}
+use Rattle.std.specs.List.{concat}
+use Rattle.typecodes.specs.declared.spec.Spec.{Spec}
+use Rattle.typecodes.specs.Spec.{IsSpec}
+use Rattle.state_file.specs.declared.record.Key.{Key}
+use Rattle.state_file.specs.declared.record.Record.TheVariants.{Key as KeyRecord}
+use Rattle.state_file.specs.declared.record.Secret.{Secret}
+use Rattle.sign_core.specs.declared.fault.SignFault.TheVariants.{Illegal}
+use Rattle.sign_core.specs.Records.{key_in}
+use Rattle.sign_core.specs.World.{Creation, Opening, State, World, acked, answered, created, drawing, new_key, open_on}
+use Rattle.sign_core.specs.World.{opened, secret_from}
+use Rattle.sign_core.specs.Textbook.{AreSound, public_in}
+use Rattle.sign_core.specs.Events.{CanStopOpening}
+use Rattle.sign_core.specs.Headline.{public_of_key}
+
+-- A create begins this key: its record is the only one, the signer is open on it, and the public key is answered.
+pub record BeginsKey (state : State) (spec : Spec) (chance : Creation) (key : Key) : Type 0 where
+  pub public : AnyPublic
+  pub is_public : public_in key ≡ Some public
+  pub begins : created state spec chance
+      ≡ drawing (concat chance.fields) (answered (open_on (KeyRecord key ∷ [])) public)
+
+-- An opening where nothing fails opens the signer on the records, and answers the public key of record 0.
+pub record Reopens (state : State) : Type 0 where
+  pub public : AnyPublic
+  pub keyed : public_of_key (key_in state.records) ≡ Some public
+  pub opens : opened state None ≡ answered (open_on state.records) public
+
+-- What creates and openings answer in a world, and on which records.
+pub record AreOpeningsAnswered (world : World) : Type 0 where
+  -- a create where no record stands begins a key and answers its public key, where nothing fails
+  pub begins : (spec : Spec) (secret : Secret) (chance : Creation) → IsSpec spec → world.state.records ≡ []
+      → chance.failed_load ≡ None → secret_from spec chance.fields ≡ Some secret → chance.has_room ≡ true
+      → chance.fate ≡ acked
+      → BeginsKey world.state spec chance (new_key chance.version secret)
+  -- there are no records, or they are sound: their roots and digests are those of the recorded secrets
+  pub sound : (world.state.records ≡ []) ⊎ AreSound world.state.records
+  -- so no opening is answered that the records aren't legal
+  pub legal : (chance : Opening) (slot : ℕ) → CanStopOpening chance
+      → (opened world.state chance).answer ≢ Err (Illegal slot)
+  -- an opening where nothing fails opens the signer on the records and answers the public key, where there is a key
+  pub reopens : (key : Key) → key_in world.state.records ≡ Some key → Reopens world.state

@@ -1,0 +1,13 @@
+-- What private functions alone cite: a reader of the contracts of public functions doesn't need it.
+pub mod Fault
+pub mod Frames
+pub mod Ledger
+pub mod Links
+pub mod OldFile
+pub mod Request
+pub mod Serving
+pub mod Signer
+pub mod Signing
+pub mod Source
+pub mod Trees
+pub mod Writing

@@ -1,0 +1,109 @@
+-- What private functions alone cite of `OldFile.antt`'s subject.
+use Rattle.std.specs.Prelude.{◌≡◌, ℕ, ◌<◌, ◌≤◌, Bool, false, IsTrue, IfErr, IfOk, OnOk, List, [], ◌∷◌, ◌++◌, length}
+use Rattle.std.specs.Prelude.{true, Option, Some, None, Result, Ok, Err}
+use Rattle.state_file.specs.Disk.{DiskState, LeavesOnly, MayLeave, settled}
+use Rattle.state_file.specs.DiskCalls.{CountsFailures, OnlyReads}
+use Rattle.state_file.specs.FileStore.{disk_after, disk_of, has_stopped, outcome_of, records_of}
+use Rattle.state_file.specs.Laws.{IsLegal}
+use Rattle.state_file.specs.MigrateFault.{is_failed_migration}
+use Rattle.state_file.specs.Slot.{version_in}
+use Rattle.state_file.specs.Store.{IsRecordAt}
+use Rattle.state_file.specs.declared.disk.Disk as disk
+use Rattle.state_file.specs.declared.file.opening.OpenFault.{OpenFault}
+use Rattle.state_file.specs.declared.file.opening.OpenFault.TheVariants.{NoKey as OpenNoKey}
+use Rattle.state_file.specs.declared.file.opening.OpenFault.TheVariants.{NotKeyFile as OpenNotKeyFile}
+use Rattle.state_file.specs.declared.file.opening.OpenFault.TheVariants.{Version as OpenVersion, Damaged as OpenDamaged}
+use Rattle.state_file.specs.declared.file.opening.OpenFault.TheVariants.{DeviceFailed as OpenFailed}
+use Rattle.state_file.specs.declared.migration.MigrateFault.{MigrateFault}
+use Rattle.state_file.specs.declared.migration.MigrateFault.TheVariants.{NoKey, NotKeyFile, Version as VersionFault}
+use Rattle.state_file.specs.declared.migration.MigrateFault.TheVariants.{Damaged, Illegal, DeviceFailed, OutOfMemory}
+use Rattle.state_file.specs.declared.record.Record.{Record}
+use Rattle.state_file.specs.declared.record.Version.TheVariants.{One, Two}
+use Rattle.state_file.specs.declared.refused.Refused.{Refused}
+use Rattle.state_file.specs.declared.store.file_store.FileStore.{FileStore}
+use Rattle.sign_core.specs.inner.Ledger.{LacksRoom}
+use Rattle.sign_core.specs.Ledger.{RunsOutOfMemory, Table}
+use Rattle.sign_core.specs.Records.{can_follow, first_illegal}
+use Rattle.sign_core.specs.OldFile.{SpellsMovable, ReportsOld}
+
+-- A store is read, and nothing else; its records stay, and it runs unless its device failed.
+pub record ReadsRecords {D A : Type 0} (d : disk.Ghosts D) (old new : FileStore D d) (answer : Result A MigrateFault)
+    : Type 0 where
+  pub records : records_of new ≡ records_of old
+  pub reads : IsTrue (d.honest (disk_of old)) → OnlyReads d.state d.moment d.left_since (disk_of old) (disk_of new)
+  pub counts : CountsFailures d is_failed_migration (disk_of old) (disk_of new) answer
+  pub running : OnOk answer (has_stopped new ≡ false)
+
+-- What the load of record k finds.
+abbrev pub FindsRecord : (honest : Bool) → List Record → (k : ℕ) → Result (Option Record) MigrateFault → Type 0
+FindsRecord honest list k (Ok None) = length list ≤ k
+FindsRecord honest list k (Ok (Some entry)) = (k < length list) × IsRecordAt honest list k entry
+FindsRecord honest list k (Err (Damaged slot)) = honest ≡ false
+FindsRecord honest list k (Err DeviceFailed) = Unit {0}
+FindsRecord honest list k (Err _) = ⊥
+
+-- What taking up the next record comes to: it can follow those before it, and stands after them; or it can't, and its
+-- place is answered; or it could, and there is no memory for it.
+abbrev pub TakesUpNext : (old new : Table) (entry : Record) → Result (Unit {0}) MigrateFault → Type 0
+TakesUpNext old new entry (Ok done) =
+    (can_follow (Some old.key) old.records entry ≡ true) × (new.key ≡ old.key)
+    × (new.records ≡ old.records ++ entry ∷ [])
+TakesUpNext old new entry (Err (Illegal k)) =
+    (can_follow (Some old.key) old.records entry ≡ false) × (k ≡ length old.records)
+TakesUpNext old new entry (Err OutOfMemory) =
+    (can_follow (Some old.key) old.records entry ≡ true) × LacksRoom entry old
+TakesUpNext old new entry (Err _) = ⊥
+
+-- What each refusal says of the records of an honest store. That they are legal comes before their version.
+abbrev pub RefusesRecords : List Record → MigrateFault → Type 0
+RefusesRecords records NoKey = records ≡ []
+RefusesRecords records VersionFault = IsLegal records × (version_in records ≡ Two)
+RefusesRecords records (Illegal k) = first_illegal records ≡ Some k
+RefusesRecords records DeviceFailed = Unit {0}
+RefusesRecords records OutOfMemory = RunsOutOfMemory records
+RefusesRecords records _ = ⊥
+
+-- What is answered to them: they are legal and of version 1, or are refused.
+abbrev pub JudgesRecords : {A : Type 0} → List Record → Result A MigrateFault → Type 0
+JudgesRecords records (Ok _) = IsLegal records × (version_in records ≡ One)
+JudgesRecords records (Err fault) = RefusesRecords records fault
+
+-- The refusals of an old place, over any disk.
+abbrev pub RefusesOld : MigrateFault → Type 0
+RefusesOld NoKey = Unit {0}
+RefusesOld NotKeyFile = Unit {0}
+RefusesOld VersionFault = Unit {0}
+RefusesOld (Damaged k) = Unit {0}
+RefusesOld (Illegal k) = Unit {0}
+RefusesOld DeviceFailed = Unit {0}
+RefusesOld OutOfMemory = Unit {0}
+RefusesOld _ = ⊥
+
+-- what is answered where the old place isn't opened
+abbrev pub opening_fault : OpenFault → MigrateFault
+opening_fault OpenNoKey = NoKey
+opening_fault OpenNotKeyFile = NotKeyFile
+opening_fault OpenVersion = VersionFault
+opening_fault (OpenDamaged k) = Damaged k
+opening_fault OpenFailed = DeviceFailed
+
+-- Where the device didn't fail, a disk's content is what it was, and all of it is synced.
+abbrev pub Keeps : {A : Type 0} → (content : List ℕ) → (after : DiskState) → Result A MigrateFault → Type 0
+Keeps content after (Ok _) = after ≡ settled content
+Keeps content after (Err DeviceFailed) = Unit {0}
+Keeps content after (Err _) = after ≡ settled content
+
+-- The old place was opened, and its records were judged. Nothing was written: all that a stop may leave meanwhile is
+-- what one might have left before.
+pub record OpensOld {D : Type 0} (d : disk.Ghosts D) (given : D)
+    (result : Result (FileStore D d) (Refused D MigrateFault)) : Type 0 where
+  pub found : IsTrue (d.honest given)
+      → IfOk result (λ store. SpellsMovable (d.state given).content (records_of store))
+  pub refuses : IfErr result (λ refused. RefusesOld refused.fault)
+  pub reports : IsTrue (d.honest given)
+      → IfErr result (λ refused. ReportsOld (d.state given).content refused.fault)
+  pub running : IfOk result (λ store. has_stopped store ≡ false)
+  pub keeps : IsTrue (d.honest given) → Keeps (d.state given).content (d.state (disk_after result)) (outcome_of result)
+  pub moments : IsTrue (d.honest given)
+      → LeavesOnly d.moment d.left_since given (disk_after result) (MayLeave (d.state given))
+  pub counts : CountsFailures d is_failed_migration given (disk_after result) (outcome_of result)

@@ -1,0 +1,208 @@
+-- What private functions alone cite of `Signing.antt`'s subject.
+use Rattle.std.specs.Prelude.{◌≡◌, ◌⊎◌, ℕ, ◌+◌, ◌-◌, ◌<◌, Bool, true, false, List, [], ◌∷◌, ◌++◌, length, Option, None}
+use Rattle.std.specs.Prelude.{Some, Result, Ok, Err, Vec, map, take, vec_capacity, ◌≤◌, ◌^◌}
+use Rattle.std.specs.List.{AllByRecursion, concat}
+use Rattle.typecodes.specs.declared.message.Message as message
+use Rattle.state_file.specs.declared.record.Bound.{Bound}
+use Rattle.state_file.specs.declared.record.Key.{Key}
+use Rattle.state_file.specs.declared.record.Record.{Record}
+use Rattle.state_file.specs.declared.store.Store as store
+use Rattle.state_file.specs.Disk.{Counts}
+use Rattle.state_file.specs.Laws.{bottom_of, leaves_at, levels_of}
+use Rattle.state_file.specs.declared.record.Secret.{Secret}
+use Rattle.sign_core.specs.declared.fault.SignFault.{SignFault}
+use Rattle.sign_core.specs.declared.fault.SignFault.TheVariants.{RandomFailed, RandomRepeated}
+use Rattle.sign_core.specs.declared.source.Source as source
+use Rattle.sign_core.specs.declared.links.Link.{Link}
+use Rattle.sign_core.specs.declared.signer.bind.TreeSeeds.{TreeSeeds}
+use Rattle.sign_core.specs.Source.{Provides}
+use Rattle.sign_core.specs.Records.{binding_in, current, has_identifier, has_moved, is_long, key_in, next_at}
+use Rattle.sign_core.specs.inner.Links.{AreMade, IsMade, signings_of}
+use Rattle.sign_core.specs.Events.{AreDrawsOf, AreFields, IsTreeDraw, randomizer_sizes, tree_sizes}
+use Rattle.sign_core.specs.Signer.{Ends, IsRead, KeepsAtRefusal, LacksTree, RefusesAfterDraws, UnlessAppended}
+use Rattle.sign_core.specs.Signer.{UsesMemory, View, is_before_caches, is_before_draws, is_before_repeat, is_fault}
+use Rattle.sign_core.specs.Signer.{is_random_failed, signature_size, state_of}
+use Rattle.sign_core.specs.World.{Chance, Draw, Outcome, State, acked, answered, bound_sound, extended, fulfilled}
+use Rattle.sign_core.specs.World.{open_on, requested_of}
+use Rattle.sign_core.specs.Textbook.{Trees, damaged_in, secret_at, signature_by, signing_of_bound, signings_above}
+use Rattle.sign_core.specs.Textbook.{tree_before, trees_of}
+use Rattle.typecodes.specs.declared.types.LmsPair.{LmsPair}
+use Rattle.sign_core.specs.declared.ledger.Binding.{Binding}
+use Rattle.sign_core.specs.Caches.{Cached, LacksCache}
+use Rattle.sign_core.specs.Ledger.{binding_kept}
+use Rattle.sign_core.specs.Signing.{UnderKey, answered_with, KeepsCapacity}
+
+-- the types of the trees of links
+abbrev pub pairs_of : List Link → List LmsPair
+pairs_of links = map (λ link. link.secret.pair) links
+
+-- The trees of a chain are the current ones down to a level, each of which signs the next; the last one is to sign by
+-- its next leaf, which is free.
+pub record Stands (key : Key) (trees : Trees) (records : List Record) (level : ℕ) (above : List Link) (last : Link)
+    : Type 0 where
+  pub tree : ℕ
+  pub current_is : current level records ≡ Some tree
+  pub count : length above ≡ level
+  pub signings : signings_of above ≡ signings_above trees level records tree
+  pub secret : last.secret ≡ secret_at trees records tree
+  pub leaf : last.signed.leaf ≡ next_at key.secret records level
+  pub free : next_at key.secret records level < leaves_at key.secret level
+  pub made : AreMade above
+  pub last_made : IsMade last
+  pub pairs : pairs_of (above ++ last ∷ []) ≡ take (level + 1) trees.pairs
+
+-- These are the trees of a key of LMS or HSS, and the chain stands.
+abbrev pub StandsIn : Trees → List Record → (above : List Link) → (last : Link) → Key → Type 0
+StandsIn trees records above last key =
+    (trees_of key.secret ≡ Some trees) × Stands key trees records (length above) above last
+
+-- So it is under the key of the records.
+abbrev pub ChainStands : List Record → Trees → (above : List Link) → (last : Link) → Type 0
+ChainStands records trees above last = UnderKey records (StandsIn trees records above last)
+
+-- A signer is open, its records don't go on elsewhere, and there is room for so many more, in the store and in memory.
+pub record IsReady {S R : Type 0} (most wanted : ℕ) (view : View S R) : Type 0 where
+  pub is_open : view.is_open ≡ true
+  pub stays : has_moved view.records ≡ false
+  pub few : length view.records + wanted ≤ most
+  pub counted : length view.records + wanted < 2 ^ 32
+  pub room : wanted ≤ view.spare
+
+-- A name can be bound: the signer is ready for as many records as that wants, the name isn't bound, the key's file can
+-- hold it, and an output of this size is that of a signature.
+pub record CanBind {S R : Type 0} (most wanted : ℕ) (name : List ℕ) (size : ℕ) (view : View S R) : Type 0 where
+  pub ready : IsReady most wanted view
+  pub unbound : binding_in view.records name ≡ None
+  pub fits : UnderKey view.records (λ key. is_long key name ≡ false)
+  pub room : UnderKey view.records (λ key. size ≡ signature_size key.secret)
+
+-- What the draws of a new tree come to: I, which none of the records has, SEED and C; or the source failed, and gave
+-- the fields before; or the I that it gave is one of the records'.
+abbrev pub DrawsTree : List Record → (failures_before failures_after : ℕ) (upcoming left : Option (List ℕ))
+    → Result TreeSeeds SignFault → Type 0
+DrawsTree records before after upcoming left (Ok seeds) = (after ≡ before)
+    × Provides upcoming (seeds.identifier ++ (seeds.seed ++ seeds.randomizer)) left
+    × AreFields tree_sizes (seeds.identifier ∷ seeds.seed ∷ seeds.randomizer ∷ [])
+    × (has_identifier records seeds.identifier ≡ false)
+DrawsTree records before after upcoming left (Err RandomFailed) = (fields : List (List ℕ))
+    × (after ≡ before + 1) × Provides upcoming (concat fields) left × AreFields tree_sizes fields
+    × (length fields < 3)
+    × ((first : List ℕ) (rest : List (List ℕ)) → fields ≡ first ∷ rest → has_identifier records first ≡ false)
+DrawsTree records before after upcoming left (Err RandomRepeated) = (identifier : List ℕ)
+    × (after ≡ before) × Provides upcoming identifier left × AreFields tree_sizes (identifier ∷ [])
+    × (has_identifier records identifier ≡ true)
+DrawsTree records before after upcoming left (Err _) = ⊥
+
+-- What a call does, by an outcome of the world: to the signer and its store; the bytes that were drawn are those that
+-- the source gave; the message is read or as it was; the source's failures and the store's refusals of memory are
+-- answered.
+pub record Does {S R M A : Type 0} (g : store.Ghosts S) (r : source.Ghosts R) (m : message.Ghosts M)
+    (old new : View S R) (before after : M) (given : Option (List ℕ)) (outcome : Outcome A)
+    (answer : Result A SignFault) : Type 0 where
+  pub ends : Ends g old new outcome answer
+  pub more : List Record
+  pub grown : outcome.acknowledged ≡ old.records ++ more
+  pub source : Provides (r.upcoming old.random) outcome.drawn (r.upcoming new.random)
+  pub failures : Counts is_random_failed (r.failures old.random) (r.failures new.random) answer
+  pub message : IsRead m outcome.is_read given before after
+  pub refusals : RefusesAfterDraws answer (g.refusals old.store) (g.refusals new.store)
+  pub memory : UsesMemory old new
+  pub stays : UnlessAppended old new answer (new.store ≡ old.store)
+
+-- One new tree of a level: nothing is answered, and the message isn't read.
+pub record Extends {S R : Type 0} (g : store.Ghosts S) (r : source.Ghosts R) (level : ℕ)
+    (old new : View S R) (answer : Result (List ℕ) SignFault) (key : Key) : Type 0 where
+  pub draw : Draw
+  pub outcome : Outcome (List ℕ)
+  pub step : extended (open_on old.records) key level (trees_of key.secret) draw
+      (λ records. answered (open_on records) []) ≡ outcome
+  pub possible : IsTreeDraw draw
+  pub ends : Ends g old new outcome answer
+  pub source : Provides (r.upcoming old.random) outcome.drawn (r.upcoming new.random)
+  pub failures : Counts is_random_failed (r.failures old.random) (r.failures new.random) answer
+  pub refusals : RefusesAfterDraws answer (g.refusals old.store) (g.refusals new.store)
+  pub memory : UsesMemory old new
+  pub stays : UnlessAppended old new answer (new.store ≡ old.store)
+  pub not_before_draws : is_fault is_before_draws answer ≡ false
+
+-- All that a new name wants, where so many levels below a standing chain have no tree: the Extends, and the Bound.
+pub record Fulfils {S R M : Type 0} (g : store.Ghosts S) (r : source.Ghosts R) (m : message.Ghosts M) (name : List ℕ)
+    (below : ℕ) (old new : View S R) (before after : M) (answer : Result (List ℕ) SignFault) (key : Key) : Type 0 where
+  pub trees : List Draw
+  pub bound : Draw
+  pub given : Option (List ℕ)
+  pub outcome : Outcome (List ℕ)
+  pub step : (all : List Draw)
+      → fulfilled key name (record { has_room = true; trees = all; bound = bound; given = given }) below trees
+      old.records ≡ outcome
+  pub trees_possible : AllByRecursion IsTreeDraw trees
+  pub bound_possible : AreFields (randomizer_sizes key.secret) bound.fields
+  pub does : Does g r m old new before after given outcome answer
+  pub not_before_draws : is_fault is_before_draws answer ≡ false
+  pub lacks_tree : LacksTree g (below + 1) old new answer
+
+-- A name that isn't bound, where there is room, and this level is the deepest with a free leaf.
+pub record Binds {S R M : Type 0} (g : store.Ghosts S) (r : source.Ghosts R) (m : message.Ghosts M) (name : List ℕ)
+    (level : ℕ) (old new : View S R) (before after : M) (answer : Result (List ℕ) SignFault) (key : Key) : Type 0 where
+  pub chance : Chance
+  pub outcome : Outcome (List ℕ)
+  pub step : bound_sound (state_of old) key name chance level
+      (damaged_in key level old.records (tree_before level old.records (length old.records))) ≡ outcome
+  pub possible : AreDrawsOf key.secret chance
+  pub room : chance.has_room ≡ true
+  pub does : Does g r m old new before after chance.given outcome answer
+  pub keeps : KeepsAtRefusal g true (levels_of key.secret - level) old new answer
+  pub not_before_caches : is_fault is_before_caches answer ≡ false
+
+-- nothing is drawn, and nothing is appended
+abbrev pub repeat_chance : (has_room : Bool) → (given : Option (List ℕ)) → Chance
+repeat_chance has_room given = record {
+  has_room = has_room;
+  trees = [];
+  bound = record { fields = []; fate = acked };
+  given = given;
+}
+
+-- A name that is bound has its recorded signature again, where the message has the recorded digest; nothing changes but
+-- caches. Memory is lacking for the output, or the cache of a current tree isn't there that stood before the name.
+pub record Repeats {M : Type 0} (m : message.Ghosts M) (state : State) (cached : Cached) (before after : M)
+    (capacity : ℕ) (answer : Result (List ℕ) SignFault) (key : Key) (name : List ℕ) : Type 0 where
+  pub has_room : Bool
+  pub given : Option (List ℕ)
+  pub step : (limit : ℕ) → (requested_of limit state key name (repeat_chance has_room given)
+      (binding_in state.records name)).answer ≡ answer
+  pub message : IsRead m true given before after
+  pub room : (k : ℕ) (bound : Bound) → binding_in state.records name ≡ Some (k, bound) → has_room ≡ false
+      → (capacity < signature_size key.secret) ⊎ LacksCache key state.records (Some (bottom_of key.secret)) k cached
+
+-- The binding is that of a name.
+abbrev pub IsBindingOf : List Record → Binding → Key → (name : List ℕ) → Type 0
+IsBindingOf records binding key name = binding_kept key.secret records name ≡ Some binding
+
+-- The binding is that of some name.
+abbrev pub IsSomeBinding : List Record → Binding → Type 0
+IsSomeBinding records binding = UnderKey records (λ key. (name : List ℕ) × IsBindingOf records binding key name)
+
+-- Each name that a binding is of is repeated so.
+abbrev pub RepeatsBinding : {M : Type 0} → message.Ghosts M → State → Cached → Binding → (before after : M)
+    → (capacity : ℕ) → Result (List ℕ) SignFault → Type 0
+RepeatsBinding m state cached binding before after capacity answer = UnderKey state.records (λ key. (name : List ℕ)
+    → IsBindingOf state.records binding key name → Repeats m state cached before after capacity answer key name)
+
+-- `RepeatsBinding` with the caches taken out. An answer that comes before they are needed leaves them as they were. The
+-- output keeps its memory.
+pub record RepeatsBy {M Z A : Type 0} (m : message.Ghosts M) (state : State) (binding : Binding)
+    (old_caches new_caches : Cached) (before after : M) (old new : Vec ℕ Z) (result : Result A SignFault)
+    : Type 0 where
+  pub step : RepeatsBinding m state old_caches binding before after (vec_capacity old) (answered_with result new.items)
+  pub capacity : KeepsCapacity state.records (vec_capacity old) (vec_capacity new)
+  pub early : is_fault is_before_repeat result ≡ true → new_caches ≡ old_caches
+
+-- Where the trees of links sign as those of a binding's chain in the records of a key do, by the record at place k, the
+-- bytes are the binding's textbook signature.
+abbrev pub WritesChain : Secret → List Link → (bytes : List ℕ) → Type 0
+WritesChain secret links bytes = (trees : Trees) (records : List Record) (k : ℕ) (bound : Bound)
+    → (key : Key) × (key_in records ≡ Some key) → trees_of secret ≡ Some trees
+    → signings_of links ≡ signings_above trees (bottom_of secret) records (tree_before (bottom_of secret) records k)
+    ++ signing_of_bound trees records (tree_before (bottom_of secret) records k) bound ∷ []
+    → bytes ≡ signature_by secret records k bound
