@@ -354,9 +354,8 @@ uint64_t hbs_verify(const uint8_t *public_key, size_t public_key_length,
 
 uint64_t hbs_verify_digest(const uint8_t *public_key, size_t public_key_length,
                            const uint8_t *signature, size_t signature_length,
-                           const uint8_t *digest, size_t digest_length) {
+                           const uint8_t *digest) {
     text it = {NULL, 0, digest};
     cursor from = {signature, signature_length, 0};
-    (void)digest_length;
     return verify(public_key, public_key_length, &it, from);
 }

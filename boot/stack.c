@@ -27,11 +27,11 @@ static void verify(void) {
 }
 
 static void message_prefix(void) {
-    answer = hbs_message_prefix(public_key, key_length, signature, signature_length, prefix, sizeof prefix);
+    answer = hbs_message_prefix(public_key, key_length, signature, signature_length, prefix);
 }
 
 static void verify_digest(void) {
-    answer = hbs_verify_digest(public_key, key_length, signature, signature_length, digest, sizeof digest);
+    answer = hbs_verify_digest(public_key, key_length, signature, signature_length, digest);
 }
 
 static size_t read(const char *path, uint8_t *into, size_t most) {

@@ -6,7 +6,8 @@
  *
  * What every call asks for. Nothing checks it, as in C:
  *   - A pointer is not null, also where its length is 0.
- *   - As many bytes as its length says can be read there, and at `prefix` also written. A length is below 2^63.
+ *   - As many bytes as its length says can be read there: 32 at `digest`. 128 can be read and written at `prefix`. A
+ *     length is below 2^63.
  *   - No alignment: any address will do. The processor has to take unaligned loads and stores from this memory. On
  *     aarch64 it does where the MMU is on, the memory is Normal, and SCTLR_EL1.A is 0.
  *   - Nobody writes the memory while a call runs: no other thread or processor, no interrupt, no device. What is
@@ -31,7 +32,6 @@
  *   10 HBS_TYPE_MISMATCH     level                        the types of the signature are not its key's
  *   11 HBS_LEVEL_MISMATCH    0                            the signature has not as many levels as the key
  *   12 HBS_ROOT_MISMATCH     level                        the signature does not lead to its key's root
- *   14 HBS_MESSAGE_READ      0                            the message has 2^60 bytes or more
  *
  * A place is in bytes from the beginning of the key or the signature. Level 0 is the top one, and the only one of LMS
  * and XMSS. A length of 2^32 or more is given as 2^32 - 1. Every answer other than 0 means: do not start it.
@@ -68,7 +68,6 @@ extern "C" {
 #define HBS_TYPE_MISMATCH 10
 #define HBS_LEVEL_MISMATCH 11
 #define HBS_ROOT_MISMATCH 12
-#define HBS_MESSAGE_READ 14
 
 /* The number of an answer, and its detail, each of the type uint64_t. */
 #define HBS_NUMBER(answer) ((answer) & 0xffffffffu)
@@ -83,24 +82,23 @@ uint64_t hbs_verify(const uint8_t *public_key, size_t public_key_length,
 
 /*
  * For a message that is not in one piece, or is hashed by hardware: writes the bytes that are hashed before it. They
- * are 54 for LMS and HSS (RFC 8554 4.5) and 128 for XMSS (RFC 8391 5.1).
+ * are 54 for LMS and HSS (RFC 8554 4.5) and 128 for XMSS (RFC 8391 4.1.9).
  *
- * `prefix_length` is HBS_PREFIX_BYTES. Where the number is 0, the detail is how many bytes of `prefix` were written.
- * Otherwise it is the refusal of the key or the signature that is known without the message, and `prefix` is as it
- * was. A number of 0 says nothing of the signature's validity.
+ * `prefix` has HBS_PREFIX_BYTES. Where the number is 0, the detail is how many of them, from the first on, are to be
+ * hashed. Otherwise it is the refusal of the key or the signature that is known without any hash, 1 to 6 or 11, and
+ * `prefix` has nothing of use. A number of 0 says nothing of the signature's validity.
  */
 uint64_t hbs_message_prefix(const uint8_t *public_key, size_t public_key_length,
                             const uint8_t *signature, size_t signature_length,
-                            uint8_t *prefix, size_t prefix_length);
+                            uint8_t *prefix);
 
 /*
- * `digest` is the SHA-256 of these bytes followed by the message, and `digest_length` is HBS_DIGEST_BYTES. The answer
- * is hbs_verify's for every message of fewer than 2^60 bytes with this digest. Nothing is kept between the calls: key
- * and signature are judged again, in whole.
+ * `digest` has HBS_DIGEST_BYTES: the SHA-256 of these bytes followed by the message. The answer is that of hbs_verify
+ * for every message with this digest. Nothing is kept between the calls: key and signature are judged again, in whole.
  */
 uint64_t hbs_verify_digest(const uint8_t *public_key, size_t public_key_length,
                            const uint8_t *signature, size_t signature_length,
-                           const uint8_t *digest, size_t digest_length);
+                           const uint8_t *digest);
 
 #ifdef __cplusplus
 }

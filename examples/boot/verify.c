@@ -15,6 +15,7 @@
 /* The first place of a message in memory. */
 #define PIECE 65536
 /* Refusals of the machine, which are no answers of the library. */
+#define MESSAGE_READ 14
 #define OUT_OF_MEMORY 46
 #define FILE_FAILED 53
 
@@ -38,7 +39,7 @@ static const refusal REFUSALS[] = {
     {HBS_TYPE_MISMATCH, "TypeMismatch", " level "},
     {HBS_LEVEL_MISMATCH, "LevelMismatch", NULL},
     {HBS_ROOT_MISMATCH, "RootMismatch", " level "},
-    {HBS_MESSAGE_READ, "MessageRead", NULL},
+    {MESSAGE_READ, "MessageRead", NULL},
     {OUT_OF_MEMORY, "OutOfMemory", NULL},
     {FILE_FAILED, "FileFailed", NULL},
 };
@@ -62,7 +63,7 @@ static int report(uint64_t answer, unsigned long long detail) {
         if (it->detail) printf("%s%llu", it->detail, detail);
         putchar('\n');
     }
-    if (number == HBS_MESSAGE_READ || number == OUT_OF_MEMORY || number == FILE_FAILED) status = MACHINE_FAILED;
+    if (number == MESSAGE_READ || number == OUT_OF_MEMORY || number == FILE_FAILED) status = MACHINE_FAILED;
     return fflush(stdout) == 0 && !ferror(stdout) ? status : MACHINE_FAILED;
 }
 
@@ -112,9 +113,9 @@ static uint64_t without_message(const input *public_key, const input *signature)
     static const uint8_t NO_DIGEST[HBS_DIGEST_BYTES];
     const uint64_t bottom = public_key->length == HBS_HSS_KEY_BYTES ? public_key->bytes[3] - 1u : 0;
     const uint64_t answer = hbs_verify_digest(public_key->bytes, public_key->length, signature->bytes,
-                                              signature->length, NO_DIGEST, sizeof NO_DIGEST);
+                                              signature->length, NO_DIGEST);
     const int is_last = HBS_NUMBER(answer) == HBS_ROOT_MISMATCH && HBS_DETAIL(answer) == bottom;
-    return answer == HBS_VERIFIED || is_last ? HBS_MESSAGE_READ : answer;
+    return answer == HBS_VERIFIED || is_last ? MESSAGE_READ : answer;
 }
 
 /* Opens the files in the order of the line, reads them, and judges what is in them. */
@@ -139,7 +140,7 @@ static int judge(input *public_key, input *message, input *signature) {
     if (!is_read && errno == ENOMEM) return report(OUT_OF_MEMORY, 0);
     if (!is_read) {
         answer = without_message(public_key, signature);
-        if (HBS_NUMBER(answer) == HBS_MESSAGE_READ) return failed(message, "read", answer);
+        if (HBS_NUMBER(answer) == MESSAGE_READ) return failed(message, "read", answer);
     } else {
         answer = hbs_verify(public_key->bytes, public_key->length, message->bytes, message->length, signature->bytes,
                             signature->length);
