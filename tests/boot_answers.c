@@ -59,6 +59,7 @@ int main(void) {
         print(hbs_verify_digest(key.bytes, key.length, signature.bytes, signature.length, digest));
         for (size_t i = 0; i < HBS_PREFIX_BYTES; i++) printf("%02x", prefix[i]);
         putchar('\n');
+        fflush(stdout);
         free(key.bytes);
         free(message.bytes);
         free(signature.bytes);
