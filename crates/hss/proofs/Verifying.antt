@@ -9,12 +9,12 @@ use Rattle.std.specs.Prelude.{◌≢◌, Option}
 use Rattle.lms.specs.declared.key.LmsPublic.{LmsPublic}
 use Rattle.lms.specs.Signature.{Signature as LmsSignature}
 use Rattle.lms.specs.Writing.{public_bytes}
-use Rattle.lms.specs.Verification.{IsValid as IsLmsValid, LeavesMessage as LmsLeavesMessage, LevelVerdict}
+use Rattle.lms.specs.Verification.{IsValid as IsLmsValid, LeavesMessage as LmsLeavesMessage, LevelVerdict, digest_of as lms_digest_of}
 use Rattle.typecodes.specs.Layout.{Spells}
 use Rattle.hss.specs.declared.key.HssPublic.{HssPublic}
 use Rattle.hss.specs.SignedKey.{SignedKey}
 use Rattle.hss.specs.Signature.{Signature, key_at, keys_of, level_count, message_at, signature, signature_at}
-use Rattle.hss.specs.Verification.{AboveVerdict, AreValidAbove, IsValid, IsValidAt, LeavesMessage, Reaches, Verdict}
+use Rattle.hss.specs.Verification.{AboveVerdict, AreValidAbove, IsBottom, IsDigest, IsValid, IsValidAt, LeavesMessage, Reaches, Verdict}
 
 -- above the bottom a level signs the bytes of the next level's key
 pub message_at-above : (top : LmsPublic) (message : List ℕ) (s : Signature) (i : ℕ) → i < length s.signed → public_bytes (key_at top s (i + 1)) ≡ message_at message s i
@@ -152,3 +152,27 @@ above-leaves transition remaining A key s text message MessageRead count refused
 above-leaves transition remaining A key s text message (TypeMismatch i) count refused = refl
 above-leaves transition remaining A key s text message (RootMismatch i) count (within, _, _, _) =
     inr (λ same. omega (arith, count), refl)
+
+-- no refusal above the bottom says that the message can't be read
+pub above-read : (top : LmsPublic) (s : Signature) (refusal : Refusal) → AboveVerdict top s (Err refusal) → refusal ≢ MessageRead
+above-read top s (Unreadable fault) refused same = absurd refused
+above-read top s LevelMismatch refused same = absurd refused
+above-read top s MessageRead refused same = absurd refused
+above-read top s (TypeMismatch i) refused same = absurd (cc)
+above-read top s (RootMismatch i) refused same = absurd (cc)
+
+-- the answer of the bottom level is that of the bytes
+pub of-bottom : {A : Type 0} (key : HssPublic) (message bytes : List ℕ) (read : LmsSignature) (k : LmsPublic) (i : ℕ) (result : Result A Refusal)
+    → IsBottom key bytes read k i → LevelVerdict k message read i result → Verdict key message bytes result
+of-bottom key message bytes read k i result bottom verdict =
+    let s = bottom.whole in
+    bottom-read key message bytes s k read i result bottom.spelled bottom.count bottom.above bottom.last
+    (bottom.signature_is ∙ signature_at-bottom s i bottom.last) verdict
+
+-- the digest of the message under the bytes' signature is that under the bottom level
+pub digest-at-bottom : (key : HssPublic) (message bytes digest : List ℕ) (read : LmsSignature) (k : LmsPublic) (i : ℕ)
+    → IsBottom key bytes read k i → IsDigest key message bytes digest → digest ≡ lms_digest_of k message read
+digest-at-bottom key message bytes digest read k i bottom is_digest =
+    is_digest bottom.whole bottom.spelled
+    ∙ ap (λ k. lms_digest_of k message bottom.whole.bottom) (sym bottom.above.0)
+    ∙ ap (lms_digest_of k message) (sym bottom.signature_is)

@@ -6,7 +6,8 @@ use Rattle.typecodes.specs.declared.refusal.Refusal.TheVariants.{RootMismatch, M
 use Rattle.typecodes.specs.Layout.{Spells, HasFault}
 use Rattle.typecodes.specs.Message.{CantBeRead, ReadWhole, Transition}
 use Rattle.lms.specs.declared.key.LmsPublic.{LmsPublic}
-use Rattle.lms.specs.Verification.{IsValid as IsLmsValid}
+use Rattle.lms.specs.Signature.{Signature as LmsSignature}
+use Rattle.lms.specs.Verification.{IsValid as IsLmsValid, digest_of as lms_digest_of, prefix_of as lms_prefix_of}
 use Rattle.hss.specs.declared.key.HssPublic.{HssPublic}
 use Rattle.hss.specs.Signature.{Signature, key_at, level_count, message_at, signature, signature_at}
 
@@ -25,6 +26,16 @@ pub record Reaches (key : HssPublic) (message bytes : List ℕ) (s : Signature) 
   pub count : level_count s ≡ key.levels
   pub inside : i < key.levels
   pub above : (j : ℕ) → j < i → IsValidAt key.top message s j
+
+-- The digest is that of the message under the bottom level of the signature that the bytes spell, if they spell one.
+abbrev pub IsDigest : HssPublic → List ℕ → List ℕ → List ℕ → Type 0
+IsDigest key message bytes digest = (s : Signature) → Spells signature s bytes
+    → digest ≡ lms_digest_of (key_at key.top s (length s.signed)) message s.bottom
+
+-- The bytes spell a signature, and this is what is hashed before its message.
+abbrev pub HasPrefix : HssPublic → List ℕ → List ℕ → Type 0
+HasPrefix key bytes prefix = (s : Signature) × Spells signature s bytes
+    × (prefix ≡ lms_prefix_of (key_at key.top s (length s.signed)) s.bottom)
 
 -- The types of level i are those of its key.
 abbrev pub HasKeyTypes : LmsPublic → Signature → ℕ → Type 0
@@ -75,3 +86,14 @@ AboveVerdict top s (Err (TypeMismatch i)) =
 AboveVerdict top s (Err (RootMismatch i)) =
     (i < length s.signed) × AreValidAbove top s i × HasKeyTypes top s i
     × ((message : List ℕ) → IsValidAt top message s i → ⊥)
+
+-- This is the bottom level of the signature that the bytes spell, which has the key's levels: its signature, its key
+-- and its number; and all levels above it are valid.
+pub record IsBottom (key : HssPublic) (bytes : List ℕ) (bottom : LmsSignature) (bottom_key : LmsPublic) (i : ℕ)
+    : Type 0 where
+  pub whole : Signature
+  pub spelled : Spells signature whole bytes
+  pub count : level_count whole ≡ key.levels
+  pub above : AboveVerdict key.top whole (Ok bottom_key)
+  pub last : i ≡ length whole.signed
+  pub signature_is : bottom ≡ whole.bottom

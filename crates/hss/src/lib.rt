@@ -3,11 +3,12 @@
 //!
 //! Its model is `specs/Key.antt` and `specs/Signature.antt`, how keys and signatures are spelled,
 //! `specs/Verification.antt`, which signatures are valid, and `specs/Writing.antt`, the signature that the
-//! levels' secrets make. Its contract for the crates above: `verify` is Ok exactly on the spellings of
-//! valid signatures, and else reports the first refusal, a message that can't be read aside;
-//! `write_signature` writes the textbook signature where roots and paths are those of the secrets, and it is
-//! valid where each digest is that of what its level signs. The laws stand on `spelling_laws`,
-//! `verdict_laws`, `textbook_laws` and `joining_laws`.
+//! levels' secrets make. Its contract for the crates above: `verify` is Ok exactly on the spellings of valid
+//! signatures, and else reports the first refusal, a message that can't be read aside; `verify_bytes_by` and
+//! `verify_digest_by` do so of a message in memory and of one's digest, by either way to climb chains, of
+//! which one takes little stack; `write_signature` writes the textbook signature where roots and paths are
+//! those of the secrets, and it is valid where each digest is that of what its level signs. The laws stand on
+//! `spelling_laws`, `verdict_laws`, `textbook_laws` and `joining_laws`.
 //!
 //! ```rust
 //! use hss::{HssPublic, verify};
@@ -37,5 +38,5 @@ pub use crate::laws::{joining_laws, spelling_laws, textbook_laws, verdict_laws};
 pub use crate::secret::Level;
 pub use crate::signature::HssSigView;
 pub use crate::signed_key::SignedKeyView;
-pub use crate::verification::verify;
+pub use crate::verification::{message_prefix, verify, verify_bytes_by, verify_digest_by};
 pub use crate::writing::{signature_len, write_public, write_signature, write_signed_key};

@@ -7,8 +7,10 @@ ghost use Rattle.lms.specs.Writing.{public_bytes};
 ghost use Rattle.lms.specs.Verification.{LevelVerdict};
 ghost use Rattle.lms.specs.View.{signature_of as lms_signature_of};
 
+use lmots::Climbing;
 use lms::{LmsPublic, LmsSigView};
 use typecodes::{Cursor, ReadFault, Refusal};
+use winternitz::InLanes;
 
 /// The signature of a level above the bottom, and the next level's public key, which it signs
 /// (RFC 8554 6.2), as a view of the bytes that spell both.
@@ -57,7 +59,22 @@ impl<'a> SignedKeyView<'a> {
             (lms_signature_of self.now.signature) level result }
         ensures read { result ≢ Err Refusal.MessageRead }
     {
-        self.signature.verify_bytes(public, self.key_bytes, level)
+        self.verify_by(&InLanes, public, level)
+    }
+
+    /// The same, by a way to climb chains.
+    pub fn verify_by<C: Climbing>(
+        &self,
+        climbing: &C,
+        public: &LmsPublic,
+        level: u8,
+    ) -> Result<(), Refusal>
+        ensures verdict { LevelVerdict public.now (public_bytes self.now.key)
+            (lms_signature_of self.now.signature) level result }
+        ensures read { result ≢ Err Refusal.MessageRead }
+    {
+        self.signature
+            .verify_bytes_by(climbing, public, self.key_bytes, level)
     }
 }
 

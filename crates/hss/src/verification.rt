@@ -1,13 +1,18 @@
 //! Verification.
 
-ghost use Rattle.hss.specs.Verification.{AboveVerdict, LeavesMessage, Verdict};
+ghost use Rattle.std.specs.Prelude.{◌≡◌, ◌≢◌, ℕ, List, length, Err, IfOk, IfErr};
+ghost use Rattle.hss.specs.Signature.{key_at};
+ghost use Rattle.hss.specs.Verification.{AboveVerdict, HasPrefix, IsBottom, IsDigest, LeavesMessage, Verdict};
 ghost use Rattle.hss.specs.View.{signature_of};
+ghost use Rattle.lms.specs.View.{signature_of as lms_signature_of};
 ghost use Rattle.typecodes.specs.Verdict.{Verifies};
 
 use crate::key::HssPublic;
 use crate::signature::HssSigView;
-use lms::LmsPublic;
+use lmots::Climbing;
+use lms::{LmsPublic, LmsSigView};
 use typecodes::{Message, Refusal};
+use winternitz::InLanes;
 
 /// Verifies that the bytes of a signature sign the message under the key (RFC 8554 6.3).
 ///
@@ -28,18 +33,126 @@ pub fn verify<M: Message>(
     if view.levels() != public.levels.get() {
         return Err(Refusal::LevelMismatch);
     }
-    let key = bottom_key(&public.top, &view)?;
+    let key = bottom_key(&InLanes, &public.top, &view)?;
     view.bottom().verify(&key, message, view.levels() - 1)
 }
 
+/// The same of a message in memory, whose reading can't fail, by a way to climb chains.
+pub fn verify_bytes_by<C: Climbing>(
+    climbing: &C,
+    public: &HssPublic,
+    message: &[u8],
+    signature: &[u8],
+) -> Result<(), Refusal>
+    ensures verdict { Verdict public.now message.now signature.now result }
+    ensures read { result ≢ Err Refusal.MessageRead }
+{
+    let bottom = verify_above(climbing, public, signature)?;
+    bottom
+        .signature
+        .verify_bytes_by(climbing, &bottom.key, message, bottom.level)
+}
+
+/// The same of a message of which the digest is given: that of the bytes of `message_prefix` and the message after
+/// them (RFC 8554 4.5).
+pub fn verify_digest_by<C: Climbing>(
+    climbing: &C,
+    public: &HssPublic,
+    digest: &[u8; 32],
+    signature: &[u8],
+) -> Result<(), Refusal>
+    ensures verdict { (message : List ℕ) → IsDigest public.now message signature.now digest.now
+        → Verdict public.now message signature.now result }
+    ensures read { result ≢ Err Refusal.MessageRead }
+{
+    let bottom = verify_above(climbing, public, signature)?;
+    bottom
+        .signature
+        .verify_digest_by(climbing, &bottom.key, digest, bottom.level)
+}
+
+/// The 54 bytes that are hashed before the message: I of the bottom level's key, q, D_MESG and C (RFC 8554 4.5). No
+/// level is verified here: `verify_digest_by` does that. Refused are a fault of the signature's bytes (1 to 5) and
+/// other levels than the key's (11), as verification refuses any message.
+pub fn message_prefix(public: &HssPublic, signature: &[u8]) -> Result<[u8; 54], Refusal>
+    ensures ok { IfOk result (HasPrefix public.now signature.now) }
+    ensures err { IfErr result (λ refusal. (message : List ℕ)
+        → Verdict {A = Unit {0}} public.now message signature.now (Err refusal)) }
+    ensures read { result ≢ Err Refusal.MessageRead }
+{
+    let whole = match HssSigView::read(signature) {
+        Ok(view) => view,
+        Err(fault) => return Err(Refusal::Unreadable(fault)),
+    };
+    if whole.levels() != public.levels.get() {
+        return Err(Refusal::LevelMismatch);
+    }
+    let key = last_key(&public.top, &whole);
+    Ok(whole.bottom().message_prefix(&key))
+}
+
+// The key that stands last in a signature, or the top one where it has none.
+fn last_key(top: &LmsPublic, view: &HssSigView<'_>) -> LmsPublic
+    ensures { result ≡ key_at top.now (signature_of view.now) (length (signature_of view.now).signed) }
+{
+    let levels = view.levels();
+    if levels < 2 {
+        return *top;
+    }
+    match view.signed_key(levels - 2) {
+        Some(signed) => signed.key,
+        None => unreachable!(),
+    }
+}
+
+// The bottom level of a signature.
+#[derive(Clone, Copy)]
+struct Bottom<'a> {
+    signature: LmsSigView<'a>,
+    key: LmsPublic,
+    level: u8,
+}
+
+// The bottom level of the signature that the bytes spell, where the signatures of all levels above it are valid.
+// Refused as verification refuses any message.
+fn verify_above<'a, C: Climbing>(
+    climbing: &C,
+    public: &HssPublic,
+    signature: &'a [u8],
+) -> Result<Bottom<'a>, Refusal>
+    ensures ok { IfOk result (λ bottom.
+        IsBottom public.now signature.now (lms_signature_of bottom.signature) bottom.key bottom.level) }
+    ensures err { IfErr result (λ refusal. (message : List ℕ)
+        → Verdict {A = Unit {0}} public.now message signature.now (Err refusal)) }
+    ensures read { result ≢ Err Refusal.MessageRead }
+{
+    let whole = match HssSigView::read(signature) {
+        Ok(view) => view,
+        Err(fault) => return Err(Refusal::Unreadable(fault)),
+    };
+    if whole.levels() != public.levels.get() {
+        return Err(Refusal::LevelMismatch);
+    }
+    let key = bottom_key(climbing, &public.top, &whole)?;
+    Ok(Bottom {
+        signature: whole.bottom(),
+        key,
+        level: whole.levels() - 1,
+    })
+}
+
 // The key of the bottom level, where the signatures of all levels above it are valid.
-fn bottom_key(top: &LmsPublic, view: &HssSigView<'_>) -> Result<LmsPublic, Refusal>
+fn bottom_key<C: Climbing>(
+    climbing: &C,
+    top: &LmsPublic,
+    view: &HssSigView<'_>,
+) -> Result<LmsPublic, Refusal>
     ensures { AboveVerdict top.now (signature_of view.now) result }
 {
     let mut key = *top;
     for i in 0..view.levels() {
         if let Some(signed) = view.signed_key(i) {
-            signed.verify(&key, i)?;
+            signed.verify_by(climbing, &key, i)?;
             key = signed.key;
         }
     }

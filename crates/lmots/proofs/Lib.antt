@@ -1,3 +1,4 @@
 pub mod Signing
 mod Steps
 mod Messages
+mod Ends

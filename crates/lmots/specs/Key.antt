@@ -31,6 +31,10 @@ ends_of_seed identifier q ots seed =
 abbrev pub public_hash : List ℕ → ℕ → List (List ℕ) → List ℕ
 public_hash identifier q ends = sha256 (identifier ++ u32str q ++ u16str public_separator ++ concat ends)
 
+-- I || u32str(q) || u16str(D_MESG) || C: what is hashed before the message (4.5)
+abbrev pub message_prefix_of : List ℕ → ℕ → List ℕ → List ℕ
+message_prefix_of identifier q randomizer = identifier ++ u32str q ++ u16str message_separator ++ randomizer
+
 -- Q = H(I || u32str(q) || u16str(D_MESG) || C || message): the digest that is signed (4.5)
 abbrev pub message_digest_of : List ℕ → ℕ → List ℕ → List ℕ → List ℕ
 message_digest_of identifier q randomizer message =

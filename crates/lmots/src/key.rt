@@ -6,7 +6,8 @@ ghost use Rattle.std.specs.List.{concat};
 ghost use Rattle.sha2.specs.Hashers.{Holds256};
 ghost use Rattle.lmots.specs.Hashes.{message_separator, u8str, u16str, u32str};
 ghost use Rattle.lmots.specs.Key as spec;
-ghost use Rattle.lmots.specs.Key.{ClimbTo, ends_of_seed, ends_of_signature, message_digest_of, signed_values, step_of};
+ghost use Rattle.lmots.specs.Key.{ClimbTo, ends_of_seed, ends_of_signature, message_digest_of, message_prefix_of};
+ghost use Rattle.lmots.specs.Key.{signed_values, step_of};
 ghost use Rattle.typecodes.specs.Fields.{values_in};
 ghost use Rattle.typecodes.specs.Message.{Digests};
 ghost use Rattle.typecodes.specs.Types.{chains_of, width_of};
@@ -16,7 +17,7 @@ use crate::chains::Chains;
 use crate::hashes::{MESSAGE, PUBLIC};
 use crate::lane_keys::LaneKeys;
 use sha2::{Digest, Sha256};
-use typecodes::{Message, MessageFailed, OtsType};
+use typecodes::{Message, MessageFailed, OtsType, put};
 use winternitz::lanes::LANES;
 use winternitz::{Step, climb_from, climb_to, climb_whole, digits, feed};
 
@@ -49,6 +50,18 @@ impl LmOts {
         let mut hasher = self.message_hasher(randomizer);
         hasher.update(message);
         hasher.finalize()
+    }
+
+    /// The 54 bytes that are hashed before a message: I, q, D_MESG and C (RFC 8554 4.5).
+    pub fn message_prefix(&self, randomizer: &[u8; 32]) -> [u8; 54]
+        ensures { result ≡ message_prefix_of self.now.identifier self.now.leaf randomizer.now }
+    {
+        let mut bytes = [0; 54];
+        let offset = put(&mut bytes, 0, &self.identifier);
+        let offset = put(&mut bytes, offset, &self.leaf.to_be_bytes());
+        let offset = put(&mut bytes, offset, &MESSAGE.to_be_bytes());
+        put(&mut bytes, offset, randomizer);
+        bytes
     }
 
     // A hasher that holds what stands before a message.

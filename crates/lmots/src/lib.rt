@@ -4,7 +4,8 @@
 //! for the crates above: `hash_from_signature` gives the public hash of the chain ends to which a
 //! signature's values lead, `public_hash` that of the ends to which a seed's do, and
 //! `public_hashes_in_lanes` those of several leaves, made side by side. `sign_digest` writes the values
-//! of a seed's signature, which climb to the seed's ends.
+//! of a seed's signature, which climb to the seed's ends. `Climbing` is the choice between two ways to
+//! the first of these hashes, in lanes or with little stack, which a verifier takes as a parameter.
 //!
 //! ```rust
 //! use lmots::LmOts;
@@ -21,10 +22,12 @@
 #![tactic(auto)]
 
 mod chains;
+mod climbing;
 mod hashes;
 mod key;
 mod lane_keys;
 #[cfg(test)]
 mod tests;
 
+pub use crate::climbing::Climbing;
 pub use crate::key::LmOts;

@@ -8,7 +8,7 @@ use Rattle.typecodes.specs.Layout.{Spells, HasFault}
 pub use Rattle.typecodes.specs.Verdict.{LeavesMessage}
 use Rattle.typecodes.specs.Types.{chains_of, height_of}
 use Rattle.merkle.specs.Ascent.{PathLeadsTo}
-use Rattle.lmots.specs.Key.{ClimbTo, message_digest_of, public_hash}
+use Rattle.lmots.specs.Key.{ClimbTo, message_digest_of, message_prefix_of, public_hash}
 use Rattle.lms.specs.declared.key.LmsPublic.{LmsPublic}
 use Rattle.lms.specs.Nodes.{join_of, leaf_of}
 use Rattle.lms.specs.Signature.{Signature, signature}
@@ -34,6 +34,18 @@ pub record IsValidFor (key : LmsPublic) (digest : List ℕ) (s : Signature) : Ty
 -- Q, the digest of a message that a signature signs
 abbrev pub digest_of : LmsPublic → List ℕ → Signature → List ℕ
 digest_of key message s = message_digest_of key.identifier s.q s.randomizer message
+
+-- I, q, D_MESG and C, which are hashed before the message (4.5)
+abbrev pub prefix_of : LmsPublic → Signature → List ℕ
+prefix_of key s = message_prefix_of key.identifier s.q s.randomizer
+
+-- The digest is that of the message under the signature that the bytes spell, if they spell one.
+abbrev pub IsDigest : LmsPublic → List ℕ → List ℕ → List ℕ → Type 0
+IsDigest key message bytes digest = (s : Signature) → Spells signature s bytes → digest ≡ digest_of key message s
+
+-- The bytes spell a signature, and this is what is hashed before its message.
+abbrev pub HasPrefix : LmsPublic → List ℕ → List ℕ → Type 0
+HasPrefix key bytes prefix = (s : Signature) × Spells signature s bytes × (prefix ≡ prefix_of key s)
 
 -- It is valid for the digest of the message.
 abbrev pub IsValid : LmsPublic → List ℕ → Signature → Type 0

@@ -1,12 +1,13 @@
 //! LMS keys, signatures, verification and signing (RFC 8554, section 5), for SHA-256 with m = 32.
 //!
 //! Its model is `specs/Key.antt` and `specs/Signature.antt`, how keys and signatures are spelled, and
-//! `specs/Verification.antt`, which signatures are valid. Its contract for the crates above: `verify` is
-//! Ok exactly on the spellings of valid signatures, and else reports the first refusal, a message that
-//! can't be read aside; `LmsSigView::verify` does the same for a signature that was read, as that of a
-//! level of HSS; what `write_signature` writes is the textbook signature of `specs/Writing.antt`, which
-//! is valid. That keys and signatures are spelled in one way, and that `verify` has one answer, an
-//! unread message aside, stands on `spelling_laws` and `verdict_laws`.
+//! `specs/Verification.antt`, which signatures are valid. Its contract for the crates above: `verify` is Ok
+//! exactly on the spellings of valid signatures, and else reports the first refusal, a message that can't be
+//! read aside; `LmsSigView::verify` does the same for a signature that was read, as that of a level of HSS;
+//! `verify_bytes_by` and `verify_digest_by` do so of a message in memory and of one's digest, by either way
+//! to climb chains, of which one takes little stack; what `write_signature` writes is the textbook signature
+//! of `specs/Writing.antt`, which is valid. That keys and signatures are spelled in one way, and that
+//! `verify` has one answer, an unread message aside, stands on `spelling_laws` and `verdict_laws`.
 //!
 //! ```rust
 //! use lms::{LmsPublic, verify};
@@ -33,5 +34,5 @@ pub use crate::key::LmsPublic;
 pub use crate::laws::{spelling_laws, verdict_laws};
 pub use crate::secret::{LmsSecret, LmsTree};
 pub use crate::signature::LmsSigView;
-pub use crate::verification::verify;
+pub use crate::verification::{message_prefix, verify, verify_bytes_by, verify_digest_by};
 pub use crate::writing::{write_public, write_signature};

@@ -1,16 +1,18 @@
 //! Verification.
 
-ghost use Rattle.std.specs.Prelude.{◌≡◌, ◌≢◌, List, ℕ, Err, MatchResult};
+ghost use Rattle.std.specs.Prelude.{◌≡◌, ◌≢◌, List, ℕ, Err, IfErr, IfOk, MatchResult};
 ghost use Rattle.lms.specs.View.{signature_of};
-ghost use Rattle.lms.specs.Verification.{IsValidFor, LeadsTo, LeavesMessage, LevelVerdict, Verdict};
+ghost use Rattle.lms.specs.Verification.{HasPrefix, IsDigest, IsValidFor, LeadsTo, LeavesMessage, LevelVerdict};
+ghost use Rattle.lms.specs.Verification.{Verdict, digest_of, prefix_of};
 ghost use Rattle.typecodes.specs.Verdict.{DigestVerdict, Verifies};
 
 use crate::key::LmsPublic;
 use crate::nodes::Nodes;
 use crate::signature::LmsSigView;
-use lmots::LmOts;
+use lmots::{Climbing, LmOts};
 use merkle::root_from_path;
 use typecodes::{Message, Refusal};
+use winternitz::InLanes;
 
 /// Verifies that the bytes of a signature sign the message under the key (RFC 8554 5.4.2).
 ///
@@ -28,6 +30,57 @@ pub fn verify<M: Message>(
 {
     let view = LmsSigView::read(signature).map_err(Refusal::Unreadable)?;
     view.verify(public, message, 0)
+}
+
+/// The same of a message in memory, whose reading can't fail, by a way to climb chains.
+pub fn verify_bytes_by<C: Climbing>(
+    climbing: &C,
+    public: &LmsPublic,
+    message: &[u8],
+    signature: &[u8],
+) -> Result<(), Refusal>
+    ensures verdict { Verdict public.now message.now signature.now result }
+    ensures read { result ≢ Err Refusal.MessageRead }
+{
+    let view = match LmsSigView::read(signature) {
+        Ok(view) => view,
+        Err(fault) => return Err(Refusal::Unreadable(fault)),
+    };
+    view.verify_bytes_by(climbing, public, message, 0)
+}
+
+/// The same of a message of which the digest is given: that of the bytes of `LmsSigView::message_prefix` and the
+/// message after them (RFC 8554 4.5).
+pub fn verify_digest_by<C: Climbing>(
+    climbing: &C,
+    public: &LmsPublic,
+    digest: &[u8; 32],
+    signature: &[u8],
+) -> Result<(), Refusal>
+    ensures verdict { (message : List ℕ) → IsDigest public.now message signature.now digest.now
+        → Verdict public.now message signature.now result }
+    ensures read { result ≢ Err Refusal.MessageRead }
+{
+    let view = match LmsSigView::read(signature) {
+        Ok(view) => view,
+        Err(fault) => return Err(Refusal::Unreadable(fault)),
+    };
+    view.verify_digest_by(climbing, public, digest, 0)
+}
+
+/// The 54 bytes that are hashed before the message: I, q, D_MESG and C (RFC 8554 4.5). Refused is a fault of the
+/// signature's bytes (1 to 5), as verification refuses any message.
+pub fn message_prefix(public: &LmsPublic, signature: &[u8]) -> Result<[u8; 54], Refusal>
+    ensures ok { IfOk result (HasPrefix public.now signature.now) }
+    ensures err { IfErr result (λ refusal. (message : List ℕ)
+        → Verdict {A = Unit {0}} public.now message signature.now (Err refusal)) }
+    ensures read { result ≢ Err Refusal.MessageRead }
+{
+    let view = match LmsSigView::read(signature) {
+        Ok(view) => view,
+        Err(fault) => return Err(Refusal::Unreadable(fault)),
+    };
+    Ok(view.message_prefix(public))
 }
 
 impl LmsSigView<'_> {
@@ -50,7 +103,7 @@ impl LmsSigView<'_> {
         let key = self.one_time_key(public);
         let digest = key.message_digest_from(self.randomizer, message);
         match digest {
-            Ok(digest) => self.verify_digest(public, &digest, level),
+            Ok(digest) => self.verify_digest(&InLanes, public, &digest, level),
             Err(_) => Err(Refusal::MessageRead),
         }
     }
@@ -60,10 +113,48 @@ impl LmsSigView<'_> {
         ensures verdict { LevelVerdict public.now message.now (signature_of self.now) level result }
         ensures read { result ≢ Err Refusal.MessageRead }
     {
+        self.verify_bytes_by(&InLanes, public, message, level)
+    }
+
+    /// The same, by a way to climb chains.
+    pub fn verify_bytes_by<C: Climbing>(
+        &self,
+        climbing: &C,
+        public: &LmsPublic,
+        message: &[u8],
+        level: u8,
+    ) -> Result<(), Refusal>
+        ensures verdict { LevelVerdict public.now message.now (signature_of self.now) level result }
+        ensures read { result ≢ Err Refusal.MessageRead }
+    {
         self.check_types(public, level)?;
         let key = self.one_time_key(public);
         let digest = key.message_digest(self.randomizer, message);
-        self.verify_digest(public, &digest, level)
+        self.verify_digest(climbing, public, &digest, level)
+    }
+
+    /// The same of a message of which the digest is given: that of the bytes of `message_prefix` and the message after
+    /// them (RFC 8554 4.5).
+    pub fn verify_digest_by<C: Climbing>(
+        &self,
+        climbing: &C,
+        public: &LmsPublic,
+        digest: &[u8; 32],
+        level: u8,
+    ) -> Result<(), Refusal>
+        ensures verdict { (message : List ℕ) → digest.now ≡ digest_of public.now message (signature_of self.now)
+            → LevelVerdict public.now message (signature_of self.now) level result }
+        ensures read { result ≢ Err Refusal.MessageRead }
+    {
+        self.check_types(public, level)?;
+        self.verify_digest(climbing, public, digest, level)
+    }
+
+    /// The 54 bytes that are hashed before the message under the key: I, q, D_MESG and C (RFC 8554 4.5).
+    pub fn message_prefix(&self, public: &LmsPublic) -> [u8; 54]
+        ensures { result ≡ prefix_of public.now (signature_of self.now) }
+    {
+        self.one_time_key(public).message_prefix(self.randomizer)
     }
 
     // Whether the types are the key's.
@@ -90,11 +181,17 @@ impl LmsSigView<'_> {
     }
 
     // Whether the signature of a digest leads to the key's root (RFC 8554 5.4.2, step 4).
-    fn verify_digest(&self, public: &LmsPublic, digest: &[u8; 32], level: u8) -> Result<(), Refusal>
+    fn verify_digest<C: Climbing>(
+        &self,
+        climbing: &C,
+        public: &LmsPublic,
+        digest: &[u8; 32],
+        level: u8,
+    ) -> Result<(), Refusal>
         requires { self.now.pair ≡ public.now.pair }
         ensures { DigestVerdict (IsValidFor public.now digest.now (signature_of self.now)) level result }
     {
-        if candidate(public, digest, self) == public.root {
+        if candidate(climbing, public, digest, self) == public.root {
             Ok(())
         } else {
             Err(Refusal::RootMismatch(level))
@@ -103,7 +200,12 @@ impl LmsSigView<'_> {
 }
 
 // The root to which a signature of a digest leads, and no other (RFC 8554 5.4.2, algorithm 6a).
-fn candidate(public: &LmsPublic, digest: &[u8; 32], view: &LmsSigView<'_>) -> [u8; 32]
+fn candidate<C: Climbing>(
+    climbing: &C,
+    public: &LmsPublic,
+    digest: &[u8; 32],
+    view: &LmsSigView<'_>,
+) -> [u8; 32]
     ensures leads { LeadsTo public.now digest.now (signature_of view.now) result }
     ensures only { (other : List ℕ) →
         LeadsTo public.now digest.now (signature_of view.now) other → other ≡ result }
@@ -112,7 +214,7 @@ fn candidate(public: &LmsPublic, digest: &[u8; 32], view: &LmsSigView<'_>) -> [u
         identifier: public.identifier,
         leaf: view.q,
     };
-    let public_hash = key.hash_from_signature(view.pair.ots, digest, view.chains);
+    let public_hash = climbing.hash_from_signature(&key, view.pair.ots, digest, view.chains);
     let nodes = Nodes {
         identifier: public.identifier,
         height: view.pair.tree.height(),

@@ -10,7 +10,8 @@
 //! Chains climb in lanes: `climb_whole`, `climb_to` and `climb_from` are the walks of all chains of a
 //! key, of whose steps each lane takes an equal part, and `lanes` is SHA-256 of blocks side by side, one
 //! in each lane (`specs/Lanes.antt`), by which a `Step` can take a step in each lane at once.
-//! `feed` gives a message to a hash, piece by piece, for the digests that are signed.
+//! `feed` gives a message to a hash, piece by piece, for the digests that are signed. `InLanes` and `OneByOne` name the
+//! two ways in which a verifier may climb: with lanes, or with little stack and code.
 //!
 //! ```rust
 //! use winternitz::{climb_from, digits};
@@ -21,6 +22,7 @@
 #![tactic(auto)]
 
 mod chain;
+mod climbing;
 mod digest;
 mod groups;
 pub mod lanes;
@@ -29,6 +31,7 @@ mod message;
 mod shares;
 
 pub use crate::chain::{Step, added, climb};
+pub use crate::climbing::{InLanes, OneByOne};
 pub use crate::digest::{Digits, digits};
 pub use crate::groups::{MOST_CHAINS, Values, climb_from, climb_to, climb_whole};
 pub use crate::laws::chain_law;

@@ -1,13 +1,14 @@
 //! The keyed hashes (RFC 8391 5.1) and the join of two nodes (4.1.4).
 
-ghost use Rattle.std.specs.Prelude.{◌≡◌, ◌≤◌, ◌<◌, ◌++◌, ℕ, [], length, slice_index_or};
+ghost use Rattle.std.specs.Prelude.{◌≡◌, ◌≤◌, ◌<◌, ◌++◌, ℕ, [], length, slice_index_or, true};
+ghost use Rattle.std.proofs.Props.{props};
 ghost use Rattle.sha2.specs.Hashers.{Holds256};
 ghost use Rattle.wots_plus.specs.Address.{address_of};
-ghost use Rattle.wots_plus.specs.Hashes.{Holds256-prop, length-prop, prf, to_byte};
+ghost use Rattle.wots_plus.specs.Hashes.{Holds256-prop, prf, to_byte};
 ghost use Rattle.wots_plus.specs.Hashes as spec;
 ghost use Rattle.sha2.specs.Sha256.{compress, initial_hash_256};
 ghost use Rattle.typecodes.specs.Message.{Digests};
-ghost use Rattle.winternitz.specs.Lanes.{lanes, words-prop};
+ghost use Rattle.winternitz.specs.Lanes.{lanes};
 
 use crate::address::Address;
 use sha2::{Digest, Sha256};
@@ -147,10 +148,11 @@ pub struct Prf {
     /// KEY
     pub key: [u8; 32],
     begun: Sha256,
+    // whether the hash value after that block is kept, which hashes in lanes begin with
+    is_kept: bool,
     state: [u32; 8],
     ghost holds: { Holds256 begun (to_byte 3 32 ++ key) } by { Holds256-prop begun (to_byte 3 32 ++ key) },
-    ghost kept: { state ≡ compress initial_hash_256 (to_byte 3 32 ++ key) } by { words-prop _ _ },
-    ghost long: { length (to_byte 3 32 ++ key) ≡ 64 } by { length-prop _ _ },
+    ghost kept: { is_kept ≡ true → state ≡ compress initial_hash_256 (to_byte 3 32 ++ key) } by { Prim.hlevel props },
 }
 
 impl Prf {
@@ -160,7 +162,25 @@ impl Prf {
     {
         let begun = keyed(3, &key);
         let state = first_state(3, &key);
-        Prf { key, begun, state }
+        Prf {
+            key,
+            begun,
+            is_kept: true,
+            state,
+        }
+    }
+
+    /// The same, for hashes one by one: nothing is kept for hashes in lanes, which would each make it anew.
+    pub fn without_lanes(key: [u8; 32]) -> Prf
+        ensures { result.key ≡ key }
+    {
+        let begun = keyed(3, &key);
+        Prf {
+            key,
+            begun,
+            is_kept: false,
+            state: [0; 8],
+        }
     }
 
     /// PRF(KEY, M)
@@ -177,7 +197,19 @@ impl Prf {
         ensures { (j : ℕ) → j < lanes
             → slice_index_or result j [] ≡ prf self.now.key (slice_index_or messages.now j []) }
     {
-        sha256_of_96(&in_each(&self.state), messages)
+        sha256_of_96(&in_each(&self.first_state()), messages)
+    }
+
+    // The hash value after the first block of all messages.
+    fn first_state(&self) -> [u32; 8]
+        ensures state { result ≡ compress initial_hash_256 (to_byte 3 32 ++ self.now.key) }
+        ensures long { length (to_byte 3 32 ++ self.now.key) ≡ 64 }
+    {
+        if self.is_kept {
+            self.state
+        } else {
+            first_state(3, &self.key)
+        }
     }
 
     // A hasher that holds what all messages begin with.

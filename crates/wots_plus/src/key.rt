@@ -6,6 +6,7 @@ ghost use Rattle.std.specs.List.{concat};
 ghost use Rattle.sha2.specs.Sha256.{compress, initial_hash_256};
 ghost use Rattle.typecodes.specs.Fields.{values_in};
 ghost use Rattle.typecodes.specs.Types.{wots_chains};
+ghost use Rattle.winternitz.specs.Chain.{end_of};
 ghost use Rattle.winternitz.specs.Lanes.{lanes, lane_state};
 ghost use Rattle.wots_plus.specs.Address.{one_time};
 ghost use Rattle.wots_plus.specs.Hashes.{to_byte};
@@ -17,7 +18,7 @@ use crate::hashes::{Prf, first_state, hash_f, hash_f_in_lanes, keyed, xor, xor_i
 use sha2::{Digest, Sha256};
 use typecodes::{WOTS_CHAINS, put};
 use winternitz::lanes::{LANES, States, in_each, sha256_of_128};
-use winternitz::{MOST_CHAINS, Step, Values, climb_from, climb_to, climb_whole, digits};
+use winternitz::{MOST_CHAINS, Step, Values, climb, climb_from, climb_to, climb_whole, digits};
 
 // The bits of a digit, for w = 16.
 const WIDTH: u8 = 4;
@@ -207,5 +208,37 @@ impl Wots<'_> {
             ≡ ends_of_signature self.now.seed.now.key self.now.leaf digest.now values.now }
     {
         climb_from(self, &digits(WIDTH, digest), STEPS, values)
+    }
+
+    // Writes the same ends, each climbed after the other.
+    pub(crate) fn ends_one_by_one(
+        &self,
+        digest: &[u8; 32],
+        values: &[[u8; 32]],
+        ends: &mut [[u8; 32]; WOTS_CHAINS],
+    )
+        requires { length values.now ≡ wots_chains }
+        ensures { ends.new ≡ ends_of_signature self.now.seed.now.key self.now.leaf digest.now values.now }
+    {
+        self.climb_one_by_one(&digits(WIDTH, digest), values, ends);
+    }
+
+    // Writes the values of chains after the steps from their digits on.
+    fn climb_one_by_one(
+        &self,
+        digits: &[u8],
+        values: &[[u8; 32]],
+        ends: &mut [[u8; 32]; WOTS_CHAINS],
+    )
+        requires values { length values.now ≡ wots_chains }
+        requires digits { length digits.now ≡ wots_chains }
+        requires order { (i : ℕ) → i < wots_chains → slice_index digits.now i ≤ 15 }
+        ensures long { length ends.new ≡ wots_chains }
+        ensures each { (i : ℕ) → i < wots_chains → slice_index_or ends.new i []
+            ≡ end_of (step_of self.now.seed.now.key self.now.leaf) 4 digits.now values.now i }
+    {
+        for chain in 0..WOTS_CHAINS {
+            ends[chain] = climb(self, chain as u16, digits[chain], STEPS, &values[chain]);
+        }
     }
 }

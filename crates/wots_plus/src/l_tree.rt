@@ -7,8 +7,10 @@ ghost use Rattle.wots_plus.specs.Address.{l_tree};
 ghost use Rattle.wots_plus.specs.LTree.{IsLTreeRoot, next_height, l_tree_join, l_tree_root};
 
 use crate::address::Address;
+use crate::climbing::Joining;
 use crate::hashes::{hash_h_in_lanes, rand_hash, xor_in_lanes};
 use crate::key::Wots;
+use winternitz::InLanes;
 use winternitz::lanes::LANES;
 
 impl Wots<'_> {
@@ -23,28 +25,43 @@ impl Wots<'_> {
         ensures only { (root : List ℕ) →
             IsLTreeRoot (l_tree_join self.now.seed.now.key self.now.leaf) values.old root → root ≡ result }
     {
+        self.l_tree_by(&InLanes, values)
+    }
+
+    // The same, by a way to join pairs.
+    pub(crate) fn l_tree_by<J: Joining>(&self, joining: &J, values: &mut [[u8; 32]]) -> [u8; 32]
+        requires some { 0 < length values.old }
+        requires few { length values.old ≤ wots_chains }
+        ensures value { result ≡ l_tree_root (l_tree_join self.now.seed.now.key self.now.leaf) values.old }
+        ensures root { IsLTreeRoot (l_tree_join self.now.seed.now.key self.now.leaf) values.old result }
+        ensures only { (root : List ℕ) →
+            IsLTreeRoot (l_tree_join self.now.seed.now.key self.now.leaf) values.old root → root ≡ result }
+    {
         let mut count = values.len();
         let mut height = 0;
         while count > 1 {
-            count = self.join_neighbours(height, &mut values[..count]);
+            count = self.join_neighbours(joining, height, &mut values[..count]);
             height += 1;
         }
         values[0]
     }
 
-    // Replaces the values of a height by those of the next, at the front, and counts these. Pairs are joined in lanes,
-    // and one by one those that are left over.
-    fn join_neighbours(&self, height: u32, values: &mut [[u8; 32]]) -> usize
+    // Replaces the values of a height by those of the next, at the front, and counts these. The first pairs are joined
+    // together, where there is a way to do so, and those that are left over one by one.
+    fn join_neighbours<J: Joining>(
+        &self,
+        joining: &J,
+        height: u32,
+        values: &mut [[u8; 32]],
+    ) -> usize
         requires { length values.old ≤ wots_chains }
         ensures count { result ≡ (length values.old + 1) / 2 }
         ensures values { take result values.new
             ≡ next_height (l_tree_join self.now.seed.now.key self.now.leaf height) 0 values.old }
     {
         let pairs = values.len() / 2;
-        for group in 0..pairs / LANES {
-            self.join_pairs(height, LANES * group, values);
-        }
-        for i in pairs / LANES * LANES..pairs {
+        let joined = joining.join_front(self, height, values);
+        for i in joined..pairs {
             values[i] = self.join(height, i as u32, &values[2 * i], &values[2 * i + 1]);
         }
         if values.len() % 2 == 1 {
@@ -55,7 +72,7 @@ impl Wots<'_> {
 
     // Joins pairs from that of an index on, as many as there are lanes, and puts their nodes at the places of the
     // indices.
-    fn join_pairs(&self, height: u32, first: usize, values: &mut [[u8; 32]])
+    pub(crate) fn join_pairs(&self, height: u32, first: usize, values: &mut [[u8; 32]])
         requires room { 2 * (first + lanes) ≤ length values.old }
         requires few { length values.old ≤ wots_chains }
         ensures below { (k : ℕ) → k < first → slice_index_or values.new k [] ≡ slice_index_or values.old k [] }

@@ -7,7 +7,8 @@
 //! for the crates above: `hash_from_signature` gives the public hash of the chain ends to which a
 //! signature's values lead, and `public_hash` that of the ends to which a secret's do. `sign_digest`
 //! writes the values of a secret's signature, which climb to the secret's ends. `rand_hash` joins the
-//! nodes of the hash tree above.
+//! nodes of the hash tree above. `Climbing` is the choice between two ways to the first of these
+//! hashes, in lanes or with little stack, which a verifier takes as a parameter.
 //!
 //! ```rust
 //! use typecodes::WOTS_CHAINS;
@@ -24,6 +25,7 @@
 #![tactic(auto)]
 
 mod address;
+mod climbing;
 mod hashes;
 mod key;
 mod l_tree;
@@ -31,5 +33,6 @@ mod l_tree;
 mod tests;
 
 pub use crate::address::Address;
+pub use crate::climbing::Climbing;
 pub use crate::hashes::{Prf, hash_f, hash_h, hash_message, hash_message_from, rand_hash};
 pub use crate::key::Wots;

@@ -1,5 +1,5 @@
 -- The key, the message and the bytes alone decide the answers of verification.
-use Rattle.std.proofs.Common.{◌≡◌, ℕ, List, Option, Result, Ok, Err, sym, subst}
+use Rattle.std.proofs.Common.{◌≡◌, ℕ, List, Option, Result, Err, sym, subst}
 use Rattle.std.specs.Prelude.{◌≢◌, IsOk}
 use Rattle.typecodes.specs.Message.{ReadWhole, Transition}
 use Rattle.typecodes.specs.Layout.{Spells}
@@ -21,6 +21,10 @@ verdict_of_digest key message digest bytes s result same spelled verdict =
     (λ level at invalid. (at, (s, spelled, λ valid. invalid (subst (λ d. IsValidFor key d s) (sym same) valid))))
 
 -- with a digest the message was read
+pub digest_was_read : {A : Type 0} (key : XmssPublic) (digest : List ℕ) (s : Signature) (result : Result A Refusal)
+    → DigestVerdict (IsValidFor key digest s) 0 result → result ≡ Err MessageRead → ⊥
+digest_was_read key digest s result verdict same = elim (subst (DigestVerdict (IsValidFor key digest s) 0) same verdict) [ ]
+
 pub leaves_of_digest : {M A : Type 0} (transition : Transition M) (remaining : M → Option (List ℕ)) (text : List ℕ) (old new : M) (key : XmssPublic)
     (digest : List ℕ) (s : Signature) (result : Result A Refusal) → DigestVerdict (IsValidFor key digest s) 0 result
     → ReadWhole transition remaining text old new → LeavesMessage transition remaining text old new result

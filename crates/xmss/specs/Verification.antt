@@ -11,7 +11,7 @@ use Rattle.typecodes.specs.Types.{wots_chains, xmss_height_of}
 use Rattle.merkle.specs.Ascent.{PathLeadsTo}
 use Rattle.wots_plus.specs.Key.{ClimbTo}
 use Rattle.xmss.specs.declared.key.XmssPublic.{XmssPublic}
-use Rattle.xmss.specs.Digest.{message_digest_of}
+use Rattle.xmss.specs.Digest.{message_digest_of, message_prefix_of}
 use Rattle.xmss.specs.Nodes.{join_of, leaf_of}
 use Rattle.xmss.specs.Signature.{Signature, signature}
 
@@ -33,6 +33,19 @@ pub record IsValidFor (key : XmssPublic) (digest : List ℕ) (s : Signature) : T
 -- M', the digest of a message that a signature signs
 abbrev pub digest_of : XmssPublic → List ℕ → Signature → List ℕ
 digest_of key message s = message_digest_of s.randomizer key.root s.index message
+
+-- toByte(2, 32), r, the root and toByte(idx, 32), which are hashed before the message (4.1.9)
+abbrev pub prefix_of : XmssPublic → Signature → List ℕ
+prefix_of key s = message_prefix_of s.randomizer key.root s.index
+
+-- The digest is that of the message under the signature that the bytes spell, if they spell one.
+abbrev pub IsDigest : XmssPublic → List ℕ → List ℕ → List ℕ → Type 0
+IsDigest key message bytes digest =
+    (s : Signature) → Spells (signature key.tree) s bytes → digest ≡ digest_of key message s
+
+-- The bytes spell a signature, and this is what is hashed before its message.
+abbrev pub HasPrefix : XmssPublic → List ℕ → List ℕ → Type 0
+HasPrefix key bytes prefix = (s : Signature) × Spells (signature key.tree) s bytes × (prefix ≡ prefix_of key s)
 
 -- It is valid for the digest of the message.
 abbrev pub IsValid : XmssPublic → List ℕ → Signature → Type 0

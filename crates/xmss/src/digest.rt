@@ -3,10 +3,13 @@
 ghost use Rattle.std.specs.Prelude.{◌≡◌, ◌++◌};
 ghost use Rattle.typecodes.specs.Message.{Digests};
 ghost use Rattle.xmss.specs.Digest as spec;
-ghost use Rattle.xmss.specs.Digest.{message_digest_of};
+ghost use Rattle.xmss.specs.Digest.{message_digest_of, message_prefix_of};
 
 use typecodes::{Message, MessageFailed, put};
 use wots_plus::{hash_message, hash_message_from};
+
+// The number of H_msg among the keyed hashes (RFC 8391 5.1).
+const MESSAGE: u32 = 2;
 
 /// M', the digest of a message that a leaf signs in the tree with this root, by the randomizer r
 /// of the signature (RFC 8391 4.1.9).
@@ -28,6 +31,16 @@ pub fn message_digest_from<M: Message>(
         message.old message.new }
 {
     hash_message_from(&digest_key(randomizer, root, leaf), message)
+}
+
+// The 128 bytes that are hashed before a message: toByte(2, 32), r, the root and toByte(idx, 32).
+pub(crate) fn before_message(randomizer: &[u8; 32], root: &[u8; 32], leaf: u32) -> [u8; 128]
+    ensures { result ≡ message_prefix_of randomizer.now root.now leaf }
+{
+    let mut bytes = [0; 128];
+    let offset = put(&mut bytes, 0, &index_bytes(MESSAGE));
+    put(&mut bytes, offset, &digest_key(randomizer, root, leaf));
+    bytes
 }
 
 // r || root || toByte(idx, 32), the key of the digest.

@@ -1,17 +1,18 @@
 //! Verification.
 
-ghost use Rattle.std.specs.Prelude.{◌≡◌, List, ℕ};
+ghost use Rattle.std.specs.Prelude.{◌≡◌, ◌≢◌, Err, IfErr, IfOk, List, ℕ};
 ghost use Rattle.xmss.specs.View.{signature_of};
-ghost use Rattle.xmss.specs.Verification.{IsValidFor, LeadsTo, LeavesMessage, Verdict};
+ghost use Rattle.xmss.specs.Verification.{HasPrefix, IsDigest, IsValidFor, LeadsTo, LeavesMessage, Verdict};
 ghost use Rattle.typecodes.specs.Verdict.{DigestVerdict, Verifies};
 
-use crate::digest::message_digest_from;
+use crate::digest::{before_message, message_digest, message_digest_from};
 use crate::key::XmssPublic;
 use crate::nodes::Nodes;
 use crate::signature::XmssSigView;
 use merkle::root_from_path;
 use typecodes::{Message, Refusal};
-use wots_plus::{Prf, Wots};
+use winternitz::InLanes;
+use wots_plus::{Climbing, Wots};
 
 /// Verifies that the bytes of a signature sign the message under the key (RFC 8391 4.1.10).
 ///
@@ -28,18 +29,75 @@ pub fn verify<M: Message>(
 {
     let view = XmssSigView::read(public.tree, signature).map_err(Refusal::Unreadable)?;
     match message_digest_from(view.randomizer, &public.root, view.index, message) {
-        Ok(digest) => view.verify_digest(public, &digest),
+        Ok(digest) => view.verify_digest(&InLanes, public, &digest),
         Err(_) => Err(Refusal::MessageRead),
     }
 }
 
+/// The same of a message in memory, whose reading can't fail, by a way to climb chains.
+pub fn verify_bytes_by<C: Climbing>(
+    climbing: &C,
+    public: &XmssPublic,
+    message: &[u8],
+    signature: &[u8],
+) -> Result<(), Refusal>
+    ensures verdict { Verdict public.now message.now signature.now result }
+    ensures read { result ≢ Err Refusal.MessageRead }
+{
+    let view = match XmssSigView::read(public.tree, signature) {
+        Ok(view) => view,
+        Err(fault) => return Err(Refusal::Unreadable(fault)),
+    };
+    let digest = message_digest(view.randomizer, &public.root, view.index, message);
+    view.verify_digest(climbing, public, &digest)
+}
+
+/// The same of a message of which the digest is given: that of the bytes of `message_prefix` and the message after
+/// them (RFC 8391 4.1.9).
+pub fn verify_digest_by<C: Climbing>(
+    climbing: &C,
+    public: &XmssPublic,
+    digest: &[u8; 32],
+    signature: &[u8],
+) -> Result<(), Refusal>
+    ensures verdict { (message : List ℕ) → IsDigest public.now message signature.now digest.now
+        → Verdict public.now message signature.now result }
+    ensures read { result ≢ Err Refusal.MessageRead }
+{
+    let view = match XmssSigView::read(public.tree, signature) {
+        Ok(view) => view,
+        Err(fault) => return Err(Refusal::Unreadable(fault)),
+    };
+    view.verify_digest(climbing, public, digest)
+}
+
+/// The 128 bytes that are hashed before the message: toByte(2, 32), r, the root and toByte(idx, 32) (RFC 8391 4.1.9).
+/// Refused is a fault of the signature's bytes (1, 4 or 5), as verification refuses any message.
+pub fn message_prefix(public: &XmssPublic, signature: &[u8]) -> Result<[u8; 128], Refusal>
+    ensures ok { IfOk result (HasPrefix public.now signature.now) }
+    ensures err { IfErr result (λ refusal. (message : List ℕ)
+        → Verdict {A = Unit {0}} public.now message signature.now (Err refusal)) }
+    ensures read { result ≢ Err Refusal.MessageRead }
+{
+    let view = match XmssSigView::read(public.tree, signature) {
+        Ok(view) => view,
+        Err(fault) => return Err(Refusal::Unreadable(fault)),
+    };
+    Ok(before_message(view.randomizer, &public.root, view.index))
+}
+
 impl XmssSigView<'_> {
     // Whether the signature of a digest leads to the key's root (RFC 8391 4.1.10).
-    fn verify_digest(&self, public: &XmssPublic, digest: &[u8; 32]) -> Result<(), Refusal>
+    fn verify_digest<C: Climbing>(
+        &self,
+        climbing: &C,
+        public: &XmssPublic,
+        digest: &[u8; 32],
+    ) -> Result<(), Refusal>
         requires { self.now.tree ≡ public.now.tree }
         ensures { DigestVerdict (IsValidFor public.now digest.now (signature_of self.now)) 0 result }
     {
-        if candidate(public, digest, self) == public.root {
+        if candidate(climbing, public, digest, self) == public.root {
             Ok(())
         } else {
             Err(Refusal::RootMismatch(0))
@@ -48,17 +106,22 @@ impl XmssSigView<'_> {
 }
 
 // The root to which a signature of a digest leads, and no other (RFC 8391 4.1.10, algorithm 13).
-fn candidate(public: &XmssPublic, digest: &[u8; 32], view: &XmssSigView<'_>) -> [u8; 32]
+fn candidate<C: Climbing>(
+    climbing: &C,
+    public: &XmssPublic,
+    digest: &[u8; 32],
+    view: &XmssSigView<'_>,
+) -> [u8; 32]
     ensures leads { LeadsTo public.now digest.now (signature_of view.now) result }
     ensures only { (other : List ℕ) →
         LeadsTo public.now digest.now (signature_of view.now) other → other ≡ result }
 {
-    let seed = Prf::new(public.seed);
+    let seed = climbing.prf(public.seed);
     let key = Wots {
         seed: &seed,
         leaf: view.index,
     };
-    let leaf = key.hash_from_signature(digest, view.chains);
+    let leaf = climbing.hash_from_signature(&key, digest, view.chains);
     let nodes = Nodes { seed: &seed };
     root_from_path(&nodes, view.index, &leaf, view.path)
 }

@@ -6,7 +6,7 @@ use Rattle.hss.proofs.verification.bottom_key.Given as goal
 
 -- the levels so far that stand above the bottom are valid, and this is the next level's key, or the bottom's
 abbrev pub invariant-loop-i : goal.invariant-loop-i
-invariant-loop-i l =
+invariant-loop-i g l =
     let s = signature_of l.view in
     let n = length s.signed in
     record {

@@ -6,7 +6,7 @@ use Rattle.lms.proofs.signature.LmsSigView.verify_digest.Goals as goal
 
 -- the root is the key's: the signature is valid
 pub returns-then-eq : goal.returns-then-eq
-returns-then-eq c =
+returns-then-eq g c =
     let view = c.args.self.now in
     let types = c.requires in
     let root : c.candidate.result ≡ c.args.public.now.root = search rules in
@@ -20,4 +20,4 @@ returns-then-eq c =
 
 -- it is another: a valid signature would lead to the key's
 pub returns-else-eq : goal.returns-else-eq
-returns-else-eq c = (refl, λ valid. let root = c.candidate.ensures.only _ valid.leads in search rules)
+returns-else-eq g c = (refl, λ valid. let root = c.candidate.ensures.only _ valid.leads in search rules)

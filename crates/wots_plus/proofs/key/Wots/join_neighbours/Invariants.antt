@@ -1,19 +1,10 @@
 -- The first pairs are joined, and what comes after them is as it was.
 use Rattle.std.proofs.Common.{◌≡◌, ℕ, ◌+◌, ◌*◌, ◌<◌, ◌≤◌, [], get_or, length}
-use Rattle.winternitz.specs.Lanes.{lanes}
 use Rattle.wots_plus.specs.LTree.{l_tree_join}
 use Rattle.wots_plus.proofs.key.Wots.join_neighbours.Given as goal
 
-abbrev pub invariant-loop-group : goal.invariant-loop-group
-invariant-loop-group l = record {
-  over : (k : ℕ) → k < lanes * l.group
-      → get_or l.values k [] ≡ l_tree_join l.self.seed.now.key l.self.leaf l.height k (get_or l.fn.values (2 * k) []) (get_or l.fn.values (2 * k + 1) []);
-  rest : (k : ℕ) → 2 * (lanes * l.group) ≤ k → get_or l.values k [] ≡ get_or l.fn.values k [];
-  long : length l.values ≡ length l.fn.values;
-}
-
 abbrev pub invariant-loop-i : goal.invariant-loop-i
-invariant-loop-i l = record {
+invariant-loop-i g l = record {
   over : (k : ℕ) → k < l.i
       → get_or l.values k [] ≡ l_tree_join l.self.seed.now.key l.self.leaf l.height k (get_or l.fn.values (2 * k) []) (get_or l.fn.values (2 * k + 1) []);
   rest : (k : ℕ) → 2 * l.i ≤ k → get_or l.values k [] ≡ get_or l.fn.values k [];

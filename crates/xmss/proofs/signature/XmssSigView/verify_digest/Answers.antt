@@ -8,7 +8,7 @@ use Rattle.xmss.proofs.signature.XmssSigView.verify_digest.Goals as goal
 
 -- the root is the key's: the signature is valid
 pub returns-then-eq : goal.returns-then-eq
-returns-then-eq c =
+returns-then-eq g c =
     let view = c.args.self.now in
     let key = c.args.public.now in
     let decides = slice_eq-Decides Decides-eqb _ _ _ c.eq.ensures in
@@ -21,6 +21,6 @@ returns-then-eq c =
 
 -- it is another: a valid signature would lead to the key's
 pub returns-else-eq : goal.returns-else-eq
-returns-else-eq c =
+returns-else-eq g c =
     let decides = slice_eq-Decides Decides-eqb _ _ _ c.eq.ensures in
     (refl, λ valid. let root = decides.1 (sym (c.candidate.ensures.only _ valid.leads)) in absurd (cc))

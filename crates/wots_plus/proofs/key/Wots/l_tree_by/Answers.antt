@@ -2,17 +2,17 @@ use Rattle.std.proofs.Common.{◌≡◌, ◌∙◌, sym, [], ◌∷◌, get_or, 
 use Rattle.std.proofs.lemmas.List.{length-take-le, take_all, take-append-le}
 use Rattle.wots_plus.specs.LTree.{at_height, l_tree_join}
 use Rattle.wots_plus.proofs.LTree.{height_more, height_none, one_left, one_root, root_is}
-use Rattle.wots_plus.proofs.key.Wots.l_tree.Goals as goal
+use Rattle.wots_plus.proofs.key.Wots.l_tree_by.Goals as goal
 
 pub loop-count-init : goal.loop-count-init
-loop-count-init c = record {
+loop-count-init g c = record {
   replaced = take_all (length c.args.values.now) c.args.values.now (omega arith) ∙ height_none _ _;
   some = c.requires.some;
   shrinks = omega arith;
 }
 
 pub loop-count-preserved : goal.loop-count-preserved
-loop-count-preserved c =
+loop-count-preserved g c =
     let front : length (take c.loop-count.count c.loop-count.values) ≡ c.loop-count.count =
     length-take-le c.loop-count.count c.loop-count.values (omega arith) in
     record {
@@ -23,7 +23,7 @@ loop-count-preserved c =
     }
 
 pub returns : goal.returns
-returns c =
+returns g c =
     let left : at_height (l_tree_join c.args.self.now.seed.now.key c.args.self.now.leaf) c.args.values.now c.loop-count.height ≡ get_or c.loop-count.values 0 [] ∷ []
     = sym c.loop-count.invariant.replaced ∙ one_left c.loop-count.count c.loop-count.values (omega arith) (omega arith) in
     record {

@@ -1,0 +1,67 @@
+-- What the library answers: 0, or a refusal's number with what belongs to it.
+use Rattle.std.specs.Prelude.{◌≡◌, ◌≢◌, ◌⊎◌, ℕ, ◌+◌, ◌-◌, ◌*◌, ◌^◌, nat_lt, if◌then◌else◌, List, ◌++◌, length, take}
+use Rattle.std.specs.Prelude.{Result, Ok, Err}
+use Rattle.sha2.specs.Sha256.{sha256}
+use Rattle.typecodes.specs.declared.fault.ReadFault.{ReadFault}
+use Rattle.typecodes.specs.declared.refusal.Refusal.{Refusal}
+use Rattle.typecodes.specs.declared.refusal.Refusal.TheVariants.{Unreadable, TypeMismatch, LevelMismatch}
+use Rattle.typecodes.specs.declared.refusal.Refusal.TheVariants.{RootMismatch, MessageRead}
+use Rattle.typecodes.specs.Fault.{cause_number}
+use Rattle.typecodes.specs.Refusal.{refusal_number}
+use Rattle.boot_verify.specs.declared.key.Key.{Key}
+use Rattle.boot_verify.specs.Key.{KeyHasFault, KeyHasPrefix, KeyIsDigest, KeyVerdict, Signs, SpellsKey}
+
+-- a number in the lower 32 bits, and what belongs to it in the upper ones
+abbrev pub packed : ℕ → ℕ → ℕ
+packed number detail = number + 2 ^ 32 * detail
+
+-- a fault by its cause, with its place
+abbrev pub fault_answer : ReadFault → ℕ
+fault_answer fault = packed (cause_number fault.cause) fault.place
+
+-- what belongs to a refusal: the place of a fault, or the level
+abbrev pub refusal_detail : Refusal → ℕ
+refusal_detail (Unreadable fault) = fault.place
+refusal_detail (TypeMismatch level) = level
+refusal_detail LevelMismatch = 0
+refusal_detail (RootMismatch level) = level
+refusal_detail MessageRead = 0
+
+-- 0 where a signature is valid, and else the refusal's number with what belongs to it
+abbrev pub verdict_answer : Result (Unit {0}) Refusal → ℕ
+verdict_answer (Ok _) = 0
+verdict_answer (Err refusal) = packed (refusal_number refusal) (refusal_detail refusal)
+
+-- KeyLength, with the length, or the greatest number of 32 bits where it is greater
+abbrev pub length_answer : ℕ → ℕ
+length_answer n = packed 6 (if nat_lt n (2 ^ 32) then n else 2 ^ 32 - 1)
+
+-- The bytes spell no key: they have no scheme's length, or as a key of their length they have a fault.
+abbrev pub RefusesKey : List ℕ → ℕ → Type 0
+RefusesKey public answer =
+    ((length public ≢ 56) × (length public ≢ 60) × (length public ≢ 68) × (answer ≡ length_answer (length public)))
+    ⊎ ((fault : ReadFault) × KeyHasFault public fault × (answer ≡ fault_answer fault))
+
+-- What verification answers: a refusal of the key, or what the key's scheme answers of a message that was read.
+abbrev pub Answers : List ℕ → List ℕ → List ℕ → ℕ → Type 0
+Answers public message bytes answer = RefusesKey public answer
+    ⊎ ((key : Key) × (verdict : Result (Unit {0}) Refusal) × SpellsKey key public × KeyVerdict key message bytes verdict
+    × (verdict ≢ Err MessageRead) × (answer ≡ verdict_answer verdict))
+
+-- The bytes of a key and of a signature spell a key, and a signature of the message that is valid under it.
+abbrev pub IsSigned : List ℕ → List ℕ → List ℕ → Type 0
+IsSigned public message bytes = (key : Key) × SpellsKey key public × Signs key message bytes
+
+-- The digest is that of the message, by what is hashed before it under the key that these bytes spell.
+abbrev pub IsDigest : List ℕ → List ℕ → List ℕ → List ℕ → Type 0
+IsDigest public message bytes digest =
+    (key : Key) → SpellsKey key public → KeyIsDigest key message bytes digest
+
+-- What is hashed before the message was given: the length of it above the lower 32 bits, which are 0, and it stands in
+-- the first bytes of the room. Else the answer is that of verification, whatever the message.
+abbrev pub GivesPrefix : List ℕ → List ℕ → List ℕ → ℕ → Type 0
+GivesPrefix public bytes room answer =
+    ((key : Key) × (n : ℕ) × SpellsKey key public × KeyHasPrefix key bytes (take n room) × (answer ≡ packed 0 n)
+    × (n ≢ 0)
+    × ((message : List ℕ) → IsDigest public message bytes (sha256 (take n room ++ message))))
+    ⊎ ((message : List ℕ) → Answers public message bytes answer)

@@ -1,0 +1,54 @@
+-- Public keys of every scheme, and what each scheme says of a signature: the definitions of lms, hss and xmss, picked
+-- by the key, as sign_core picks them for the program.
+use Rattle.std.specs.Prelude.{◌≡◌, ◌⊎◌, ℕ, List, length, Result}
+use Rattle.typecodes.specs.declared.fault.ReadFault.{ReadFault}
+use Rattle.typecodes.specs.declared.refusal.Refusal.{Refusal}
+use Rattle.typecodes.specs.Layout.{Spells, HasFault}
+use Rattle.lms.specs.Key.{public_key as lms_public_key}
+use Rattle.lms.specs.Signature.{Signature as LmsSignature, signature as lms_signature}
+use Rattle.lms.specs.Verification as lms
+use Rattle.hss.specs.Key.{public_key as hss_public_key}
+use Rattle.hss.specs.Signature.{Signature as HssSignature, signature as hss_signature}
+use Rattle.hss.specs.Verification as hss
+use Rattle.xmss.specs.Key.{public_key as xmss_public_key}
+use Rattle.xmss.specs.Signature.{Signature as XmssSignature, signature as xmss_signature}
+use Rattle.xmss.specs.Verification as xmss
+use Rattle.boot_verify.specs.declared.key.Key.{Key}
+use Rattle.boot_verify.specs.declared.key.Key.TheVariants.{Lms, Hss, Xmss}
+
+-- A key is spelled as its scheme says (RFC 8554 5.3 and 6.1, RFC 8391 4.1.7).
+abbrev pub SpellsKey : Key → List ℕ → Type 0
+SpellsKey (Lms key) bytes = Spells lms_public_key key bytes
+SpellsKey (Hss key) bytes = Spells hss_public_key key bytes
+SpellsKey (Xmss key) bytes = Spells xmss_public_key key bytes
+
+-- Bytes of a scheme's length have this fault as a key of the scheme.
+abbrev pub KeyHasFault : List ℕ → ReadFault → Type 0
+KeyHasFault bytes fault = ((length bytes ≡ 56) × HasFault lms_public_key bytes 0 fault)
+    ⊎ ((length bytes ≡ 60) × HasFault hss_public_key bytes 0 fault)
+    ⊎ ((length bytes ≡ 68) × HasFault xmss_public_key bytes 0 fault)
+
+-- The bytes spell a signature that is valid for the message under the key (RFC 8554 5.4.2 and 6.3, RFC 8391 4.1.10).
+abbrev pub Signs : Key → List ℕ → List ℕ → Type 0
+Signs (Lms key) message bytes = (s : LmsSignature) × Spells lms_signature s bytes × lms.IsValid key message s
+Signs (Hss key) message bytes = (s : HssSignature) × Spells hss_signature s bytes × hss.IsValid key message s
+Signs (Xmss key) message bytes =
+    (s : XmssSignature) × Spells (xmss_signature key.tree) s bytes × xmss.IsValid key message s
+
+-- Verification answers what the key's scheme says.
+abbrev pub KeyVerdict : {A : Type 0} → Key → List ℕ → List ℕ → Result A Refusal → Type 0
+KeyVerdict (Lms key) message bytes result = lms.Verdict key message bytes result
+KeyVerdict (Hss key) message bytes result = hss.Verdict key message bytes result
+KeyVerdict (Xmss key) message bytes result = xmss.Verdict key message bytes result
+
+-- The digest is that of the message, by what the scheme hashes before it (RFC 8554 4.5, RFC 8391 4.1.9).
+abbrev pub KeyIsDigest : Key → List ℕ → List ℕ → List ℕ → Type 0
+KeyIsDigest (Lms key) message bytes digest = lms.IsDigest key message bytes digest
+KeyIsDigest (Hss key) message bytes digest = hss.IsDigest key message bytes digest
+KeyIsDigest (Xmss key) message bytes digest = xmss.IsDigest key message bytes digest
+
+-- The bytes spell a signature, and this is what the scheme hashes before its message.
+abbrev pub KeyHasPrefix : Key → List ℕ → List ℕ → Type 0
+KeyHasPrefix (Lms key) bytes prefix = lms.HasPrefix key bytes prefix
+KeyHasPrefix (Hss key) bytes prefix = hss.HasPrefix key bytes prefix
+KeyHasPrefix (Xmss key) bytes prefix = xmss.HasPrefix key bytes prefix

@@ -1,0 +1,13 @@
+-- The first pairs are joined, as many as the groups so far have, and what comes after them is as it was.
+use Rattle.std.proofs.Common.{◌≡◌, ℕ, ◌+◌, ◌*◌, ◌<◌, ◌≤◌, [], get_or, length}
+use Rattle.winternitz.specs.Lanes.{lanes}
+use Rattle.wots_plus.specs.LTree.{l_tree_join}
+use Rattle.wots_plus.proofs.climbing.InLanesJoining.join_front.Given as goal
+
+abbrev pub invariant-loop-group : goal.invariant-loop-group
+invariant-loop-group l = record {
+  over : (k : ℕ) → k < lanes * l.group
+      → get_or l.values k [] ≡ l_tree_join l.key.seed.now.key l.key.leaf l.height k (get_or l.fn.values (2 * k) []) (get_or l.fn.values (2 * k + 1) []);
+  rest : (k : ℕ) → 2 * (lanes * l.group) ≤ k → get_or l.values k [] ≡ get_or l.fn.values k [];
+  long : length l.values ≡ length l.fn.values;
+}

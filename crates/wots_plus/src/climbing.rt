@@ -1,0 +1,102 @@
+//! How a verifier comes from the values of a signature to a public hash.
+
+ghost use Rattle.std.specs.Prelude.{◌≡◌, ◌<◌, ◌≤◌, ℕ, ◌+◌, ◌*◌, ◌/◌, List, [], length, slice_index_or};
+ghost use Rattle.typecodes.specs.Types.{wots_chains};
+ghost use Rattle.wots_plus.specs.Key as spec;
+ghost use Rattle.wots_plus.specs.Key.{ClimbTo, ends_of_signature};
+ghost use Rattle.wots_plus.specs.LTree.{l_tree_join};
+
+use crate::hashes::Prf;
+use crate::key::Wots;
+use typecodes::WOTS_CHAINS;
+use winternitz::lanes::LANES;
+use winternitz::{InLanes, OneByOne};
+
+/// A way to climb the chains of a signature and to join the values of its L-tree. Whichever it is, the public hash is
+/// the same: `InLanes` takes some 64 KB of stack and is fast, `OneByOne` takes less than 4 KB.
+pub trait Climbing {
+    /// PRF under a key, with what this way keeps of it.
+    fn prf(&self, key: [u8; 32]) -> Prf
+        ensures { result.key ≡ key };
+
+    /// The public hash to which the values of a signature of a key lead, as `Wots::hash_from_signature`. The caller
+    /// gives a value for each chain.
+    fn hash_from_signature(
+        &self,
+        key: &Wots<'_>,
+        digest: &[u8; 32],
+        values: &[[u8; 32]],
+    ) -> [u8; 32]
+        requires { length values.now ≡ wots_chains }
+        ensures value { result ≡ spec.public_hash key.now.seed.now.key key.now.leaf
+            (ends_of_signature key.now.seed.now.key key.now.leaf digest.now values.now) }
+        // The same of any list of ends, and that there is one.
+        ensures only { (ends : List (List ℕ)) →
+            ClimbTo key.now.seed.now.key key.now.leaf digest.now values.now ends →
+            result ≡ spec.public_hash key.now.seed.now.key key.now.leaf ends }
+        ensures some { (ends : List (List ℕ)) ×
+            ClimbTo key.now.seed.now.key key.now.leaf digest.now values.now ends ×
+            (result ≡ spec.public_hash key.now.seed.now.key key.now.leaf ends) };
+}
+
+/// Which pairs of a height of an L-tree are joined together.
+pub trait Joining {
+    /// Joins the first pairs of neighbours, as many as it takes together, puts their nodes at the front, and counts
+    /// them.
+    fn join_front(&self, key: &Wots<'_>, height: u32, values: &mut [[u8; 32]]) -> usize
+        requires { length values.old ≤ wots_chains }
+        ensures count { result ≤ length values.old / 2 }
+        ensures over { (k : ℕ) → k < result → slice_index_or values.new k []
+            ≡ l_tree_join key.now.seed.now.key key.now.leaf height k
+            (slice_index_or values.old (2 * k) []) (slice_index_or values.old (2 * k + 1) []) }
+        ensures rest { (k : ℕ) → 2 * result ≤ k → slice_index_or values.new k [] ≡ slice_index_or values.old k [] }
+        ensures long { length values.new ≡ length values.old };
+}
+
+impl Climbing for InLanes {
+    fn prf(&self, key: [u8; 32]) -> Prf {
+        Prf::new(key)
+    }
+
+    fn hash_from_signature(
+        &self,
+        key: &Wots<'_>,
+        digest: &[u8; 32],
+        values: &[[u8; 32]],
+    ) -> [u8; 32] {
+        key.hash_from_signature(digest, values)
+    }
+}
+
+impl Joining for InLanes {
+    fn join_front(&self, key: &Wots<'_>, height: u32, values: &mut [[u8; 32]]) -> usize {
+        let groups = values.len() / 2 / LANES;
+        for group in 0..groups {
+            key.join_pairs(height, LANES * group, values);
+        }
+        LANES * groups
+    }
+}
+
+impl Climbing for OneByOne {
+    fn prf(&self, key: [u8; 32]) -> Prf {
+        Prf::without_lanes(key)
+    }
+
+    fn hash_from_signature(
+        &self,
+        key: &Wots<'_>,
+        digest: &[u8; 32],
+        values: &[[u8; 32]],
+    ) -> [u8; 32] {
+        let mut ends = [[0; 32]; WOTS_CHAINS];
+        key.ends_one_by_one(digest, values, &mut ends);
+        key.l_tree_by(self, &mut ends)
+    }
+}
+
+impl Joining for OneByOne {
+    fn join_front(&self, _key: &Wots<'_>, _height: u32, _values: &mut [[u8; 32]]) -> usize {
+        0
+    }
+}

@@ -1,0 +1,6 @@
+use Rattle.xmss.specs.View.{signature_of}
+use Rattle.xmss.proofs.verification.message_prefix.Goals as goal
+
+pub returns-clause-ok : goal.returns-clause-ok
+returns-clause-ok c =
+    (signature_of c.in-Ok.view, c.in-Ok.ensures.reads, c.before_message.ensures)

@@ -1,0 +1,70 @@
+/*
+ * What the calls of include/hbs_verify.h answer for the files of each line of standard input: a public key, a message
+ * and a signature, parted by tabs. It prints for each the answer of hbs_verify, of hbs_message_prefix, and of
+ * hbs_verify_digest for the SHA-256 of the bytes that this wrote and the message, each as number:detail, and the bytes
+ * in hex. Where there is a refusal before the message, the digest is one of zeros.
+ */
+#include <stdio.h>
+#include <stdlib.h>
+#include <string.h>
+
+#include "../boot/sha256.h"
+#include "hbs_verify.h"
+
+typedef struct {
+    uint8_t *bytes;
+    size_t length;
+} content;
+
+static content content_of(const char *path) {
+    FILE *file = fopen(path, "rb");
+    content it = {NULL, 0};
+    if (!file) {
+        perror(path);
+        exit(2);
+    }
+    fseek(file, 0, SEEK_END);
+    it.length = (size_t)ftell(file);
+    rewind(file);
+    it.bytes = malloc(it.length ? it.length : 1);
+    if (!it.bytes || fread(it.bytes, 1, it.length, file) != it.length) exit(2);
+    fclose(file);
+    return it;
+}
+
+static void print(uint64_t answer) { printf("%u:%u ", (unsigned)HBS_NUMBER(answer), (unsigned)HBS_DETAIL(answer)); }
+
+int main(void) {
+    char line[4096];
+    while (fgets(line, sizeof line, stdin)) {
+        const content key = content_of(strtok(line, "\t\n"));
+        const content message = content_of(strtok(NULL, "\t\n"));
+        const content signature = content_of(strtok(NULL, "\t\n"));
+        uint8_t *prefix = malloc(HBS_PREFIX_BYTES), *digest = calloc(1, HBS_DIGEST_BYTES);
+        size_t length = 0;
+        uint64_t answer;
+        sha256 hash;
+        if (!prefix || !digest) return 2;
+        memset(prefix, 0xee, HBS_PREFIX_BYTES);
+        print(hbs_verify(key.bytes, key.length, message.bytes, message.length, signature.bytes, signature.length));
+        answer = hbs_message_prefix(key.bytes, key.length, signature.bytes, signature.length, prefix);
+        print(answer);
+        if (HBS_NUMBER(answer) == HBS_VERIFIED) {
+            length = HBS_DETAIL(answer);
+            start(&hash);
+            add(&hash, prefix, length);
+            add(&hash, message.bytes, message.length);
+            finish(&hash, digest);
+        }
+        print(hbs_verify_digest(key.bytes, key.length, signature.bytes, signature.length, digest));
+        for (size_t i = 0; i < HBS_PREFIX_BYTES; i++) printf("%02x", prefix[i]);
+        putchar('\n');
+        fflush(stdout);
+        free(key.bytes);
+        free(message.bytes);
+        free(signature.bytes);
+        free(prefix);
+        free(digest);
+    }
+    return 0;
+}

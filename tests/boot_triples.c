@@ -1,0 +1,178 @@
+/*
+ * Compares the answers of three verifiers for changed triples of a public key, a message and a signature: the library
+ * for boot loaders, the verifiers of the program, and boot/plain.c.
+ *
+ *     boot_triples COUNT (PUBLIC MESSAGE SIGNATURE) ..
+ *
+ * Each byte that is given ends where a page begins that can't be read, or begins where one ends, or lies in memory of
+ * its own size that the address sanitizer watches. It prints how many triples had each number, and each triple whose
+ * answers differ.
+ */
+#define _DEFAULT_SOURCE
+#include <stdio.h>
+#include <stdlib.h>
+#include <string.h>
+#include <sys/mman.h>
+
+#include "hbs_verify.h"
+
+/* The verifiers that the program has, in an archive that is made for this test, and those of boot/plain.c. */
+uint64_t program_verify(const uint8_t *, size_t, const uint8_t *, size_t, const uint8_t *, size_t);
+uint64_t plain_verify(const uint8_t *, size_t, const uint8_t *, size_t, const uint8_t *, size_t);
+
+#define PAGE 4096
+#define MOST_BYTES (20 * PAGE)
+#define NUMBERS 16
+
+enum { KEY, MESSAGE, SIGNATURE, PARTS };
+
+typedef struct {
+    uint8_t *bytes;
+    size_t length;
+} content;
+
+/* The pages in which a part stands, between two that can't be read, and its own memory. */
+typedef struct {
+    uint8_t *pages, *own;
+} place;
+
+static uint64_t state = 0x9e3779b97f4a7c15;
+
+/* The next number below a bound, of a fixed sequence (xorshift64*). */
+static size_t below(size_t bound) {
+    state ^= state >> 12;
+    state ^= state << 25;
+    state ^= state >> 27;
+    return (size_t)((state * 0x2545f4914f6cdd1d) >> 33) % bound;
+}
+
+static content content_of(const char *path) {
+    FILE *file = fopen(path, "rb");
+    content it = {malloc(MOST_BYTES), 0};
+    if (!file || !it.bytes) {
+        perror(path);
+        exit(2);
+    }
+    it.length = fread(it.bytes, 1, MOST_BYTES, file);
+    fclose(file);
+    return it;
+}
+
+static place new_place(void) {
+    place it = {NULL, NULL};
+    uint8_t *all = mmap(NULL, MOST_BYTES + 2 * PAGE, PROT_NONE, MAP_PRIVATE | MAP_ANONYMOUS, -1, 0);
+    if (all == MAP_FAILED || mprotect(all + PAGE, MOST_BYTES, PROT_READ | PROT_WRITE) != 0) exit(2);
+    it.pages = all + PAGE;
+    return it;
+}
+
+/* Puts a part where nothing before or after it can be read. */
+static content put_into(place *at, const content *it, size_t turn) {
+    content placed = {at->pages, it->length};
+    free(at->own);
+    at->own = NULL;
+    if (turn % 3 == 0) placed.bytes = at->pages + MOST_BYTES - it->length;
+    if (turn % 3 == 2) {
+        at->own = malloc(it->length);
+        if (it->length > 0) placed.bytes = at->own;
+    }
+    memcpy(placed.bytes, it->bytes, it->length);
+    return placed;
+}
+
+static void change_byte(content *it) {
+    if (it->length > 0) it->bytes[below(it->length)] ^= (uint8_t)(1 + below(255));
+}
+
+/* A field of four bytes becomes a small number, as codes, indexes and levels are. */
+static void set_field(content *it) {
+    if (it->length < 4) return;
+    size_t at = below(4) ? below((it->length < 64 ? it->length : 64) / 4) * 4 : below(it->length / 4) * 4;
+    memcpy(it->bytes + at, (const uint8_t[4]){0, 0, 0, (uint8_t)below(12)}, 4);
+}
+
+/* Cuts a part anywhere, or near its end. */
+static void cut(content *it) {
+    if (it->length == 0) return;
+    it->length = below(2) ? below(it->length) : it->length - 1 - below(it->length < 64 ? it->length : 64);
+}
+
+static void lengthen(content *it) {
+    for (size_t more = 1 + below(70); more > 0 && it->length < MOST_BYTES; more--) {
+        it->bytes[it->length++] = (uint8_t)below(256);
+    }
+}
+
+/* Changes a triple, of which another one may give a part. */
+static void change(content *parts, const content *other) {
+    size_t which = below(4) ? SIGNATURE : below(PARTS);
+    switch (below(10)) {
+    case 0:
+        break;
+    case 1:
+        memcpy(parts[which].bytes, other[which].bytes, parts[which].length = other[which].length);
+        break;
+    case 2:
+        cut(&parts[which]);
+        break;
+    case 3:
+        lengthen(&parts[which]);
+        break;
+    case 4:
+    case 5:
+    case 6:
+        set_field(&parts[which == MESSAGE ? KEY : which]);
+        break;
+    case 7:
+        change_byte(&parts[KEY]);
+        break;
+    default:
+        change_byte(&parts[which]);
+        if (below(4) == 0) change_byte(&parts[SIGNATURE]);
+    }
+}
+
+/* Gives a triple to each verifier, and says where their answers differ. */
+static int differs(size_t turn, const content *it, size_t *seen) {
+    const content key = it[KEY], message = it[MESSAGE], signature = it[SIGNATURE];
+    const uint64_t library = hbs_verify(key.bytes, key.length, message.bytes, message.length, signature.bytes,
+                                        signature.length);
+    const uint64_t program = program_verify(key.bytes, key.length, message.bytes, message.length, signature.bytes,
+                                            signature.length);
+    const uint64_t plain = plain_verify(key.bytes, key.length, message.bytes, message.length, signature.bytes,
+                                        signature.length);
+    if (HBS_NUMBER(library) < NUMBERS) seen[HBS_NUMBER(library)]++;
+    if (library == program && library == plain) return 0;
+    printf("triple %zu: the library %llx, the program %llx, plain C %llx\n", turn, (unsigned long long)library,
+           (unsigned long long)program, (unsigned long long)plain);
+    return 1;
+}
+
+int main(int count, char **words) {
+    const size_t turns = count > 1 ? strtoul(words[1], NULL, 10) : 0;
+    const size_t triples = count > 2 ? (size_t)(count - 2) / PARTS : 0;
+    size_t seen[NUMBERS] = {0};
+    content *all = calloc(triples + 1, PARTS * sizeof *all), changed[PARTS], given[PARTS];
+    place places[PARTS];
+    int differing = 0;
+    if (triples == 0 || !all) return 2;
+    for (size_t i = 0; i < PARTS * triples; i++) all[i] = content_of(words[2 + i]);
+    for (size_t i = 0; i < PARTS; i++) {
+        places[i] = new_place();
+        changed[i].bytes = malloc(MOST_BYTES);
+    }
+    for (size_t turn = 0; turn < turns; turn++) {
+        const content *triple = all + PARTS * below(triples), *other = all + PARTS * below(triples);
+        for (size_t i = 0; i < PARTS; i++) {
+            memcpy(changed[i].bytes, triple[i].bytes, changed[i].length = triple[i].length);
+        }
+        change(changed, other);
+        for (size_t i = 0; i < PARTS; i++) given[i] = put_into(&places[i], &changed[i], turn);
+        differing += differs(turn, given, seen);
+    }
+    for (size_t i = 0; i < NUMBERS; i++) {
+        if (seen[i]) printf("%zu:%zu ", i, seen[i]);
+    }
+    printf("\n%d differ\n", differing);
+    return differing != 0;
+}
