@@ -1,7 +1,7 @@
 -- How many leaves a tree is asked for together.
 use Rattle.std.specs.Prelude.{ℕ}
 
--- as many as a hash has lanes. What another number changes besides, docs/ADDING.md lists.
+-- as many as a hash has lanes. What another number changes besides, docs/CONTRIBUTING.md lists.
 abbrev pub lanes : ℕ
 lanes = 8
 

@@ -5,8 +5,8 @@ ghost use Rattle.merkle.specs.Lanes.{lanes};
 ghost use Rattle.merkle.specs.Nodes.{AreUnder};
 ghost use Rattle.merkle.specs.Tree.{Leaves, node, root_of, path_of, sibling};
 
-/// How many leaves are made together, one in each lane of a hash. What another number changes besides, docs/ADDING.md
-/// lists.
+/// How many leaves are made together, one in each lane of a hash. What another number changes besides,
+/// docs/CONTRIBUTING.md lists.
 pub const LANES: usize = 8;
 
 /// The height of a node that stands over so many leaves.

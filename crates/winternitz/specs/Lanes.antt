@@ -4,7 +4,7 @@ use Rattle.std.specs.Coded.{Coded-set, coded_list, coded_ℕ}
 use Rattle.std.specs.Int.{w16, w32, from_be_bytes, to_be_bytes}
 use Rattle.sha2.specs.Sha256.{digest_bytes}
 
--- How many lanes there are. What another number changes besides, docs/ADDING.md lists.
+-- How many lanes there are. What another number changes besides, docs/CONTRIBUTING.md lists.
 abbrev pub lanes : ℕ
 lanes = 8
 

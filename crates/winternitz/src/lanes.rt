@@ -21,7 +21,7 @@ mod tests;
 pub use crate::lanes::beginning::Beginning;
 pub use crate::lanes::long::sha256_in_lanes;
 
-/// How many blocks stand side by side. What another number changes besides, docs/ADDING.md lists.
+/// How many blocks stand side by side. What another number changes besides, docs/CONTRIBUTING.md lists.
 pub const LANES: usize = 8;
 
 /// A word of each block.
