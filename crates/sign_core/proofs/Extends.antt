@@ -23,7 +23,7 @@ use Rattle.sign_core.specs.Ledger.{Table}
 use Rattle.state_file.specs.declared.record.Record.TheVariants.{Extend as ExtendRecord}
 use Rattle.sign_core.proofs.Adding.{LeavesItsList}
 use Rattle.sign_core.proofs.StandingChain.{entry_is}
-use Rattle.sign_core.specs.declared.signer.signing.TreeSeeds.{TreeSeeds}
+use Rattle.sign_core.specs.declared.signer.bind.TreeSeeds.{TreeSeeds}
 use Rattle.sign_core.specs.Signing.{answered_with}
 use Rattle.sign_core.specs.Source.{Provides}
 use Rattle.sign_core.specs.Records.{has_identifier}

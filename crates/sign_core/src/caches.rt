@@ -1,9 +1,8 @@
 //! The caches of current trees. Each tree is made once, and then its root and a path cost few leaves or none.
 
-ghost use Rattle.std.specs.Prelude.{◌≡◌, ◌≢◌, ◌↔◌, ◌<◌, ◌≤◌, ◌^◌, ◌∷◌, List, Some, None, true, length, slice_get, ℕ};
-ghost use Rattle.std.specs.Prelude.{IfErr, IfOk, IsSome, OnErr, OnOk, replicate};
+ghost use Rattle.std.specs.Prelude.{◌≡◌, ◌≢◌, ◌↔◌, ◌<◌, ◌≤◌, ◌^◌, ◌∷◌, List, Some, None, true, length, ℕ, IfErr, IfOk};
+ghost use Rattle.std.specs.Prelude.{IsSome, OnErr, OnOk, replicate};
 ghost use Rattle.typecodes.specs.Types.{height_of, xmss_height_of};
-ghost use Rattle.state_file.specs.Laws.{IsLegal, levels_of};
 ghost use Rattle.state_file.specs.declared.record.Record.{Record as R};
 ghost use Rattle.state_file.specs.declared.record.Key.{Key as K};
 ghost use Rattle.state_file.specs.declared.record.Record.TheVariants.{Key as KeyRecord};
@@ -11,8 +10,7 @@ ghost use Rattle.sign_core.specs.Signing.{IsXmssKey};
 ghost use Rattle.sign_core.specs.Textbook.{damaged_in};
 
 use crate::fault::SignFault;
-use crate::ledger::{Binding, Ledger};
-use crate::links::{KeyTrees, Link, Signed};
+use crate::links::{Link, Signed};
 use crate::roots::xmss_root;
 use lms::{LmsSecret, LmsTree};
 use merkle::{OutOfMemory, PathCache};
@@ -145,30 +143,6 @@ fn leaf_within(height: u8, leaf: u32) -> u32
     if leaf < leaves { leaf } else { leaves - 1 }
 }
 
-// The leaves by which the trees of a chain sign, at the places of their levels, from the top down to this one: at this
-// level the leaf of a binding, or where there is none, the next one of the current tree; above it, the one that signs
-// the tree below.
-fn signing_leaves(ledger: &Ledger, lowest: u8, bound: Option<&Binding>) -> [u32; 8]
-    requires { lowest < 8 }
-{
-    let (mut place, mut leaf) = match bound {
-        Some(binding) => (binding.tree, binding.leaf),
-        None => match ledger.current(lowest) {
-            Some(tree) => (tree.place, tree.next),
-            None => (0, 0),
-        },
-    };
-    let mut leaves = [0; 8];
-    for level in (0..lowest + 1).rev() {
-        leaves[usize::from(level)] = leaf;
-        if let Some(made) = ledger.made(place) {
-            place = made.parent;
-            leaf = made.extend.parent_leaf;
-        }
-    }
-    leaves
-}
-
 /// The caches of a signer: of each level's current LMS tree, or of the one tree of an XMSS key, once a request has
 /// needed it.
 #[derive(Drop)]
@@ -190,8 +164,8 @@ impl Model for Caches {
 }
 
 impl Caches {
-    ghost use Rattle.sign_core.specs.Caches.{HasLevel, LacksLevel, cache_at};
-    ghost use Rattle.sign_core.specs.inner.Links.{AreTreesOf, IsMade};
+    ghost use Rattle.sign_core.specs.Caches.{HasLevel, cache_at};
+    ghost use Rattle.sign_core.specs.inner.Links.{IsMade};
     ghost use Rattle.xmss.specs.Secret.{path_in as xmss_path_in, root_in as xmss_root_in};
 
     /// None.
@@ -226,7 +200,12 @@ impl Caches {
     }
 
     // Makes the cache of a secret's tree, which is to sign by this leaf, for a level, unless it is there.
-    fn keep(&mut self, level: u8, secret: &LmsSecret, leaf: u32) -> Result<(), OutOfMemory>
+    pub(crate) fn keep(
+        &mut self,
+        level: u8,
+        secret: &LmsSecret,
+        leaf: u32,
+    ) -> Result<(), OutOfMemory>
         requires { level < 8 }
         ensures there { OnOk result (HasLevel self.new level secret.now) }
         ensures lacking { OnErr result (HasLevel self.old level secret.now → ⊥) }
@@ -282,33 +261,6 @@ impl Caches {
             Some(cache) => cache.link(signed),
             None => Link::new(secret, signed),
         }
-    }
-
-    /// Makes the caches of the current LMS trees from the top down to a level whose records stand before a place, each
-    /// unless it is there. A cache that is made keeps the block of the leaf by which its tree is to sign: under a name
-    /// that is bound, or where none is given, under a new one.
-    pub(crate) fn keep_chain(
-        &mut self,
-        trees: &KeyTrees<'_>,
-        ledger: &Ledger,
-        lowest: u8,
-        before: u32,
-        bound: Option<&Binding>,
-    ) -> Result<(), OutOfMemory>
-        requires trees { AreTreesOf trees.now ledger.now.key }
-        requires few { lowest < 8 }
-        ensures lacking { OnErr result (LacksLevel ledger.now.key ledger.now.records lowest before self.old) }
-    {
-        let leaves = signing_leaves(ledger, lowest, bound);
-        for level in 0..lowest + 1 {
-            if let Some(tree) = ledger.current(level) {
-                if tree.place < before {
-                    let leaf = leaves[usize::from(level)];
-                    self.keep(level, &trees.secret_at(ledger, tree.place), leaf)?;
-                }
-            }
-        }
-        Ok(())
     }
 
     /// How many leaves the cache of a level has made, if it is that of a secret's tree.

@@ -36,6 +36,7 @@ mod caches;
 mod fault;
 mod frames;
 mod key;
+mod key_trees;
 mod laws;
 mod ledger;
 mod links;
@@ -45,7 +46,6 @@ mod roots;
 mod serving;
 mod signer;
 mod source;
-mod standing;
 #[cfg(test)]
 mod tests;
 mod trees;

@@ -122,12 +122,12 @@ fn answer<S: Store, R: Source, I: Message, W: Write>(
     let is_whole = finish(&mut message, &reply);
     let written = write_answer(&message, writer, &reply, signature);
     let FrameMessage { input, .. } = message;
-    // Only the proof needs this use: it tells what was read.
+    // For the prover: this use tells what was read.
     let _ = &*input;
     ((reply, is_whole), written)
 }
 
-// The same size, which is one of four bytes.
+// For the prover: the same size, which is one of four bytes.
 fn size_of(announced: u32) -> u32
     ensures same { result ≡ announced }
     ensures range { result < 2 ^ 32 }
@@ -176,7 +176,7 @@ fn write_answer<M: Message, W: Write>(
     requires { WasReadOrFailed M.Message message.now }
     ensures { WritesReply (reply_bytes reply.now signature.now) (W.contents writer.old) (W.contents writer.new) result }
 {
-    // Only the contract needs the message.
+    // For the prover: the contract alone needs the message.
     let _ = message;
     match reply {
         Reply::Signed => write_reply(writer, 0, signature),

@@ -14,8 +14,10 @@ ghost use Rattle.typecodes.specs.Layout.{AreBytes};
 ghost use Rattle.typecodes.specs.Spec.{IsSpec};
 ghost use Rattle.lms.specs.Secret.{root_in};
 
-mod request;
-mod signing;
+mod bind;
+mod repeat;
+mod scheme;
+mod sign;
 #[cfg(test)]
 pub(crate) mod tests;
 
@@ -85,7 +87,7 @@ fn load_first<S: Store>(store: &mut S) -> Result<(), SignFault>
     }
 }
 
-// The same bytes; each is below 256.
+// For the prover: the same bytes, each of which is below 256.
 fn bytes_of<const N: usize>(bytes: [u8; N]) -> [u8; N]
     ensures same { result ≡ bytes.entry }
     ensures range { AreBytes result }
@@ -198,7 +200,7 @@ fn create_key<S: Store, R: Source>(
 {
     load_first(store)?;
     let secret = draw_secret(spec, random)?;
-    // Its levels are 1 to 8.
+    // For the prover: its levels are 1 to 8.
     prove!(level_count(spec) <= 8);
     let key = Key {
         version,

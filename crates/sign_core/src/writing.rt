@@ -1,23 +1,23 @@
-//! Signatures of a key: how many bytes they have, and their bytes.
+//! Signatures of a key: how many bytes they have, the room for them, and their bytes.
 
-ghost use Rattle.std.specs.Prelude.{◌≡◌, ◌<◌, ◌≤◌, ◌∷◌, [], ◌++◌, List, Some, length};
-ghost use Rattle.hss.specs.Secret.{Signing};
+ghost use Rattle.std.specs.Prelude.{◌≡◌, ◌<◌, ◌≤◌, ◌∷◌, [], ◌++◌, List, Some, length, ◌^◌, map, IfErr, OnOk, ◌-◌, max};
+ghost use Rattle.std.specs.Prelude.{vec_capacity, OnErr};
+ghost use Rattle.hss.specs.Secret.{Signing, signing_of};
 ghost use Rattle.hss.specs.Signature.{signature_size as hss_signature_size};
-ghost use Rattle.hss.specs.Writing.{signature_bytes as hss_signature_bytes, textbook as hss_textbook};
+ghost use Rattle.hss.specs.Writing.{signature_bytes as hss_signature_bytes, textbook as hss_textbook, FromSecrets};
+ghost use Rattle.hss.specs.Writing.{pairs_of as level_pairs_of};
 ghost use Rattle.sign_core.specs.inner.Links.{AreMade, signings_of};
 ghost use Rattle.sign_core.specs.Signer.{signature_size};
 ghost use Rattle.sign_core.specs.inner.Signing.{WritesChain, pairs_of};
 ghost use Rattle.sign_core.specs.inner.Writing.{types_of};
 ghost use Rattle.sign_core.specs.Textbook.{Trees, trees_of};
-ghost use Rattle.std.specs.Prelude.{◌^◌, map};
 ghost use Rattle.typecodes.specs.Types.{height_of, lms_signature_len_of, xmss_height_of, xmss_signature_len_of};
 ghost use Rattle.lms.specs.Secret.{path_in as lms_path_in};
 ghost use Rattle.lms.specs.Writing.{signature_bytes as lms_signature_bytes, textbook as lms_textbook};
 ghost use Rattle.xmss.specs.Secret.{path_in as xmss_path_in, randomizer_of};
 ghost use Rattle.xmss.specs.Writing.{signature_bytes as xmss_signature_bytes, textbook as xmss_textbook};
-ghost use Rattle.hss.specs.Secret.{signing_of};
-ghost use Rattle.hss.specs.Writing.{FromSecrets, pairs_of as level_pairs_of};
 
+use crate::fault::SignFault;
 use crate::links::Link;
 use hss::Level;
 use lms::LmsSecret;
@@ -32,6 +32,34 @@ pub(crate) fn signature_len(secret: &Secret) -> u32
         Secret::Lms { pair, .. } => pair.signature_len(),
         Secret::Hss { levels, .. } => hss::signature_len(levels),
         Secret::Xmss { tree, .. } => tree.signature_len(),
+    }
+}
+
+// Makes room for a signature of the key.
+pub(crate) fn make_room(secret: &Secret, out: &mut Vec<u8>) -> Result<(), SignFault>
+    ensures room { OnOk result (length out.new.items ≡ signature_size secret.now) }
+    ensures refused { IfErr result (λ fault. fault ≡ SignFault.OutOfMemory) }
+    // Memory is requested only where there is no room for it yet.
+    ensures full { OnErr result (vec_capacity out.old < signature_size secret.now) }
+    ensures capacity { vec_capacity out.old ≤ vec_capacity out.new }
+    ensures most { vec_capacity out.new ≤ max (vec_capacity out.old) (signature_size secret.now) }
+{
+    let size = signature_len(secret) as usize;
+    out.clear();
+    out.reserve_exact(size).map_err(|_| SignFault::OutOfMemory)?;
+    fill(out, size);
+    Ok(())
+}
+
+// Fills an empty output, which has room for so many bytes. No contract says that `resize` takes no memory then.
+fn fill(out: &mut Vec<u8>, size: usize)
+    requires empty { length out.old.items ≡ 0 }
+    requires room { size ≤ vec_capacity out.old }
+    ensures size { length out.new.items ≡ size }
+    ensures capacity { vec_capacity out.new ≡ vec_capacity out.old }
+{
+    for _ in 0..size {
+        out.push_reserved(0);
     }
 }
 
@@ -80,6 +108,32 @@ pub(crate) fn write_hss(above: &[Level<'_>], bottom: &Level<'_>, into: &mut [u8]
     ensures { into.new ≡ hss_signature_bytes (hss_textbook (map signing_of above.now) (signing_of bottom.now)) }
 {
     hss::write_signature(above, bottom, into);
+}
+
+impl Link {
+    ghost use Rattle.typecodes.specs.Types.{lms_signature_len_of};
+    ghost use Rattle.lms.specs.Writing.{signature_bytes, textbook};
+    ghost use Rattle.sign_core.specs.inner.Links.{IsMade};
+
+    /// Writes the textbook signature by the link's leaf alone: that of an LMS key.
+    pub(crate) fn write(&self, into: &mut [u8])
+        requires made { IsMade self.now }
+        requires room { length into.old ≡ lms_signature_len_of self.now.secret.pair }
+        ensures { into.new ≡ signature_bytes
+            (textbook self.now.secret self.now.signed.leaf self.now.signed.randomizer self.now.signed.digest) }
+    {
+        let height = usize::from(self.secret.pair.tree.height());
+        let signed = &self.signed;
+        let path = &self.path[..height];
+        write_lms(
+            &self.secret,
+            signed.leaf,
+            &signed.randomizer,
+            &signed.digest,
+            path,
+            into,
+        );
+    }
 }
 
 /// Writes the signature of a key whose chain of trees is this, from the top down, over the whole of `into`. A key of

@@ -11,7 +11,7 @@ use Rattle.state_file.specs.declared.record.Extend.{Extend}
 use Rattle.state_file.specs.declared.record.Key.{Key}
 use Rattle.state_file.specs.declared.record.Record.{Record}
 use Rattle.state_file.specs.declared.record.Record.TheVariants.{Extend as ExtendRecord}
-use Rattle.sign_core.specs.declared.links.KeyTrees.{KeyTrees}
+use Rattle.sign_core.specs.declared.key_trees.KeyTrees.{KeyTrees}
 use Rattle.sign_core.specs.declared.links.Link.{Link}
 use Rattle.sign_core.specs.declared.links.Signed.{Signed}
 use Rattle.sign_core.specs.Records.{are_same}

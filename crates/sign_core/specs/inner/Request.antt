@@ -6,8 +6,8 @@ use Rattle.state_file.specs.declared.record.Secret.TheVariants.{Xmss}
 use Rattle.state_file.specs.Laws.{levels_of}
 use Rattle.sign_core.specs.declared.fault.SignFault.{SignFault}
 use Rattle.sign_core.specs.declared.fault.SignFault.TheVariants.{LedgerFull, OutOfMemory}
-use Rattle.sign_core.specs.declared.signer.request.Scheme.{Scheme}
-use Rattle.sign_core.specs.declared.signer.request.Scheme.TheVariants as scheme
+use Rattle.sign_core.specs.declared.signer.scheme.Scheme.{Scheme}
+use Rattle.sign_core.specs.declared.signer.scheme.Scheme.TheVariants as scheme
 use Rattle.sign_core.specs.Caches.{LacksCache}
 use Rattle.sign_core.specs.inner.Links.{trees_in}
 use Rattle.sign_core.specs.Signer.{KeepsAll, View, is_before_caches, is_fault, signature_size}

@@ -14,7 +14,7 @@ use Rattle.sign_core.specs.declared.fault.SignFault.{SignFault}
 use Rattle.sign_core.specs.declared.fault.SignFault.TheVariants.{RandomFailed, RandomRepeated}
 use Rattle.sign_core.specs.declared.source.Source as source
 use Rattle.sign_core.specs.declared.links.Link.{Link}
-use Rattle.sign_core.specs.declared.signer.signing.TreeSeeds.{TreeSeeds}
+use Rattle.sign_core.specs.declared.signer.bind.TreeSeeds.{TreeSeeds}
 use Rattle.sign_core.specs.Source.{Provides}
 use Rattle.sign_core.specs.Records.{binding_in, current, has_identifier, has_moved, is_long, key_in, next_at}
 use Rattle.sign_core.specs.inner.Links.{AreMade, IsMade, signings_of}

@@ -1,7 +1,7 @@
 use Rattle.std.proofs.Common.{rules, ◌≡◌, Err, sym}
 use Rattle.typecodes.specs.Layout.{AreBytes}
 use Rattle.sign_core.proofs.Draws.{all_drawn, randomizer_fails, seed_fails}
-use Rattle.sign_core.proofs.signer.signing.draw_tree.Goals as goal
+use Rattle.sign_core.proofs.signer.bind.draw_tree.Goals as goal
 
 pub returns-in_err-seed : goal.returns-in_err-seed
 returns-in_err-seed g c =

@@ -3,8 +3,8 @@ use Rattle.sign_core.specs.inner.Links.{signing_with, signings_of, trees_in}
 use Rattle.sign_core.specs.inner.Signing.{Stands}
 use Rattle.sign_core.specs.Textbook.{secret_at, signings_above}
 use Rattle.sign_core.proofs.CurrentChain.{HasFree, has_free, leaf_inside, none_made, not_free, stands, tree_stands}
-use Rattle.sign_core.proofs.links.KeyTrees.standing.Goals as goal
-use Rattle.sign_core.proofs.links.KeyTrees.standing.Goals.{in-Some, in-None}
+use Rattle.sign_core.proofs.key_trees.KeyTrees.standing.Goals as goal
+use Rattle.sign_core.proofs.key_trees.KeyTrees.standing.Goals.{in-Some, in-None}
 
 pub push_chain-requires-clause-stands : goal.push_chain-requires-clause-stands
 push_chain-requires-clause-stands c =

@@ -2,7 +2,7 @@ use Rattle.std.proofs.Common.{rules, ◌≡◌, ◌∙◌, Some, sym, arith}
 use Rattle.sign_core.specs.inner.Links.{signing_with, signings_of, trees_in}
 use Rattle.sign_core.specs.Textbook.{damaged_in, secret_at}
 use Rattle.sign_core.proofs.LinkParts.{IsUnder, all_signings, chain_damaged, chain_damaged_above, chain_sound, if_err, is_under, on_ok}
-use Rattle.sign_core.proofs.links.KeyTrees.+push_chain.Goals as goal
+use Rattle.sign_core.proofs.key_trees.KeyTrees.+push_chain.Goals as goal
 
 pub overflow_sub-level : goal.overflow_sub-level
 overflow_sub-level t c =

@@ -1,0 +1,255 @@
+//! The LMS trees of a key: the chain of trees from the top down to one that signs, and the caches of the current ones.
+
+ghost use Rattle.std.specs.Prelude.{◌≡◌, ◌<◌, ◌+◌, ◌^◌, ◌∷◌, [], ◌++◌, Some, None, true, false, length, slice_index_or};
+ghost use Rattle.std.specs.Prelude.{IfErr, OnOk, IfOk, OnErr};
+ghost use Rattle.arrayvec.specs.ArrayVec.{array_vec_len};
+ghost use Rattle.typecodes.specs.Types.{height_of};
+ghost use Rattle.state_file.specs.Laws.{IsLegal, levels_of};
+ghost use Rattle.sign_core.specs.Records.{free_at, key_in};
+ghost use Rattle.sign_core.specs.inner.Links.{AreTreesOf, trees_in};
+ghost use Rattle.sign_core.specs.inner.Signing.{StandsIn};
+ghost use Rattle.sign_core.specs.Textbook.{damaged_in, tree_before};
+
+use crate::caches::Caches;
+use crate::ledger::{Binding, Ledger};
+use crate::links::{Link, Signed};
+use arrayvec::ArrayVec;
+use lms::LmsSecret;
+use merkle::OutOfMemory;
+use state_file::Extend;
+use typecodes::LmsPair;
+
+/// The LMS trees of a key: the top tree's secret, and the types of each level's trees.
+#[derive(Clone, Copy)]
+pub(crate) struct KeyTrees<'a> {
+    pub(crate) top: LmsSecret,
+    pub(crate) pairs: &'a [LmsPair],
+}
+
+impl<'a> KeyTrees<'a> {
+    ghost use Rattle.state_file.specs.declared.record.Record.TheVariants.{Extend as ExtendRecord};
+    ghost use Rattle.state_file.specs.Laws.{IsLegal};
+    ghost use Rattle.sign_core.specs.Records.{key_in};
+    ghost use Rattle.sign_core.specs.inner.Links.{AreMade, AreTreesOf, IsMade, IsTreeAt, signing_with, signings_of};
+    ghost use Rattle.sign_core.specs.inner.Links.{trees_in};
+    ghost use Rattle.sign_core.specs.Textbook.{damaged_in, is_sound_at, secret_at, secret_by, signings_above};
+
+    /// The types of a level's trees; the top tree's, where there is no such level.
+    pub(crate) fn pair(&self, level: u8) -> LmsPair
+        ensures { result ≡ slice_index_or (trees_in self.now).pairs level (trees_in self.now).top.pair }
+    {
+        *self.pairs.get(usize::from(level)).unwrap_or(&self.top.pair)
+    }
+
+    /// The secret of the tree that an Extend makes.
+    pub(crate) fn secret_of(&self, extend: &Extend) -> LmsSecret
+        ensures { result ≡ secret_by (trees_in self.now) (Some (ExtendRecord extend.now)) }
+    {
+        LmsSecret {
+            pair: self.pair(extend.level),
+            identifier: extend.identifier,
+            seed: extend.seed,
+        }
+    }
+
+    /// The secret of the tree that a place stands for.
+    pub(crate) fn secret_at(&self, ledger: &Ledger, place: u32) -> LmsSecret
+        ensures { result ≡ secret_at (trees_in self.now) ledger.now.records place }
+    {
+        match ledger.made(place) {
+            Some(made) => self.secret_of(&made.extend),
+            None => self.top,
+        }
+    }
+
+    // Whether the record that makes a link's tree says the root as it is, and that of an Extend the digest, too.
+    fn is_sound(&self, ledger: &Ledger, level: u8, place: u32, link: &Link) -> bool
+        requires trees { AreTreesOf self.now ledger.now.key }
+        requires stands { IsTreeAt ledger.now.records level place }
+        requires secret { link.now.secret ≡ secret_at (trees_in self.now) ledger.now.records place }
+        requires made { IsMade link.now }
+        ensures { result ≡ is_sound_at ledger.now.key ledger.now.records place }
+    {
+        match ledger.made(place) {
+            Some(made) => link.is_said_by(
+                &made.extend,
+                self.secret_at(ledger, made.parent).identifier,
+            ),
+            None => ledger.key().root == link.root,
+        }
+    }
+
+    // Adds the tree of a level at a place, a leaf of which signs as given; or answers the place, if its record is not
+    // sound.
+    fn push_tree(
+        &self,
+        ledger: &Ledger,
+        caches: &mut Caches,
+        level: u8,
+        place: u32,
+        signed: Signed,
+        links: &mut ArrayVec<Link, 8>,
+    ) -> Result<(), u32>
+        requires trees { AreTreesOf self.now ledger.now.key }
+        requires stands { IsTreeAt ledger.now.records level place }
+        requires inside { let secret = secret_at (trees_in self.now) ledger.now.records place in
+            signed.leaf < 2 ^ height_of secret.pair.tree }
+        requires room { array_vec_len links.old < 8 }
+        requires few { level < 8 }
+        ensures sound { OnOk result (is_sound_at ledger.now.key ledger.now.records place ≡ true) }
+        ensures damaged { IfErr result (λ k. (k ≡ place)
+            × (is_sound_at ledger.now.key ledger.now.records place ≡ false)) }
+        ensures signings { OnOk result (signings_of links.new.items ≡ signings_of links.old.items
+            ++ signing_with (secret_at (trees_in self.now) ledger.now.records place) signed ∷ []) }
+        ensures len { OnOk result (array_vec_len links.new ≡ array_vec_len links.old + 1) }
+        ensures made { AreMade links.old.items → OnOk result (AreMade links.new.items) }
+        ensures caches { caches.new ≡ caches.old }
+    {
+        let link = caches.link(level, self.secret_at(ledger, place), signed);
+        if !self.is_sound(ledger, level, place, &link) {
+            return Err(place);
+        }
+        links.push(link);
+        Ok(())
+    }
+
+    /// Adds the trees of a chain, from the Key's down to that of a level at a place, a leaf of which signs as given; or
+    /// answers the place of the first record of the chain that isn't sound.
+    pub(crate) fn push_chain(
+        &self,
+        ledger: &Ledger,
+        caches: &mut Caches,
+        level: u8,
+        place: u32,
+        signed: Signed,
+        links: &mut ArrayVec<Link, 8>,
+    ) -> Result<(), u32>
+        requires legal { IsLegal ledger.now.records }
+        requires keyed { key_in ledger.now.records ≡ Some ledger.now.key }
+        requires trees { AreTreesOf self.now ledger.now.key }
+        requires stands { IsTreeAt ledger.now.records level place }
+        requires inside { let secret = secret_at (trees_in self.now) ledger.now.records place in
+            signed.leaf < 2 ^ height_of secret.pair.tree }
+        requires room { array_vec_len links.old + level < 8 }
+        ensures sound { OnOk result (damaged_in ledger.now.key level ledger.now.records place ≡ None) }
+        ensures damaged { IfErr result (λ k. damaged_in ledger.now.key level ledger.now.records place ≡ Some k) }
+        ensures signings { let trees = trees_in self.now in
+            OnOk result (signings_of links.new.items ≡ signings_of links.old.items
+            ++ (signings_above trees level ledger.now.records place
+            ++ signing_with (secret_at trees ledger.now.records place) signed ∷ [])) }
+        ensures len { OnOk result (array_vec_len links.new ≡ array_vec_len links.old + level + 1) }
+        ensures made { AreMade links.old.items → OnOk result (AreMade links.new.items) }
+        ensures caches { caches.new ≡ caches.old }
+    {
+        let Some(made) = ledger.made(place) else {
+            return self.push_tree(ledger, caches, level, place, signed, links);
+        };
+        let extend = made.extend;
+        let randomizer = extend.randomizer;
+        let digest = extend.digest;
+        let parent = Signed {
+            leaf: extend.parent_leaf,
+            randomizer,
+            digest,
+        };
+        self.push_chain(ledger, caches, level - 1, made.parent, parent, links)?;
+        self.push_tree(ledger, caches, level, place, signed, links)
+    }
+
+    /// The chain of the current trees down to a level with a free leaf: those above, and the level's own, which is to
+    /// sign by its next leaf; or the place of the first of their records that isn't sound.
+    pub(crate) fn standing(
+        &self,
+        ledger: &Ledger,
+        caches: &mut Caches,
+        level: u8,
+    ) -> Result<(ArrayVec<Link, 8>, Link), u32>
+        requires legal { IsLegal ledger.now.records }
+        requires keyed { key_in ledger.now.records ≡ Some ledger.now.key }
+        requires trees { AreTreesOf self.now ledger.now.key }
+        requires level { level < levels_of ledger.now.key.secret }
+        requires few { level < 8 }
+        requires free { 0 < free_at ledger.now.key.secret ledger.now.records level }
+        ensures sound { OnOk result (damaged_in ledger.now.key level ledger.now.records
+            (tree_before level ledger.now.records (length ledger.now.records)) ≡ None) }
+        ensures damaged { IfErr result (λ k. damaged_in ledger.now.key level ledger.now.records
+            (tree_before level ledger.now.records (length ledger.now.records)) ≡ Some k) }
+        ensures stands { IfOk result (λ chain.
+            StandsIn (trees_in self.now) ledger.now.records chain.0.items chain.1 ledger.now.key) }
+        ensures count { IfOk result (λ chain. length chain.0.items ≡ level) }
+        ensures caches { caches.new ≡ caches.old }
+    {
+        let (place, leaf) = match ledger.current(level) {
+            Some(tree) => (tree.place, tree.next),
+            None => (0, 0),
+        };
+        let mut links = ArrayVec::new();
+        self.push_chain(
+            ledger,
+            caches,
+            level,
+            place,
+            Signed::unset(leaf),
+            &mut links,
+        )?;
+        let last = links.as_slice()[usize::from(level)];
+        links.truncate(usize::from(level));
+        Ok((links, last))
+    }
+}
+
+// The leaves by which the trees of a chain sign, at the places of their levels, from the top down to this one: at this
+// level the leaf of a binding, or where there is none, the next one of the current tree; above it, the one that signs
+// the tree below.
+fn signing_leaves(ledger: &Ledger, lowest: u8, bound: Option<&Binding>) -> [u32; 8]
+    requires { lowest < 8 }
+{
+    let (mut place, mut leaf) = match bound {
+        Some(binding) => (binding.tree, binding.leaf),
+        None => match ledger.current(lowest) {
+            Some(tree) => (tree.place, tree.next),
+            None => (0, 0),
+        },
+    };
+    let mut leaves = [0; 8];
+    for level in (0..lowest + 1).rev() {
+        leaves[usize::from(level)] = leaf;
+        if let Some(made) = ledger.made(place) {
+            place = made.parent;
+            leaf = made.extend.parent_leaf;
+        }
+    }
+    leaves
+}
+
+impl Caches {
+    ghost use Rattle.sign_core.specs.Caches.{LacksLevel};
+    ghost use Rattle.sign_core.specs.inner.Links.{AreTreesOf};
+
+    /// Makes the caches of the current LMS trees from the top down to a level whose records stand before a place, each
+    /// unless it is there. A cache that is made keeps the block of the leaf by which its tree is to sign: under a name
+    /// that is bound, or where none is given, under a new one.
+    pub(crate) fn keep_chain(
+        &mut self,
+        trees: &KeyTrees<'_>,
+        ledger: &Ledger,
+        lowest: u8,
+        before: u32,
+        bound: Option<&Binding>,
+    ) -> Result<(), OutOfMemory>
+        requires trees { AreTreesOf trees.now ledger.now.key }
+        requires few { lowest < 8 }
+        ensures lacking { OnErr result (LacksLevel ledger.now.key ledger.now.records lowest before self.old) }
+    {
+        let leaves = signing_leaves(ledger, lowest, bound);
+        for level in 0..lowest + 1 {
+            if let Some(tree) = ledger.current(level) {
+                if tree.place < before {
+                    let leaf = leaves[usize::from(level)];
+                    self.keep(level, &trees.secret_at(ledger, tree.place), leaf)?;
+                }
+            }
+        }
+        Ok(())
+    }
+}

@@ -1,0 +1,289 @@
+//! A new name: room for its records and its signature, the trees that it wants, its binding, and its signature.
+
+ghost use Rattle.std.specs.Prelude.{◌≡◌, ◌<◌, ◌-◌, [], None, Some, true, false, length, vec_capacity, IfErr, OnErr};
+ghost use Rattle.std.specs.Prelude.{◌+◌, IfOk, OnOk};
+ghost use Rattle.sign_core.specs.Caches.{LacksCache};
+ghost use Rattle.state_file.specs.Laws.{levels_of, bottom_of};
+ghost use Rattle.sign_core.specs.Records.{binding_in, deepest, has_moved, is_long, free_at};
+ghost use Rattle.sign_core.specs.inner.Request.{Prepares};
+ghost use Rattle.sign_core.specs.Signer.{KeepsAll, Signs};
+ghost use Rattle.sign_core.specs.inner.Signing.{Binds, CanBind, ChainStands, DrawsTree, Extends, Fulfils, IsReady};
+ghost use Rattle.sign_core.specs.Signing.{IsXmssKey, KeepsCapacity, UnderKey, answered_with};
+ghost use Rattle.sign_core.specs.inner.Links.{AreTreesOf, trees_in};
+
+use super::Signer;
+use super::scheme::Scheme;
+use super::sign::{read_digest, read_xmss_digest};
+use crate::fault::SignFault;
+use crate::key_trees::KeyTrees;
+use crate::ledger::Ledger;
+use crate::links::{Link, Signed};
+use crate::source::{Source, draw};
+use crate::writing::{make_room, write_chain, write_xmss};
+use arrayvec::ArrayVec;
+use lmots::LmOts;
+use lms::LmsSecret;
+use state_file::{Bound, Extend, Record, Store};
+use typecodes::{Message, Name};
+use xmss::XmssSecret;
+
+/// What a new tree draws: I and SEED, and C for the leaf that signs it.
+#[derive(Clone, Copy)]
+pub(crate) struct TreeSeeds {
+    pub(crate) identifier: [u8; 16],
+    pub(crate) seed: [u8; 32],
+    pub(crate) randomizer: [u8; 32],
+}
+
+// Draws what a new tree wants: I, which is compared with those of the records, and then SEED and C.
+fn draw_tree<R: Source>(random: &mut R, ledger: &Ledger) -> Result<TreeSeeds, SignFault>
+    ensures { DrawsTree ledger.now.records (R.failures random.old) (R.failures random.new)
+        (R.upcoming random.old) (R.upcoming random.new) result }
+{
+    let identifier = draw::<R, 16>(random)?;
+    if ledger.has_identifier(&identifier) {
+        return Err(SignFault::RandomRepeated);
+    }
+    let seed = draw::<R, 32>(random)?;
+    let randomizer = draw::<R, 32>(random)?;
+    Ok(TreeSeeds {
+        identifier,
+        seed,
+        randomizer,
+    })
+}
+
+impl<S: Store, R: Source> Signer<S, R> {
+    // Binds a new name that a file of the key's version can hold, and signs under it.
+    pub(super) fn bind<M: Message>(
+        &mut self,
+        name: &Name,
+        message: &mut M,
+        out: &mut Vec<u8>,
+    ) -> Result<(), SignFault>
+        requires open { self.old.is_open ≡ true }
+        requires goes_on { has_moved self.old.records ≡ false }
+        requires unbound { binding_in self.old.records name.now ≡ None }
+        requires fits { UnderKey self.old.records (λ key. is_long key name.now ≡ false) }
+        ensures step { Signs S.Store R.Source M.Message self.old self.new name.now message.old message.new
+            (vec_capacity out.old) (answered_with result out.new.items) }
+        ensures capacity { KeepsCapacity self.old.records (vec_capacity out.old) (vec_capacity out.new) }
+    {
+        let level = self.ledger.deepest().ok_or(SignFault::Exhausted)?;
+        self.prepare(level, out)?;
+        let key = self.ledger.key().copied();
+        match Scheme::of(&key.secret) {
+            Scheme::Chain(trees) => self.bind_chain(&trees, level, name, message, out),
+            Scheme::Xmss(secret) => self.bind_xmss(&secret, name, message, out),
+        }
+    }
+
+    // Makes room for the records of a new name, of which this level is the deepest with a free leaf, and for its
+    // signature.
+    fn prepare(&mut self, level: u8, out: &mut Vec<u8>) -> Result<(), SignFault>
+        requires open { self.old.is_open ≡ true }
+        requires goes_on { has_moved self.old.records ≡ false }
+        requires level { UnderKey self.old.records (λ key. level < levels_of key.secret) }
+        ensures room { UnderKey self.old.records (Prepares (S.most self.old.store) level self.old self.new
+            (vec_capacity out.old) (length out.new.items) result) }
+        ensures capacity { KeepsCapacity self.old.records (vec_capacity out.old) (vec_capacity out.new) }
+    {
+        let wanted = self.ledger.key().secret.levels() - level;
+        if u64::from(self.ledger.len()) + u64::from(wanted) > u64::from(self.store.limit()) {
+            return Err(SignFault::LedgerFull);
+        }
+        make_room(&self.ledger.key().secret, out)?;
+        self.ledger
+            .reserve(usize::from(wanted))
+            .map_err(|_| SignFault::OutOfMemory)?;
+        self.cache(level)
+    }
+
+    // Makes the caches of the trees that a new name needs, of which this level is the deepest with a free leaf: each
+    // once for a signer, as long as the tree is the current one.
+    fn cache(&mut self, level: u8) -> Result<(), SignFault>
+        requires level { UnderKey self.old.records (λ key. level < levels_of key.secret) }
+        ensures keeps { KeepsAll self.old self.new }
+        ensures spare { self.new.spare ≡ self.old.spare }
+        ensures fault { IfErr result (λ fault. fault ≡ SignFault.OutOfMemory) }
+        ensures lacking { OnErr result (UnderKey self.old.records (λ key.
+            LacksCache key self.old.records (Some level) (length self.old.records) self.old.cached)) }
+    {
+        let count = self.ledger.len();
+        let (next, _) = self.bottom();
+        let cached = match Scheme::of(&self.ledger.key().secret) {
+            Scheme::Chain(trees) => self
+                .caches
+                .keep_chain(&trees, &self.ledger, level, count, None),
+            Scheme::Xmss(secret) => self.caches.keep_xmss(&secret, next),
+        };
+        cached.map_err(|_| SignFault::OutOfMemory)
+    }
+
+    // Signs under a new name with LMS trees, of which this level is the deepest with a free leaf.
+    fn bind_chain<M: Message>(
+        &mut self,
+        trees: &KeyTrees<'_>,
+        level: u8,
+        name: &Name,
+        message: &mut M,
+        out: &mut [u8],
+    ) -> Result<(), SignFault>
+        requires can { UnderKey self.old.records (λ key. CanBind (S.most self.old.store)
+            (levels_of key.secret - level) name.now (length out.old) self.old) }
+        requires trees { UnderKey self.old.records (AreTreesOf trees.now) }
+        requires level { UnderKey self.old.records (λ key. deepest key.secret self.old.records ≡ Some level) }
+        ensures { UnderKey self.old.records (Binds S.Store R.Source M.Message name.now level self.old self.new
+            message.old message.new (answered_with result out.new)) }
+    {
+        let (mut above, last) = trees
+            .standing(&self.ledger, &mut self.caches, level)
+            .map_err(SignFault::Damaged)?;
+        self.fulfil(trees, name, message, &mut above, last, out)
+    }
+
+    // Begins a tree of the next level below a standing chain, and records it: the chain's last tree signs it by its
+    // next leaf. The answer is the new tree, which is to sign by its first leaf.
+    fn extend(
+        &mut self,
+        trees: &KeyTrees<'_>,
+        above: &mut ArrayVec<Link, 8>,
+        last: Link,
+    ) -> Result<Link, SignFault>
+        requires ready { IsReady (S.most self.old.store) 1 self.old }
+        requires stands { ChainStands self.old.records (trees_in trees.now) above.old.items last }
+        requires below { UnderKey self.old.records (λ key. length above.old.items + 1 < levels_of key.secret) }
+        ensures step { UnderKey self.old.records
+            (Extends S.Store R.Source (length above.old.items + 1) self.old self.new (answered_with result [])) }
+        ensures stands { IfOk result (ChainStands self.new.records (trees_in trees.now) above.new.items) }
+        ensures count { OnOk result (length above.new.items ≡ length above.old.items + 1) }
+    {
+        let TreeSeeds {
+            identifier,
+            seed,
+            randomizer,
+        } = draw_tree(&mut self.random, &self.ledger)?;
+        let level = above.len() as u8 + 1;
+        let secret = LmsSecret {
+            pair: trees.pair(level),
+            identifier,
+            seed,
+        };
+        let (cache, made) = self.caches.begin(secret)?;
+        let root = made.root;
+        let leaf = last.signed.leaf;
+        let digest = last.digest_of(&randomizer, &made.public());
+        self.caches.replace(level, cache);
+        self.add(Record::Extend(Extend {
+            level,
+            parent_leaf: leaf,
+            identifier,
+            seed,
+            randomizer,
+            digest,
+            root,
+        }))?;
+        above.push(last.signing(Signed {
+            leaf,
+            randomizer,
+            digest,
+        }));
+        Ok(made)
+    }
+
+    // Makes the wanted records of a new name below a standing chain, one after the other: an Extend for each level that
+    // has no tree, and the Bound. Then it writes the signature.
+    pub(super) fn fulfil<M: Message>(
+        &mut self,
+        trees: &KeyTrees<'_>,
+        name: &Name,
+        message: &mut M,
+        above: &mut ArrayVec<Link, 8>,
+        last: Link,
+        out: &mut [u8],
+    ) -> Result<(), SignFault>
+        requires can { UnderKey self.old.records (λ key. CanBind (S.most self.old.store)
+            (levels_of key.secret - length above.old.items) name.now (length out.old) self.old) }
+        requires stands { ChainStands self.old.records (trees_in trees.now) above.old.items last }
+        ensures { UnderKey self.old.records (λ key. Fulfils S.Store R.Source M.Message name.now
+            (bottom_of key.secret - length above.old.items) self.old self.new message.old message.new
+            (answered_with result out.new) key) }
+    {
+        if above.len() + 1 >= usize::from(self.ledger.key().secret.levels()) {
+            return self.bind_under(trees, name, message, above, last, out);
+        }
+        let made = self.extend(trees, above, last)?;
+        // For the prover: a signer that recorded an Extend is open, and so its store runs.
+        prove!(self.is_open);
+        self.fulfil(trees, name, message, above, made, out)
+    }
+
+    // Binds a name to the next leaf of the bottom tree of a standing chain, and writes the signature.
+    fn bind_under<M: Message>(
+        &mut self,
+        trees: &KeyTrees<'_>,
+        name: &Name,
+        message: &mut M,
+        above: &mut ArrayVec<Link, 8>,
+        last: Link,
+        out: &mut [u8],
+    ) -> Result<(), SignFault>
+        requires can { CanBind (S.most self.old.store) 1 name.now (length out.old) self.old }
+        requires stands { ChainStands self.old.records (trees_in trees.now) above.old.items last }
+        requires bottom { UnderKey self.old.records (λ key. length above.old.items ≡ bottom_of key.secret) }
+        ensures { UnderKey self.old.records (Fulfils S.Store R.Source M.Message name.now 0 self.old self.new
+            message.old message.new (answered_with result out.new)) }
+    {
+        let randomizer = draw::<R, 32>(&mut self.random)?;
+        let leaf = last.signed.leaf;
+        let identifier = last.secret.identifier;
+        let one_time = LmOts { identifier, leaf };
+        let digest = read_digest(&one_time, &randomizer, message)?;
+        self.add(Record::Bound(Bound {
+            name: name.copied(),
+            leaf,
+            randomizer,
+            digest,
+        }))?;
+        above.push(last.signing(Signed {
+            leaf,
+            randomizer,
+            digest,
+        }));
+        write_chain(&self.ledger.key().secret, above, out);
+        Ok(())
+    }
+
+    // Binds a name to the next leaf of an XMSS key, whose root is checked first, and writes the signature.
+    pub(super) fn bind_xmss<M: Message>(
+        &mut self,
+        secret: &XmssSecret,
+        name: &Name,
+        message: &mut M,
+        out: &mut [u8],
+    ) -> Result<(), SignFault>
+        requires can { CanBind (S.most self.old.store) 1 name.now (length out.old) self.old }
+        requires key { UnderKey self.old.records (IsXmssKey secret.now) }
+        requires free { UnderKey self.old.records (λ key. 0 < free_at key.secret self.old.records 0) }
+        ensures { UnderKey self.old.records (Binds S.Store R.Source M.Message name.now 0 self.old self.new
+            message.old message.new (answered_with result out.new)) }
+    {
+        let root = self.ledger.key().root;
+        let (leaf, _) = self.bottom();
+        let mut nodes = [[0; 32]; 20];
+        let path = &mut nodes[..usize::from(secret.tree.height())];
+        self.caches
+            .xmss_link(*secret, &root, leaf, path)
+            .map_err(SignFault::Damaged)?;
+        let randomizer = secret.randomizer(leaf);
+        let digest = read_xmss_digest(&randomizer, &root, leaf, message)?;
+        self.add(Record::Bound(Bound {
+            name: name.copied(),
+            leaf,
+            randomizer: [0; 32],
+            digest,
+        }))?;
+        write_xmss(secret, leaf, &randomizer, &digest, path, out);
+        Ok(())
+    }
+}

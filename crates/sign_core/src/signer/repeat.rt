@@ -1,0 +1,173 @@
+//! The signature of a name that is bound, again.
+
+ghost use Rattle.std.specs.Prelude.{◌≡◌, ◌<◌, ◌-◌, Some, vec_capacity, IfErr, OnErr, ◌≢◌};
+ghost use Rattle.sign_core.specs.Caches.{LacksCache};
+ghost use Rattle.sign_core.specs.Signer.{KeepsForRepeat, is_before_repeat, is_fault, state_of};
+ghost use Rattle.sign_core.specs.inner.Signing.{IsSomeBinding, RepeatsBinding, RepeatsBy};
+ghost use Rattle.sign_core.specs.Signing.{IsXmssKey, KeepsCapacity, UnderKey, answered_with};
+ghost use Rattle.sign_core.specs.inner.Links.{AreTreesOf};
+ghost use Rattle.state_file.specs.Laws.{bottom_of};
+
+use super::Signer;
+use super::scheme::Scheme;
+use super::sign::{read_digest, read_xmss_digest};
+use crate::caches::Caches;
+use crate::fault::SignFault;
+use crate::key_trees::KeyTrees;
+use crate::ledger::Binding;
+use crate::links::Signed;
+use crate::source::Source;
+use crate::writing::{make_room, write_chain, write_xmss};
+use arrayvec::ArrayVec;
+use lmots::LmOts;
+use state_file::Store;
+use typecodes::Message;
+use xmss::XmssSecret;
+
+// Makes the cache of an XMSS key's tree, which is to sign by this leaf, unless it is there.
+fn cache_xmss(caches: &mut Caches, secret: &XmssSecret, leaf: u32) -> Result<(), SignFault>
+    ensures fault { IfErr result (λ fault. fault ≡ SignFault.OutOfMemory) }
+    ensures lacking { OnErr result (caches.old.xmss ≢ Some secret.now) }
+{
+    caches
+        .keep_xmss(secret, leaf)
+        .map_err(|_| SignFault::OutOfMemory)
+}
+
+impl<S: Store, R: Source> Signer<S, R> {
+    // The signature of a name that is bound, where the message has the recorded digest. Nothing changes but caches.
+    pub(super) fn repeat<M: Message>(
+        &mut self,
+        binding: &Binding,
+        message: &mut M,
+        out: &mut Vec<u8>,
+    ) -> Result<(), SignFault>
+        requires kept { IsSomeBinding self.old.records binding.now }
+        ensures step { RepeatsBinding M.Message (state_of self.old) self.old.cached binding.now message.old message.new
+            (vec_capacity out.old) (answered_with result out.new.items) }
+        ensures capacity { KeepsCapacity self.old.records (vec_capacity out.old) (vec_capacity out.new) }
+        ensures keeps { KeepsForRepeat self.old self.new (is_fault is_before_repeat result) }
+    {
+        let mut caches = self.caches.take();
+        let answer = self.repeat_by(&mut caches, binding, message, out);
+        self.caches = caches;
+        answer
+    }
+
+    // The same by caches that were taken out.
+    fn repeat_by<M: Message>(
+        &self,
+        caches: &mut Caches,
+        binding: &Binding,
+        message: &mut M,
+        out: &mut Vec<u8>,
+    ) -> Result<(), SignFault>
+        requires kept { IsSomeBinding self.now.records binding.now }
+        ensures { RepeatsBy M.Message (state_of self.now) binding.now caches.old caches.new message.old message.new
+            out.old out.new result }
+    {
+        match Scheme::of(&self.ledger.key().secret) {
+            Scheme::Chain(trees) => self.repeat_chain(caches, &trees, binding, message, out),
+            Scheme::Xmss(secret) => self.repeat_xmss(caches, &secret, binding, message, out),
+        }
+    }
+
+    // Makes the caches that a bound name needs, each unless it is there: of the current trees that stood before it.
+    fn cache_bound(
+        &self,
+        caches: &mut Caches,
+        trees: &KeyTrees<'_>,
+        binding: &Binding,
+    ) -> Result<(), SignFault>
+        requires trees { UnderKey self.now.records (AreTreesOf trees.now) }
+        ensures fault { IfErr result (λ fault. fault ≡ SignFault.OutOfMemory) }
+        ensures lacking { OnErr result (UnderKey self.now.records (λ key.
+            LacksCache key self.now.records (Some (bottom_of key.secret)) binding.now.place caches.old)) }
+    {
+        let bottom = self.ledger.key().secret.levels() - 1;
+        caches
+            .keep_chain(trees, &self.ledger, bottom, binding.place, Some(binding))
+            .map_err(|_| SignFault::OutOfMemory)
+    }
+
+    // The signature of a name that is bound under a key of LMS or HSS, where the message has the recorded digest.
+    pub(super) fn repeat_chain<M: Message>(
+        &self,
+        caches: &mut Caches,
+        trees: &KeyTrees<'_>,
+        binding: &Binding,
+        message: &mut M,
+        out: &mut Vec<u8>,
+    ) -> Result<(), SignFault>
+        requires trees { UnderKey self.now.records (AreTreesOf trees.now) }
+        requires kept { IsSomeBinding self.now.records binding.now }
+        ensures { RepeatsBy M.Message (state_of self.now) binding.now caches.old caches.new message.old message.new
+            out.old out.new result }
+    {
+        let Binding {
+            leaf,
+            randomizer,
+            tree,
+            ..
+        } = *binding;
+        let secret = &self.ledger.key().secret;
+        let identifier = trees.secret_at(&self.ledger, tree).identifier;
+        let one_time = LmOts { identifier, leaf };
+        let digest = read_digest(&one_time, &randomizer, message)?;
+        if digest != binding.digest {
+            return Err(SignFault::Changed);
+        }
+        make_room(secret, out)?;
+        let signed = Signed {
+            leaf,
+            randomizer,
+            digest,
+        };
+        self.cache_bound(caches, trees, binding)?;
+        let mut links = ArrayVec::new();
+        trees
+            .push_chain(
+                &self.ledger,
+                caches,
+                secret.levels() - 1,
+                tree,
+                signed,
+                &mut links,
+            )
+            .map_err(SignFault::Damaged)?;
+        write_chain(secret, &links, out);
+        Ok(())
+    }
+
+    // The same under a key of XMSS.
+    pub(super) fn repeat_xmss<M: Message>(
+        &self,
+        caches: &mut Caches,
+        secret: &XmssSecret,
+        binding: &Binding,
+        message: &mut M,
+        out: &mut Vec<u8>,
+    ) -> Result<(), SignFault>
+        requires key { UnderKey self.now.records (IsXmssKey secret.now) }
+        requires kept { IsSomeBinding self.now.records binding.now }
+        ensures { RepeatsBy M.Message (state_of self.now) binding.now caches.old caches.new message.old message.new
+            out.old out.new result }
+    {
+        let leaf = binding.leaf;
+        let root = self.ledger.key().root;
+        let randomizer = secret.randomizer(leaf);
+        let digest = read_xmss_digest(&randomizer, &root, leaf, message)?;
+        if digest != binding.digest {
+            return Err(SignFault::Changed);
+        }
+        make_room(&self.ledger.key().secret, out)?;
+        let mut nodes = [[0; 32]; 20];
+        let path = &mut nodes[..usize::from(secret.tree.height())];
+        cache_xmss(caches, secret, leaf)?;
+        caches
+            .xmss_link(*secret, &root, leaf, path)
+            .map_err(SignFault::Damaged)?;
+        write_xmss(secret, leaf, &randomizer, &digest, path, out);
+        Ok(())
+    }
+}

@@ -1,0 +1,136 @@
+//! `sign`: what refuses a request at once, and whether it repeats a bound name or binds a new one.
+
+ghost use Rattle.std.specs.Prelude.{◌≡◌, ◌<◌, [], None, Some, vec_capacity, IfErr, IsSome, OnErr, ◌≤◌, ◌↔◌};
+ghost use Rattle.xmss.specs.declared.secret.XmssSecret.{XmssSecret as X};
+ghost use Rattle.sign_core.specs.Caches.{HasCurrent};
+ghost use Rattle.sign_core.specs.Textbook.{Trees, trees_of};
+ghost use Rattle.state_file.specs.Laws.{levels_of};
+ghost use Rattle.sign_core.specs.Records.{binding_in, is_long};
+ghost use Rattle.sign_core.specs.Signer.{KeepsForRepeat, Signs, is_before_repeat, is_fault};
+ghost use Rattle.sign_core.specs.Signing.{IsXmssKey, KeepsCapacity, UnderKey, answered_with};
+ghost use Rattle.typecodes.specs.Message.{Digests};
+ghost use Rattle.lmots.specs.Key.{message_digest_of};
+ghost use Rattle.xmss.specs.Digest.{message_digest_of as xmss_digest_of};
+
+use super::Signer;
+use super::scheme::Scheme;
+use crate::fault::SignFault;
+use crate::source::Source;
+use lmots::LmOts;
+use state_file::Store;
+use typecodes::{Message, Name};
+use xmss::message_digest_from;
+
+// Q of the message that a reader gives, by a leaf's one-time key and C.
+pub(super) fn read_digest<M: Message>(
+    one_time: &LmOts,
+    randomizer: &[u8; 32],
+    message: &mut M,
+) -> Result<[u8; 32], SignFault>
+    ensures digest { Digests M.transition M.remaining
+        (message_digest_of one_time.now.identifier one_time.now.leaf randomizer.now) result message.old message.new }
+    ensures fault { IfErr result (λ fault. fault ≡ SignFault.MessageRead) }
+{
+    one_time
+        .message_digest_from(randomizer, message)
+        .map_err(|_| SignFault::MessageRead)
+}
+
+// M' of the message that a reader gives, by a leaf of an XMSS key with this root, and the leaf's randomizer.
+pub(super) fn read_xmss_digest<M: Message>(
+    randomizer: &[u8; 32],
+    root: &[u8; 32],
+    leaf: u32,
+    message: &mut M,
+) -> Result<[u8; 32], SignFault>
+    ensures digest { Digests M.transition M.remaining (xmss_digest_of randomizer.now root.now leaf) result
+        message.old message.new }
+    ensures fault { IfErr result (λ fault. fault ≡ SignFault.MessageRead) }
+{
+    message_digest_from(randomizer, root, leaf, message).map_err(|_| SignFault::MessageRead)
+}
+
+impl<S: Store, R: Source> Signer<S, R> {
+    /// How many leaves the cache of a level's current tree has made, as far as a u64 goes; None where the level has no
+    /// cache of its current tree.
+    pub fn cache_leaves(&self, level: u8) -> Option<u64>
+        ensures few { UnderKey self.now.records (λ key. levels_of key.secret ≤ level → result ≡ None) }
+        ensures chain { UnderKey self.now.records (λ key. (trees : Trees) → trees_of key.secret ≡ Some trees →
+            level < levels_of key.secret → IsSome result ↔ HasCurrent trees self.now.records level self.now.cached) }
+        ensures xmss { UnderKey self.now.records (λ key. (secret : X) → IsXmssKey secret key → level ≡ 0 →
+            IsSome result ↔ (self.now.cached.xmss ≡ Some secret)) }
+    {
+        let secret = &self.ledger.key().secret;
+        if level >= secret.levels() {
+            return None;
+        }
+        match Scheme::of(secret) {
+            Scheme::Chain(trees) => {
+                let tree = self.ledger.current(level)?;
+                let secret = trees.secret_at(&self.ledger, tree.place);
+                self.caches.leaves(level, &secret)
+            }
+            Scheme::Xmss(secret) => self.caches.xmss_leaves(&secret),
+        }
+    }
+
+    /// Signs a message under a name: writes the signature's bytes over `out`. A name that is bound has one digest and
+    /// one signature (21 for another message); a new one takes the next leaf, and is bound in the store before it
+    /// signs.
+    ///
+    /// Refusals in their order: 26, 31; under a bound name 27, 21, 29, 28; under a new one 33, 22, 30, 29, 28, then 23,
+    /// 24, 29 for its cache and 25 for each tree that is wanted, 23 for C, 27, 25; 29 also where the store answers 46
+    /// to an append. After a refusal `out` is empty.
+    pub fn sign<M: Message>(
+        &mut self,
+        name: &Name,
+        message: &mut M,
+        out: &mut Vec<u8>,
+    ) -> Result<(), SignFault>
+        ensures step { Signs S.Store R.Source M.Message self.old self.new name.now message.old message.new
+            (vec_capacity out.old) (answered_with result out.new.items) }
+        ensures empty { OnErr result (out.new.items ≡ []) }
+        ensures capacity { KeepsCapacity self.old.records (vec_capacity out.old) (vec_capacity out.new) }
+        // A request of a name that is bound changes nothing but caches, and with 21 and 27 not even these.
+        ensures repeat { IsSome (binding_in self.old.records name.now) →
+            KeepsForRepeat self.old self.new (is_fault is_before_repeat result) }
+    {
+        if let Err(fault) = self.answer(name, message, out) {
+            out.clear();
+            return Err(fault);
+        }
+        Ok(())
+    }
+
+    // The same, but that `out` may be left with anything at an `Err`.
+    fn answer<M: Message>(
+        &mut self,
+        name: &Name,
+        message: &mut M,
+        out: &mut Vec<u8>,
+    ) -> Result<(), SignFault>
+        ensures step { Signs S.Store R.Source M.Message self.old self.new name.now message.old message.new
+            (vec_capacity out.old) (answered_with result out.new.items) }
+        ensures capacity { KeepsCapacity self.old.records (vec_capacity out.old) (vec_capacity out.new) }
+        ensures repeat { IsSome (binding_in self.old.records name.now) →
+            KeepsForRepeat self.old self.new (is_fault is_before_repeat result) }
+    {
+        self.check_open()?;
+        match self.ledger.find(name) {
+            Some(binding) => self.repeat(&binding, message, out),
+            None => {
+                if self.is_long(name) {
+                    return Err(SignFault::LongName);
+                }
+                self.bind(name, message, out)
+            }
+        }
+    }
+
+    // Whether a name is longer than a file of the key's version can hold.
+    fn is_long(&self, name: &Name) -> bool
+        ensures { UnderKey self.now.records (λ key. result ≡ is_long key name.now) }
+    {
+        name.as_bytes().len() > usize::from(self.ledger.key().version.name_most())
+    }
+}
