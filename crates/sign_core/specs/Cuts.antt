@@ -78,8 +78,8 @@ pub record IsLeftBy (limit : ℕ) (world : World) (left : List Record) : Type 0 
   pub possible : AllEvents events
   pub leads : run limit world events ≡ record { state = closed_on left; handed = world.handed }
 
--- What a stop at any moment of an event leaves, a beginning of what the event reaches and no shorter than the records
--- before it, is what events leave that can come: one whose append is cut off there, or none and a stop.
+-- A stop inside of an event leaves a beginning of what the event reaches, no shorter than the records before it. That
+-- is what some whole events leave: the event with its append cut off there, or a stop alone.
 pub record StopLaw : Type 0 where
   pub creates : (limit : ℕ) (world : World) (spec : Spec) (chance : Creation) (left : List Record)
       → IsEvent (create spec chance)

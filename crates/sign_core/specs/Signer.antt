@@ -197,8 +197,8 @@ abbrev pub RefusesMemory : {A : Type 0} → (has_room : Bool) → Result A SignF
 RefusesMemory true answer before after = RefusesAfterDraws answer before after
 RefusesMemory false answer before after = after ≡ before
 
--- A refusal for want of memory after draws that the store doesn't count comes where not all new trees are recorded that
--- are wanted: more records than one are, of so many, the binding and the next tree, whose cache isn't there.
+-- If memory ran out after a draw, and not in the store, the cache of a new tree was to be made: at least one tree and
+-- the binding weren't recorded yet.
 abbrev pub LacksTree : {S R A : Type 0} → store.Ghosts S → (wanted : ℕ) → (old new : View S R) → Result A SignFault
     → Type 0
 LacksTree g wanted old new answer = answer ≡ Err OutOfMemory → g.refusals new.store ≡ g.refusals old.store

@@ -127,8 +127,7 @@ abbrev pub public_in : Key → Option AnyPublic
 public_in key = public_by key.secret key.root
 
 -- The digest that a leaf of the bottom tree before place k signs for a message: Q by C, or M' by SK_PRF and the
--- recorded
--- root.
+-- recorded root.
 abbrev pub digest_under : Option Trees → List Record → (tree leaf : ℕ) → (randomizer message : List ℕ) → List ℕ
 digest_under None records tree leaf randomizer message = []
 digest_under (Some trees) records tree leaf randomizer message =

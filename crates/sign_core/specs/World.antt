@@ -177,8 +177,7 @@ opened state chance = opened_by state chance (first_illegal state.records)
 -- ---- requests
 
 -- What chance decides of a wanted record: the fields that the source gave for it, fewer where it failed, and what
--- became
--- of its append.
+-- became of its append.
 pub record Draw : Type 0 where
   pub fields : List (List ℕ)
   pub fate : Fate

@@ -168,7 +168,7 @@ impl Caches {
     ghost use Rattle.sign_core.specs.inner.Links.{IsMade};
     ghost use Rattle.xmss.specs.Secret.{path_in as xmss_path_in, root_in as xmss_root_in};
 
-    /// None.
+    /// No cache for any level.
     pub(crate) fn new(alloc: Global) -> Self
         ensures levels { result.levels ≡ replicate 8 None }
         ensures xmss { result.xmss ≡ None }

@@ -62,7 +62,7 @@ impl<'a> KeyTrees<'a> {
         }
     }
 
-    // Whether the record that makes a link's tree says the root as it is, and that of an Extend the digest, too.
+    // Whether the recorded root of a link's tree, and of an Extend the recorded digest, too, are those that were made.
     fn is_sound(&self, ledger: &Ledger, level: u8, place: u32, link: &Link) -> bool
         requires trees { AreTreesOf self.now ledger.now.key }
         requires stands { IsTreeAt ledger.now.records level place }

@@ -182,8 +182,8 @@ pub fn cut_law()
     ensures cut { CutLaw }
 {}
 
-/// What a stop at any moment of an event leaves is what events leave that can come: one whose append is cut off
-/// there, or none and a stop.
+/// What a stop inside of an event leaves is what some whole events leave: the event with its append cut off there, or a
+/// stop alone.
 pub fn stop_law()
     ensures stops { StopLaw }
 {}

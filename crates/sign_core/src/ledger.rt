@@ -166,7 +166,7 @@ impl Ledger {
     ghost use Rattle.sign_core.specs.Headline.{public_of_key};
     ghost use Rattle.sign_core.specs.Records.{free_counts};
 
-    /// That of a key with no record after it.
+    /// A ledger that holds only the key.
     pub(crate) fn new(alloc: Global, key: Key) -> Self
         requires { HasSizes (KeyRecord key) }
         ensures key { result.key ≡ key }

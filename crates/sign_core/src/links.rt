@@ -21,7 +21,7 @@ pub(crate) struct Signed {
 }
 
 impl Signed {
-    /// What a leaf will sign with isn't known yet.
+    /// The leaf is chosen; C and the digest aren't known yet, and are zeros.
     pub(crate) fn unset(leaf: u32) -> Self
         ensures { result.leaf ≡ leaf }
     {

@@ -72,8 +72,8 @@ pub trait Store {
     // this moment, as a number that doesn't fall
     ghost moment: { Self → ℕ };
 
-    // The lists that a stop at some moment from that one on might have left, in a call or between two. Where
-    // what it leaves spells no list, that counts as every list.
+    // The lists that a stop at some moment from that one on might have left, in a call or between two. Where what it
+    // leaves spells no list, every list counts as left: so a clause that bounds these lists excludes that.
     ghost left_since: { Self → ℕ → List R → Type 0 };
 
     /// Record k, or None after the last.

@@ -189,7 +189,7 @@ abbrev pub RepeatsBinding : {M : Type 0} → message.Ghosts M → State → Cach
 RepeatsBinding m state cached binding before after capacity answer = UnderKey state.records (λ key. (name : List ℕ)
     → IsBindingOf state.records binding key name → Repeats m state cached before after capacity answer key name)
 
--- So it is by caches that were taken out, which an answer that comes before they are needed leaves as they were. The
+-- `RepeatsBinding` with the caches taken out. An answer that comes before they are needed leaves them as they were. The
 -- output keeps its memory.
 pub record RepeatsBy {M Z A : Type 0} (m : message.Ghosts M) (state : State) (binding : Binding)
     (old_caches new_caches : Cached) (before after : M) (old new : Vec ℕ Z) (result : Result A SignFault)

@@ -54,7 +54,7 @@ impl<S: Store, R: Source> Signer<S, R> {
         answer
     }
 
-    // The same by caches that were taken out.
+    // As `repeat`, with the caches taken out, so that `self` can be lent.
     fn repeat_by<M: Message>(
         &self,
         caches: &mut Caches,
@@ -72,7 +72,7 @@ impl<S: Store, R: Source> Signer<S, R> {
         }
     }
 
-    // Makes the caches that a bound name needs, each unless it is there: of the current trees that stood before it.
+    // Makes the caches that a bound name lacks: one for each current tree that is older than the binding.
     fn cache_bound(
         &self,
         caches: &mut Caches,

@@ -102,7 +102,7 @@ impl<S: Store, R: Source> Signer<S, R> {
         Ok(())
     }
 
-    // The same, but that `out` may be left with anything at an `Err`.
+    // As `sign`, but an `Err` may leave anything in `out`.
     fn answer<M: Message>(
         &mut self,
         name: &Name,

@@ -152,7 +152,8 @@ pub(crate) fn read_entry<D: Disk>(
     Ok(entry_of(version, &previous, &body))
 }
 
-// The record and the tag of slot k after one of that tag, in a file of this version, if the slot is whole.
+// The record and the tag of slot k, in a file of this version; `previous` is the tag of the slot before. `Damaged(k)`
+// where the slot isn't whole.
 fn read_slot<D: Disk>(
     disk: &mut D,
     len: u64,
@@ -181,7 +182,7 @@ fn read_slot<D: Disk>(
     }
 }
 
-// The record of a slot after one of that tag, if it spells one of this version and its tag is that of it.
+// The record of a slot, if its fields spell one of this version and its tag is that of `previous` and the fields.
 fn entry_of(version: Version, previous: &[u8; 32], body: &Body) -> Option<Record>
     ensures { MatchOption result
         ((entry : Entry) → Spells (slot_record version) entry body.now.fields →
