@@ -164,7 +164,7 @@ module _ {D : Type 0} (d : disk.Ghosts D) where
   }
 
   -- a refusal, whatever an Ok would give
-  refused_alike : {A B : Type 0} (old new : FileStore D d) (fault : AuditFault) → ReadsStore {A = A} d old new (Err fault)
+  pub refused_alike : {A B : Type 0} (old new : FileStore D d) (fault : AuditFault) → ReadsStore {A = A} d old new (Err fault)
       → ReadsStore {A = B} d old new (Err fault)
   refused_alike old new fault reads = record {
     records = reads.records;

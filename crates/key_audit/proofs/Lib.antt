@@ -1,8 +1,11 @@
 pub mod AuditLaw
 pub mod Audits
+pub mod Hiding
 pub mod Judging
 pub mod LeafIndex
 pub mod Levels
+pub mod Listed
+pub mod Lists
 pub mod Loads
 pub mod Tags
 pub mod Twice

@@ -1,4 +1,4 @@
--- What an audit loads from a store: its records, and tags of them.
+-- What an audit or a listing loads from a store: its records, and tags of them.
 use Rattle.std.specs.Prelude.{◌≡◌, ℕ, ◌<◌, ◌≤◌, Bool, false, IsTrue, List, [], length}
 use Rattle.std.specs.Prelude.{Option, Some, None, Result, Ok, Err}
 use Rattle.state_file.specs.declared.disk.Disk as disk

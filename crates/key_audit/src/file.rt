@@ -1,4 +1,5 @@
-//! What an audit of a state file loads, and what it answers.
+//! What an audit or a listing of a state file loads, and what it answers.
 
 pub(crate) mod audit;
+pub(crate) mod list;
 mod loading;

@@ -1,6 +1,8 @@
-//! Laws of tags and of audits. The functions do nothing: what their contracts say is proved of every list of records.
+//! Laws of tags, of audits and of listings. The functions do nothing: what their contracts say is proved of every list
+//! of records.
 
 ghost use Rattle.key_audit.specs.Audit.{AuditLaw};
+ghost use Rattle.key_audit.specs.Listing.{ListingLaw};
 ghost use Rattle.key_audit.specs.Tags.{TagLaw};
 
 /// What holds of the tags of records: each record of a list has one, which the records up to it decide (`one`); it is
@@ -16,4 +18,10 @@ pub fn tag_laws()
 /// its records fit, whatever records follow (`anchors`), and that no beginning of them fits (`put_back`).
 pub fn audit_laws()
     ensures { AuditLaw }
+{}
+
+/// What holds of listings: two lists of records that differ in what is secret alone, the seeds of a key and of its
+/// trees, show the same.
+pub fn listing_law()
+    ensures { ListingLaw }
 {}

@@ -5,6 +5,9 @@
 //! that of its slot in every file of these records (`tag_laws`, `specs/Tags.antt`), and it stays, whatever records
 //! follow. So a file's last tag, kept elsewhere, tells whether an older copy was put in its place (`audit_laws`).
 //!
+//! `list` reads a state file as `audit` does, and says what it is and what each record is, without anything secret
+//! (`listing_law`, `specs/Listing.antt`).
+//!
 //! `check_given` takes signatures that a key has given out, with their messages: are all valid, and has no leaf of a
 //! tree signed two digests? Its model is `specs/Given.antt`, over the leaf uses that `sign_core` reads off the bytes of
 //! signatures. No secret is needed, and no records: two copies of one state file are found wherever both signed with
@@ -34,10 +37,13 @@ mod in_memory;
 mod laws;
 mod leaf;
 mod leaf_index;
+mod listing;
 mod report;
 mod uses;
 
 pub use crate::file::audit::audit;
+pub use crate::file::list::list;
 pub use crate::given::{Given, GivenFault, check_given};
-pub use crate::laws::{audit_laws, tag_laws};
+pub use crate::laws::{audit_laws, listing_law, tag_laws};
+pub use crate::listing::{Entry, Listing, count_names};
 pub use crate::report::{Anchor, AuditFault, Report};

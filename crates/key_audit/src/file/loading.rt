@@ -1,4 +1,4 @@
-//! What an audit loads from a store: its records, and tags of them.
+//! What an audit or a listing loads from a store: its records, and tags of them.
 
 ghost use Rattle.std.specs.Prelude.{◌≡◌, ◌<◌, length, IfErr, IfOk, OnOk};
 ghost use Rattle.state_file.specs.Laws.{IsLegal};
@@ -28,8 +28,8 @@ fn load_at<D: Disk + Drop>(
     }
 }
 
-// Loads all records in their order.
-fn load_records<D: Disk + Drop>(
+/// Loads all records in their order.
+pub(crate) fn load_records<D: Disk + Drop>(
     alloc: Global,
     store: &mut FileStore<D>,
 ) -> Result<Vec<Record>, AuditFault>
@@ -48,8 +48,8 @@ fn load_records<D: Disk + Drop>(
     Ok(records)
 }
 
-// Takes up the records of a key.
-fn take_up(alloc: Global, records: &[Record]) -> Result<Ledger, AuditFault>
+/// Takes up the records of a key.
+pub(crate) fn take_up(alloc: Global, records: &[Record]) -> Result<Ledger, AuditFault>
     ensures records { IfOk result (λ ledger. ledger.records ≡ records.now) }
     ensures legal { OnOk result (IsLegal records.now) }
     ensures refused { IfErr result (IsRefusedLedger records.now) }

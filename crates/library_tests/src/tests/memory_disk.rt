@@ -154,3 +154,67 @@ fn steps_are_taken(rt: HostRuntime) {
         assert_eq!(rt; first_wrong(rt.alloc(), bytes, steps), Some(None));
     }
 }
+
+// A disk of three bytes, and how often memory was refused to it.
+fn made(alloc: Global) -> Option<(MemoryDisk, u32)> {
+    match MemoryDisk::of(alloc, &[1, 2, 3]) {
+        Ok(disk) => Some((disk, 0)),
+        Err(_) => Some((MemoryDisk::of(alloc, &[1, 2, 3]).ok()?, 1)),
+    }
+}
+
+// How often a write past the end is refused, which changes nothing. It is done at the second try.
+fn written(disk: &mut MemoryDisk) -> Option<u32> {
+    if disk.write_at(2, &[9, 8, 7]).is_ok() {
+        return Some(0);
+    }
+    if disk.len() != Ok(3) {
+        return None;
+    }
+    disk.write_at(2, &[9, 8, 7]).ok()?;
+    Some(1)
+}
+
+// The same of a sync.
+fn synced(disk: &mut MemoryDisk) -> Option<u32> {
+    if disk.sync().is_ok() {
+        return Some(0);
+    }
+    disk.sync().ok()?;
+    Some(1)
+}
+
+// What a stop leaves of a disk, and how often memory was refused to it.
+fn left(disk: &MemoryDisk) -> Option<(Vec<u8>, u32)> {
+    match disk.stop(Pick::Old) {
+        Ok(left) => Some((left, 0)),
+        Err(_) => Some((disk.stop(Pick::Old).ok()?, 1)),
+    }
+}
+
+// How often memory is refused to a disk that is made, written, synced and stopped. None where a second try is refused,
+// too, or what was synced isn't left.
+fn refusals_of(alloc: Global) -> Option<u32> {
+    let (mut disk, made) = made(alloc)?;
+    let written = written(&mut disk)?;
+    let synced = synced(&mut disk)?;
+    let (left, stopped) = left(&disk)?;
+    if left.as_slice() != [1, 2, 9, 8, 7].as_slice() {
+        return None;
+    }
+    made.checked_add(written)?
+        .checked_add(synced)?
+        .checked_add(stopped)
+}
+
+// `tests/run` runs this with each growth of memory refused in turn.
+#[test]
+fn growths_are_refused_at_last(rt: HostRuntime) {
+    assert!(rt; matches!(refusals_of(rt.alloc()), Some(0 | 1)));
+}
+
+// It passes only where none is.
+#[test]
+fn growths_are_refused_at_first(rt: HostRuntime) {
+    assert!(rt; refusals_of(rt.alloc()) == Some(0));
+}

@@ -63,6 +63,22 @@ fn records_are_made_at_last(rt: HostRuntime) {
     assert!(rt; refused_for(rt.alloc()).is_some());
 }
 
+// How often memory is refused to the first name of a key, and to its opening.
+fn refused_at_first(alloc: Global) -> Option<u32> {
+    let seen = seen_from(50);
+    let steps = [Step::Sign(0, 1, None), Step::Left(&[31])];
+    if !ends_with(alloc, made(alloc, LMS, 200), &seen, &steps, 2)? {
+        return None;
+    }
+    seen.steps.get().checked_add(seen.openings.get())
+}
+
+// Where there is memory, none is said to be refused.
+#[test]
+fn a_first_name_is_signed_at_first(rt: HostRuntime) {
+    assert!(rt; refused_at_first(rt.alloc()) == Some(0));
+}
+
 // The next two pass only where the store isn't refused memory for a name, and for leaves.
 #[test]
 fn names_are_bound_at_first(rt: HostRuntime) {

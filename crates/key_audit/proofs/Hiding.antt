@@ -1,0 +1,141 @@
+-- What is secret in records has no part in what they show.
+use Rattle.std.proofs.Common.{◌≡◌, ◌∙◌, ℕ, zero, suc, ◌+◌, ◌-◌, Bool, List, [], ◌∷◌, Option, Some, None, refl, ap, ap₂, sym, map, take}
+use Rattle.std.specs.Prelude.{option_map, fold, max, if◌then◌else◌, is_some}
+use Rattle.std.specs.List.{range_with_len}
+use Rattle.std.proofs.lemmas.List.{take-map}
+use Rattle.state_file.specs.declared.record.Key.{Key}
+use Rattle.state_file.specs.declared.record.Record.{Record}
+use Rattle.state_file.specs.declared.record.Record.TheVariants as entry
+use Rattle.state_file.specs.declared.record.Secret.{Secret}
+use Rattle.state_file.specs.declared.record.Secret.TheVariants.{Lms, Hss, Xmss}
+use Rattle.state_file.specs.Laws.{bottom_of, leaves_at, levels_of}
+use Rattle.sign_core.specs.Records.{current, free_at, free_counts, in_tree, key_in, last_from, makes, next_at, next_in, next_of, number_in, numbers_from, reaches, same_tree, under}
+use Rattle.key_audit.specs.Listing.{ListingLaw, Shown, entry_of, shown_in, shown_of, types_of, without_secret, without_seeds}
+
+-- ---- a secret
+
+types_kept : (secret : Secret) → types_of (without_seeds secret) ≡ types_of secret
+types_kept (Lms pair identifier seed) = refl
+types_kept (Hss levels identifier seed) = refl
+types_kept (Xmss tree secret_seed prf_key public_seed) = refl
+
+levels_kept : (secret : Secret) → levels_of (without_seeds secret) ≡ levels_of secret
+levels_kept (Lms pair identifier seed) = refl
+levels_kept (Hss levels identifier seed) = refl
+levels_kept (Xmss tree secret_seed prf_key public_seed) = refl
+
+leaves_kept : (secret : Secret) (level : ℕ) → leaves_at (without_seeds secret) level ≡ leaves_at secret level
+leaves_kept (Lms pair identifier seed) level = refl
+leaves_kept (Hss levels identifier seed) level = refl
+leaves_kept (Xmss tree secret_seed prf_key public_seed) level = refl
+
+bottom_kept : (secret : Secret) → bottom_of (without_seeds secret) ≡ bottom_of secret
+bottom_kept secret = ap (λ n. n - 1) (levels_kept secret)
+
+-- ---- trees
+
+makes_kept : (level : ℕ) (r : Record) → makes level (without_secret r) ≡ makes level r
+makes_kept level (entry.Key key) = refl
+makes_kept level (entry.Extend extend) = refl
+makes_kept level (entry.Bound bound) = refl
+makes_kept level (entry.Retire upto) = refl
+makes_kept level entry.Moved = refl
+
+last_kept : (level k : ℕ) (found : Option ℕ) (records : List Record)
+    → last_from level k found (map without_secret records) ≡ last_from level k found records
+last_kept level k found [] = refl
+last_kept level k found (r ∷ rest) =
+    ap (λ b. last_from level (k + 1) (if b then Some k else found) (map without_secret rest)) (makes_kept level r)
+    ∙ last_kept level (k + 1) (if makes level r then Some k else found) rest
+
+under_kept : (above : List Record → Option ℕ) (records : List Record) (found : Option ℕ)
+    → ((rs : List Record) → above (map without_secret rs) ≡ above rs)
+    → under above (map without_secret records) found ≡ under above records found
+under_kept above records None same = refl
+under_kept above records (Some j) same =
+    ap₂ (λ before now. if same_tree before now then Some j else None)
+    (ap above (take-map without_secret j records) ∙ same (take j records)) (same records)
+
+current_kept : (level : ℕ) (records : List Record) → current level (map without_secret records) ≡ current level records
+current_kept zero records = refl
+current_kept (suc level) records =
+    ap (under (current level) (map without_secret records)) (last_kept (suc level) 0 None records)
+    ∙ under_kept (current level) records (last_from (suc level) 0 None records) (λ rs. current_kept level rs)
+
+-- ---- leaves
+
+reaches_kept : (secret : Secret) (before : List Record) (r : Record)
+    → reaches (without_seeds secret) (map without_secret before) (without_secret r) ≡ reaches secret before r
+reaches_kept secret before (entry.Key key) = refl
+reaches_kept secret before (entry.Extend extend) =
+    ap (λ tree. in_tree tree (extend.parent_leaf + 1)) (current_kept (extend.level - 1) before)
+reaches_kept secret before (entry.Bound bound) =
+    ap (λ level. in_tree (current level (map without_secret before)) (bound.leaf + 1)) (bottom_kept secret)
+    ∙ ap (λ tree. in_tree tree (bound.leaf + 1)) (current_kept (bottom_of secret) before)
+reaches_kept secret before (entry.Retire upto) =
+    ap (λ level. in_tree (current level (map without_secret before)) upto) (bottom_kept secret)
+    ∙ ap (λ tree. in_tree tree upto) (current_kept (bottom_of secret) before)
+reaches_kept secret before entry.Moved = refl
+
+numbers_kept : (secret : Secret) (all : List Record) (tree k : ℕ) (records : List Record)
+    → numbers_from (without_seeds secret) (map without_secret all) tree k (map without_secret records)
+    ≡ numbers_from secret all tree k records
+numbers_kept secret all tree k [] = refl
+numbers_kept secret all tree k (r ∷ rest) =
+    ap₂ (λ n ns. n ∷ ns)
+    (ap (number_in tree) (ap (λ before. reaches (without_seeds secret) before (without_secret r)) (take-map without_secret k all)
+    ∙ reaches_kept secret (take k all) r))
+    (numbers_kept secret all tree (k + 1) rest)
+
+next_kept : (secret : Secret) (records : List Record) (tree : Option ℕ)
+    → next_of (without_seeds secret) (map without_secret records) tree ≡ next_of secret records tree
+next_kept secret records None = refl
+next_kept secret records (Some tree) = ap (fold max 0) (numbers_kept secret records tree 0 records)
+
+free_kept : (secret : Secret) (records : List Record) (level : ℕ)
+    → free_at (without_seeds secret) (map without_secret records) level ≡ free_at secret records level
+free_kept secret records level =
+    ap (λ tree. if is_some tree then leaves_at (without_seeds secret) level - next_of (without_seeds secret) (map without_secret records) tree else 0)
+    (current_kept level records)
+    ∙ ap₂ (λ leaves next. if is_some (current level records) then leaves - next else 0) (leaves_kept secret level)
+    (next_kept secret records (current level records))
+
+frees_kept : (secret : Secret) (records : List Record) (levels : List ℕ)
+    → map (free_at (without_seeds secret) (map without_secret records)) levels ≡ map (free_at secret records) levels
+frees_kept secret records [] = refl
+frees_kept secret records (level ∷ levels) = ap₂ (λ n ns. n ∷ ns) (free_kept secret records level) (frees_kept secret records levels)
+
+counts_kept : (secret : Secret) (records : List Record)
+    → free_counts (without_seeds secret) (map without_secret records) ≡ free_counts secret records
+counts_kept secret records =
+    ap (λ n. map (free_at (without_seeds secret) (map without_secret records)) (range_with_len 0 n)) (levels_kept secret)
+    ∙ frees_kept secret records (range_with_len 0 (levels_of secret))
+
+-- ---- what is shown
+
+entry_kept : (r : Record) → entry_of (without_secret r) ≡ entry_of r
+entry_kept (entry.Key key) = refl
+entry_kept (entry.Extend extend) = refl
+entry_kept (entry.Bound bound) = refl
+entry_kept (entry.Retire upto) = refl
+entry_kept entry.Moved = refl
+
+entries_kept : (records : List Record) → map entry_of (map without_secret records) ≡ map entry_of records
+entries_kept [] = refl
+entries_kept (r ∷ rest) = ap₂ (λ e es. e ∷ es) (entry_kept r) (entries_kept rest)
+
+shown_kept_of : (records : List Record) (key : Key)
+    → shown_of (map without_secret records) (record key { secret = without_seeds key.secret }) ≡ shown_of records key
+shown_kept_of records key =
+    rw (types_kept key.secret, counts_kept key.secret records, entries_kept records) refl
+
+shown_kept : (records : List Record) → shown_in (map without_secret records) ≡ shown_in records
+shown_kept [] = refl
+shown_kept (entry.Key key ∷ rest) = ap (λ s. Some s) (shown_kept_of (entry.Key key ∷ rest) key)
+shown_kept (entry.Extend extend ∷ rest) = refl
+shown_kept (entry.Bound bound ∷ rest) = refl
+shown_kept (entry.Retire upto ∷ rest) = refl
+shown_kept (entry.Moved ∷ rest) = refl
+
+pub listing_law : ListingLaw
+listing_law a b same = sym (shown_kept a) ∙ ap shown_in same ∙ shown_kept b

@@ -1,0 +1,24 @@
+-- Records that are listed, and names that are counted, one after the other.
+use Rattle.std.proofs.Common.{◌≡◌, ◌∙◌, ◌+◌, ◌<◌, ◌≤◌, ℕ, List, [], ◌∷◌, ◌++◌, length, map, take, get_or, ap, sym, subst, arith, refl}
+use Rattle.std.proofs.lemmas.List.{map_more, take_more}
+use Rattle.state_file.specs.declared.record.Record.{Record}
+use Rattle.key_audit.specs.declared.listing.Entry.{Entry}
+use Rattle.key_audit.specs.Listing.{entry_of, name_count, names_among}
+
+-- one record more is listed
+pub entries_more : (records : List Record) (i : ℕ) (r : Record) (entries new : List Entry) → i < length records → r ≡ get_or records i r
+    → entries ≡ map entry_of (take i records) → new ≡ entries ++ entry_of r ∷ [] → new ≡ map entry_of (take (i + 1) records)
+entries_more records i r entries new inside is so_far grown =
+    grown ∙ ap (λ l. l ++ entry_of r ∷ []) so_far ∙ ap (λ x. map entry_of (take i records) ++ entry_of x ∷ []) is
+    ∙ sym (map_more entry_of records i r inside)
+
+names_push : (entries : List Entry) (e : Entry) → names_among (entries ++ e ∷ []) ≡ names_among entries + name_count e
+names_push [] e = omega arith
+names_push (first ∷ rest) e = omega (arith, names_push rest e)
+
+-- one entry more is counted
+pub names_more : (entries : List Entry) (i : ℕ) (e : Entry) (names : ℕ) → i < length entries → e ≡ get_or entries i e
+    → names ≡ names_among (take i entries) → names + name_count e ≡ names_among (take (i + 1) entries)
+names_more entries i e names inside is so_far =
+    ap (λ n. n + name_count e) so_far ∙ sym (names_push (take i entries) e) ∙ ap (λ x. names_among (take i entries ++ x ∷ [])) is
+    ∙ ap names_among (sym (take_more entries i e inside))

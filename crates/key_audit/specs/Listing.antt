@@ -1,0 +1,121 @@
+-- What a listing of a state file says of its records. Nothing of it is secret.
+use Rattle.std.specs.Prelude.{◌≡◌, ℕ, ◌+◌, List, [], ◌∷◌, length, map, option_map, Bool, Option, Some, Result, Ok, Err}
+use Rattle.std.specs.Prelude.{IsTrue, None}
+use Rattle.state_file.specs.declared.disk.Disk as disk
+use Rattle.state_file.specs.declared.record.Key.{Key}
+use Rattle.state_file.specs.declared.record.Record.{Record}
+use Rattle.state_file.specs.declared.record.Record.TheVariants as entry
+use Rattle.state_file.specs.declared.record.Secret.{Secret}
+use Rattle.state_file.specs.declared.record.Secret.TheVariants.{Lms, Hss, Xmss}
+use Rattle.state_file.specs.declared.record.Version.{Version}
+use Rattle.state_file.specs.declared.store.file_store.FileStore.{FileStore}
+use Rattle.state_file.specs.FileStore.{disk_of, records_of}
+use Rattle.state_file.specs.Laws.{IsLegal}
+use Rattle.typecodes.specs.declared.spec.Spec.{Spec}
+use Rattle.typecodes.specs.declared.spec.Spec.TheVariants as spec
+use Rattle.sign_core.specs.Records.{free_counts, key_in}
+use Rattle.key_audit.specs.declared.listing.Entry.{Entry}
+use Rattle.key_audit.specs.declared.listing.Entry.TheVariants.{Key as KeyEntry, Tree, Name, Retired, Moved}
+use Rattle.key_audit.specs.declared.listing.Listing.{Listing}
+use Rattle.key_audit.specs.declared.report.AuditFault.{AuditFault}
+use Rattle.key_audit.specs.Audit.{Judges, ReadsStore}
+use Rattle.key_audit.specs.Loading.{IsRefusedLedger}
+
+-- ---- what records show
+
+-- the types of a key
+abbrev pub types_of : Secret → Spec
+types_of (Lms pair identifier seed) = spec.Lms pair
+types_of (Hss levels identifier seed) = spec.Hss levels
+types_of (Xmss tree secret_seed prf_key public_seed) = spec.Xmss tree
+
+-- What is listed of a record: of a Key that it is one, of an Extend the level of its tree and the leaf above that signs
+-- it, of a Bound its name, leaf and digest.
+abbrev pub entry_of : Record → Entry
+entry_of (entry.Key key) = KeyEntry
+entry_of (entry.Extend extend) = Tree extend.level extend.parent_leaf
+entry_of (entry.Bound bound) = Name bound.name bound.leaf bound.digest
+entry_of (entry.Retire upto) = Retired upto
+entry_of entry.Moved = Moved
+
+-- what is shown of the records of a key
+pub record Shown : Type 0 where
+  pub spec : Spec
+  pub version : Version
+  pub left : List ℕ
+  pub entries : List Entry
+
+abbrev pub shown_of : List Record → Key → Shown
+shown_of records key = record {
+  spec = types_of key.secret;
+  version = key.version;
+  left = free_counts key.secret records;
+  entries = map entry_of records;
+}
+
+-- .. where they have one
+abbrev pub shown_in : List Record → Option Shown
+shown_in records = option_map (shown_of records) (key_in records)
+
+-- what a listing shows
+abbrev pub shown_by : Listing → Shown
+shown_by listing = record {
+  spec = listing.spec;
+  version = listing.version;
+  left = listing.left.items;
+  entries = listing.entries.items;
+}
+
+-- how many of them are names
+abbrev pub name_count : Entry → ℕ
+name_count (Name name leaf digest) = 1
+name_count KeyEntry = 0
+name_count (Tree level leaf) = 0
+name_count (Retired upto) = 0
+name_count Moved = 0
+
+abbrev pub names_among : List Entry → ℕ
+names_among [] = 0
+names_among (first ∷ rest) = name_count first + names_among rest
+
+-- ---- the answer
+
+-- What is answered to records is a listing of what they show, or what an audit without an anchor refuses them for.
+abbrev pub AnswersListing : (honest : Bool) → List Record → Result Listing AuditFault → Type 0
+AnswersListing honest records (Ok listing) = IsLegal records × (shown_in records ≡ Some (shown_by listing))
+AnswersListing honest records (Err fault) = Judges honest records None (Err fault)
+
+-- The same, where they were loaded.
+abbrev pub ListsRecords : List Record → Result Listing AuditFault → Type 0
+ListsRecords records (Ok listing) = IsLegal records × (shown_in records ≡ Some (shown_by listing))
+ListsRecords records (Err fault) = IsRefusedLedger records fault
+
+-- A listing reads the store, and shows the records that it loads: as many as the store has, and where the disk is
+-- honest those.
+pub record Lists {D : Type 0} (d : disk.Ghosts D) (old new : FileStore D d) (answer : Result Listing AuditFault)
+    : Type 0 where
+  pub store : ReadsStore d old new answer
+  pub loaded : List Record
+  pub long : length loaded ≡ length (records_of old)
+  pub same : IsTrue (d.honest (disk_of old)) → loaded ≡ records_of old
+  pub answers : AnswersListing (d.honest (disk_of old)) loaded answer
+
+-- ---- secrets
+
+-- a secret without what its values are made from
+abbrev pub without_seeds : Secret → Secret
+without_seeds (Lms pair identifier seed) = Lms pair identifier []
+without_seeds (Hss levels identifier seed) = Hss levels identifier []
+without_seeds (Xmss tree secret_seed prf_key public_seed) = Xmss tree [] [] public_seed
+
+-- a record without what is secret in it: the SEED of an Extend, and those of a Key, with SK_PRF
+abbrev pub without_secret : Record → Record
+without_secret (entry.Key key) = entry.Key (record key { secret = without_seeds key.secret })
+without_secret (entry.Extend extend) = entry.Extend (record extend { seed = [] })
+without_secret (entry.Bound bound) = entry.Bound bound
+without_secret (entry.Retire upto) = entry.Retire upto
+without_secret entry.Moved = entry.Moved
+
+-- What holds of listings: two lists of records that differ in what is secret alone show the same.
+abbrev pub ListingLaw : Type 0
+ListingLaw = (a b : List Record) → map without_secret a ≡ map without_secret b → shown_in a ≡ shown_in b
