@@ -3,7 +3,8 @@ use Rattle.std.specs.Prelude.{ℕ, List, [], ◌∷◌, Option, Some, None, ◌�
 use Rattle.std.specs.List.{fold}
 use Rattle.std.specs.Io.KnownBytes.{Appends}
 use Rattle.command.specs.declared.output.Part.{Part}
-use Rattle.command.specs.declared.output.Part.TheVariants.{Text, Number, Bytes, Hex, Levels, Moved as MovedPart, Spec, Entries}
+use Rattle.command.specs.declared.output.Part.TheVariants.{Text, Number, Bytes, Hex, Levels, Moved as MovedPart}
+use Rattle.command.specs.declared.output.Part.TheVariants.{Spec, Entries}
 use Rattle.hex.specs.Hex.{encode_lower}
 use Rattle.key_audit.specs.declared.listing.Entry.{Entry}
 use Rattle.key_audit.specs.declared.listing.Entry.TheVariants.{Key, Tree, Name, Retired, Moved}

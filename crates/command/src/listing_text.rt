@@ -120,16 +120,13 @@ fn write_entry<W: Write>(writer: &mut W, entry: &Entry) -> io::Result<()>
 {
     match entry {
         Entry::Key => writer.write_all(" key".as_bytes()),
-        Entry::Tree { level, leaf } => {
-            write_number(writer, " tree level ", u32::from(*level))?;
-            write_number(writer, " leaf ", *leaf)
-        }
+        Entry::Tree { level, leaf } => write_tree(writer, *level, *leaf),
         Entry::Name { name, leaf, digest } => {
             write_name(writer, name.as_bytes(), *leaf)?;
             writer.write_all(" digest ".as_bytes())?;
             write_hex(writer, digest)
         }
-        Entry::Retired { upto } => write_number(writer, " retired upto ", *upto),
+        Entry::Retired { upto } => write_retired(writer, *upto),
         Entry::Moved => writer.write_all(" moved".as_bytes()),
     }
 }
@@ -142,6 +139,23 @@ fn write_name<W: Write>(writer: &mut W, name: &[u8], leaf: u32) -> io::Result<()
     writer.write_all(" name ".as_bytes())?;
     writer.write_all(name)?;
     write_number(writer, " leaf ", leaf)
+}
+
+// Writes the level of a new tree, and the leaf that signs it.
+fn write_tree<W: Write>(writer: &mut W, level: u8, leaf: u32) -> io::Result<()>
+    ensures { OnOk result (Appends (W.contents writer.old) (W.contents writer.new)
+        ((codes " tree level " ++ decimal level) ++ (codes " leaf " ++ decimal leaf))) }
+{
+    write_number(writer, " tree level ", u32::from(level))?;
+    write_number(writer, " leaf ", leaf)
+}
+
+// Writes that the leaves below a number are given up.
+fn write_retired<W: Write>(writer: &mut W, upto: u32) -> io::Result<()>
+    ensures { OnOk result (Appends (W.contents writer.old) (W.contents writer.new)
+        (codes " retired upto " ++ decimal upto)) }
+{
+    write_number(writer, " retired upto ", upto)
 }
 
 // Writes a word and a number.
