@@ -1,6 +1,7 @@
 -- The lines of records, one after the other.
-use Rattle.std.proofs.Common.{◌≡◌, ◌∙◌, ◌+◌, ℕ, List, [], ◌∷◌, ◌++◌, Option, Some, None, length, ap, sym, append-nil, append_assoc, arith}
+use Rattle.std.proofs.Common.{◌≡◌, ◌∙◌, ◌+◌, ◌<◌, ℕ, List, [], ◌∷◌, ◌++◌, Option, Some, None, length, take, get_or, ap, sym, append-nil, append_assoc, arith}
 use Rattle.std.specs.Io.KnownBytes.{Appends}
+use Rattle.std.proofs.lemmas.List.{take_more}
 use Rattle.key_audit.specs.declared.listing.Entry.{Entry}
 use Rattle.command.specs.Output.{entry_line, entry_lines}
 
@@ -32,3 +33,8 @@ entry_writes (Some o) (Some b) (Some a) entries place entry size first next =
     next ∙ ap (λ l. l ++ entry_line place entry) first ∙ append_assoc o (entry_lines 0 entries) (entry_line place entry)
     ∙ (let on : place ≡ 0 + length entries = omega (arith, size) in ap (λ k. o ++ (entry_lines 0 entries ++ entry_line k entry)) on)
     ∙ ap (λ l. o ++ l) (sym (lines_more 0 entries entry))
+
+-- the records up to one and with it
+pub entries_so_far : (entries : List Entry) (place : ℕ) (entry : Entry) → place < length entries → entry ≡ get_or entries place entry
+    → take (place + 1) entries ≡ take place entries ++ entry ∷ []
+entries_so_far entries place entry within is = take_more entries place entry within ∙ ap (λ e. take place entries ++ e ∷ []) (sym is)

@@ -4,16 +4,16 @@ use Rattle.std.specs.Io.KnownBytes.{Appends}
 use Rattle.typecodes.specs.Spec.{levels_text}
 use Rattle.typecodes.specs.declared.types.LmsPair.{LmsPair}
 use Rattle.typecodes.specs.declared.types.LmsType.TheVariants.{H5}
-use Rattle.typecodes.specs.declared.types.OtsType.TheVariants.{W8}
+use Rattle.typecodes.specs.declared.types.OtsType.TheVariants.{W1}
 use Rattle.command.proofs.PairTexts.{pair_writes, pairs_begin}
 use Rattle.command.proofs.listing_text.write_pairs.Goals as goal
 
 pub loop-level-init : goal.loop-level-init
 loop-level-init g c = pairs_begin (g.W.Write.contents c.args.writer.now)
 
--- any pair, for places past the end
+-- what a read past the end is taken to give
 abbrev some_pair : LmsPair
-some_pair = record { tree = H5; ots = W8 }
+some_pair = record { tree = H5; ots = W1 }
 
 pub loop-level-preserved : goal.loop-level-preserved
 loop-level-preserved g c =
