@@ -1,5 +1,6 @@
 -- What the law over all runs says of requests: which are signed, repeated or refused, and what they draw and change.
-use Rattle.std.specs.Prelude.{◌≡◌, ℕ, ◌+◌, List, [], ◌∷◌, length, map, ◌≢◌, ◌⊎◌, ◌↔◌, ◌-◌, ◌*◌, ◌<◌, ◌≤◌, true, false, ◌++◌}
+use Rattle.std.specs.Prelude.{◌≡◌, ℕ, ◌+◌, List, [], ◌∷◌, length, map, ◌≢◌, ◌⊎◌, ◌↔◌, ◌-◌, ◌*◌, ◌<◌, ◌≤◌}
+use Rattle.std.specs.Prelude.{true, false, ◌++◌}
 use Rattle.std.specs.Prelude.{Contains, sum, IsSome, Some, None, Ok, Err, if◌then◌else◌, slice_get, take}
 use Rattle.sign_core.specs.Textbook.{signature_at, digest_at}
 use Rattle.std.specs.List.{concat}
