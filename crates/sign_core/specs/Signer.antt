@@ -394,8 +394,8 @@ GoesTo most chance records before after loads given (Err _) = ⊥
 -- To load the records of a store is a step of the world, with an outcome that is the answer. It asks for slot after
 -- slot from 0 on, and is given these records; it stops at the first that refuses it, of which `GoesTo` says why. It
 -- goes over as many records as the store has, and where the store is honest over its own. The store has stopped where
--- it had before, or the answer is 45; one that had is as it was; and the store has reported one slot more as unreadable,
--- k, where the answer is 43 of k.
+-- it had before, or the answer is 45; one that had is as it was; and the store has reported one slot more as
+-- unreadable, k, where the answer is 43 of k.
 pub record LoadsAll {S : Type 0} (g : store.Ghosts S) (old new : S) (IsAnswer : Outcome AnyPublic → Type 0)
     : Type 0 where
   pub records : List Record
