@@ -455,6 +455,31 @@ class Signer:
         lines += [f"level {level} left {left}" for level, left in enumerate(self.left())]
         return lines + (["moved 2"] if self.has_moved else [])
 
+    def spec(self):
+        """The text of the key's types."""
+        if self.scheme == XMSS:
+            return f"xmss:{XMSS_HEIGHTS[self.pairs[0][0]]}"
+        pairs = ",".join(f"H{HEIGHTS[tree]}/W{WIDTHS[ots][0]}" for tree, ots in self.pairs)
+        return ("hss:" if self.scheme == HSS else "lms:") + pairs
+
+    def listing(self):
+        """The lines of a listing."""
+        lines = [f"spec {self.spec()}", f"format {self.version}"]
+        lines += [f"level {level} left {left}" for level, left in enumerate(self.left())] + [f"names {len(self.bound)}"]
+        return lines + [f"{place} {self.listed(record)}" for place, record in enumerate(self.bodies)]
+
+    def listed(self, record):
+        """What a listing says of a record."""
+        kind = record[0]
+        if kind == 2:
+            return f"tree level {record[1]} leaf {number(record, 3, 6)}"
+        if kind == 3:
+            name, leaf, _, digest = bound_fields(record, self.version)
+            return f"name {name.decode()} leaf {leaf} digest {digest.hex()}"
+        if kind == 4:
+            return f"retired upto {number(record, 2, 5)}"
+        return "key" if kind == 1 else "moved"
+
     def fit(self, count):
         """Refuses records past the limit."""
         if len(self.bodies) + count > self.limit:

@@ -16,7 +16,7 @@ use Rattle.clap.proofs.OnLiterals.{clap_on_literals}
 use Rattle.clap.specs.Simple.{Shape}
 use Rattle.command.specs.Make.{format_in}
 use Rattle.state_file.specs.declared.record.Version.{Version}
-use Rattle.command.specs.Line.{AreTexts, FindsTask, GivesValues, IsCommandLine, IsLineOf, IsPlainWord, Task, audit, audit_anchored, audit_given, audit_given_pairs, audit_given_task, audit_task, hbsign_app, make, make_formatted, make_task, migrate, retire, retire_number, serve, serve_task, sign, sign_task, task_found, task_named, verify}
+use Rattle.command.specs.Line.{AreTexts, FindsTask, GivesValues, IsCommandLine, IsLineOf, IsPlainWord, Task, audit, audit_anchored, audit_given, audit_given_pairs, audit_given_task, audit_task, hbsign_app, list, make, make_formatted, make_task, migrate, publish, retire, retire_number, serve, serve_task, sign, sign_task, task_found, task_named, verify}
 use Rattle.key_audit.specs.declared.report.Anchor.{Anchor}
 use Rattle.command.specs.Audit.{anchor_in}
 use Rattle.command.specs.AuditGiven.{Pair, pairs_in}
@@ -24,7 +24,7 @@ use Rattle.command.specs.declared.line.UsageFault.{UsageFault}
 use Rattle.command.specs.LineFault.{usage_faults, line_faults}
 use Rattle.command.specs.Number.{number_in}
 use Rattle.command.specs.Retire.{most_leaves}
-use Rattle.command.proofs.Walking.{Enters, IsTaken, TakesValue, at, audit_given_shape, audit_shape, end_fault, enters_audit, enters_audit_given, enters_make, enters_migrate, enters_retire, enters_serve, enters_sign, enters_verify, entered_faults, entered_rows, finds_migrate, finds_retire, finds_task, finds_verify, is_no_hyphen, make_shape, migrate_1, migrate_2, migrate_shape, retire_1, retire_2, retire_shape, serve_shape, sign_shape, takes_either, takes_message, takes_new, takes_old, takes_public, takes_signature, takes_state, takes_upto, turn_passes, verify_1, verify_2, verify_3, verify_shape, whole, word_is_value, word_walks}
+use Rattle.command.proofs.Walking.{Enters, IsTaken, TakesValue, at, audit_given_shape, audit_shape, end_fault, enters_audit, enters_audit_given, enters_list, enters_make, enters_migrate, enters_public, enters_retire, enters_serve, enters_sign, enters_verify, entered_faults, entered_rows, finds_list, finds_migrate, finds_public, finds_retire, finds_task, finds_verify, is_no_hyphen, list_1, list_shape, make_shape, migrate_1, migrate_2, migrate_shape, public_1, public_2, public_shape, retire_1, retire_2, retire_shape, serve_shape, sign_shape, takes_either, takes_listed, takes_message, takes_new, takes_old, takes_path, takes_public, takes_published, takes_signature, takes_state, takes_upto, turn_passes, verify_1, verify_2, verify_3, verify_shape, whole, word_is_value, word_walks}
 
 -- where nothing is wrong with two parts, nothing is wrong with either
 pub none_of : (a b : Kinds) → or_else a b ≡ [] → (a ≡ []) × (b ≡ [])
@@ -120,6 +120,20 @@ retire_asks = (
 migrate_asks : AllAsk migrate_shape.args_override_self migrate_shape.rules
 unfolding clap_on_literals
 migrate_asks = (
+  λ name. asks_if false (has_long (help_at 3) name) (Some (help_at 3)) None (help_asks 3) tt,
+  λ x. asks_if false (has_short (help_at 3) x) (Some (help_at 3)) None (help_asks 3) tt,
+)
+
+list_asks : AllAsk list_shape.args_override_self list_shape.rules
+unfolding clap_on_literals
+list_asks = (
+  λ name. asks_if false (has_long (help_at 2) name) (Some (help_at 2)) None (help_asks 2) tt,
+  λ x. asks_if false (has_short (help_at 2) x) (Some (help_at 2)) None (help_asks 2) tt,
+)
+
+public_asks : AllAsk public_shape.args_override_self public_shape.rules
+unfolding clap_on_literals
+public_asks = (
   λ name. asks_if false (has_long (help_at 3) name) (Some (help_at 3)) None (help_asks 3) tt,
   λ x. asks_if false (has_short (help_at 3) x) (Some (help_at 3)) None (help_asks 3) tt,
 )
@@ -300,6 +314,16 @@ unfolding clap_on_literals
 migrate_full old new b word taken none =
     let fault = sym (turn_passes migrate_shape b 3 word (migrate_2 old new) taken) ∙ none in cc
 
+list_full : (state : Text) (b : Bool) (word : Text) → IsTaken b word → turn_fault list_shape [] (at b (list_1 state) 2) word ≢ []
+unfolding clap_on_literals
+list_full state b word taken none =
+    let fault = sym (turn_passes list_shape b 2 word (list_1 state) taken) ∙ none in cc
+
+public_full : (state path : Text) (b : Bool) (word : Text) → IsTaken b word → turn_fault public_shape [] (at b (public_2 state path) 3) word ≢ []
+unfolding clap_on_literals
+public_full state path b word taken none =
+    let fault = sym (turn_passes public_shape b 3 word (public_2 state path) taken) ∙ none in cc
+
 -- and where one is missing the words don't end
 verify_misses : (b : Bool) → end_fault verify_shape (at b nothing_collected 1) ≢ []
 unfolding clap_on_literals
@@ -328,6 +352,18 @@ migrate_misses b none = cc
 migrate_misses_1 : (old : Text) (b : Bool) → end_fault migrate_shape (at b (migrate_1 old) 2) ≢ []
 unfolding clap_on_literals
 migrate_misses_1 old b none = cc
+
+list_misses : (b : Bool) → end_fault list_shape (at b nothing_collected 1) ≢ []
+unfolding clap_on_literals
+list_misses b none = cc
+
+public_misses : (b : Bool) → end_fault public_shape (at b nothing_collected 1) ≢ []
+unfolding clap_on_literals
+public_misses b none = cc
+
+public_misses_1 : (state : Text) (b : Bool) → end_fault public_shape (at b (public_1 state) 2) ≢ []
+unfolding clap_on_literals
+public_misses_1 state b none = cc
 
 verify_waits : Waits verify_shape 3 1 nothing_collected
 verify_waits = (
@@ -370,6 +406,20 @@ migrate_waits = (
   ),
 )
 
+list_waits : Waits list_shape 1 1 nothing_collected
+list_waits = (refl, list_misses, λ state. (list_1 state, takes_listed state, (refl, list_full state)))
+
+public_waits : Waits public_shape 2 1 nothing_collected
+public_waits = (
+  refl,
+  public_misses,
+  λ state. (
+    public_1 state,
+    takes_published state,
+    (refl, public_misses_1 state, λ path. (public_2 state path, takes_path state path, (refl, public_full state path))),
+  ),
+)
+
 -- where nothing is wrong with a line of a command, nothing is with the words after its name
 command_passes : (name : Text) (s : Shape) (names : List Text) → Enters name s → fault_of hbsign_app (name ∷ names) ≡ []
     → Passes s (at false nothing_collected 1) names
@@ -390,6 +440,11 @@ two_values (a ∷ []) long = absurd cc
 two_values (a ∷ b ∷ []) long = (a, b, refl)
 two_values (a ∷ b ∷ more ∷ rest) long = absurd (omega (arith, long))
 
+one_value : (values : List Text) → length values ≡ 1 → (a : Text) × (values ≡ a ∷ [])
+one_value [] long = absurd cc
+one_value (a ∷ []) long = (a, refl)
+one_value (a ∷ more ∷ rest) long = absurd (omega (arith, long))
+
 -- ---- the program's words
 
 -- what is wrong with a first word, where it names this subcommand or none
@@ -399,10 +454,11 @@ first_fault named word = or_else (other_fault whole.top named word nothing_colle
     (subcommand_or_other whole.top.rules named idle 1 word nothing_collected).1)
 
 -- a word that is no subcommand's name names none
-find_none : {A : Type 0} (test : A → Bool) (r s t u v w x y z : A) → test r ≡ false → test s ≡ false → test t ≡ false → test u ≡ false
-    → test v ≡ false → test w ≡ false → test x ≡ false → test y ≡ false → test z ≡ false → find test (r ∷ s ∷ t ∷ u ∷ v ∷ w ∷ x ∷ y ∷ z ∷ []) ≡ None
-find_none test r s t u v w x y z first second third fourth fifth sixth seventh eighth ninth =
-    rw (first, second, third, fourth, fifth, sixth, seventh, eighth, ninth) refl
+find_none : {A : Type 0} (test : A → Bool) (p q r s t u v w x y z : A) → test p ≡ false → test q ≡ false → test r ≡ false → test s ≡ false
+    → test t ≡ false → test u ≡ false → test v ≡ false → test w ≡ false → test x ≡ false → test y ≡ false → test z ≡ false
+    → find test (p ∷ q ∷ r ∷ s ∷ t ∷ u ∷ v ∷ w ∷ x ∷ y ∷ z ∷ []) ≡ None
+find_none test p q r s t u v w x y z first second third fourth fifth sixth seventh eighth ninth tenth eleventh =
+    rw (first, second, third, fourth, fifth, sixth, seventh, eighth, ninth, tenth, eleventh) refl
 
 or_none : (b : Bool) → b ≡ false → (b || false) ≡ false
 or_none b isnt = rw isnt refl
@@ -410,11 +466,12 @@ or_none b isnt = rw isnt refl
 names_none : (word : Text) → bytes_eq (codes "make") word ≡ false → bytes_eq (codes "sign") word ≡ false
     → bytes_eq (codes "verify") word ≡ false → bytes_eq (codes "retire") word ≡ false → bytes_eq (codes "audit") word ≡ false
     → bytes_eq (codes "audit-given") word ≡ false → bytes_eq (codes "serve") word ≡ false → bytes_eq (codes "migrate") word ≡ false
-    → bytes_eq (codes "help") word ≡ false → subcommand_met (names_of whole) idle word ≡ None
-names_none word no_make no_sign no_verify no_retire no_audit no_audit_given no_serve no_migrate no_help = ap (option_map (λ s. s.0))
+    → bytes_eq (codes "list") word ≡ false → bytes_eq (codes "public") word ≡ false → bytes_eq (codes "help") word ≡ false → subcommand_met (names_of whole) idle word ≡ None
+names_none word no_make no_sign no_verify no_retire no_audit no_audit_given no_serve no_migrate no_list no_public no_help = ap (option_map (λ s. s.0))
     (find_none (answers_to word) (codes "make", []) (codes "sign", []) (codes "verify", []) (codes "retire", []) (codes "audit", [])
-    (codes "audit-given", []) (codes "serve", []) (codes "migrate", []) (codes "help", []) (or_none _ no_make) (or_none _ no_sign) (or_none _ no_verify)
-    (or_none _ no_retire) (or_none _ no_audit) (or_none _ no_audit_given) (or_none _ no_serve) (or_none _ no_migrate) (or_none _ no_help))
+    (codes "audit-given", []) (codes "serve", []) (codes "migrate", []) (codes "list", []) (codes "public", []) (codes "help", []) (or_none _ no_make) (or_none _ no_sign) (or_none _ no_verify)
+    (or_none _ no_retire) (or_none _ no_audit) (or_none _ no_audit_given) (or_none _ no_serve) (or_none _ no_migrate)
+    (or_none _ no_list) (or_none _ no_public) (or_none _ no_help))
 
 -- such a word isn't accepted first,
 plain_fails : (word : Text) → IsPlainWord word → first_fault None word ≢ []
@@ -462,17 +519,20 @@ pub data IsCommandName (word : Text) : Type 0 where
   is_audit_given : word ≡ codes "audit-given" → IsCommandName word
   is_serve : word ≡ codes "serve" → IsCommandName word
   is_migrate : word ≡ codes "migrate" → IsCommandName word
+  is_list : word ≡ codes "list" → IsCommandName word
+  is_public : word ≡ codes "public" → IsCommandName word
 
 -- for any other name
 other_fails : (word : Text) (words : List Text) → IsUtf8 word → fault_of hbsign_app (word ∷ words) ≡ []
     → bytes_eq (codes "make") word ≡ false → bytes_eq (codes "sign") word ≡ false → bytes_eq (codes "verify") word ≡ false
     → bytes_eq (codes "retire") word ≡ false → bytes_eq (codes "audit") word ≡ false → bytes_eq (codes "audit-given") word ≡ false
-    → bytes_eq (codes "serve") word ≡ false → bytes_eq (codes "migrate") word ≡ false → ⊥
-other_fails word words text none no_make no_sign no_verify no_retire no_audit no_audit_given no_serve no_migrate = elim (cases_Bool (bytes_eq (codes "help") word)) [
+    → bytes_eq (codes "serve") word ≡ false → bytes_eq (codes "migrate") word ≡ false → bytes_eq (codes "list") word ≡ false
+    → bytes_eq (codes "public") word ≡ false → ⊥
+other_fails word words text none no_make no_sign no_verify no_retire no_audit no_audit_given no_serve no_migrate no_list no_public = elim (cases_Bool (bytes_eq (codes "help") word)) [
   | inl same ↦ help_fails (subst (λ w. first_fault (subcommand_met (names_of whole) idle w) w ≡ [])
       (sym ((bytes_eq-Decides (codes "help") word).0 same)) (first_passes word words none))
   | inr no_help ↦
-      let passes = subst (λ named. first_fault named word ≡ []) (names_none word no_make no_sign no_verify no_retire no_audit no_audit_given no_serve no_migrate no_help) (first_passes word words none) in
+      let passes = subst (λ named. first_fault named word ≡ []) (names_none word no_make no_sign no_verify no_retire no_audit no_audit_given no_serve no_migrate no_list no_public no_help) (first_passes word words none) in
       elim (word_is word) [
         | inl plain ↦ plain_fails word plain passes
         | inr (inl hyphens) ↦ hyphens_fail words (subst (λ w. fault_of hbsign_app (w ∷ words) ≡ []) hyphens none)
@@ -497,7 +557,13 @@ is_named word words text none = elim (cases_Bool (bytes_eq (codes "make") word))
               | inl same ↦ is_serve (sym ((bytes_eq-Decides (codes "serve") word).0 same))
               | inr no_serve ↦ elim (cases_Bool (bytes_eq (codes "migrate") word)) [
                 | inl same ↦ is_migrate (sym ((bytes_eq-Decides (codes "migrate") word).0 same))
-                | inr no_migrate ↦ absurd (other_fails word words text none no_make no_sign no_verify no_retire no_audit no_audit_given no_serve no_migrate)
+                | inr no_migrate ↦ elim (cases_Bool (bytes_eq (codes "list") word)) [
+                  | inl same ↦ is_list (sym ((bytes_eq-Decides (codes "list") word).0 same))
+                  | inr no_list ↦ elim (cases_Bool (bytes_eq (codes "public") word)) [
+                    | inl same ↦ is_public (sym ((bytes_eq-Decides (codes "public") word).0 same))
+                    | inr no_public ↦ absurd (other_fails word words text none no_make no_sign no_verify no_retire no_audit no_audit_given no_serve no_migrate no_list no_public)
+                  ]
+                ]
               ]
             ]
           ]
@@ -610,6 +676,20 @@ is_line_of (word ∷ names) task none found texts = elim (is_named word names te
       let line : IsCommandLine (word ∷ names) (codes "migrate") (old ∷ new ∷ []) =
       (names, ap (λ w. w ∷ names) is, subst (GivesValues names) same given) in
       subst (IsLineOf (word ∷ names)) (ok_same (migrate old new) task (sym (finds_migrate (word ∷ names) old new line).1 ∙ found)) line
+  | is_list is ↦
+      let (values, long, given) = all_given list_shape 1 1 nothing_collected names list_asks list_waits texts.1
+      (command_passes (codes "list") list_shape names enters_list (subst (λ w. fault_of hbsign_app (w ∷ names) ≡ []) is none)) in
+      let (state, same) = one_value values long in
+      let line : IsCommandLine (word ∷ names) (codes "list") (state ∷ []) =
+      (names, ap (λ w. w ∷ names) is, subst (GivesValues names) same given) in
+      subst (IsLineOf (word ∷ names)) (ok_same (list state) task (sym (finds_list (word ∷ names) state line).1 ∙ found)) line
+  | is_public is ↦
+      let (values, long, given) = all_given public_shape 2 1 nothing_collected names public_asks public_waits texts.1
+      (command_passes (codes "public") public_shape names enters_public (subst (λ w. fault_of hbsign_app (w ∷ names) ≡ []) is none)) in
+      let (state, path, same) = two_values values long in
+      let line : IsCommandLine (word ∷ names) (codes "public") (state ∷ path ∷ []) =
+      (names, ap (λ w. w ∷ names) is, subst (GivesValues names) same given) in
+      subst (IsLineOf (word ∷ names)) (ok_same (publish state path) task (sym (finds_public (word ∷ names) state path line).1 ∙ found)) line
   | is_retire is ↦
       let (values, long, given) = all_given retire_shape 2 1 nothing_collected names retire_asks retire_waits texts.1
       (command_passes (codes "retire") retire_shape names enters_retire (subst (λ w. fault_of hbsign_app (w ∷ names) ≡ []) is none)) in

@@ -15,7 +15,7 @@ use Rattle.clap.proofs.OnLiterals.{clap_on_literals}
 use Rattle.state_file.specs.File.{most_records}
 use Rattle.command.specs.Audit.{anchor_with, tag_in}
 use Rattle.command.specs.AuditGiven.{Pair, pairs_in, paths_of}
-use Rattle.command.specs.Line.{FindsTask, GivesValues, IsAuditLine, IsCommandLine, IsLineOf, IsPlainWord, IsShownLineOf, Task, audit, audit_anchored, audit_given, audit_given_pairs, audit_given_task, hbsign_app, make, migrate, retire, serve, sign, task_found, verify}
+use Rattle.command.specs.Line.{FindsTask, GivesValues, IsAuditLine, IsCommandLine, IsLineOf, IsPlainWord, IsShownLineOf, Task, audit, audit_anchored, audit_given, audit_given_pairs, audit_given_task, hbsign_app, list, make, migrate, publish, retire, serve, sign, task_found, verify}
 use Rattle.command.specs.Number.{number_in}
 use Rattle.command.proofs.Walking.{AllTaken, Goes, IsTaken, TakesAll, any_taken, at, audit_given_shape, audit_shape, end_fault, enters_audit, enters_audit_given, first_collected, goes, is_no_hyphen, plain_taken, stays, takes_line, turn_passes, word_walks}
 use Rattle.command.proofs.WithOption.{after_value_word, after_word, finds_make, finds_serve, finds_sign, goes_line, goes_on, value_turn_passes, value_walks}
@@ -245,6 +245,8 @@ shown_line words (sign state name message out random) most line = finds_sign wor
 shown_line words (verify public message signature) most line = line
 shown_line words (retire state upto) most line = line
 shown_line words (migrate old new) most line = line
+shown_line words (list state) most line = line
+shown_line words (publish state path) most line = line
 shown_line words (audit state anchor) most line = finds_audit words state anchor line
 shown_line words (audit_given public files) most (some, line) = finds_audit_given words public files most some line
 shown_line words (serve state random) most line = finds_serve words state random line

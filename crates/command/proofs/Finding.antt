@@ -14,20 +14,24 @@ use Rattle.clap.specs.declared.parser.matches.ArgMatches.{ArgMatches}
 use Rattle.clap.specs.declared.parser.matches.ArgMatches.TheViews.{out-ArgMatches, out-SubCommand}
 use Rattle.clap.specs.declared.parser.matches.SubCommand.{SubCommand}
 use Rattle.command.specs.LineFault.{usage_faults}
-use Rattle.command.specs.Line.{Task, usage_kind, fixed_task_named, task_named, audit, audit_given, audit_given_task, audit_task, make, make_task, migrate, migrate_task, retire, retire_task, serve, serve_task, sign, sign_task, verify, verify_task}
+use Rattle.command.specs.Line.{Task, usage_kind, fixed_task_named, task_named, audit, audit_given, audit_given_task, audit_task, list, list_task, make, make_task, migrate, migrate_task, publish, publish_task, retire, retire_task, serve, serve_task, sign, sign_task, verify, verify_task}
 use Rattle.command.specs.Audit.{IsAudit}
 use Rattle.command.specs.AuditGiven.{IsAuditGiven, pairs_of}
 use Rattle.command.specs.declared.audit.Audit.{Audit}
 use Rattle.command.specs.declared.audit_given.AuditGiven.{AuditGiven}
 use Rattle.command.specs.Make.{IsMake, format_in}
+use Rattle.command.specs.ListState.{IsListState}
 use Rattle.command.specs.Migrate.{IsMigrate}
+use Rattle.command.specs.Public.{IsPublic}
 use Rattle.command.specs.Retire.{IsRetire}
 use Rattle.command.specs.Serve.{IsServe}
 use Rattle.command.specs.Sign.{IsSign}
 use Rattle.command.specs.declared.line.UsageFault.{UsageFault}
 use Rattle.command.specs.declared.line.UsageFault.TheVariants.{Anchor as NoAnchor, Command, Count, Format, Number, Pairs, Tag}
 use Rattle.command.specs.declared.make.Make.{Make}
+use Rattle.command.specs.declared.list.ListState.{ListState}
 use Rattle.command.specs.declared.migrate.Migrate.{Migrate}
+use Rattle.command.specs.declared.public.Public.{Public}
 use Rattle.command.specs.declared.retire.Retire.{Retire}
 use Rattle.command.specs.declared.serve.Serve.{Serve}
 use Rattle.command.specs.declared.sign.Sign.{Sign}
@@ -165,6 +169,35 @@ no_migrate_task (Some o) (Some n) (inr none) = absurd cc
 pub same_migrate : {o p n m : Option Text} (words : Option Migrate) → o ≡ p → n ≡ m → IsMigrate o n words → IsMigrate p m words
 same_migrate {o = o} {p = p} {n = n} {m = m} words old new is =
     subst (λ a. IsMigrate a m words) old (subst (λ a. IsMigrate o a words) new is)
+
+-- the task of `list`, where its word is given
+pub is_list_task : (state : Option Text) (words : ListState) → IsListState state (Some words)
+    → Ok (list words.state.now) ≡ list_task state
+is_list_task state words state_is = rw state_is refl
+
+-- .. and where not
+pub no_list_task : (state : Option Text) → IsListState state None → Err Command ≡ list_task state
+no_list_task None missing = refl
+no_list_task (Some s) missing = absurd cc
+
+pub same_list : {s t : Option Text} (words : Option ListState) → s ≡ t → IsListState s words → IsListState t words
+same_list {s = s} {t = t} words state is = subst (λ a. IsListState a words) state is
+
+-- the task of `public`, where both its words are given
+pub is_publish_task : (state public : Option Text) (words : Public) → IsPublic state public (Some words)
+    → Ok (publish words.state.now words.public.now) ≡ publish_task state public
+is_publish_task state public words (state_is, public_is) = rw (state_is, public_is) refl
+
+-- .. and where not
+pub no_publish_task : (state public : Option Text) → IsPublic state public None → Err Command ≡ publish_task state public
+no_publish_task None public missing = refl
+no_publish_task (Some s) None missing = refl
+no_publish_task (Some s) (Some p) (inl none) = absurd cc
+no_publish_task (Some s) (Some p) (inr none) = absurd cc
+
+pub same_publish : {s t p q : Option Text} (words : Option Public) → s ≡ t → p ≡ q → IsPublic s p words → IsPublic t q words
+same_publish {s = s} {t = t} {p = p} {q = q} words state public is =
+    subst (λ a. IsPublic a q words) state (subst (λ a. IsPublic s a words) public is)
 
 -- the task of `retire`, where its words say what they have to
 pub is_retire_task : (state upto : Option Text) (words : Retire) → IsRetire state upto (Ok words)

@@ -2,6 +2,7 @@ pub mod Accepting
 pub mod AuditLines
 pub mod Contents
 pub mod Deciding
+pub mod EntryText
 pub mod HexText
 pub mod FileReading
 pub mod Finding
@@ -13,6 +14,7 @@ pub mod Reading
 pub mod Offsets
 pub mod Pairs
 pub mod PairsReading
+pub mod PairTexts
 pub mod LowercaseLines
 pub mod Taking
 pub mod Visiting

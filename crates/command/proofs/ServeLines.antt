@@ -19,7 +19,7 @@ use Rattle.command.specs.AuditGiven.{Pair, pairs_in}
 use Rattle.command.specs.Audit.{anchor_in}
 use Rattle.state_file.specs.declared.record.Version.{Version}
 use Rattle.command.specs.Files.{FilesSeen}
-use Rattle.command.specs.Line.{AreTexts, FindsTask, Task, audit, audit_anchored, audit_given, audit_given_pairs, audit_given_task, audit_task, hbsign_app, make, make_formatted, make_task, migrate, migrate_task, retire, retire_number, retire_task, serve, serve_task, sign, sign_task, task_found, verify, verify_task}
+use Rattle.command.specs.Line.{AreTexts, FindsTask, Task, audit, audit_anchored, audit_given, audit_given_pairs, audit_given_task, audit_task, hbsign_app, list, list_task, make, make_formatted, make_task, migrate, migrate_task, publish, publish_task, retire, retire_number, retire_task, serve, serve_task, sign, sign_task, task_found, verify, verify_task}
 use Rattle.command.specs.LineFault.{HasLineFault, usage_faults, line_faults}
 use Rattle.command.specs.Make.{format_in}
 use Rattle.command.specs.Number.{number_in}
@@ -28,8 +28,8 @@ use Rattle.command.specs.Program.{AsksToServe, Explains, HasRepliesAlone, KeepsE
 use Rattle.command.specs.Retire.{most_leaves}
 use Rattle.command.specs.Streams.{OutputSeen, Streams}
 use Rattle.command.specs.Trace.{Happening}
-use Rattle.command.proofs.Accepting.{found_in, is_audit, is_audit_given, is_make, is_migrate, is_named, is_retire, is_serve, is_sign, is_verify, no_line_faults, none_of, nothing_fails, ok_same}
-use Rattle.command.proofs.Walking.{audit_given_shape, audit_shape, enters_audit, enters_audit_given, enters_make, enters_migrate, enters_retire, enters_serve, enters_sign, enters_verify, entered_rows, make_shape, migrate_shape, retire_shape, serve_shape, sign_shape, verify_shape}
+use Rattle.command.proofs.Accepting.{found_in, is_audit, is_audit_given, is_list, is_make, is_migrate, is_named, is_public, is_retire, is_serve, is_sign, is_verify, no_line_faults, none_of, nothing_fails, ok_same}
+use Rattle.command.proofs.Walking.{audit_given_shape, audit_shape, enters_audit, enters_audit_given, enters_list, enters_make, enters_migrate, enters_public, enters_retire, enters_serve, enters_sign, enters_verify, entered_rows, list_shape, make_shape, migrate_shape, public_shape, retire_shape, serve_shape, sign_shape, verify_shape}
 
 -- whether what is found is a task of `serve`
 abbrev serves : Result Task UsageFault → Bool
@@ -41,6 +41,8 @@ serves (Ok (retire state upto)) = false
 serves (Ok (audit state anchor)) = false
 serves (Ok (audit_given public files)) = false
 serves (Ok (migrate old new)) = false
+serves (Ok (list state)) = false
+serves (Ok (publish state path)) = false
 serves (Err fault) = false
 
 -- what is found in a line of another command isn't
@@ -92,6 +94,15 @@ not_migrate (Some old) (Some new) = refl
 not_migrate None new = refl
 not_migrate (Some old) None = refl
 
+not_list : (state : Option Text) → serves (list_task state) ≡ false
+not_list (Some state) = refl
+not_list None = refl
+
+not_public : (state path : Option Text) → serves (publish_task state path) ≡ false
+not_public (Some state) (Some path) = refl
+not_public None path = refl
+not_public (Some state) None = refl
+
 not_pairs : (public : Text) (pairs : Option (List Pair)) → serves (audit_given_pairs public pairs) ≡ false
 not_pairs public (Some pairs) = refl
 not_pairs public None = refl
@@ -115,6 +126,8 @@ begins (word ∷ names) state random texts (none, found) = elim (is_named word n
   | is_verify is ↦ absurd (differs _ state random (not_verify _ _ _) (found_in (codes "verify") verify_shape word names (serve state random) enters_verify is found))
   | is_retire is ↦ absurd (differs _ state random (not_retire _ _) (found_in (codes "retire") retire_shape word names (serve state random) enters_retire is found))
   | is_migrate is ↦ absurd (differs _ state random (not_migrate _ _) (found_in (codes "migrate") migrate_shape word names (serve state random) enters_migrate is found))
+  | is_list is ↦ absurd (differs _ state random (not_list _) (found_in (codes "list") list_shape word names (serve state random) enters_list is found))
+  | is_public is ↦ absurd (differs _ state random (not_public _ _) (found_in (codes "public") public_shape word names (serve state random) enters_public is found))
   | is_audit is ↦ absurd (differs _ state random (not_audit _ _ _) (found_in (codes "audit") audit_shape word names (serve state random) enters_audit is found))
   | is_audit_given is ↦ absurd (differs _ state random (not_audit_given _ _) (found_in (codes "audit-given") audit_given_shape word names (serve state random) enters_audit_given is found))
 ]

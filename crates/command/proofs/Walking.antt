@@ -8,11 +8,13 @@ use Rattle.clap.specs.Faults.{turn_fault, step_fault, word_fault, walk_fault, se
 use Rattle.clap.specs.Kinds.{Kinds, or_else}
 use Rattle.clap.specs.Words.{Rule, Text, is_simple, subcommand_of, fault_of, is_simple_and_free}
 use Rattle.clap.proofs.OnLiterals.{clap_on_literals}
-use Rattle.command.specs.Line.{ArePlainWords, GivesValues, IsCommandLine, IsLineOf, IsPlainWord, Task, audit, audit_given, hbsign_app, make, migrate, retire, retire_number, retire_task, serve, sign, task_found, verify}
+use Rattle.command.specs.Line.{ArePlainWords, GivesValues, IsCommandLine, IsLineOf, IsPlainWord, Task, audit, audit_given, hbsign_app, list, make, migrate, publish, retire, retire_number, retire_task, serve, sign, task_found, verify}
 use Rattle.command.specs.Audit.{audit_app}
 use Rattle.command.specs.AuditGiven.{audit_given_app}
+use Rattle.command.specs.ListState.{list_app}
 use Rattle.command.specs.Make.{make_app}
 use Rattle.command.specs.Migrate.{migrate_app}
+use Rattle.command.specs.Public.{public_app}
 use Rattle.command.specs.Retire.{retire_app}
 use Rattle.command.specs.Serve.{serve_app}
 use Rattle.command.specs.Sign.{sign_app}
@@ -351,6 +353,56 @@ migrate_ends old new b = refl
 migrate_found : (old new : Text) → task_found (Some (codes "migrate", finished migrate_shape.rules (migrate_2 old new))) ≡ Ok (migrate old new)
 migrate_found old new = refl
 
+-- ---- list
+
+abbrev pub list_shape : Shape
+list_shape = built_leaf (inherited (with_leaf_noted (marked_built hbsign_app.top)) list_app.top)
+
+pub enters_list : Enters (codes "list") list_shape
+unfolding clap_on_literals
+enters_list = record { step = refl; well = refl; rows = λ words. refl; fault = λ words. refl }
+
+abbrev pub list_1 : Text → Collected
+list_1 state = first_collected (codes "STATE") state
+
+pub takes_listed : (state : Text) → TakesValue list_shape 1 nothing_collected state (list_1 state)
+takes_listed state = record { before = refl; after = refl; well = refl }
+
+list_ends : (state : Text) (b : Bool) → end_fault list_shape (at b (list_1 state) 2) ≡ []
+unfolding clap_on_literals
+list_ends state b = refl
+
+list_found : (state : Text) → task_found (Some (codes "list", finished list_shape.rules (list_1 state))) ≡ Ok (list state)
+list_found state = refl
+
+-- ---- public
+
+abbrev pub public_shape : Shape
+public_shape = built_leaf (inherited (with_leaf_noted (marked_built hbsign_app.top)) public_app.top)
+
+pub enters_public : Enters (codes "public") public_shape
+unfolding clap_on_literals
+enters_public = record { step = refl; well = refl; rows = λ words. refl; fault = λ words. refl }
+
+abbrev pub public_1 : Text → Collected
+public_1 state = first_collected (codes "STATE") state
+
+abbrev pub public_2 : Text → Text → Collected
+public_2 state path = next_collected public_shape 2 path (public_1 state)
+
+pub takes_published : (state : Text) → TakesValue public_shape 1 nothing_collected state (public_1 state)
+takes_published state = record { before = refl; after = refl; well = refl }
+
+pub takes_path : (state path : Text) → TakesValue public_shape 2 (public_1 state) path (public_2 state path)
+takes_path state path = record { before = refl; after = refl; well = refl }
+
+public_ends : (state path : Text) (b : Bool) → end_fault public_shape (at b (public_2 state path) 3) ≡ []
+unfolding clap_on_literals
+public_ends state path b = refl
+
+public_found : (state path : Text) → task_found (Some (codes "public", finished public_shape.rules (public_2 state path))) ≡ Ok (publish state path)
+public_found state path = refl
+
 -- ---- make and sign
 
 abbrev pub make_shape : Shape
@@ -410,6 +462,21 @@ finds_migrate words old new line =
     (migrate_1 old, takes_old old, (migrate_2 old new, takes_new old new, (refl, refl)))
     (migrate_ends old new) line in (none, ap task_found rows ∙ migrate_found old new)
 
+-- a line `list`,
+pub finds_list : (words : List Text) (state : Text) → IsCommandLine words (codes "list") (state ∷ [])
+    → (fault_of hbsign_app words ≡ []) × (task_found (subcommand_of hbsign_app words) ≡ Ok (list state))
+finds_list words state line =
+    let (none, rows) = takes_line words (codes "list") (state ∷ []) list_shape 2 (list_1 state) enters_list
+    (list_1 state, takes_listed state, (refl, refl)) (list_ends state) line in (none, ap task_found rows ∙ list_found state)
+
+-- a line `public`,
+pub finds_public : (words : List Text) (state path : Text) → IsCommandLine words (codes "public") (state ∷ path ∷ [])
+    → (fault_of hbsign_app words ≡ []) × (task_found (subcommand_of hbsign_app words) ≡ Ok (publish state path))
+finds_public words state path line =
+    let (none, rows) = takes_line words (codes "public") (state ∷ path ∷ []) public_shape 3 (public_2 state path) enters_public
+    (public_1 state, takes_published state, (public_2 state path, takes_path state path, (refl, refl)))
+    (public_ends state path) line in (none, ap task_found rows ∙ public_found state path)
+
 -- and so has a line `retire`, where the number is one.
 pub finds_retire : (words : List Text) (state upto : Text) → IsCommandLine words (codes "retire") (state ∷ upto ∷ [])
     → (fault_of hbsign_app words ≡ []) × (task_found (subcommand_of hbsign_app words) ≡ retire_task (Some state) (Some upto))
@@ -430,3 +497,5 @@ finds_task words (audit state anchor) found = found
 finds_task words (audit_given public files) found = found
 finds_task words (serve state random) found = found
 finds_task words (migrate old new) line = finds_migrate words old new line
+finds_task words (list state) line = finds_list words state line
+finds_task words (publish state path) line = finds_public words state path line

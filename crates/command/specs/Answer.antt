@@ -1,10 +1,11 @@
 -- The line that reports each answer, and the exit status.
 use Rattle.std.proofs.Common.{arith, ap, sym, refl, inl, inr, ◌∙◌}
 use Rattle.std.proofs.lemmas.Bool.{false≢true, or_right}
-use Rattle.std.specs.Prelude.{ℕ, List, [], ◌∷◌, codes, decimal, ◌++◌, Option, Some, None, Result, Ok, Err, ◌≡◌, ◌⊎◌}
-use Rattle.std.specs.Prelude.{true}
+use Rattle.std.specs.Prelude.{ℕ, List, [], ◌∷◌, codes, decimal, ◌++◌, Option, Result, Ok, Err, ◌≡◌, ◌⊎◌}
+use Rattle.std.specs.Prelude.{true, map, option_map}
 use Rattle.command.specs.declared.answer.Done.{Done}
-use Rattle.command.specs.declared.answer.Done.TheVariants.{Audited, Checked, Made, Migrated, Retired, Signed, Verified}
+use Rattle.command.specs.declared.answer.Done.TheVariants.{Audited, Checked, Listed, Migrated, Published, Retired}
+use Rattle.command.specs.declared.answer.Done.TheVariants.{Signed, Verified}
 use Rattle.hex.specs.Hex.{encode_lower}
 use Rattle.command.specs.declared.refusal.Refusal.{Refusal}
 use Rattle.command.specs.declared.refusal.Refusal.TheVariants.{Signature, OutOfMemory, FileFailed, BadName, BadSpec}
@@ -21,12 +22,11 @@ use Rattle.state_file.specs.declared.migration.MigrateFault.TheVariants as migra
 use Rattle.typecodes.specs.declared.refusal.Refusal.TheVariants.{MessageRead}
 use Rattle.command.specs.LineFault.{BeginsWithCapital, IsHelp, has_lowercase_line}
 use Rattle.command.specs.Refusal.{refusal_line}
-use Rattle.command.specs.Output.{Taken, WritesText, Fails, level_lines}
-
--- the line of a file whose records go on in another, by the version of that file
-abbrev pub moved_line : Option ℕ → List ℕ
-moved_line None = []
-moved_line (Some version) = codes "moved " ++ decimal version ++ codes "\n"
+use Rattle.state_file.specs.declared.record.Record.{Record}
+use Rattle.state_file.specs.Slot.{version_code}
+use Rattle.typecodes.specs.Spec.{spec_text}
+use Rattle.key_audit.specs.Listing.{ListingLaw, Shown, names_among, shown_by, shown_in, without_secret}
+use Rattle.command.specs.Output.{Taken, WritesText, Fails, entry_lines, level_lines, moved_line}
 
 -- the lines of a report, of the public key that these bytes spell
 abbrev pub report_lines : (public : List ℕ) → Report → List ℕ
@@ -35,13 +35,31 @@ report_lines public report =
     ++ codes "\ntag ") ++ encode_lower report.tag) ++ codes "\n") ++ level_lines 0 report.left.items
     ++ moved_line report.moved
 
+-- the lines of a listing: the key's types, the version of the file, the free leaves of each level, how many names are
+-- bound, and each record
+abbrev pub listing_lines : Shown → List ℕ
+listing_lines shown =
+    ((((((((codes "spec " ++ spec_text shown.spec) ++ codes "\nformat ") ++ decimal (version_code shown.version))
+    ++ codes "\n") ++ level_lines 0 shown.left) ++ codes "names ") ++ decimal (names_among shown.entries))
+    ++ codes "\n") ++ entry_lines 0 shown.entries
+
+-- the lines of the listing of records, where they have a key
+abbrev pub listed_lines : List Record → Option (List ℕ)
+listed_lines records = option_map listing_lines (shown_in records)
+
+-- What is secret in records has no part in these lines: two lists that differ in it alone have the same.
+pub secrets_have_no_part : ListingLaw → (a b : List Record) → map without_secret a ≡ map without_secret b
+    → listed_lines a ≡ listed_lines b
+secrets_have_no_part law a b same = ap (option_map listing_lines) (law a b same)
+
 -- the lines of what was done, with their ends
 abbrev pub done_lines : Done → List ℕ
 done_lines Verified = codes "verified\n"
 done_lines (Retired upto) = codes "retired upto " ++ decimal upto ++ codes "\n"
-done_lines (Made public) = codes "public " ++ encode_lower public.items ++ codes "\n"
+done_lines (Published public) = codes "public " ++ encode_lower public.items ++ codes "\n"
 done_lines (Signed name size) = codes "signed " ++ name ++ codes " " ++ decimal size ++ codes " bytes\n"
 done_lines (Audited public report) = report_lines public.items report
+done_lines (Listed listing) = listing_lines (shown_by listing)
 done_lines (Checked count) = codes "given " ++ decimal count ++ codes " signatures, no leaf twice\n"
 done_lines (Migrated count) = codes "migrated " ++ decimal count ++ codes " records\n"
 
@@ -96,9 +114,10 @@ ReportsServing (Err refusal) old new status = (status ≡ status_of (Err refusal
 pub line_is_lower : (answer : Result Done Refusal) → BeginsWithCapital (answer_line answer) → ⊥
 line_is_lower (Ok Verified) capital = omega (arith, capital)
 line_is_lower (Ok (Retired upto)) capital = omega (arith, capital)
-line_is_lower (Ok (Made public)) capital = omega (arith, capital)
+line_is_lower (Ok (Published public)) capital = omega (arith, capital)
 line_is_lower (Ok (Signed name size)) capital = omega (arith, capital)
 line_is_lower (Ok (Audited public report)) capital = omega (arith, capital)
+line_is_lower (Ok (Listed listing)) capital = omega (arith, capital)
 line_is_lower (Ok (Checked count)) capital = omega (arith, capital)
 line_is_lower (Ok (Migrated count)) capital = omega (arith, capital)
 line_is_lower (Err refusal) capital = omega (arith, capital)
@@ -109,9 +128,10 @@ line_is_lowercase : (answer : Result Done Refusal) (after : List ℕ)
 unfolding has_lowercase_line
 line_is_lowercase (Ok Verified) after = refl
 line_is_lowercase (Ok (Retired upto)) after = refl
-line_is_lowercase (Ok (Made public)) after = refl
+line_is_lowercase (Ok (Published public)) after = refl
 line_is_lowercase (Ok (Signed name size)) after = refl
 line_is_lowercase (Ok (Audited public report)) after = refl
+line_is_lowercase (Ok (Listed listing)) after = refl
 line_is_lowercase (Ok (Checked count)) after = refl
 line_is_lowercase (Ok (Migrated count)) after = refl
 line_is_lowercase (Err refusal) after = refl

@@ -46,6 +46,11 @@ abbrev pub OpensState : (path : List ℕ) → Result OpenedState Refusal → Typ
 OpensState path (Ok file) = file ≡ opened_at path
 OpensState path (Err refusal) = IsStateRefusal refusal
 
+-- The same of one that isn't locked.
+abbrev pub OpensUnlocked : (path : List ℕ) → Result OpenedState Refusal → Type 0
+OpensUnlocked path (Ok file) = file ≡ opened_at path
+OpensUnlocked path (Err refusal) = refusal ≡ FileFailed
+
 -- an answer, of whose error the kind alone is kept
 abbrev pub kept : {A : Type 0} → Result A Error → Result A ErrorKind
 kept (Ok value) = Ok value

@@ -1,9 +1,11 @@
 -- A signer on the disk of a state file: how it is opened, and what a command does with it.
 use Rattle.std.specs.Prelude.{◌≡◌, ◌⊎◌, ℕ, List, Option, Result, Ok, Err}
+use Rattle.key_audit.specs.declared.listing.Listing.{Listing}
 use Rattle.key_audit.specs.declared.report.Anchor.{Anchor}
 use Rattle.key_audit.specs.declared.report.AuditFault.{AuditFault}
 use Rattle.key_audit.specs.declared.report.Report.{Report}
 use Rattle.key_audit.specs.Audit.{Audits}
+use Rattle.key_audit.specs.Listing.{Lists}
 use Rattle.typecodes.specs.declared.message.Message as message
 use Rattle.typecodes.specs.declared.spec.Spec.{Spec}
 use Rattle.state_file.specs.declared.disk.Disk as disk
@@ -110,9 +112,9 @@ ServesOn {K} {R} {I} {W} {bound} d g r m contents old new random from to served 
     × Serves g r m opened left from.0 to.0 (contents from.1) (contents to.1) ended
     × (served ≡ serve_reported ended) × (new ≡ disk_of left.store))
 
--- what an audit refused, as the command reports it
-abbrev pub audit_reported : Result Report AuditFault → Result Report Refusal
-audit_reported (Ok report) = Ok report
+-- what an audit or a listing refused, as the command reports it
+abbrev pub audit_reported : {A : Type 0} → Result A AuditFault → Result A Refusal
+audit_reported (Ok value) = Ok value
 audit_reported (Err fault) = Err (Audit fault)
 
 -- A disk was audited: its records were found, and the store of them was audited, and gave its disk back. Or they
@@ -124,6 +126,15 @@ AuditsOn {K} d old new anchor answer =
     × (answer ≡ Err (Opening fault)))
     ⊎ ((found after : FileStore K d) × (audited : Result Report AuditFault) × FindsRecords d old (Ok found)
     × Audits d found after anchor audited × (answer ≡ audit_reported audited) × (new ≡ disk_of after))
+
+-- A disk was listed: its records were found, and the store of them was listed, and gave its disk back. Or they
+-- couldn't be found, which is reported.
+abbrev pub ListsOn : {K : Type 0} → (d : disk.Ghosts K) → (old new : K) → Result Listing Refusal → Type 0
+ListsOn {K} d old new answer =
+    ((fault : OpenFault) × FindsRecords {bound = d} d old (Err (refused_with fault new))
+    × (answer ≡ Err (Opening fault)))
+    ⊎ ((found after : FileStore K d) × (listed : Result Listing AuditFault) × FindsRecords d old (Ok found)
+    × Lists d found after listed × (answer ≡ audit_reported listed) × (new ≡ disk_of after))
 
 -- what a migration answered, as the command reports it
 abbrev pub migrate_reported : Result ℕ MigrateFault → Result ℕ Refusal

@@ -8,11 +8,14 @@ pub mod Files
 pub mod KeyFile
 pub mod Line
 pub mod LineFault
+pub mod ListState
+pub mod ListingText
 pub mod Make
 pub mod Migrate
 pub mod Number
 pub mod Output
 pub mod Program
+pub mod Public
 pub mod RandomFile
 pub mod Refusal
 pub mod Retire

@@ -18,16 +18,18 @@ use Rattle.command.specs.declared.line.UsageFault.TheVariants as usage
 use Rattle.command.specs.declared.line.UsageFault.TheVariants.{Command, Number}
 use Rattle.command.specs.declared.line.Request.{Request}
 use Rattle.command.specs.declared.line.Request.TheVariants.{Make, Sign, Verify, Retire, Audit, AuditGiven}
-use Rattle.command.specs.declared.line.Request.TheVariants.{Serve, Migrate}
+use Rattle.command.specs.declared.line.Request.TheVariants.{Serve, Migrate, ListState, Public}
 use Rattle.command.specs.declared.answer.Done.{Done}
 use Rattle.command.specs.declared.refusal.Refusal.{Refusal}
 use Rattle.command.specs.Argument.{default_random}
 use Rattle.command.specs.Audit.{AuditsIn, anchor_in, audit_app, tag_in}
 use Rattle.command.specs.AuditGiven.{ChecksIn, Pair, audit_given_app, pairs_in, pairs_of, paths_of}
 use Rattle.command.specs.Files.{FilesSeen}
+use Rattle.command.specs.ListState.{ListsIn, list_app}
 use Rattle.command.specs.Make.{MakesIn, format_in, make_app}
 use Rattle.command.specs.Migrate.{MigratesIn, migrate_app}
 use Rattle.command.specs.Number.{number_in}
+use Rattle.command.specs.Public.{PublishesIn, public_app}
 use Rattle.command.specs.Verify.{verify_app, VerifiesIn}
 use Rattle.command.specs.Retire.{RetiresIn, most_leaves, retire_app}
 use Rattle.command.specs.Serve.{serve_app}
@@ -48,8 +50,9 @@ bare_app = record (new_app (codes "hbsign")) {
 -- the program
 abbrev pub hbsign_app : App
 hbsign_app = with_subcommand (with_subcommand (with_subcommand (with_subcommand (with_subcommand (with_subcommand
-    (with_subcommand (with_subcommand bare_app make_app.top) sign_app.top) verify_app.top) retire_app.top)
-    audit_app.top) audit_given_app.top) serve_app.top) migrate_app.top
+    (with_subcommand (with_subcommand (with_subcommand (with_subcommand bare_app make_app.top) sign_app.top)
+    verify_app.top) retire_app.top) audit_app.top) audit_given_app.top) serve_app.top) migrate_app.top) list_app.top)
+    public_app.top
 
 -- ---- the words of a line
 
@@ -92,6 +95,8 @@ pub data Task : Type 0 where
   audit_given : (public : List ℕ) (files : List Pair) → Task
   serve : (state random : List ℕ) → Task
   migrate : (old new : List ℕ) → Task
+  list : (state : List ℕ) → Task
+  publish : (state public : List ℕ) → Task
 
 -- what a request is
 abbrev pub task_of : Request → Task
@@ -104,6 +109,8 @@ task_of (Audit words) = audit words.state.now words.anchor
 task_of (AuditGiven words) = audit_given words.public.now (pairs_of words)
 task_of (Serve words) = serve words.state.now words.random.now
 task_of (Migrate words) = migrate words.old.now words.new.now
+task_of (ListState words) = list words.state.now
+task_of (Public words) = publish words.state.now words.public.now
 
 -- the same, where there is one
 abbrev pub task_or_fault : Result Request UsageFault → Result Task UsageFault
@@ -160,6 +167,16 @@ abbrev pub migrate_task : (old new : Option Text) → Result Task UsageFault
 migrate_task (Some old) (Some new) = Ok (migrate old new)
 migrate_task _ _ = Err Command
 
+-- that of `list`
+abbrev pub list_task : (state : Option Text) → Result Task UsageFault
+list_task (Some state) = Ok (list state)
+list_task None = Err Command
+
+-- that of `public`
+abbrev pub publish_task : (state public : Option Text) → Result Task UsageFault
+publish_task (Some state) (Some public) = Ok (publish state public)
+publish_task _ _ = Err Command
+
 -- that of `audit-given`
 abbrev pub audit_given_pairs : Text → Option (List Pair) → Result Task UsageFault
 audit_given_pairs public (Some pairs) = Ok (audit_given public pairs)
@@ -189,7 +206,11 @@ fixed_task_named name rows =
     then serve_task (first_of (codes "STATE") rows) (first_of (codes "random") rows)
     else (if bytes_eq name (codes "migrate")
     then migrate_task (first_of (codes "OLD") rows) (first_of (codes "NEW") rows)
-    else Err Command))))))
+    else (if bytes_eq name (codes "list")
+    then list_task (first_of (codes "STATE") rows)
+    else (if bytes_eq name (codes "public")
+    then publish_task (first_of (codes "STATE") rows) (first_of (codes "PUBLIC") rows)
+    else Err Command))))))))
 
 -- .. and of every command
 abbrev pub task_named : Text → List Row → Result Task UsageFault
@@ -207,8 +228,8 @@ task_found (Some (name, rows)) = task_named name rows
 abbrev pub FindsTask : List (List ℕ) → Task → Type 0
 FindsTask words task = (fault_of hbsign_app words ≡ []) × (task_found (subcommand_of hbsign_app words) ≡ Ok task)
 
--- The line of a task: `verify PUBLIC MESSAGE SIGNATURE`, `retire STATE UPTO` or `migrate OLD NEW`; and of the commands
--- that have options or any number of files, each in which `clap` finds it.
+-- The line of a task: `verify PUBLIC MESSAGE SIGNATURE`, `retire STATE UPTO`, `migrate OLD NEW`, `list STATE` or
+-- `public STATE PUBLIC`; and of the commands that have options or any number of files, each in which `clap` finds it.
 abbrev pub IsLineOf : List (List ℕ) → Task → Type 0
 IsLineOf words (make state public spec version random) = FindsTask words (make state public spec version random)
 IsLineOf words (sign state name message out random) = FindsTask words (sign state name message out random)
@@ -220,6 +241,8 @@ IsLineOf words (audit state anchor) = FindsTask words (audit state anchor)
 IsLineOf words (audit_given public files) = FindsTask words (audit_given public files)
 IsLineOf words (serve state random) = FindsTask words (serve state random)
 IsLineOf words (migrate old new) = IsCommandLine words (codes "migrate") (old ∷ new ∷ [])
+IsLineOf words (list state) = IsCommandLine words (codes "list") (state ∷ [])
+IsLineOf words (publish state public) = IsCommandLine words (codes "public") (state ∷ public ∷ [])
 
 -- A line of values, with the option at its end or without it. None of the values looks like an option.
 abbrev pub IsLineWithOption : List (List ℕ) → (name : List ℕ) → (values : List (List ℕ)) → (random : List ℕ) → Type 0
@@ -261,7 +284,7 @@ IsAuditLine words state (Some anchor) = IsAnchoredLine words state anchor
 -- The line of a task as help shows it: `make STATE PUBLIC SPEC [--format N] [--random FILE]`,
 -- `sign STATE NAME MESSAGE OUT [--random FILE]`, `verify PUBLIC MESSAGE SIGNATURE`, `retire STATE UPTO`,
 -- `audit STATE [--count K --tag T]`, `audit-given PUBLIC FILES..` with a pair of files at least,
--- `serve STATE [--random FILE]`, or `migrate OLD NEW`.
+-- `serve STATE [--random FILE]`, `migrate OLD NEW`, `list STATE`, or `public STATE PUBLIC`.
 abbrev pub IsShownLineOf : List (List ℕ) → Task → Type 0
 IsShownLineOf words (make state public spec version random) = IsMakeLine words state public spec version random
 IsShownLineOf words (sign state name message out random) =
@@ -273,6 +296,8 @@ IsShownLineOf words (audit_given public files) =
     (files ≢ []) × IsCommandLine words (codes "audit-given") (public ∷ paths_of files)
 IsShownLineOf words (serve state random) = IsLineWithOption words (codes "serve") (state ∷ []) random
 IsShownLineOf words (migrate old new) = IsLineOf words (migrate old new)
+IsShownLineOf words (list state) = IsLineOf words (list state)
+IsShownLineOf words (publish state public) = IsLineOf words (publish state public)
 
 -- the kind of error that a usage fault is
 abbrev pub usage_kind : UsageFault → ErrorKind
@@ -301,3 +326,5 @@ ServesTask d g r files (audit_given public pairs) answer old new =
     ChecksIn files.content public pairs answer old new
 ServesTask d g r files (serve state random) answer old new = ⊥
 ServesTask d g r files (migrate from to) answer old new = MigratesIn d files from to answer old new
+ServesTask d g r files (list state) answer old new = ListsIn d files state answer old new
+ServesTask d g r files (publish state public) answer old new = PublishesIn d files state public answer old new

@@ -14,7 +14,7 @@ use Rattle.state_file.specs.declared.store.file_store.FileStore.{FileStore}
 use Rattle.state_file.specs.FileStore.{disk_of}
 use Rattle.state_file.specs.Slot.{version_code, versions}
 use Rattle.command.specs.declared.answer.Done.{Done}
-use Rattle.command.specs.declared.answer.Done.TheVariants.{Made}
+use Rattle.command.specs.declared.answer.Done.TheVariants.{Published}
 use Rattle.command.specs.declared.line.UsageFault.{UsageFault}
 use Rattle.command.specs.declared.line.UsageFault.TheVariants.{Command, Format}
 use Rattle.command.specs.declared.make.Make.{Make}
@@ -85,7 +85,7 @@ MakesOpened {K} {R} {bound} d g r content before after version spec public rando
 
 -- the answer, for what came of making a key
 abbrev pub make_answer : Result PublicBytes Refusal → Result Done Refusal
-make_answer (Ok bytes) = Ok (Made bytes)
+make_answer (Ok bytes) = Ok (Published bytes)
 make_answer (Err refusal) = Err refusal
 
 -- The state file at this path couldn't be opened or made, or is locked, which is reported. Or it was opened, and made

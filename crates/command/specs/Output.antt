@@ -1,10 +1,14 @@
 -- What an output has taken, and what printing a text does to it.
-use Rattle.std.specs.Prelude.{ℕ, List, [], ◌∷◌, Option, ◌≡◌, ◌+◌, ◌++◌, Result, Ok, Err, codes, decimal}
+use Rattle.std.specs.Prelude.{ℕ, List, [], ◌∷◌, Option, Some, None, ◌≡◌, ◌+◌, ◌++◌, Result, Ok, Err, codes, decimal}
 use Rattle.std.specs.List.{fold}
 use Rattle.std.specs.Io.KnownBytes.{Appends}
 use Rattle.command.specs.declared.output.Part.{Part}
-use Rattle.command.specs.declared.output.Part.TheVariants.{Text, Number, Bytes, Hex, Levels}
+use Rattle.command.specs.declared.output.Part.TheVariants.{Text, Number, Bytes, Hex, Levels, Moved as MovedPart}
+use Rattle.command.specs.declared.output.Part.TheVariants.{Spec, Entries}
 use Rattle.hex.specs.Hex.{encode_lower}
+use Rattle.key_audit.specs.declared.listing.Entry.{Entry}
+use Rattle.key_audit.specs.declared.listing.Entry.TheVariants.{Key, Tree, Name, Retired, Moved}
+use Rattle.typecodes.specs.Spec.{spec_text}
 
 -- the line of a level, which says how many of its leaves are left
 abbrev pub level_line : (level left : ℕ) → List ℕ
@@ -15,6 +19,29 @@ unfoldable pub level_lines : (first : ℕ) → (left : List ℕ) → List ℕ
 level_lines first [] = []
 level_lines first (left ∷ below) = level_line first left ++ level_lines (first + 1) below
 
+-- the line of a file whose records go on in another, by the version of that file
+abbrev pub moved_line : Option ℕ → List ℕ
+moved_line None = []
+moved_line (Some version) = codes "moved " ++ decimal version ++ codes "\n"
+
+-- what a record is, as a listing says it
+abbrev pub entry_text : Entry → List ℕ
+entry_text Key = codes " key"
+entry_text (Tree level leaf) = (codes " tree level " ++ decimal level) ++ (codes " leaf " ++ decimal leaf)
+entry_text (Name name leaf digest) =
+    (codes " name " ++ name ++ (codes " leaf " ++ decimal leaf)) ++ codes " digest " ++ encode_lower digest
+entry_text (Retired upto) = codes " retired upto " ++ decimal upto
+entry_text Moved = codes " moved"
+
+-- the line of the record at a place
+abbrev pub entry_line : (place : ℕ) → Entry → List ℕ
+entry_line place entry = decimal place ++ entry_text entry ++ codes "\n"
+
+-- the lines of records, of which this is the place of the first
+unfoldable pub entry_lines : (first : ℕ) → List Entry → List ℕ
+entry_lines first [] = []
+entry_lines first (entry ∷ rest) = entry_line first entry ++ entry_lines (first + 1) rest
+
 -- the text of a part
 abbrev pub part_text : Part → List ℕ
 part_text (Text text) = text.now
@@ -22,6 +49,9 @@ part_text (Number number) = decimal number
 part_text (Bytes bytes) = bytes.now
 part_text (Hex bytes) = encode_lower bytes.now
 part_text (Levels left) = level_lines 0 left.now
+part_text (MovedPart version) = moved_line version
+part_text (Spec spec) = spec_text spec.now
+part_text (Entries entries) = entry_lines 0 entries.now
 
 -- the text of parts, one after another
 abbrev pub text_of : List Part → List ℕ

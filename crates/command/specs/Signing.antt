@@ -27,8 +27,15 @@ Delivers (Ok signature) path old new (Err refusal) =
 abbrev pub PublicBytes : Type 0
 PublicBytes = ArrayVec ℕ
 
--- A public key was written to its file, as its spelling and nothing else, which is the answer; or the file can't be
+-- This public key was written to its file, as its spelling and nothing else, which is the answer; or the file can't be
 -- written.
+abbrev pub WritesPublic : AnyPublic → (path : List ℕ) → (old new : List Happening) → Result PublicBytes Refusal → Type 0
+WritesPublic public path old new (Ok bytes) =
+    SpellsKey public bytes.items × (new ≡ old ++ written role.Public path bytes.items ∷ [])
+WritesPublic public path old new (Err refusal) =
+    (refusal ≡ FileFailed) × (new ≡ old ++ not_written role.Public path ∷ [])
+
+-- The same of a key's.
 abbrev pub Publishes : Option Key → (path : List ℕ) → (old new : List Happening) → Result PublicBytes Refusal → Type 0
 Publishes key path old new (Ok bytes) =
     ((public : AnyPublic) × (public_of_key key ≡ Some public) × SpellsKey public bytes.items)

@@ -9,17 +9,18 @@ use Rattle.command.specs.declared.trace.Event.{Event}
 use Rattle.command.specs.declared.trace.Event.TheVariants as event
 use Rattle.typecodes.specs.Message.{FailsBy, GivesText, GivesAll, GoesOn, ReadOutcome, Transition}
 
--- A file was opened by this path, or couldn't be; a state file was opened for reading alone; one was opened, and made
--- where there was none, or couldn't be; a state file is locked by another; a read of a file gave these bytes, or
--- failed. Of a file that is read and written at offsets: its length was requested; a read at an offset, for so many
--- bytes, gave these; a write of bytes at an offset took these, which are the first of them; it was synced. Of a file
--- that is to be written: it has these bytes and no others, or wasn't written. Of one that is open to be written: it was
--- looked whether it has a key, or this couldn't be seen; it was cut to no bytes, or couldn't be; these bytes were
--- written from its beginning on, or not all of them.
+-- A file was opened by this path, or couldn't be; a state file was opened for reading alone, locked or not; one was
+-- opened, and made where there was none, or couldn't be; a state file is locked by another; a read of a file gave
+-- these bytes, or failed. Of a file that is read and written at offsets: its length was requested; a read at an
+-- offset, for so many bytes, gave these; a write of bytes at an offset took these, which are the first of them; it
+-- was synced. Of a file that is to be written: it has these bytes and no others, or wasn't written. Of one that is
+-- open to be written: it was looked whether it has a key, or this couldn't be seen; it was cut to no bytes, or
+-- couldn't be; these bytes were written from its beginning on, or not all of them.
 pub data Happening : Type 0 where
   opened : Role → List ℕ → Happening
   not_opened : Role → List ℕ → Happening
   opened_to_read : List ℕ → Happening
+  opened_unlocked : List ℕ → Happening
   made : List ℕ → Happening
   not_made : List ℕ → Happening
   locked : List ℕ → Happening
@@ -42,6 +43,7 @@ abbrev pub happening_of : Event → Happening
 happening_of (event.Opened role path) = opened role path.now
 happening_of (event.NotOpened role path) = not_opened role path.now
 happening_of (event.OpenedToRead path) = opened_to_read path.now
+happening_of (event.OpenedUnlocked path) = opened_unlocked path.now
 happening_of (event.Made path) = made path.now
 happening_of (event.NotMade path) = not_made path.now
 happening_of (event.Locked path) = locked path.now
@@ -78,6 +80,11 @@ abbrev pub opening_state_to_read : {A : Type 0} → List ℕ → Result A Refusa
 opening_state_to_read path (Ok file) = opened_to_read path
 opening_state_to_read path (Err Locked) = locked path
 opening_state_to_read path (Err _) = not_opened State path
+
+-- what a call that opens one so, and doesn't lock it, does to it
+abbrev pub opening_unlocked : {A E : Type 0} → List ℕ → Result A E → Happening
+opening_unlocked path (Ok file) = opened_unlocked path
+opening_unlocked path (Err error) = not_opened State path
 
 -- what a call that opens a state file, or makes it, does to it
 abbrev pub making : {A : Type 0} → List ℕ → Result A Refusal → Happening

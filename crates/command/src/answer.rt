@@ -2,14 +2,15 @@
 
 ghost use Rattle.std.specs.Prelude.{◌≡◌};
 ghost use Rattle.command.specs.Answer.{IsOfWord, ReportsRequest, ReportsServing, answer_line, done_lines};
-ghost use Rattle.command.specs.Answer.{moved_line, report_lines, status_of};
-ghost use Rattle.command.specs.Output.{Prints, WritesText, text_of};
+ghost use Rattle.command.specs.Answer.{listing_lines, report_lines, status_of};
+ghost use Rattle.key_audit.specs.Listing.{shown_by};
+ghost use Rattle.command.specs.Output.{Prints, WritesText};
 ghost use Rattle.command.specs.Streams.{taken};
 
 use crate::output::{Output, Part};
 use crate::refusal::Refusal;
 use arrayvec::ArrayVec;
-use key_audit::{AuditFault, GivenFault, Report};
+use key_audit::{AuditFault, GivenFault, Listing, Report, count_names};
 use sign_core::{ServeFault, SignFault};
 use state_file::{FormatFault, MigrateFault, OpenFault};
 use std::io;
@@ -22,12 +23,14 @@ pub enum Done {
     Verified,
     /// The leaves of the current bottom tree below this one sign nothing any more.
     Retired(u32),
-    /// A key was made, and its public key, of 56 to 68 bytes, written.
-    Made(ArrayVec<u8, 68>),
+    /// The public key of a key, of 56 to 68 bytes, was written.
+    Published(ArrayVec<u8, 68>),
     /// A message was signed under this name, and the signature, of so many bytes, written.
     Signed(Name, usize),
     /// A state file was accepted: its public key, of 56 to 68 bytes, and what its records say.
     Audited(ArrayVec<u8, 68>, Report),
+    /// What a state file is, and what its key has signed.
+    Listed(Listing),
     /// So many signatures of a key are valid, and no leaf signed two digests.
     Checked(usize),
     /// So many records of a key go on in a new state file.
@@ -46,7 +49,7 @@ impl Done {
                 let upto = Part::Number(u64::from(*upto));
                 output.print(&[Part::Text("retired upto "), upto, Part::Text("\n")])
             }
-            Done::Made(public) => {
+            Done::Published(public) => {
                 let public = Part::Hex(public.as_slice());
                 output.print(&[Part::Text("public "), public, Part::Text("\n")])
             }
@@ -58,6 +61,7 @@ impl Done {
                 Part::Text(" bytes\n"),
             ]),
             Done::Audited(public, report) => print_report(public.as_slice(), report, output),
+            Done::Listed(listing) => print_listing(listing, output),
             Done::Checked(count) => {
                 let count = Part::Number(*count as u64);
                 output.print(&[
@@ -83,7 +87,6 @@ fn print_report<'a, O: Output>(
     ensures { Prints (report_lines public.now report.now) (taken O.contents O.failures output.old)
         (taken O.contents O.failures output.new) result }
 {
-    let [word, version, end] = moved(report.moved);
     output.print(&[
         Part::Text("public "),
         Part::Hex(public),
@@ -93,24 +96,28 @@ fn print_report<'a, O: Output>(
         Part::Hex(&report.tag),
         Part::Text("\n"),
         Part::Levels(report.left.as_slice()),
-        word,
-        version,
-        end,
+        Part::Moved(report.moved),
     ])
 }
 
-// The line of a file whose records go on in another, if they do.
-fn moved(version: Option<u16>) -> [Part<'static>; 3]
-    ensures { text_of result ≡ moved_line version }
+// Prints the lines of a listing.
+fn print_listing<O: Output>(listing: &Listing, output: &mut O) -> io::Result<()>
+    ensures { Prints (listing_lines (shown_by listing.now)) (taken O.contents O.failures output.old)
+        (taken O.contents O.failures output.new) result }
 {
-    match version {
-        Some(version) => [
-            Part::Text("moved "),
-            Part::Number(u64::from(version)),
-            Part::Text("\n"),
-        ],
-        None => [Part::Text(""), Part::Text(""), Part::Text("")],
-    }
+    let names = count_names(listing.entries.as_slice());
+    output.print(&[
+        Part::Text("spec "),
+        Part::Spec(&listing.spec),
+        Part::Text("\nformat "),
+        Part::Number(u64::from(listing.version.code())),
+        Part::Text("\n"),
+        Part::Levels(listing.left.as_slice()),
+        Part::Text("names "),
+        Part::Number(names as u64),
+        Part::Text("\n"),
+        Part::Entries(listing.entries.as_slice()),
+    ])
 }
 
 /// What came of a command.

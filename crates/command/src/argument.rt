@@ -61,7 +61,8 @@ pub fn random_file<'a>(alloc: Global) -> Arg<'a>
         alloc,
         "random",
         "FILE",
-        "File of random bytes, read from its beginning",
+        "Where random bytes come from. Leave it out, but for a hardware source or a test: a file that is given twice \
+                 makes the same key twice, and lets others forge",
         DEFAULT_RANDOM,
     )
 }

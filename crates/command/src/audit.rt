@@ -41,15 +41,19 @@ impl<'a> Audit<'a> {
             → app_of new ≡ with_subcommand (app_of old) audit_app.top) }
     {
         Command::new(alloc, Audit::NAME)
-            .about("Says what the records of a state file are, and whether they fit an anchor")
+            .about(
+                "Shows the public key, how many records there are and the free leaves of each level; with an anchor, \
+                 whether the file was put back",
+            )
             .after_help(
-                "Example:\n  $ hbsign audit firmware.key --count 3 --tag 5e3b..\n  public 0000000500000004..\n  \
-                 records 4\n  tag 91c0..\n  level 0 left 29",
+                "It prints 0 for a level below the top that has no tree yet, as right after make: the key ends when \
+                 all levels are 0.\n\nExample:\n  $ hbsign audit firmware.key --count 3 --tag 5e3b..\n  \
+                 public 0000000500000004..\n  records 4\n  tag 91c0..\n  level 0 left 29",
             )
             .arg(required(
                 alloc,
                 "STATE",
-                "State file, which has the secret of the key and what it signed",
+                "State file, which has the secret of the key and a record of each name that it signed",
             ))?
             .arg(option(
                 alloc,

@@ -49,7 +49,10 @@ impl<'a> AuditGiven<'a> {
             → app_of new ≡ with_subcommand (app_of old) audit_given_app.top) }
     {
         Command::new(alloc, AuditGiven::NAME)
-            .about("Says whether signatures of a key are valid, and no leaf signed two digests")
+            .about(
+                "Checks signatures that you have: all are valid, and no two by one leaf for different messages, as \
+                 by two copies of a key",
+            )
             .after_help(
                 "Example:\n  $ hbsign audit-given firmware.pub old.bin old.sig new.bin new.sig\n  \
                  given 2 signatures, no leaf twice",

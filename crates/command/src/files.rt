@@ -12,7 +12,7 @@ ghost use Rattle.command.specs.Files.{KeepsContents, KeepsOtherContents, ReadsAl
 ghost use Rattle.command.specs.Files.{ReadsFileOnce, ReadsStart, ShowsContent, decisive, left_of};
 ghost use Rattle.command.specs.FileDisk.{IsStateRefusal};
 ghost use Rattle.command.specs.Trace.{ReadsOnce, ReadsToEnd, making, opening, opening_state};
-ghost use Rattle.command.specs.Trace.{opening_state_to_read, writing};
+ghost use Rattle.command.specs.Trace.{opening_state_to_read, opening_unlocked, writing};
 ghost use Rattle.command.specs.declared.trace.Role.{Role as FileRole};
 
 use crate::refusal::Refusal;
@@ -113,6 +113,13 @@ pub trait SignerFolder<'a>: LineFiles<'a> + Outlet {
         ensures opened { IfOk result (is_opened path.now) }
         ensures err { IfErr result IsStateRefusal };
 
+    /// The same, but that it isn't locked either: another process may write to it meanwhile.
+    fn open_state_unlocked(&mut self, path: &'a str) -> Result<Self::Disk, Refusal>
+        ensures trace { Self.trace self.new ≡ Self.trace self.old ++ opening_unlocked path.now result ∷ [] }
+        ensures content { KeepsContents (Self.content self.old) (Self.content self.new) }
+        ensures opened { IfOk result (is_opened path.now) }
+        ensures err { IfErr result (λ refusal. refusal ≡ Refusal.FileFailed) };
+
     /// Opens the state file for reading and writing as `open_state` does, and makes it where there is none. A file that
     /// may take the new content is one that its owner alone may read and write, and its name stays: its folder is
     /// synced.
@@ -126,7 +133,7 @@ pub trait SignerFolder<'a>: LineFiles<'a> + Outlet {
         ensures opened { IfOk result (is_opened path.now) }
         ensures err { IfErr result IsStateRefusal };
 
-    /// Closes a state file, which frees its lock.
+    /// Closes a state file, which frees its lock, if it is locked.
     fn close_state(&mut self, disk: Self::Disk)
         ensures trace { Self.trace self.new ≡ Self.trace self.old }
         ensures closed { is_closed self.new disk }

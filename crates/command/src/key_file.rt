@@ -2,12 +2,13 @@
 
 ghost use Rattle.std.specs.Prelude.{◌≡◌, vec_capacity};
 ghost use Rattle.state_file.specs.FileStore.{disk_of};
-ghost use Rattle.command.specs.KeyFile.{AuditsOn, MakesOn, MigratesOn, OpensOn, RetiresOn, ServesOn, SignsFor, SignsOn};
+ghost use Rattle.command.specs.KeyFile.{AuditsOn, ListsOn, MakesOn, MigratesOn, OpensOn, RetiresOn, ServesOn, SignsFor};
+ghost use Rattle.command.specs.KeyFile.{SignsOn};
 ghost use Rattle.command.specs.KeyFile.{audit_reported, migrate_reported, serve_reported};
 
 use crate::refusal::Refusal;
 use crate::signing;
-use key_audit::{Anchor, AuditFault, Report};
+use key_audit::{Anchor, AuditFault, Listing, Report};
 use sign_core::{ServeFault, SignFault, Signer, Source, TapeSource};
 use state_file::{Disk, FileStore, MigrateFault, Refused, Store, Version};
 use std::alloc::Global;
@@ -173,12 +174,26 @@ pub fn audit<D: Disk + Drop>(
     }
 }
 
-// What an audit answers, as it is reported.
-fn reported(audited: Result<Report, AuditFault>) -> Result<Report, Refusal>
+/// Lists the records of a disk, and gives the disk back.
+pub fn list<D: Disk + Drop>(alloc: Global, disk: D) -> (D, Result<Listing, Refusal>)
+    ensures { ListsOn D.Disk disk result.0 result.1 }
+{
+    match FileStore::open(disk) {
+        Ok(store) => {
+            let mut store = store;
+            let listed = reported(key_audit::list(alloc, &mut store));
+            (store.into_disk(), listed)
+        }
+        Err(refused) => (refused.given, Err(Refusal::Opening(refused.fault))),
+    }
+}
+
+// What an audit or a listing answers, as it is reported.
+fn reported<T>(audited: Result<T, AuditFault>) -> Result<T, Refusal>
     ensures { result ≡ audit_reported audited }
 {
     match audited {
-        Ok(report) => Ok(report),
+        Ok(value) => Ok(value),
         Err(fault) => Err(Refusal::Audit(fault)),
     }
 }

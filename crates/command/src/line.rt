@@ -13,9 +13,11 @@ use crate::audit::Audit;
 use crate::audit_given::AuditGiven;
 use crate::files::SignerFolder;
 use crate::line_fault::LineFault;
+use crate::list::ListState;
 use crate::make::Make;
 use crate::migrate::Migrate;
 use crate::output::Output;
+use crate::public::Public;
 use crate::retire::Retire;
 use crate::serve::Serve;
 use crate::sign::Sign;
@@ -47,6 +49,10 @@ pub enum Request<'a> {
     Serve(Serve<'a>),
     /// To move a key to a new state file.
     Migrate(Migrate<'a>),
+    /// To list a state file.
+    ListState(ListState<'a>),
+    /// To write a public key again.
+    Public(Public<'a>),
 }
 
 impl<'a> Request<'a> {
@@ -85,6 +91,8 @@ impl<'a> Request<'a> {
                 report_serving(&words.answer(alloc, folder, input, output), errors)
             }
             Request::Migrate(words) => report(&words.answer(alloc, folder), output),
+            Request::ListState(words) => report(&words.answer(alloc, folder), output),
+            Request::Public(words) => report(&words.answer(alloc, folder), output),
         }
     }
 }
@@ -120,6 +128,19 @@ impl UsageFault {
             }
             UsageFault::Anchor => ErrorKind::MissingRequiredArgument,
             UsageFault::Pairs => ErrorKind::WrongNumberOfValues,
+        }
+    }
+
+    // The command whose usage is shown with it.
+    fn command<'a>(self, alloc: Global) -> Result<Command<'a>, AllocError> {
+        match self {
+            UsageFault::Command => hbsign(alloc),
+            UsageFault::Number => Retire::command(alloc)?.bin_name("hbsign retire"),
+            UsageFault::Format => Make::command(alloc)?.bin_name("hbsign make"),
+            UsageFault::Count | UsageFault::Tag | UsageFault::Anchor => {
+                Audit::command(alloc)?.bin_name("hbsign audit")
+            }
+            UsageFault::Pairs => AuditGiven::command(alloc)?.bin_name("hbsign audit-given"),
         }
     }
 
@@ -215,7 +236,10 @@ fn read<'a, S: AsStr>(alloc: Global, words: &'a [S]) -> Result<Request<'a>, Erro
     let matches = command.try_get_matches_from_mut(words)?;
     match find_request(alloc, &matches)? {
         Ok(request) => Ok(request),
-        Err(fault) => Err(command.error(fault.kind(), fault.message())?),
+        Err(fault) => {
+            let mut command = fault.command(alloc)?;
+            Err(command.error(fault.kind(), fault.message())?)
+        }
     }
 }
 
@@ -231,7 +255,9 @@ fn hbsign<'a>(alloc: Global) -> Result<Command<'a>, AllocError>
         .subcommand(Audit::command(alloc)?)?
         .subcommand(AuditGiven::command(alloc)?)?
         .subcommand(Serve::command(alloc)?)?
-        .subcommand(Migrate::command(alloc)?)
+        .subcommand(Migrate::command(alloc)?)?
+        .subcommand(ListState::command(alloc)?)?
+        .subcommand(Public::command(alloc)?)
 }
 
 // The program, before its commands.
@@ -242,6 +268,12 @@ fn bare_hbsign<'a>(alloc: Global) -> Result<Command<'a>, AllocError>
         Command::new(alloc, "hbsign")
             .bin_name("hbsign")?
             .about("Hash-based signatures on files")
+            .after_help(
+                "Exit status:\n  0  Done; of verify: the signature is the key's for the message\n  \
+                 1  Refused: the line on standard output says why\n  \
+                 2  The line is wrong, or its name or spec is none; no file was opened\n  \
+                 3  A file or the machine failed: standard error says which",
+            )
             .version(VERSION)
             .no_binary_name(true)
             .subcommand_required(true)
@@ -299,6 +331,14 @@ fn find_fixed_request<'a>(name: &str, words: &ArgMatches<'a>) -> Result<Request<
         },
         Migrate::NAME => match Migrate::of(words) {
             Some(words) => Ok(Request::Migrate(words)),
+            None => Err(UsageFault::Command),
+        },
+        ListState::NAME => match ListState::of(words) {
+            Some(words) => Ok(Request::ListState(words)),
+            None => Err(UsageFault::Command),
+        },
+        Public::NAME => match Public::of(words) {
+            Some(words) => Ok(Request::Public(words)),
             None => Err(UsageFault::Command),
         },
         _ => Err(UsageFault::Command),

@@ -369,6 +369,19 @@ impl<'a, R: Files<File = File>> SignerFolder<'a> for Machine<'a, R> {
         }
     }
 
+    fn open_state_unlocked(&mut self, path: &'a str) -> Result<FileDisk<StateFile<'a>>, Refusal> {
+        match StateFile::open_unlocked(&self.rt, self.standard, path) {
+            Ok(file) => {
+                self.trace.note(&Event::OpenedUnlocked(path));
+                Ok(self.disk_over(file))
+            }
+            Err(refusal) => {
+                self.trace.note(&Event::NotOpened(Role::State, path));
+                Err(refusal)
+            }
+        }
+    }
+
     fn open_or_make_state(
         &mut self,
         path: &'a str,

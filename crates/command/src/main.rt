@@ -12,8 +12,8 @@
 //! `program::run` is the whole program, over a reader of lines, a folder of files, an input and two outputs. It reads
 //! the line (`line`; `number` reads its numbers, `line_fault` is why one gives no request, and `texts` makes the text
 //! that says so), does what is requested (a module for each command: `make`, `sign`, `verify`, `retire`, `audit`,
-//! `audit_given`, `serve` and `migrate`, whose arguments `argument` has) and reports what came of it (`answer`,
-//! `refusal`).
+//! `audit_given`, `serve`, `migrate`, `list` and `public`, whose arguments `argument` has) and reports what came of it
+//! (`answer`, `refusal`; `listing_text` has the texts of a listing).
 //! `files` has the traits by which it meets files, `machine` those of a machine (which they are: `file_id`; how one is
 //! written in place of what it has: `target`; how one with a key is known: `key_start`), `standard` its standard
 //! streams and what is said there of a call that failed, `output` is where the program writes, and `trace` is what
@@ -35,12 +35,15 @@ mod key_file;
 mod key_start;
 mod line;
 mod line_fault;
+mod list;
+mod listing_text;
 mod machine;
 mod make;
 mod migrate;
 mod number;
 mod output;
 mod program;
+mod public;
 mod random_file;
 mod refusal;
 mod retire;

@@ -61,8 +61,10 @@ impl<'a> Make<'a> {
             .arg(required(
                 alloc,
                 "SPEC",
-                "lms:H10/W8, hss:H10/W8,H5/W4 (1 to 8 levels, the top one first) or xmss:10. H is a height of 5, \
-                         10, 15, 20 or 25, and W a width of 1, 2, 4 or 8; xmss has height 10, 16 or 20",
+                "lms:H10/W8 has 2^10 signatures of 1452 bytes. H is 5, 10, 15, 20 or 25; W is 1, 2, 4 or 8\n\
+                         hss:H10/W8,H10/W8 has 2^20 of 2964 bytes: 1 to 8 levels, the top one first\n\
+                         xmss:10 has 2^10 of 2500 bytes; or 16 or 20\n\
+                         H10/W8 takes about a second, here and at each sign; each 5 of height take 32 times that",
             ))?
             .arg(option_or(
                 alloc,
@@ -113,7 +115,7 @@ impl<'a> Make<'a> {
         let (disk, made) = self.make_on(alloc, folder, disk, spec);
         folder.close_state(disk);
         match made {
-            Ok(public) => Ok(Done::Made(public)),
+            Ok(public) => Ok(Done::Published(public)),
             Err(refusal) => Err(refusal),
         }
     }

@@ -41,7 +41,7 @@ impl<'a> Migrate<'a> {
             .arg(required(
                 alloc,
                 "OLD",
-                "State file of format 1, which has the secret of the key and what it signed",
+                "State file of format 1, which has the secret of the key and a record of each name that it signed",
             ))?
             .arg(required(
                 alloc,

@@ -4,11 +4,13 @@ ghost use Rattle.std.specs.Prelude.{◌≡◌, ℕ, OnOk};
 ghost use Rattle.std.specs.Io.KnownBytes.{Appends};
 ghost use Rattle.hex.specs.Hex.{encode_lower};
 ghost use Rattle.command.specs.Output.{CountsFailure, Prints, level_line, level_lines, part_text, taken_of};
-ghost use Rattle.command.specs.Output.{text_of};
+ghost use Rattle.command.specs.Output.{moved_line, text_of};
 
+use crate::listing_text::{write_entries, write_spec};
+use key_audit::Entry;
 use std::io;
 use std::io::Write;
-use typecodes::Count;
+use typecodes::{Count, Spec};
 
 /// A part of a text.
 #[derive(Clone, Copy, Debug)]
@@ -23,6 +25,12 @@ pub enum Part<'a> {
     Hex(&'a [u8]),
     /// A line for each level, which says how many of its leaves are left, by these numbers; level 0 is the first.
     Levels(&'a [u32]),
+    /// A line of a file whose records go on in one of this version; nothing where they don't.
+    Moved(Option<u16>),
+    /// The types of a key, by the text of its spec.
+    Spec(&'a Spec),
+    /// A line for each of a key's records, which says what it is; record 0 is the first.
+    Entries(&'a [Entry]),
 }
 
 /// What takes the texts of the program. As a writer it takes replies of `serve`, which aren't texts.
@@ -100,6 +108,9 @@ fn write_part<W: Write>(writer: &mut W, part: &Part<'_>) -> io::Result<()>
         Part::Bytes(bytes) => writer.write_all(bytes),
         Part::Hex(bytes) => write_hex(writer, bytes),
         Part::Levels(left) => write_levels(writer, left),
+        Part::Moved(version) => write_moved(writer, *version),
+        Part::Spec(spec) => write_spec(writer, spec),
+        Part::Entries(entries) => write_entries(writer, entries),
     }
 }
 
@@ -124,8 +135,20 @@ fn write_level<W: Write>(writer: &mut W, level: usize, left: u32) -> io::Result<
     writer.write_all("\n".as_bytes())
 }
 
-// Writes bytes by their hex digits.
-fn write_hex<W: Write>(writer: &mut W, bytes: &[u8]) -> io::Result<()>
+// Writes the line of a file whose records go on in another, if they do.
+fn write_moved<W: Write>(writer: &mut W, version: Option<u16>) -> io::Result<()>
+    ensures { OnOk result (Appends (W.contents writer.old) (W.contents writer.new) (moved_line version)) }
+{
+    let Some(version) = version else {
+        return Ok(());
+    };
+    writer.write_all("moved ".as_bytes())?;
+    writer.write_fmt(u64::from(version))?;
+    writer.write_all("\n".as_bytes())
+}
+
+/// Writes bytes by their hex digits.
+pub fn write_hex<W: Write>(writer: &mut W, bytes: &[u8]) -> io::Result<()>
     ensures { OnOk result
         (Appends (W.contents writer.old) (W.contents writer.new) (encode_lower bytes.now)) }
 {

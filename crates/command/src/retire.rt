@@ -38,17 +38,22 @@ impl<'a> Retire<'a> {
             → app_of new ≡ with_subcommand (app_of old) retire_app.top) }
     {
         Command::new(alloc, Retire::NAME)
-            .about("Gives up the leaves of the current bottom tree below a number")
-            .after_help("Example:\n  $ hbsign retire firmware.key 8\n  retired upto 8")
+            .about("Skips signatures: the leaves below UPTO will never sign")
+            .after_help(
+                "Only for a key of which a copy may have signed: it can't be undone.\nUPTO counts in the current \
+                 bottom tree. A key of several levels has one from its first signature on; before that this is \
+                 refused (32).\n\n\
+                 Example:\n  $ hbsign retire firmware.key 8\n  retired upto 8",
+            )
             .arg(required(
                 alloc,
                 "STATE",
-                "State file, which has the secret of the key and what it signed",
+                "State file, which has the secret of the key and a record of each name that it signed",
             ))?
             .arg(required(
                 alloc,
                 "UPTO",
-                "Decimal number of the first leaf that stays, up to 33554432",
+                "Decimal number of the first leaf that stays, up to 33554432; leaves that are used already stay used",
             ))
     }
 

@@ -38,11 +38,14 @@ impl<'a> Serve<'a> {
             .about(
                 "Signs messages that come as requests on standard input, and replies on standard output",
             )
-            .after_help("Example:\n  $ hbsign serve firmware.key <requests >replies")
+            .after_help(
+                "Requests and replies are binary frames, for programs and not for a terminal: docs/FORMATS.md, \
+                 \"Frames\".\n\nExample:\n  $ hbsign serve firmware.key <requests >replies",
+            )
             .arg(required(
                 alloc,
                 "STATE",
-                "State file, which has the secret of the key and what it signed",
+                "State file, which has the secret of the key and a record of each name that it signed",
             ))?
             .arg(random_file(alloc))
     }

@@ -51,16 +51,21 @@ impl<'a> Sign<'a> {
             .arg(required(
                 alloc,
                 "STATE",
-                "State file, which has the secret of the key and what it signed",
+                "State file, which has the secret of the key and a record of each name that it signed",
             ))?
             .arg(required(
                 alloc,
                 "NAME",
-                "Name of what is signed, of 1 to 128 visible characters (64 in format 1); it signs one message, \
-                         however often",
+                "A label of your choice, as fw-1.0: 1 to 128 visible ASCII characters without blanks (64 in format 1). \
+                         It belongs to one message for ever: the same message gives the same signature again, another \
+                         one is refused (21)",
             ))?
             .arg(required(alloc, "MESSAGE", "File of the message"))?
-            .arg(required(alloc, "OUT", "File that the signature is written to"))?
+            .arg(required(
+                alloc,
+                "OUT",
+                "File that the signature is written to; it can't be standard output",
+            ))?
             .arg(random_file(alloc))
     }
 

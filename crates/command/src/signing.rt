@@ -2,13 +2,13 @@
 
 ghost use Rattle.std.specs.Prelude.{Ok};
 ghost use Rattle.sign_core.specs.Records.{key_in};
-ghost use Rattle.command.specs.Signing.{Delivers, Publishes, RetiresBelow};
+ghost use Rattle.command.specs.Signing.{Delivers, Publishes, RetiresBelow, WritesPublic};
 
 use crate::files::Outlet;
 use crate::refusal::Refusal;
 use crate::trace::Role;
 use arrayvec::ArrayVec;
-use sign_core::{Signer, Source};
+use sign_core::{AnyPublic, Signer, Source};
 use state_file::Store;
 
 /// Writes a signature to its file, and gives its size. Where the file can't be written, what was recorded stays, and
@@ -28,7 +28,18 @@ pub fn publish<S: Store, R: Source, W: Outlet>(
 ) -> Result<ArrayVec<u8, 68>, Refusal>
     ensures { Publishes (key_in signer.now.records) path.now (W.trace outlet.old) (W.trace outlet.new) result }
 {
-    let bytes = signer.public_key().write();
+    write_public(&signer.public_key(), outlet, path)
+}
+
+/// Writes a public key to its file, and gives its bytes.
+pub fn write_public<W: Outlet>(
+    public: &AnyPublic,
+    outlet: &mut W,
+    path: &str,
+) -> Result<ArrayVec<u8, 68>, Refusal>
+    ensures { WritesPublic public.now path.now (W.trace outlet.old) (W.trace outlet.new) result }
+{
+    let bytes = public.write();
     outlet.write(Role::Public, path, bytes.as_slice())?;
     Ok(bytes)
 }

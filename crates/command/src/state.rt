@@ -2,7 +2,7 @@
 
 ghost use Rattle.std.specs.Prelude.{◌≡◌, ◌++◌, ◌∷◌, [], List, length, IfErr};
 ghost use Rattle.typecodes.specs.Message.{read_outcome};
-ghost use Rattle.command.specs.FileDisk.{OpensState, kept};
+ghost use Rattle.command.specs.FileDisk.{OpensState, OpensUnlocked, kept};
 ghost use Rattle.command.specs.Trace.{Happening, measured, read_at, synced, written_at};
 
 use crate::file_disk::{OffsetFile, kind_kept};
@@ -65,20 +65,20 @@ impl<'a> StateFile<'a> {
     ) -> Result<Self, Refusal>
         ensures { OpensState path.now result }
     {
-        // It is looked at before it is opened, too: opening a device may do something.
-        let found = standard.told(path, "can't be opened", fs::metadata(rt, path))?;
-        if !found.is_file() {
-            return Err(not_regular(standard, path));
-        }
-        let opened = OpenOptions::new()
-            .read(true)
-            .write(access == Access::ReadAndWrite)
-            .open(rt, path);
-        StateFile::lock(
-            standard,
-            path,
-            standard.told(path, "can't be opened", opened)?,
-        )
+        let file = open_regular(rt, standard, path, access)?;
+        StateFile::lock(standard, path, file)
+    }
+
+    /// Opens it for reading alone, as `open` does, and doesn't lock it.
+    pub fn open_unlocked<R: Files<File = File>>(
+        rt: &R,
+        standard: &'a Standard,
+        path: &'a str,
+    ) -> Result<Self, Refusal>
+        ensures { OpensUnlocked path.now result }
+    {
+        let file = open_regular(rt, standard, path, Access::Read)?;
+        StateFile::take(standard, path, file)
     }
 
     /// Opens it for reading and writing, and makes it where there is none. Where it may take the new content, its owner
@@ -113,9 +113,9 @@ impl<'a> StateFile<'a> {
         Ok(file)
     }
 
-    // The file that was opened, locked for this process alone. Nothing happened to it yet.
-    fn lock(standard: &'a Standard, path: &'a str, file: File) -> Result<Self, Refusal>
-        ensures { OpensState path.now result }
+    // The file that was opened, if it is a regular one and no standard stream. Nothing happened to it yet.
+    fn take(standard: &'a Standard, path: &'a str, file: File) -> Result<Self, Refusal>
+        ensures { OpensUnlocked path.now result }
     {
         let found = standard.told(path, "can't be opened", file.metadata())?;
         if !found.is_file() {
@@ -123,14 +123,22 @@ impl<'a> StateFile<'a> {
         }
         let id = FileId::of(&found);
         standard.refuse_state(path, id)?;
-        match file.try_lock() {
-            Ok(()) => Ok(StateFile {
-                path,
-                file,
-                id,
-                standard,
-                trace: Trace::new(),
-            }),
+        Ok(StateFile {
+            path,
+            file,
+            id,
+            standard,
+            trace: Trace::new(),
+        })
+    }
+
+    // The same, locked for this process alone.
+    fn lock(standard: &'a Standard, path: &'a str, file: File) -> Result<Self, Refusal>
+        ensures { OpensState path.now result }
+    {
+        let state = StateFile::take(standard, path, file)?;
+        match state.file.try_lock() {
+            Ok(()) => Ok(state),
             Err(TryLockError::WouldBlock) => {
                 standard.tell_reason(
                     path,
@@ -191,6 +199,27 @@ impl<'a> StateFile<'a> {
         }
         answer
     }
+}
+
+// The regular file at this path, opened for this.
+fn open_regular<R: Files<File = File>>(
+    rt: &R,
+    standard: &Standard,
+    path: &str,
+    access: Access,
+) -> Result<File, Refusal>
+    ensures { IfErr result (λ refusal. refusal ≡ Refusal.FileFailed) }
+{
+    // It is looked at before it is opened, too: opening a device may do something.
+    let found = standard.told(path, "can't be opened", fs::metadata(rt, path))?;
+    if !found.is_file() {
+        return Err(not_regular(standard, path));
+    }
+    let opened = OpenOptions::new()
+        .read(true)
+        .write(access == Access::ReadAndWrite)
+        .open(rt, path);
+    standard.told(path, "can't be opened", opened)
 }
 
 // Says that the file of this path is no regular file.

@@ -39,6 +39,8 @@ pub enum Event<'a> {
     NotOpened(Role, &'a str),
     /// The state file of this path is opened for reading alone.
     OpenedToRead(&'a str),
+    /// The state file of this path is opened for reading alone, and isn't locked.
+    OpenedUnlocked(&'a str),
     /// The state file of this path is opened, and was made where there was none.
     Made(&'a str),
     /// It can't be opened or made.

@@ -53,7 +53,8 @@ impl<'a> Verify<'a> {
         Command::new(alloc, Verify::NAME)
             .about("Verifies a signature of a message")
             .after_help(
-                "Example:\n  $ hbsign verify firmware.pub firmware.bin firmware.sig\n  verified",
+                "In a script write verify -- PUBLIC MESSAGE SIGNATURE: then status 0 means verified, whatever the \
+                 files are named.\n\nExample:\n  $ hbsign verify firmware.pub firmware.bin firmware.sig\n  verified",
             )
             .arg(required(alloc, "PUBLIC", "File of the public key"))?
             .arg(required(alloc, "MESSAGE", "File of the message"))?

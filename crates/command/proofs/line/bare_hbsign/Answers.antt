@@ -19,7 +19,8 @@ pub returns : goal.returns
 returns c =
     let named = ap app_of_fields c.in_ok-bin_name.ensures.0 ∙ c.new.ensures.app in
     let described = ap app_of_fields c.about.ensures ∙ named in
-    let versioned = ap app_of_fields c.version.ensures ∙ ap with_version described in
+    let explained = ap app_of_fields c.after_help.ensures ∙ described in
+    let versioned = ap app_of_fields c.version.ensures ∙ ap with_version explained in
     let without_name = ap app_of_fields c.no_binary_name.ensures ∙ ap without_binary_name versioned in
     let with_subcommand = ap app_of_fields c.subcommand_required.ensures ∙ ap requiring_a_subcommand without_name in
     ap app_of_fields c.arg_required_else_help.ensures ∙ ap with_help_for_no_words with_subcommand

@@ -2,7 +2,7 @@ use Rattle.std.proofs.Common.{◌≡◌, ◌∙◌, Err, Ok, IsSome, Some, None,
 use Rattle.clap.specs.Words.{first_of, found_of, rows_of}
 use Rattle.clap.proofs.WalkLemmas.{first_value-rows}
 use Rattle.command.specs.Line.{fixed_task_named, retire_task}
-use Rattle.command.proofs.Finding.{all_files, is_audit_task, is_make_task, is_migrate_task, is_retire_task, is_serve_task, is_sign_task, no_audit_task, no_make_task, no_migrate_task, no_retire_task, no_serve_task, no_sign_task, not_all_files, same_audit, same_make, same_migrate, same_serve, same_sign}
+use Rattle.command.proofs.Finding.{all_files, is_audit_task, is_list_task, is_make_task, is_migrate_task, is_publish_task, is_retire_task, is_serve_task, is_sign_task, no_audit_task, no_list_task, no_make_task, no_migrate_task, no_publish_task, no_retire_task, no_serve_task, no_sign_task, not_all_files, same_audit, same_list, same_make, same_migrate, same_publish, same_serve, same_sign}
 use Rattle.command.proofs.line.find_fixed_request.Goals as goal
 
 pub returns-in-Ok : goal.returns-in-Ok
@@ -110,4 +110,32 @@ returns-in-None-of-3 c =
     let is : c.args.name.now ≡ codes "migrate" = c.in-migrate.is in
     let found = found_of c.args.words.now in
     no_migrate_task _ _ (same_migrate None (first_value-rows found (codes "OLD")) (first_value-rows found (codes "NEW")) c.in-None-of-3.ensures)
+    ∙ sym (ap (λ n. fixed_task_named n (rows_of found)) is)
+
+pub returns-in-Some-of-4 : goal.returns-in-Some-of-4
+returns-in-Some-of-4 c =
+    let is : c.args.name.now ≡ codes "list" = c.in-list.is in
+    let found = found_of c.args.words.now in
+    is_list_task _ c.in-Some-of-4.words (same_list (Some c.in-Some-of-4.words) (first_value-rows found (codes "STATE")) c.in-Some-of-4.ensures)
+    ∙ sym (ap (λ n. fixed_task_named n (rows_of found)) is)
+
+pub returns-in-None-of-4 : goal.returns-in-None-of-4
+returns-in-None-of-4 c =
+    let is : c.args.name.now ≡ codes "list" = c.in-list.is in
+    let found = found_of c.args.words.now in
+    no_list_task _ (same_list None (first_value-rows found (codes "STATE")) c.in-None-of-4.ensures)
+    ∙ sym (ap (λ n. fixed_task_named n (rows_of found)) is)
+
+pub returns-in-Some-of-5 : goal.returns-in-Some-of-5
+returns-in-Some-of-5 c =
+    let is : c.args.name.now ≡ codes "public" = c.in-public.is in
+    let found = found_of c.args.words.now in
+    is_publish_task _ _ c.in-Some-of-5.words (same_publish (Some c.in-Some-of-5.words) (first_value-rows found (codes "STATE")) (first_value-rows found (codes "PUBLIC")) c.in-Some-of-5.ensures)
+    ∙ sym (ap (λ n. fixed_task_named n (rows_of found)) is)
+
+pub returns-in-None-of-5 : goal.returns-in-None-of-5
+returns-in-None-of-5 c =
+    let is : c.args.name.now ≡ codes "public" = c.in-public.is in
+    let found = found_of c.args.words.now in
+    no_publish_task _ _ (same_publish None (first_value-rows found (codes "STATE")) (first_value-rows found (codes "PUBLIC")) c.in-None-of-5.ensures)
     ∙ sym (ap (λ n. fixed_task_named n (rows_of found)) is)

@@ -3,8 +3,10 @@ use Rattle.std.proofs.lemmas.Result.{IfOk-weaker}
 use Rattle.clap.specs.Words.{with_subcommand}
 use Rattle.command.specs.Audit.{audit_app}
 use Rattle.command.specs.AuditGiven.{audit_given_app}
+use Rattle.command.specs.ListState.{list_app}
 use Rattle.command.specs.Make.{make_app}
 use Rattle.command.specs.Migrate.{migrate_app}
+use Rattle.command.specs.Public.{public_app}
 use Rattle.command.specs.Retire.{retire_app}
 use Rattle.command.specs.Serve.{serve_app}
 use Rattle.command.specs.Sign.{sign_app}
@@ -27,5 +29,9 @@ returns c =
     ∙ ap (λ a. with_subcommand a audit_given_app.top) audit_is in
     let serve_is = c.in_ok-command-7.ensures c.in_ok-subcommand-6.field-0 c.in_ok-subcommand-7.field-0 c.in_ok-subcommand-7.ensures
     ∙ ap (λ a. with_subcommand a serve_app.top) given_is in
-    IfOk-weaker c.subcommand-8.result _ _ (λ command adds.
-    c.in_ok-command-8.ensures c.in_ok-subcommand-7.field-0 command adds ∙ ap (λ a. with_subcommand a migrate_app.top) serve_is) c.subcommand-8.ensures
+    let migrate_is = c.in_ok-command-8.ensures c.in_ok-subcommand-7.field-0 c.in_ok-subcommand-8.field-0 c.in_ok-subcommand-8.ensures
+    ∙ ap (λ a. with_subcommand a migrate_app.top) serve_is in
+    let list_is = c.in_ok-command-9.ensures c.in_ok-subcommand-8.field-0 c.in_ok-subcommand-9.field-0 c.in_ok-subcommand-9.ensures
+    ∙ ap (λ a. with_subcommand a list_app.top) migrate_is in
+    IfOk-weaker c.subcommand-10.result _ _ (λ command adds.
+    c.in_ok-command-10.ensures c.in_ok-subcommand-9.field-0 command adds ∙ ap (λ a. with_subcommand a public_app.top) list_is) c.subcommand-10.ensures

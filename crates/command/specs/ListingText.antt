@@ -1,0 +1,8 @@
+-- The texts of a listing.
+use Rattle.std.specs.Prelude.{ℕ, zero, suc, List, ◌∷◌}
+use Rattle.typecodes.specs.Spec.{comma}
+
+-- the text of a level, after a comma where it isn't the top one
+abbrev pub after_comma : (level : ℕ) → (text : List ℕ) → List ℕ
+after_comma zero text = text
+after_comma (suc level) text = comma ∷ text
