@@ -56,7 +56,8 @@ impl GivenFault {
 /// - 46 `OutOfMemory`: all are valid, and memory was refused for the leaves of one.
 ///
 /// The leaves that were used stand in a map, so that each signature is compared with what is kept of its own leaves
-/// alone, however many were given.
+/// alone, however many were given. The map hashes with a fixed seed, so that this time is a mean, which no clause says.
+/// That 46 comes only where memory was refused is tested.
 pub fn check_given(alloc: Global, public: &AnyPublic, given: &[Given]) -> Result<(), GivenFault>
     ensures { Checks public.now given.now result }
 {

@@ -11,6 +11,11 @@ use std::io::Read;
 use thiserror::Error;
 
 /// What gives the bytes of a message: any reader.
+///
+/// Verification judges the bytes that it gives, where it says which (`remaining`). Where it says what each read does to
+/// it (`transition`), as the program's reader does, the text that the reads gave is judged, and 14 comes only where the
+/// last one failed, or after 2^60 bytes. Of a reader that says neither the contracts speak of some text: that it is the
+/// reader's is tested.
 pub trait Message {
     // the bytes that reads will give from here on, where they are known
     ghost remaining: { Self → Option (List ℕ) };

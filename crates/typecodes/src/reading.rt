@@ -14,7 +14,8 @@ pub const PIECE: usize = 1 << 14;
 pub const PIECES: u64 = 1 << 46;
 
 /// Reads until the buffer is full or the message ends, and gives how many bytes that were. The first read that fails is
-/// the answer, whatever its kind: one that was interrupted, too.
+/// the answer, whatever its kind: one that was interrupted, too. The bytes that came before stand in the buffer then.
+/// Each read asks for the rest of the buffer, and each but the last gives a byte at least.
 pub fn read_full<M: Message>(message: &mut M, buffer: &mut [u8]) -> io::Result<usize>
     ensures within { IfOk result (λ n. n ≤ length buffer.new) }
     ensures reads { ReadsFull M.transition M.remaining result buffer.new message.old message.new }
@@ -69,6 +70,10 @@ pub enum ReadError<E> {
 }
 
 /// Reads a message to its end, and hands on each piece. The first read that fails is the answer, whatever its kind.
+///
+/// At an Ok the whole text was taken, of fewer than 2^60 bytes. At `Failed` what came before the read that failed was
+/// taken, but for less than a piece; at `TooLong` 2^60 bytes were; at `Refused` the pieces before the one that was
+/// refused.
 pub fn read_to_end<M: Message, T: PieceTaker>(
     message: &mut M,
     taker: &mut T,

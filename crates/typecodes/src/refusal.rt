@@ -23,7 +23,7 @@ pub enum Refusal {
     /// 12: the root to which the signature leads isn't the key's.
     #[error("level {0}: the signature doesn't lead to the key's root")]
     RootMismatch(u8),
-    /// 14: a read of the message failed, it gave 2^60 bytes, or 2^19 reads or more were interrupted.
+    /// 14: a read of the message failed, also one that was interrupted; or it gave 2^60 bytes.
     #[error("the message can't be read")]
     MessageRead,
 }

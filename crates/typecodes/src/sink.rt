@@ -35,7 +35,8 @@ impl<W: Write> Sink for W {
 }
 
 /// Writes all of the bytes. The first write that fails is the answer, whatever its kind: one that was interrupted, too.
-/// One that takes nothing is `WriteZero`.
+/// One that takes nothing is `WriteZero`. Each write is offered the rest. At an Err the first bytes were written, up to
+/// that write, and no others.
 pub fn write_all<S: Sink>(sink: &mut S, bytes: &[u8]) -> io::Result<()>
     ensures { WritesAll S.transition S.contents result bytes.now sink.old sink.new }
 {

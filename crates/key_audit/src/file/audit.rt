@@ -57,6 +57,11 @@ fn report_of(ledger: &Ledger, tag: [u8; 32]) -> Report
 /// - 48 `AnchorTag`: the records are legal and as many, and the last that the anchor counts has another tag.
 ///
 /// That roots and digests of the records are what their secrets make isn't part of it: a signer tests them as it signs.
+///
+/// The records of the store stay, over any disk; over an honest one each byte does at every moment, and a stop leaves
+/// what one could leave before. Each failure of the disk is answered by 45, after which the store has stopped. 43 never
+/// comes over an honest disk, and 46 only for a record at least: that memory was refused then is tested. Two lists of
+/// records may have one tag, as far as two texts may have one hash.
 pub fn audit<D: Disk + Drop>(
     alloc: Global,
     store: &mut FileStore<D>,

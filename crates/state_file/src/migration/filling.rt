@@ -30,7 +30,11 @@ struct Copied {
 
 /// Writes the records of a sealed file to a place, but for the Moved, as a file of version 2, and gives both disks
 /// back. The first gate is opened when all else is synced. So a stop leaves the old file as it is, and the place
-/// without a key or with all of these records. Answers how many these are, or that a device failed (45).
+/// without a key or with all of these records. Answers how many these are, after which they are synced, or that a
+/// device failed (45): exactly where one call of one of the two disks was refused. Over an old disk that isn't honest a
+/// slot may be damaged, too (43). It takes no memory.
+///
+/// The old disk is only read. Of the new one no byte changes from offset 256·N + 1 on, for N records.
 pub fn fill<D: Disk + Drop, E: Disk + Drop>(
     sealed: Sealed<D>,
     place: Place<E>,

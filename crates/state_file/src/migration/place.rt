@@ -25,7 +25,8 @@ impl<E: Disk + Drop> Place<E> {
     ghost use Rattle.state_file.specs.Migration.{ChecksPlace, place_disk};
 
     /// Syncs a disk, and looks whether it has no key: it has under 257 bytes, or its first gate is closed. Else it is
-    /// refused (50), and so is one that fails (45). Nothing is written, and a refusal hands the disk back.
+    /// refused (50), and so is one that fails (45). No other refusal comes. Nothing is written, so that a stop leaves
+    /// what one could leave before, and a refusal hands the disk back. It takes no memory.
     pub fn check(new: E) -> Result<Self, Refused<E, MigrateFault>>
         ensures { ChecksPlace E.Disk new result }
     {

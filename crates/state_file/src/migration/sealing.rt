@@ -22,7 +22,11 @@ use crate::store::{FileStore, Store, StoreFault};
 
 /// Appends a Moved to the records, unless they end with one. The caller gives legal records of version 1. Refused are
 /// a store that has stopped (26), and one that is full and doesn't end with a Moved (52): each is handed back as it
-/// was. Where the device fails (45), the old records stand, or these with a Moved.
+/// was. Where the device fails (45), the old records stand, or these with a Moved. No other refusal comes. It takes no
+/// memory.
+///
+/// A stop at any moment leaves the old records, or these with the Moved, and differs from the old content at most in
+/// the new slot and the gate after it.
 pub fn seal<D: Disk + Drop>(
     old: FileStore<D>,
 ) -> Result<Sealed<D>, Refused<FileStore<D>, MigrateFault>>
