@@ -95,6 +95,7 @@ impl TreeHash for XmssTree {
         };
         key.public_hash(&self.secret.secret_seed)
     }
+
     fn leaves_in_lanes(&mut self, first: u32) -> [[u8; 32]; LANES] {
         let leaves = leaves_from(first);
         count_lanes(&mut self.made);
