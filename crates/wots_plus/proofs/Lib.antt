@@ -1,3 +1,4 @@
 pub mod Bytes
 pub mod LTree
 pub mod Signing
+pub mod Rows

@@ -2,3 +2,4 @@ pub mod Hashes
 pub mod Address
 pub mod LTree
 pub mod Key
+pub mod inner

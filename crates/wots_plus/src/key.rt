@@ -15,6 +15,7 @@ ghost use Rattle.wots_plus.specs.Key.{ClimbTo, ends_of_secret, ends_of_signature
 
 use crate::address::Address;
 use crate::hashes::{Prf, first_state, hash_f, hash_f_in_lanes, keyed, xor, xor_in_lanes};
+use crate::lane_keys::LaneKeys;
 use sha2::{Digest, Sha256};
 use typecodes::{WOTS_CHAINS, put};
 use winternitz::lanes::{LANES, States, in_each, sha256_of_128};
@@ -24,7 +25,7 @@ use winternitz::{MOST_CHAINS, Step, Values, climb, climb_from, climb_to, climb_w
 const WIDTH: u8 = 4;
 
 // The steps of a chain, which is also the greatest digit.
-const STEPS: u8 = 15;
+pub(crate) const STEPS: u8 = 15;
 
 /// A leaf's one-time key, by the public SEED of its tree and its number.
 #[derive(Clone, Copy)]
@@ -58,7 +59,7 @@ impl Step for Wots<'_> {
 
 impl Wots<'_> {
     // The bytes of a step's address.
-    fn step_address(&self, chain: u16, at: u8, key_and_mask: u32) -> [u8; 32]
+    pub(crate) fn step_address(&self, chain: u16, at: u8, key_and_mask: u32) -> [u8; 32]
         ensures { result ≡ one_time self.now.leaf chain at key_and_mask }
     {
         let address = Address::OneTime {
@@ -139,7 +140,7 @@ impl Wots<'_> {
     }
 
     // The second block of what a private value is made of.
-    fn private_block(&self, chain: u16) -> [u8; 64]
+    pub(crate) fn private_block(&self, chain: u16) -> [u8; 64]
         ensures bytes { result ≡ self.now.seed.now.key ++ one_time self.now.leaf chain 0 0 }
         ensures long { length result ≡ 64 }
     {
@@ -157,6 +158,19 @@ impl Wots<'_> {
     {
         let mut ends = self.ends_from_secret(secret);
         self.l_tree(&mut ends[..WOTS_CHAINS])
+    }
+
+    /// The public hashes of the keys of several leaves of a tree, one in each lane, by PRF under the tree's SEED: as
+    /// `public_hash`, but side by side. The private values of all of them are made of one secret.
+    pub fn public_hashes_in_lanes(
+        seed: &Prf,
+        leaves: [u32; LANES],
+        secret: &[u8; 32],
+    ) -> [[u8; 32]; LANES]
+        ensures { (j : ℕ) → j < lanes → let leaf = slice_index leaves j in slice_index_or result j []
+            ≡ spec.public_hash seed.now.key leaf (ends_of_secret seed.now.key leaf secret.now) }
+    {
+        LaneKeys { seed, leaves }.public_hashes(secret)
     }
 
     // The ends of the chains of a secret's key.

@@ -126,7 +126,7 @@ impl Wots<'_> {
     }
 
     // The bytes of a node's address.
-    fn node_address(&self, height: u32, index: u32, key_and_mask: u32) -> [u8; 32]
+    pub(crate) fn node_address(&self, height: u32, index: u32, key_and_mask: u32) -> [u8; 32]
         ensures { result ≡ l_tree self.now.leaf height index key_and_mask }
     {
         let address = Address::LTree {

@@ -29,6 +29,7 @@ mod climbing;
 mod hashes;
 mod key;
 mod l_tree;
+mod lane_keys;
 #[cfg(test)]
 mod tests;
 

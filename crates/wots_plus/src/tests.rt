@@ -342,6 +342,21 @@ fn public_hash_ends_every_chain(rt: HostRuntime) {
     assert!(rt; key.public_hash(&SECRET) == expected);
 }
 
+// Keys side by side, with the leaf above in two lanes: the public hash of each is the one that it has by itself.
+#[test]
+fn keys_in_lanes_have_their_public_hashes(rt: HostRuntime) {
+    let seed = Prf::new(SEED);
+    let leaves = [5, 0, 0xffffffff, 0x01020304, 6, 1023, 1 << 19, 5];
+    let hashes = Wots::public_hashes_in_lanes(&seed, leaves, &SECRET);
+    for lane in 0..LANES {
+        let key = Wots {
+            seed: &seed,
+            leaf: leaves[lane],
+        };
+        assert!(rt; hashes[lane] == key.public_hash(&SECRET), "lane {lane}");
+    }
+}
+
 // SHA-256 of the private values after digit i steps each, of the digest SHA-256("digest").
 #[test]
 fn signatures_walk_to_their_digits(rt: HostRuntime) {

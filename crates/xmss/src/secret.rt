@@ -1,11 +1,13 @@
 //! Secrets, and the trees that they make.
 
-ghost use Rattle.std.specs.Prelude.{◌≡◌};
+ghost use Rattle.std.specs.Prelude.{◌≡◌, ◌≤◌, ◌<◌, ◌+◌, ◌^◌, ℕ, slice_index};
+ghost use Rattle.winternitz.specs.Lanes.{lanes};
 
 use crate::digest::{index_bytes, message_digest};
 use crate::nodes::Nodes;
 use merkle::{NodeHash, TreeHash};
 use typecodes::{Count, XmssType};
+use winternitz::lanes::LANES;
 use wots_plus::{Prf, Wots};
 
 /// What an XMSS key is made from (RFC 8391 4.1.3). It has no `Debug`, since S_XMSS and SK_PRF are secret.
@@ -93,4 +95,31 @@ impl TreeHash for XmssTree {
         };
         key.public_hash(&self.secret.secret_seed)
     }
+
+    fn leaves_in_lanes(&mut self, first: u32) -> [[u8; 32]; LANES] {
+        let leaves = leaves_from(first);
+        count_lanes(&mut self.made);
+        Wots::public_hashes_in_lanes(&self.seed, leaves, &self.secret.secret_seed)
+    }
+}
+
+// A leaf more is made in each lane.
+fn count_lanes(made: &mut Count)
+    ensures { made.new ≡ made.old + lanes }
+{
+    for _lane in 0..LANES {
+        Count::add_one(made);
+    }
+}
+
+// The numbers of leaves in a row, one for each lane.
+fn leaves_from(first: u32) -> [u32; LANES]
+    requires { first + lanes ≤ 2 ^ 32 }
+    ensures { (j : ℕ) → j < lanes → slice_index result j ≡ first + j }
+{
+    let mut leaves = [first; LANES];
+    for lane in 0..LANES {
+        leaves[lane] = first + lane as u32;
+    }
+    leaves
 }

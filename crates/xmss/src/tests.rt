@@ -1,11 +1,15 @@
 //! Refusals in the order of the checks, and signatures that other programs made.
 
-use crate::{XmssPublic, XmssSigView, message_digest, message_digest_from, verify};
+use crate::{
+    XmssPublic, XmssSecret, XmssSigView, XmssTree, message_digest, message_digest_from, verify,
+};
+use merkle::TreeHash;
 use std::io;
 use std::io::Read;
 use std::process::Abort;
 use std::test::Fail;
 use typecodes::{Cause, ReadFault, Refusal, XmssType};
+use winternitz::lanes::LANES;
 
 mod vectors;
 
@@ -375,4 +379,22 @@ fn failing_messages_are_reported(rt: HostRuntime) -> Result<(), Fail> {
         }
     }
     Ok(())
+}
+
+// Leaves of a tree from each of two on, one by one and in lanes.
+#[test]
+fn leaves_are_made_one_by_one_and_in_lanes(rt: HostRuntime) {
+    let mut tree = XmssTree::new(XmssSecret {
+        tree: XmssType::H10,
+        secret_seed: [0xa5; 32],
+        prf_key: [0; 32],
+        public_seed: [0x5a; 32],
+    });
+    for first in [0, 1021] {
+        let together = tree.leaves_in_lanes(first);
+        for lane in 0..LANES {
+            let leaf = tree.leaf(first + lane as u32);
+            assert!(rt; together[lane] == leaf, "lane {lane} from {first}");
+        }
+    }
 }

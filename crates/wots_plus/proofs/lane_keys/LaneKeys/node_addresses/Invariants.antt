@@ -1,0 +1,12 @@
+-- The addresses of the lanes so far.
+use Rattle.std.proofs.Common.{◌≡◌, ℕ, ◌<◌, [], length, slice_index, slice_index_or}
+use Rattle.winternitz.specs.Lanes.{lanes}
+use Rattle.wots_plus.specs.Address.{l_tree}
+use Rattle.wots_plus.proofs.lane_keys.LaneKeys.node_addresses.Given as goal
+
+abbrev pub invariant-loop-lane : goal.invariant-loop-lane
+invariant-loop-lane l = record {
+  long : length l.addresses ≡ lanes;
+  each : (j : ℕ) → j < l.lane
+      → slice_index_or l.addresses j [] ≡ l_tree (slice_index l.self.leaves j) l.height l.index l.key_and_mask;
+}
