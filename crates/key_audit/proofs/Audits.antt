@@ -15,8 +15,9 @@ use Rattle.key_audit.specs.declared.report.Anchor.{Anchor}
 use Rattle.key_audit.specs.declared.report.AuditFault.{AuditFault}
 use Rattle.key_audit.specs.declared.report.AuditFault.TheVariants.{Stopped, NoKey, Damaged, Illegal, DeviceFailed, OutOfMemory, AnchorCount, AnchorTag}
 use Rattle.key_audit.specs.declared.report.Report.{Report}
-use Rattle.key_audit.specs.Audit.{AreTags, Audits, ChecksAnchor, FitsAnchor, IsBeyond, IsSlotTag, IsTagged, IsWithin, Judges, ReadsStore, Reports, is_fault, is_stopped}
-use Rattle.key_audit.specs.Loading.{AreLoaded, GivesTag, IsNoLedger, ReadsSlotTag}
+use Rattle.key_audit.specs.inner.Audit.{ChecksAnchor, FitsAnchor}
+use Rattle.key_audit.specs.Audit.{AreTags, Audits, IsBeyond, IsSlotTag, IsTagged, IsWithin, Judges, ReadsStore, Reports, is_fault, is_stopped}
+use Rattle.key_audit.specs.inner.Loading.{AreLoaded, GivesTag, IsNoLedger, ReadsSlotTag}
 use Rattle.key_audit.specs.Tags.{IsTag}
 use Rattle.key_audit.proofs.Loads.{IsUnchanged, answered, kept_by, reads_after}
 use Rattle.key_audit.proofs.Tags.{tag_law}

@@ -12,7 +12,7 @@ use Rattle.sign_core.specs.Ledger.{ByText, of_text}
 use Rattle.sign_core.specs.Records.{are_same}
 use Rattle.key_audit.specs.declared.leaf_index.FirstUse.{FirstUse}
 use Rattle.key_audit.specs.declared.uses.LeafUse.{LeafUse}
-use Rattle.key_audit.specs.LeafIndex.{AddsUse, AreKept, AreUpTo, IsFirstUse, IsKept, IsLeastOther, UseAt, earlier, place_of_other, use_at, with_use}
+use Rattle.key_audit.specs.inner.LeafIndex.{AddsUse, AreKept, AreUpTo, IsFirstUse, IsKept, IsLeastOther, UseAt, earlier, place_of_other, use_at, with_use}
 
 -- ---- the least place
 

@@ -15,8 +15,9 @@ use Rattle.key_audit.specs.declared.listing.Listing.{Listing}
 use Rattle.key_audit.specs.declared.report.AuditFault.{AuditFault}
 use Rattle.key_audit.specs.declared.report.AuditFault.TheVariants.{Stopped, NoKey, Damaged, Illegal, DeviceFailed, OutOfMemory, AnchorCount, AnchorTag}
 use Rattle.key_audit.specs.Audit.{Judges, ReadsStore, is_device_failed, is_fault, is_stopped, unreadable_slot}
-use Rattle.key_audit.specs.Listing.{AnswersListing, Lists, ListsRecords, entry_of, shown_by, shown_in, shown_of, types_of}
-use Rattle.key_audit.specs.Loading.{AreLoaded, StopsLoading}
+use Rattle.key_audit.specs.inner.Listing.{ListsRecords}
+use Rattle.key_audit.specs.Listing.{AnswersListing, Lists, entry_of, shown_by, shown_in, shown_of, types_of}
+use Rattle.key_audit.specs.inner.Loading.{AreLoaded, StopsLoading}
 use Rattle.key_audit.proofs.Audits.{refused_alike}
 use Rattle.key_audit.proofs.Loads.{answered, kept_by}
 

@@ -15,7 +15,7 @@ use Rattle.sign_core.proofs.Adding.{length_one_more}
 use Rattle.sign_core.proofs.Lists.{take_with_next}
 use Rattle.key_audit.specs.declared.report.AuditFault.{AuditFault}
 use Rattle.key_audit.specs.Audit.{ReadsStore, is_device_failed, is_fault, is_stopped, unreadable_slot}
-use Rattle.key_audit.specs.Loading.{AreLoaded, LoadsSlot}
+use Rattle.key_audit.specs.inner.Loading.{AreLoaded, LoadsSlot}
 
 -- Calls that didn't fail left all of a store as it was.
 pub record IsUnchanged {D : Type 0} (d : disk.Ghosts D) (old now : FileStore D d) : Type 0 where

@@ -33,8 +33,8 @@ use Rattle.key_audit.specs.declared.given.Given.{Given}
 use Rattle.key_audit.specs.declared.leaf_index.FirstUse.{FirstUse}
 use Rattle.key_audit.specs.declared.uses.LeafUse.{LeafUse}
 use Rattle.key_audit.specs.Given.{AreValid, IsFirstTwice, IsTwice, IsValidGiven, NoneTwice, Uses}
-use Rattle.key_audit.specs.LeafIndex.{AddsUses, AreKept, IsKept, IsLeastOther, UseAt, other_place, place_of_other, use_at}
-use Rattle.key_audit.specs.Uses.{AreUsesOf, kept_use, leaf_bytes}
+use Rattle.key_audit.specs.inner.LeafIndex.{AddsUses, AreKept, IsKept, IsLeastOther, UseAt, other_place, place_of_other, use_at}
+use Rattle.key_audit.specs.inner.Uses.{AreUsesOf, kept_use, leaf_bytes}
 
 -- ---- lists
 

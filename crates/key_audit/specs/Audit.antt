@@ -96,22 +96,6 @@ IsTagged IsTagOf (Some anchor) = IsTagOf (anchor.count - 1) anchor.tag
 abbrev pub IsSlotTag : {D : Type 0} (d : disk.Ghosts D) → D → ℕ → List ℕ → Type 0
 IsSlotTag d on k tag = tag ≡ tag_at (d.state on).content k
 
--- What is answered to an anchor, if one is given, by a store of these records.
-abbrev pub FitsAnchor : (IsTagOf : ℕ → List ℕ → Type 0) → (honest : Bool) → List Record → Option Anchor
-    → Result (Unit {0}) AuditFault → Type 0
-FitsAnchor IsTagOf honest list anchor (Ok _) = IsWithin anchor list × (IsTrue honest → IsTagged IsTagOf anchor)
-FitsAnchor IsTagOf honest list anchor (Err Stopped) = Unit {0}
-FitsAnchor IsTagOf honest list anchor (Err DeviceFailed) = Unit {0}
-FitsAnchor IsTagOf honest list anchor (Err AnchorCount) = IsBeyond anchor list
-FitsAnchor IsTagOf honest list anchor (Err AnchorTag) =
-    IsSome anchor × IsWithin anchor list × (IsTrue honest → IsTagged IsTagOf anchor → ⊥)
-FitsAnchor IsTagOf honest list anchor (Err _) = ⊥
-
-pub record ChecksAnchor {D : Type 0} (d : disk.Ghosts D) (old new : FileStore D d) (anchor : Option Anchor)
-    (answer : Result (Unit {0}) AuditFault) : Type 0 where
-  pub store : ReadsStore d old new answer
-  pub fits : FitsAnchor (IsSlotTag d (disk_of old)) (d.honest (disk_of old)) (records_of old) anchor answer
-
 -- ---- the answer
 
 -- What is answered to records. That they are legal comes before what the anchor counts, and this before its tag. Memory

@@ -19,7 +19,6 @@ use Rattle.key_audit.specs.declared.listing.Entry.TheVariants.{Key as KeyEntry, 
 use Rattle.key_audit.specs.declared.listing.Listing.{Listing}
 use Rattle.key_audit.specs.declared.report.AuditFault.{AuditFault}
 use Rattle.key_audit.specs.Audit.{Judges, ReadsStore}
-use Rattle.key_audit.specs.Loading.{IsRefusedLedger}
 
 -- ---- what records show
 
@@ -84,11 +83,6 @@ names_among (first ∷ rest) = name_count first + names_among rest
 abbrev pub AnswersListing : (honest : Bool) → List Record → Result Listing AuditFault → Type 0
 AnswersListing honest records (Ok listing) = IsLegal records × (shown_in records ≡ Some (shown_by listing))
 AnswersListing honest records (Err fault) = Judges honest records None (Err fault)
-
--- The same, where they were loaded.
-abbrev pub ListsRecords : List Record → Result Listing AuditFault → Type 0
-ListsRecords records (Ok listing) = IsLegal records × (shown_in records ≡ Some (shown_by listing))
-ListsRecords records (Err fault) = IsRefusedLedger records fault
 
 -- A listing reads the store, and shows the records that it loads: as many as the store has, and where the disk is
 -- honest those.

@@ -1,8 +1,8 @@
 //! Which leaves the signatures before one have used, and for which digests.
 
 ghost use Rattle.std.specs.Prelude.{◌≡◌, [], Contains, OnOk};
-ghost use Rattle.key_audit.specs.LeafIndex.{AddsUse, AddsUses, AreKept, IsLeastOther};
-ghost use Rattle.key_audit.specs.LeafIndex.{earlier, place_of_other};
+ghost use Rattle.key_audit.specs.inner.LeafIndex.{AddsUse, AddsUses, AreKept, IsLeastOther};
+ghost use Rattle.key_audit.specs.inner.LeafIndex.{earlier, place_of_other};
 
 use crate::leaf::Leaf;
 use crate::uses::LeafUse;

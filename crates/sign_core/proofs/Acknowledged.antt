@@ -12,8 +12,10 @@ use Rattle.sign_core.specs.declared.fault.SignFault.{SignFault}
 use Rattle.sign_core.specs.Calls.{IsOpenAfter, acknowledged_by}
 use Rattle.sign_core.specs.Records.{first_illegal, has_moved, key_in, leaves_of_current, next_at}
 use Rattle.sign_core.specs.Textbook.{public_in}
-use Rattle.sign_core.specs.World.{Creation, Event, Fate, Opening, Outcome, State, World, acked, after, appended, begun, create, created_after}
-use Rattle.sign_core.specs.World.{cut_new, cut_old, new_key, no_memory, opened_by, opened_on, published, reopen, request, retire, retired_under}
+use Rattle.sign_core.specs.World.{Creation, Event, Fate, Opening, Outcome, State, World, acked, after, appended, create}
+use Rattle.sign_core.specs.inner.Cases.{begun, created_after}
+use Rattle.sign_core.specs.World.{cut_new, cut_old, new_key, no_memory, reopen, request, retire}
+use Rattle.sign_core.specs.inner.Cases.{opened_by, opened_on, published, retired_under}
 use Rattle.sign_core.specs.World.{secret_from, stop, migrate}
 use Rattle.sign_core.proofs.Ends.{Ends, ended_request}
 
@@ -38,8 +40,8 @@ all_published records None = λ is. refl
 
 all_begun : (state : State) (chance : Creation) (secret : Option Secret) → AreAll (begun state chance secret)
 all_begun state chance None = λ is. refl
-all_begun state chance (Some secret) = all_choice chance.has_room _ _
-    (all_append state (KeyRecord (new_key chance.version secret)) chance.fate _ (λ records. all_published records (public_in (new_key chance.version secret)))) (λ is. refl)
+all_begun state chance (Some secret) = all_choice (not chance.has_room) _ _ (λ is. refl)
+    (all_append state (KeyRecord (new_key chance.version secret)) chance.fate _ (λ records. all_published records (public_in (new_key chance.version secret))))
 
 all_created : (failed : Option SignFault) (state : State) (spec : Spec) (chance : Creation) → AreAll (created_after failed state spec chance)
 all_created (Some fault) state spec chance = λ is. refl

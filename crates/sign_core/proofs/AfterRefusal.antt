@@ -25,10 +25,13 @@ use Rattle.sign_core.specs.Records.{binding_in, binds, first_illegal, has_identi
 use Rattle.sign_core.specs.Records.{leaves_of_current, next_at}
 use Rattle.sign_core.specs.Textbook.{Trees, public_in, signature_at, trees_of}
 use Rattle.sign_core.specs.World.{Chance, Creation, Draw, Fate, Opening, Outcome, State, acked, answered, appended}
-use Rattle.sign_core.specs.World.{begun, bound_with, created_after, cut_new, cut_old, drawing, extended, extended_by}
-use Rattle.sign_core.specs.World.{extended_with, first_draw, fulfilled, new_bound, new_key, no_memory, open_on}
-use Rattle.sign_core.specs.World.{opened_by, opened_on}
-use Rattle.sign_core.specs.World.{published, randomizer_from, reading, refused, requested, retired_under, secret_from}
+use Rattle.sign_core.specs.World.{cut_new, cut_old, drawing}
+use Rattle.sign_core.specs.inner.Cases.{begun, bound_with, created_after, extended, extended_by}
+use Rattle.sign_core.specs.World.{first_draw, new_bound, new_key, no_memory, open_on}
+use Rattle.sign_core.specs.inner.Cases.{extended_with, fulfilled}
+use Rattle.sign_core.specs.inner.Cases.{opened_by, opened_on}
+use Rattle.sign_core.specs.World.{randomizer_from, reading, refused, requested, secret_from}
+use Rattle.sign_core.specs.inner.Cases.{published, retired_under}
 use Rattle.sign_core.proofs.Bindings.{binding_other}
 use Rattle.sign_core.proofs.DrawnAgain.{IsSettled, settled_repeated, settled_under}
 use Rattle.sign_core.proofs.Fresh.{begins_along, extend_in}
@@ -448,10 +451,9 @@ module _ (state : State) (spec : Spec) (chance : Creation) (can : IsSpec spec) (
       let key = new_key chance.version secret in
       let (public, has) = public_made secret key.root (secret_sizes spec chance.fields secret can are is) in
       let next = λ (all : List Record). published all (public_in key) in
-      choice state.records chance.has_room _ _
+      choice state.records (not chance.has_room) _ _ (plain state OutOfMemory)
       (append_quiet state (KeyRecord key) chance.fate next (secret, is, refl)
       (published_never (state.records ++ KeyRecord key ∷ []) (public_in key) public has))
-      (plain state OutOfMemory)
 
   -- nothing is drawn after the fields
   draws_nothing : (found : Option Secret) → (begun state chance found).drawn ≡ []
@@ -469,8 +471,9 @@ module _ (state : State) (spec : Spec) (chance : Creation) (can : IsSpec spec) (
       by_fate key cut_new = refl
       by_fate key no_memory = refl
 
-      by_room : (has_room : Bool) → (if has_room then appended state (KeyRecord (new_key chance.version secret)) chance.fate
-          (λ records. published records (public_in (new_key chance.version secret))) else refused state OutOfMemory).drawn ≡ []
+      by_room : (has_room : Bool) → (if not has_room then refused state OutOfMemory
+          else appended state (KeyRecord (new_key chance.version secret)) chance.fate
+          (λ records. published records (public_in (new_key chance.version secret)))).drawn ≡ []
       by_room true = by_fate (new_key chance.version secret) chance.fate
       by_room false = refl
 

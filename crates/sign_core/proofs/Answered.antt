@@ -1,13 +1,17 @@
 -- A request that is answered leaves the signer open.
-use Rattle.std.proofs.Common.{◌≡◌, refl, ap, ℕ, inl, inr, zero, suc, ◌-◌, true, List, [], ◌∷◌, ◌++◌, Option, Some, None, Ok}
+use Rattle.std.proofs.Common.{◌≡◌, ◌∙◌, refl, sym, ap, ℕ, inl, inr, zero, suc, ◌-◌, true, List, [], ◌∷◌, ◌++◌, Option, Some, None, Ok}
+use Rattle.std.proofs.Common.{Err}
 use Rattle.std.proofs.lemmas.Bool.{cases_Bool}
 use Rattle.state_file.specs.Laws.{bottom_of}
 use Rattle.state_file.specs.declared.record.Key.{Key}
 use Rattle.state_file.specs.declared.record.Record.{Record}
+use Rattle.sign_core.specs.declared.fault.SignFault.TheVariants.{Stopped}
 use Rattle.sign_core.specs.Records.{has_identifier, key_in, next_at}
 use Rattle.sign_core.specs.Textbook.{Trees, trees_of}
-use Rattle.sign_core.specs.World.{Chance, Draw, Fate, Outcome, State, acked, answered, appended, bound_with, cut_new, cut_old}
-use Rattle.sign_core.specs.World.{extended, extended_by, extended_with, first_draw, fulfilled, later_draws, no_memory, open_on, randomizer_from, requested}
+use Rattle.sign_core.specs.World.{Chance, Draw, Fate, Outcome, State, acked, answered, appended, cut_new, cut_old}
+use Rattle.sign_core.specs.inner.Cases.{bound_with}
+use Rattle.sign_core.specs.World.{first_draw, later_draws, no_memory, open_on, randomizer_from, requested}
+use Rattle.sign_core.specs.inner.Cases.{extended, extended_by, extended_with, fulfilled}
 use Rattle.sign_core.proofs.DrawnAgain.{IsSettled, settled_repeated, settled_under}
 use Rattle.sign_core.proofs.OnceKept.{kept_choice}
 use Rattle.sign_core.proofs.OnceParts.{closed_under}
@@ -68,5 +72,8 @@ signed_open limit state name signature chance is = elim (cases_Bool state.is_ope
       settled_under StaysOpen limit state name chance settled.refused_for (key_in state.records) refl
       (λ key k bound. settled_repeated StaysOpen state chance settled key k bound chance.given)
       (λ key level wants. open_fulfilled key name chance (bottom_of key.secret - level) chance.trees state.records) signature is
-  | inr closed ↦ let same = ap (λ (o : Outcome (List ℕ)). o.answer) (closed_under limit state name chance (key_in state.records) closed) in absurd (cc (is, same))
+  | inr closed ↦
+      let same = ap (λ (o : Outcome (List ℕ)). o.answer) (closed_under limit state name chance (key_in state.records) closed) in
+      let apart : Ok signature ≡ Err Stopped = sym is ∙ same in
+      absurd (cc (apart))
 ]

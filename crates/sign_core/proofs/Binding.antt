@@ -44,7 +44,8 @@ use Rattle.sign_core.specs.Signer.{Ends, IsRead, IsTied, View, is_before_draws, 
 use Rattle.sign_core.specs.inner.Signing.{Binds, Does, Fulfils, Stands, StandsIn, WritesChain, pairs_of}
 use Rattle.sign_core.specs.Signing.{IsXmssKey}
 use Rattle.sign_core.specs.Ledger.{Table}
-use Rattle.sign_core.specs.World.{Chance, Fate, Outcome, acked, answered, appended, bound_sound, bound_with, cut_new, cut_old, drawing, fulfilled, new_bound, no_memory}
+use Rattle.sign_core.specs.World.{Chance, Fate, Outcome, acked, answered, appended, cut_new, cut_old, drawing, new_bound, no_memory}
+use Rattle.sign_core.specs.inner.Cases.{bound_sound, bound_with, fulfilled}
 use Rattle.sign_core.specs.World.{open_on, randomizer_from, reading}
 use Rattle.sign_core.specs.Textbook.{Trees, damaged_in, digest_at, secret_at, signature_at, signing_of_bound, signings_above, tree_before, trees_of}
 use Rattle.sign_core.proofs.Adding.{LeavesItsList}

@@ -14,7 +14,8 @@ use Rattle.sign_core.specs.Cuts.{IsBeginning, IsLeftBy, reached}
 use Rattle.sign_core.specs.Once.{IsOnce}
 use Rattle.sign_core.specs.Records.{first_illegal, key_in}
 use Rattle.sign_core.specs.Textbook.{public_in}
-use Rattle.sign_core.specs.World.{Chance, Event, Opening, State, World, after, beginning, create, opened_by, opened_on, published, reopen}
+use Rattle.sign_core.specs.World.{Chance, Event, Opening, State, World, after, beginning, create, reopen}
+use Rattle.sign_core.specs.inner.Cases.{opened_by, opened_on, published}
 use Rattle.sign_core.specs.World.{request, retire, run, stop, migrate}
 use Rattle.sign_core.proofs.Acknowledged.{open_acknowledged}
 use Rattle.sign_core.proofs.Events.{kept_by_run}

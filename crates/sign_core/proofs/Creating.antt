@@ -24,8 +24,10 @@ use Rattle.sign_core.specs.Cuts.{IsBeginning}
 use Rattle.sign_core.specs.inner.Signer.{DrawsSecret, IsAppended, IsAnsweredByKey, LooksForKey}
 use Rattle.sign_core.specs.Signer.{KeepsStore, LeavesOld, LeavesSource, LoadFails, MakesKey}
 use Rattle.sign_core.specs.Signer.{is_fault, is_store_failed, is_random_failed, is_out_of_memory, unreadable_slot}
-use Rattle.sign_core.specs.World.{Creation, Fate, Outcome, acked, answered, appended, begun, closed_on, created, cut, cut_new, cut_old, drawing}
-use Rattle.sign_core.specs.World.{new_key, no_memory, open_on, published, refused, secret_from}
+use Rattle.sign_core.specs.World.{Creation, Fate, Outcome, acked, answered, appended, closed_on, created, cut, cut_new, cut_old, drawing}
+use Rattle.sign_core.specs.inner.Cases.{begun}
+use Rattle.sign_core.specs.World.{new_key, no_memory, open_on, refused, secret_from}
+use Rattle.sign_core.specs.inner.Cases.{published}
 use Rattle.sign_core.specs.Textbook.{public_in}
 use Rattle.sign_core.proofs.Adding.{moments_kept, moments_left}
 use Rattle.sign_core.proofs.Drawing.{provides_none}

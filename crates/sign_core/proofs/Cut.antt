@@ -12,11 +12,16 @@ use Rattle.state_file.specs.declared.record.Secret.{Secret}
 use Rattle.sign_core.specs.declared.fault.SignFault.{SignFault}
 use Rattle.sign_core.specs.Records.{are_same, binding_in, deepest, has_identifier, has_moved, key_in, leaves_of_current, next_at, wanted_count, is_long}
 use Rattle.sign_core.specs.Textbook.{Trees, damaged_in, digest_at, public_in, tree_before, trees_of}
-use Rattle.sign_core.specs.World.{Chance, Creation, Draw, Fate, Outcome, State, acked, answered, appended, begun, bound_anew, bound_sound}
-use Rattle.sign_core.specs.World.{bound_with, created, created_after, drawing, reading}
-use Rattle.sign_core.specs.World.{cut_new, cut_old, extended, extended_by, extended_with, first_draw, fulfilled, new_key, no_memory, open_on}
-use Rattle.sign_core.specs.World.{published, randomizer_from}
-use Rattle.sign_core.specs.World.{refused, repeated, repeated_sound, requested_of, requested_under, retired_under, secret_from}
+use Rattle.sign_core.specs.World.{Chance, Creation, Draw, Fate, Outcome, State, acked, answered, appended}
+use Rattle.sign_core.specs.inner.Cases.{begun, bound_anew, bound_sound}
+use Rattle.sign_core.specs.World.{created, drawing, reading}
+use Rattle.sign_core.specs.inner.Cases.{bound_with, created_after}
+use Rattle.sign_core.specs.World.{cut_new, cut_old, first_draw, new_key, no_memory, open_on}
+use Rattle.sign_core.specs.inner.Cases.{extended, extended_by, extended_with, fulfilled}
+use Rattle.sign_core.specs.World.{randomizer_from}
+use Rattle.sign_core.specs.inner.Cases.{published}
+use Rattle.sign_core.specs.World.{refused, secret_from}
+use Rattle.sign_core.specs.inner.Cases.{repeated, repeated_sound, requested_of, requested_under, retired_under}
 use Rattle.sign_core.specs.Cuts.{CutLaw, IsOther, turned, turned_chance, turned_creation, turned_draw}
 use Rattle.sign_core.specs.Events.{IsTreeDraw}
 
@@ -96,9 +101,8 @@ whole_published state key records = elim (public_in key) as (λ public. (publish
 
 other_begun : (state : State) (chance : Creation) (secret : Option Secret) → IsOther (begun state chance secret) (begun state (turned_creation chance) secret)
 other_begun state chance None = same_outcome (refused state _) refl
-other_begun state chance (Some secret) = other_choice chance.has_room _ _ _ _
+other_begun state chance (Some secret) = other_choice (not chance.has_room) _ _ _ _ (same_outcome (refused state _) refl)
     (other_append state (KeyRecord (new_key chance.version secret)) chance.fate _ _ (λ records. same_outcome _ (whole_published state (new_key chance.version secret) records)))
-    (same_outcome (refused state _) refl)
 
 other_after : (failed : Option SignFault) (state : State) (spec : Spec) (chance : Creation)
     → IsOther (created_after failed state spec chance) (created_after failed state spec (turned_creation chance))

@@ -11,7 +11,8 @@ use Rattle.sign_core.specs.declared.fault.SignFault.TheVariants.{Damaged}
 use Rattle.sign_core.specs.Opened.{IsDamagedFor, IsFirstDamaged}
 use Rattle.sign_core.specs.Records.{are_same, binding_in, deepest, has_moved, key_in, wanted_count, is_long}
 use Rattle.sign_core.specs.Textbook.{chain, damaged_in, digest_at, is_sound_at, tree_before}
-use Rattle.sign_core.specs.World.{Chance, Outcome, State, bound_anew, bound_sound, repeated, repeated_sound, requested, requested_of, requested_under}
+use Rattle.sign_core.specs.World.{Chance, Outcome, State, requested}
+use Rattle.sign_core.specs.inner.Cases.{bound_anew, bound_sound, repeated, repeated_sound, requested_of, requested_under}
 use Rattle.sign_core.proofs.Ends.{ended_fulfilled, not_damaged}
 use Rattle.sign_core.proofs.OnceKept.{kept_choice}
 

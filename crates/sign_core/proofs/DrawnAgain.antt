@@ -20,10 +20,14 @@ use Rattle.sign_core.specs.AfterRefusal.{WantsRecords}
 use Rattle.sign_core.specs.Events.{AreDrawsOf, AreFields, IsTreeDraw, randomizer_sizes}
 use Rattle.sign_core.specs.Requests.{DrewAgain, bytes_drawn}
 use Rattle.sign_core.specs.Events.{tree_sizes}
-use Rattle.sign_core.specs.World.{Chance, Draw, Fate, Outcome, State, acked, answered, appended, bound_anew, bound_sound, bound_with}
-use Rattle.sign_core.specs.World.{cut_new, cut_old, drawing, extend_record, extended, extended_by, extended_with}
-use Rattle.sign_core.specs.World.{first_draw, fulfilled, later_draws, no_memory, open_on}
-use Rattle.sign_core.specs.World.{randomizer_from, reading, refused, repeated, repeated_sound, requested, requested_of, requested_under}
+use Rattle.sign_core.specs.World.{Chance, Draw, Fate, Outcome, State, acked, answered, appended}
+use Rattle.sign_core.specs.inner.Cases.{bound_anew, bound_sound, bound_with}
+use Rattle.sign_core.specs.World.{cut_new, cut_old, drawing, extend_record}
+use Rattle.sign_core.specs.inner.Cases.{extended, extended_by, extended_with}
+use Rattle.sign_core.specs.World.{first_draw, later_draws, no_memory, open_on}
+use Rattle.sign_core.specs.inner.Cases.{fulfilled}
+use Rattle.sign_core.specs.World.{randomizer_from, reading, refused, requested}
+use Rattle.sign_core.specs.inner.Cases.{repeated, repeated_sound, requested_of, requested_under}
 use Rattle.sign_core.specs.Textbook.{Trees, damaged_in, digest_at, lms_secret, tree_before, trees_of}
 use Rattle.sign_core.proofs.Fulfilled.{fields_drawn_before}
 use Rattle.sign_core.proofs.OnceKept.{kept_choice}

@@ -11,11 +11,16 @@ use Rattle.sign_core.specs.declared.fault.SignFault.TheVariants.{Changed, Damage
 use Rattle.sign_core.specs.declared.fault.SignFault.TheVariants.{RandomRepeated, Stopped, StoreFailed}
 use Rattle.sign_core.specs.declared.fault.SignFault.TheVariants.{Moved as MovedAway}
 use Rattle.sign_core.specs.Records.{are_same, binding_in, deepest, has_identifier, has_moved, key_in, next_at, wanted_count, is_long}
-use Rattle.sign_core.specs.World.{Chance, Draw, Fate, Outcome, State, acked, answered, appended, bound_anew, bound_sound, bound_with, cut}
-use Rattle.sign_core.specs.World.{cut_new, cut_old, drawing, extended}
-use Rattle.sign_core.specs.World.{extended_by, extended_with, first_draw, fulfilled, later_draws, no_memory, open_on, randomizer_from, reading}
-use Rattle.sign_core.specs.World.{refused, repeated, repeated_sound}
-use Rattle.sign_core.specs.World.{requested, requested_of, requested_under}
+use Rattle.sign_core.specs.World.{Chance, Draw, Fate, Outcome, State, acked, answered, appended, cut}
+use Rattle.sign_core.specs.inner.Cases.{bound_anew, bound_sound, bound_with}
+use Rattle.sign_core.specs.World.{cut_new, cut_old, drawing}
+use Rattle.sign_core.specs.inner.Cases.{extended}
+use Rattle.sign_core.specs.World.{first_draw, later_draws, no_memory, open_on, randomizer_from, reading}
+use Rattle.sign_core.specs.inner.Cases.{extended_by, extended_with, fulfilled}
+use Rattle.sign_core.specs.World.{refused}
+use Rattle.sign_core.specs.inner.Cases.{repeated, repeated_sound}
+use Rattle.sign_core.specs.World.{requested}
+use Rattle.sign_core.specs.inner.Cases.{requested_of, requested_under}
 use Rattle.sign_core.specs.Textbook.{Trees, damaged_in, digest_at, tree_before, trees_of}
 use Rattle.sign_core.proofs.OnceKept.{kept_choice}
 

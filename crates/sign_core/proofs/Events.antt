@@ -15,9 +15,12 @@ use Rattle.sign_core.specs.declared.key.AnyPublic.{AnyPublic}
 use Rattle.sign_core.specs.declared.fault.SignFault.{SignFault}
 use Rattle.sign_core.specs.Records.{can_follow, current, first_illegal, has_moved, key_in, leaves_of_current, next_at, next_of}
 use Rattle.sign_core.specs.Events.{AllEvents, AreFields, IsEvent, key_sizes}
-use Rattle.sign_core.specs.World.{Creation, Event, Fate, Handed, Opening, Outcome, State, World, acked, after, appended, beginning, begun}
-use Rattle.sign_core.specs.World.{create, created_after}
-use Rattle.sign_core.specs.World.{cut_new, cut_old, new_key, no_memory, opened_by, opened_on, published, reopen, request, retire, retired_under}
+use Rattle.sign_core.specs.World.{Creation, Event, Fate, Handed, Opening, Outcome, State, World, acked, after, appended, beginning}
+use Rattle.sign_core.specs.inner.Cases.{begun}
+use Rattle.sign_core.specs.World.{create}
+use Rattle.sign_core.specs.inner.Cases.{created_after}
+use Rattle.sign_core.specs.World.{cut_new, cut_old, new_key, no_memory, reopen, request, retire}
+use Rattle.sign_core.specs.inner.Cases.{opened_by, opened_on, published, retired_under}
 use Rattle.sign_core.specs.World.{run, secret_from, stop, migrate}
 use Rattle.sign_core.specs.Textbook.{HasSizes, SecretHasSizes, is_sound_at, public_in, root_by}
 use Rattle.sign_core.proofs.Illegal.{legal_alone}
@@ -79,9 +82,8 @@ after_begun state handed chance (Some secret) kept empty sizes =
     let first = kept_key chance.version secret handed (sizes secret refl) (subst (λ records. IsKept records handed) empty kept) in
     let more : IsKept (state.records ++ KeyRecord (new_key chance.version secret) ∷ []) handed =
     subst (λ records. IsKept (records ++ KeyRecord (new_key chance.version secret) ∷ []) handed) (sym empty) first in
-    after_choice handed chance.has_room _ _
+    after_choice handed (not chance.has_room) _ _ (λ none. kept)
     (λ room. after_append state handed (KeyRecord (new_key chance.version secret)) chance.fate _ kept more (after_published _ handed (public_in (new_key chance.version secret)) more))
-    (λ none. kept)
 
 after_created : (failed : Option SignFault) (state : State) (handed : List Handed) (spec : Spec) (chance : Creation) → IsSpec spec
     → AreFields (key_sizes spec) chance.fields

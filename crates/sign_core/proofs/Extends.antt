@@ -33,7 +33,8 @@ use Rattle.sign_core.specs.inner.Signer.{Adds, added}
 use Rattle.sign_core.specs.Signer.{Ends, IsTied, View, caching, is_before_draws, is_fault, is_of_append, is_out_of_memory, is_random_failed}
 use Rattle.sign_core.specs.Signer.{is_store_failed, state_of, view_of}
 use Rattle.sign_core.specs.inner.Signing.{DrawsTree, Extends, StandsIn}
-use Rattle.sign_core.specs.World.{Fate, Outcome, acked, answered, appended, cut_new, cut_old, drawing, extended, no_memory}
+use Rattle.sign_core.specs.World.{Fate, Outcome, acked, answered, appended, cut_new, cut_old, drawing, no_memory}
+use Rattle.sign_core.specs.inner.Cases.{extended}
 use Rattle.sign_core.specs.World.{open_on, refused}
 use Rattle.sign_core.specs.Textbook.{Trees, trees_of}
 use Rattle.sign_core.proofs.Appended.{after_draw, counts_answered, ends_alike, comes_after_draws, is_tried, no_draw_fails, same_fault}

@@ -10,7 +10,8 @@ use Rattle.sign_core.specs.declared.fault.SignFault.TheVariants.{RandomRepeated}
 use Rattle.sign_core.specs.Records.{has_identifier, next_at}
 use Rattle.sign_core.specs.Textbook.{Trees, lms_secret, trees_of}
 use Rattle.sign_core.specs.World.{Chance, Draw, Fate, Outcome, acked}
-use Rattle.sign_core.specs.World.{appended, drawing, extend_record, extended, extended_with, fulfilled, open_on, refused}
+use Rattle.sign_core.specs.World.{appended, drawing, extend_record, open_on, refused}
+use Rattle.sign_core.specs.inner.Cases.{extended, extended_with, fulfilled}
 
 -- bytes that are drawn one after the other
 pub drawing_twice : {A : Type 0} (a b : List ℕ) (outcome : Outcome A) → drawing a (drawing b outcome) ≡ drawing (a ++ b) outcome

@@ -23,7 +23,8 @@ use Rattle.sign_core.specs.Signer.{Ends, GrowsAlike, IsRead, KeepsStore, Refuses
 use Rattle.sign_core.specs.inner.Signing.{Does, Extends, Fulfils, IsReady}
 use Rattle.sign_core.specs.Textbook.{Trees, trees_of}
 use Rattle.sign_core.specs.World.{Chance, Draw, Fate, Outcome, acked, answered, appended, cut_new, cut_old, drawing, no_memory}
-use Rattle.sign_core.specs.World.{extended, extended_by, extended_with, fulfilled, open_on, refused}
+use Rattle.sign_core.specs.World.{open_on, refused}
+use Rattle.sign_core.specs.inner.Cases.{extended, extended_by, extended_with, fulfilled}
 use Rattle.sign_core.proofs.Draws.{gives_both}
 use Rattle.sign_core.proofs.Bindings.{binding_other}
 use Rattle.sign_core.proofs.Fulfilled.{drawing_twice}

@@ -14,13 +14,18 @@ use Rattle.sign_core.specs.declared.fault.SignFault.{SignFault}
 use Rattle.sign_core.specs.Records.{are_same, binding_in, deepest, first_illegal, has_identifier, has_moved, key_in, leaves_of_current, next_at, is_long}
 use Rattle.sign_core.specs.Records.{wanted_count}
 use Rattle.sign_core.specs.Textbook.{Trees, damaged_in, digest_at, public_in, tree_before, trees_of}
-use Rattle.sign_core.specs.World.{Chance, Creation, Draw, Event, Fate, Opening, Outcome, State, World, acked, after, appended, begun, bound_anew}
-use Rattle.sign_core.specs.World.{bound_sound, bound_with}
-use Rattle.sign_core.specs.World.{create, created, created_after, cut_new, cut_old, extended, extended_by, extended_with, first_draw, fulfilled}
+use Rattle.sign_core.specs.World.{Chance, Creation, Draw, Event, Fate, Opening, Outcome, State, World, acked, after, appended}
+use Rattle.sign_core.specs.inner.Cases.{begun, bound_anew}
+use Rattle.sign_core.specs.inner.Cases.{bound_sound, bound_with}
+use Rattle.sign_core.specs.World.{create, created, cut_new, cut_old, first_draw}
+use Rattle.sign_core.specs.inner.Cases.{created_after, extended, extended_by, extended_with, fulfilled}
 use Rattle.sign_core.specs.World.{later_draws}
-use Rattle.sign_core.specs.World.{new_key, no_memory, open_on, opened, opened_by, opened_on, published, randomizer_from, reopen, repeated}
-use Rattle.sign_core.specs.World.{repeated_sound, request}
-use Rattle.sign_core.specs.World.{requested_of, requested_under, retire, retired, retired_under, run, secret_from, stop, migrate}
+use Rattle.sign_core.specs.World.{new_key, no_memory, open_on, opened, randomizer_from, reopen}
+use Rattle.sign_core.specs.inner.Cases.{opened_by, opened_on, published, repeated}
+use Rattle.sign_core.specs.World.{request}
+use Rattle.sign_core.specs.inner.Cases.{repeated_sound}
+use Rattle.sign_core.specs.World.{retire, retired, run, secret_from, stop, migrate}
+use Rattle.sign_core.specs.inner.Cases.{requested_of, requested_under, retired_under}
 use Rattle.sign_core.specs.Lasting.{IsCarriedInto, IsNoMigration, LastingLaw, LastsInto, lasting}
 use Rattle.sign_core.specs.World.{Migration, carried_over, left_alone, migrated_to, sealed}
 use Rattle.sign_core.proofs.Migrating.{front_of, migrated_has}
@@ -62,9 +67,8 @@ grown_published records None = unchanged records
 
 grown_begun : (state : State) (chance : Creation) (secret : Option Secret) → Grown state.records (begun state chance secret)
 grown_begun state chance None = unchanged state.records
-grown_begun state chance (Some secret) = grown_choice state.records chance.has_room _ _
+grown_begun state chance (Some secret) = grown_choice state.records (not chance.has_room) _ _ (unchanged state.records)
     (grown_append state (KeyRecord (new_key chance.version secret)) chance.fate _ (λ records. grown_published records (public_in (new_key chance.version secret))))
-    (unchanged state.records)
 
 grown_created : (failed : Option SignFault) (state : State) (spec : Spec) (chance : Creation) → Grown state.records (created_after failed state spec chance)
 grown_created (Some fault) state spec chance = unchanged state.records

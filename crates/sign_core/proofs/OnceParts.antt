@@ -23,11 +23,16 @@ use Rattle.sign_core.specs.Openings.{BeginsKey, Reopens}
 use Rattle.sign_core.specs.Events.{CanStopOpening}
 use Rattle.sign_core.specs.Headline.{IsBoundTo}
 use Rattle.sign_core.specs.Once.{IsOnce}
-use Rattle.sign_core.specs.World.{Chance, Creation, Handed, Opening, Fate, Outcome, State, World, acked, after, answered, appended, bound_anew, bound_sound, cut_new, cut_old, no_memory}
-use Rattle.sign_core.specs.World.{retired, retired_under}
-use Rattle.sign_core.specs.World.{fulfilled, handed_with, new_key, open_on, opened}
-use Rattle.sign_core.specs.World.{opened_by, opened_on, published, reading, refused, repeated, repeated_sound, request, requested, requested_of}
-use Rattle.sign_core.specs.World.{requested_under, secret_from}
+use Rattle.sign_core.specs.World.{Chance, Creation, Handed, Opening, Fate, Outcome, State, World, acked, after, answered, appended, cut_new, cut_old, no_memory}
+use Rattle.sign_core.specs.inner.Cases.{bound_anew, bound_sound}
+use Rattle.sign_core.specs.World.{retired}
+use Rattle.sign_core.specs.inner.Cases.{retired_under}
+use Rattle.sign_core.specs.World.{handed_with, new_key, open_on, opened}
+use Rattle.sign_core.specs.inner.Cases.{fulfilled}
+use Rattle.sign_core.specs.World.{reading, refused, request, requested}
+use Rattle.sign_core.specs.inner.Cases.{opened_by, opened_on, published, repeated, repeated_sound, requested_of}
+use Rattle.sign_core.specs.World.{secret_from}
+use Rattle.sign_core.specs.inner.Cases.{requested_under}
 use Rattle.sign_core.specs.Textbook.{AreSound, damaged_in, digest_at, public_in, signature_at, tree_before}
 use Rattle.sign_core.proofs.Illegal.{none_from_legal}
 use Rattle.sign_core.proofs.Opened.{reopens}

@@ -24,10 +24,14 @@ use Rattle.sign_core.specs.Headline.{IsBoundTo, IsValidUnder, public_of_key}
 use Rattle.sign_core.specs.Openings.{Reopens}
 use Rattle.sign_core.specs.Opened.{AreWellFormed, IsValidOver, OpenedLaw}
 use Rattle.sign_core.specs.World.{Chance, Creation, Draw, Event, Fate, Handed, Opening, Outcome, State, World, acked, after, appended}
-use Rattle.sign_core.specs.World.{begun, bound_anew, bound_sound, bound_with, create, created_after, cut_new, cut_old, drawing, extended, extended_by, extended_with}
-use Rattle.sign_core.specs.World.{first_draw, fulfilled, handed_with, later_draws, new_bound, no_memory, open_on, opened_by, opened_on, published}
-use Rattle.sign_core.specs.World.{randomizer_from, refused, reopen, repeated, repeated_sound, request, requested, requested_of, requested_under, retire}
-use Rattle.sign_core.specs.World.{retired_under, run, secret_from, stop, migrate}
+use Rattle.sign_core.specs.World.{create, cut_new, cut_old, drawing}
+use Rattle.sign_core.specs.inner.Cases.{begun, bound_anew, bound_sound, bound_with, created_after, extended, extended_by, extended_with}
+use Rattle.sign_core.specs.World.{first_draw, handed_with, later_draws, new_bound, no_memory, open_on}
+use Rattle.sign_core.specs.inner.Cases.{fulfilled, opened_by, opened_on, published}
+use Rattle.sign_core.specs.World.{randomizer_from, refused, reopen, request, requested, retire}
+use Rattle.sign_core.specs.inner.Cases.{repeated, repeated_sound, requested_of, requested_under}
+use Rattle.sign_core.specs.World.{run, secret_from, stop, migrate}
+use Rattle.sign_core.specs.inner.Cases.{retired_under}
 use Rattle.sign_core.specs.Textbook.{Trees, damaged_in, digest_at, public_in, signature_at, tree_before, trees_of}
 use Rattle.sign_core.proofs.Damage.{names_damaged}
 use Rattle.sign_core.proofs.Events.{retire_can}

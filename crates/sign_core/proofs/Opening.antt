@@ -25,7 +25,8 @@ use Rattle.sign_core.specs.Signer.{IsTied, LeavesOld, LoadsAll, RefusesToOpen, S
 use Rattle.sign_core.specs.Signer.{GoesTo, slots_below}
 use Rattle.sign_core.specs.inner.Ledger.{LacksRoom}
 use Rattle.sign_core.specs.Ledger.{RunsOutOfMemory, Table}
-use Rattle.sign_core.specs.World.{answered, closed_on, open_on, opened, opened_by, opened_on, published, refused}
+use Rattle.sign_core.specs.World.{answered, closed_on, open_on, opened, refused}
+use Rattle.sign_core.specs.inner.Cases.{opened_by, opened_on, published}
 use Rattle.sign_core.specs.Textbook.{HasSizes, SecretHasSizes, public_in}
 use Rattle.sign_core.proofs.Adding.{LeavesItsList, length_one_more, some_records}
 use Rattle.sign_core.proofs.Follow.{key_stays}

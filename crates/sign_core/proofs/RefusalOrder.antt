@@ -24,11 +24,15 @@ use Rattle.sign_core.specs.Records.{are_same, binding_in, deepest, first_illegal
 use Rattle.sign_core.specs.Records.{wanted_count}
 use Rattle.sign_core.specs.Textbook.{AllHaveSizes, Trees, damaged_in, digest_at, lms_secret, public_in, signature_at, tree_before, trees_of}
 use Rattle.sign_core.specs.Events.{AreDrawsOf, AreFields, IsTreeDraw, key_sizes, randomizer_sizes, tree_sizes}
-use Rattle.sign_core.specs.World.{Chance, Creation, Draw, Fate, Opening, Outcome, State, acked, answered, appended, begun, bound_anew, bound_sound, bound_with, drawing}
+use Rattle.sign_core.specs.World.{Chance, Creation, Draw, Fate, Opening, Outcome, State, acked, answered, appended, drawing}
+use Rattle.sign_core.specs.inner.Cases.{begun, bound_anew, bound_sound, bound_with}
 use Rattle.sign_core.specs.World.{new_bound}
-use Rattle.sign_core.specs.World.{created_after, cut_new, cut_old, extend_record, extended, extended_by, extended_with, first_draw, fulfilled}
-use Rattle.sign_core.specs.World.{later_draws, no_memory, open_on, opened_by, opened_on, published, randomizer_from, refused, repeated, repeated_sound}
-use Rattle.sign_core.specs.World.{requested, requested_of, requested_under, retired, retired_under, secret_from, new_key}
+use Rattle.sign_core.specs.World.{cut_new, cut_old, extend_record, first_draw}
+use Rattle.sign_core.specs.inner.Cases.{created_after, extended, extended_by, extended_with, fulfilled}
+use Rattle.sign_core.specs.World.{later_draws, no_memory, open_on, randomizer_from, refused}
+use Rattle.sign_core.specs.inner.Cases.{opened_by, opened_on, published, repeated, repeated_sound}
+use Rattle.sign_core.specs.World.{requested, retired, secret_from, new_key}
+use Rattle.sign_core.specs.inner.Cases.{requested_of, requested_under, retired_under}
 use Rattle.sign_core.specs.RefusalOrder.{AfterAppend, BeginsWith, IsIllegalFirst, IsUnsound, Of, RefusalLaw, RefuseAlike, RefusesAt}
 use Rattle.sign_core.specs.RefusalOrder.{RefusesCreate, RefusesName, RefusesNew, RefusesOpening, RefusesRecord, RefusesRepeat, RefusesRequest}
 use Rattle.sign_core.specs.RefusalOrder.{RefusesRetire, RefusesTree, RefusesWanted, Unless, WhereOpen}
@@ -358,7 +362,7 @@ all_drawn (XmssSpec tree) (a ∷ b ∷ []) secret is few = absurd (cc (is))
 all_drawn (XmssSpec tree) (a ∷ b ∷ c ∷ rest) secret is few = omega (arith, few)
 
 by_room : {A : Type 0} {Rest : Result A SignFault → Type 0} (test : Bool) (state : State) (rest : Outcome A) → Rest rest.answer
-    → Unless (Of OutOfMemory (test ≡ false)) Rest (if test then rest else refused state OutOfMemory).answer
+    → Unless (Of OutOfMemory (test ≡ false)) Rest (if not test then refused state OutOfMemory else rest).answer
 by_room true state rest more = is_absent OutOfMemory (λ is. absurd (true≢false is)) more
 by_room false state rest more = is_there OutOfMemory refl refl
 

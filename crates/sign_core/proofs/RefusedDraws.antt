@@ -14,8 +14,10 @@ use Rattle.sign_core.specs.AfterRefusal.{AreDrawnFor, IsRefusal}
 use Rattle.sign_core.specs.Requests.{bytes_drawn}
 use Rattle.sign_core.specs.Records.{has_identifier, next_at}
 use Rattle.sign_core.specs.Textbook.{Trees, lms_secret, trees_of}
-use Rattle.sign_core.specs.World.{Chance, Draw, Fate, Outcome, acked, appended, bound_with, cut_new, cut_old, drawing}
-use Rattle.sign_core.specs.World.{extend_record, extended, extended_by, extended_with, first_draw, fulfilled, no_memory}
+use Rattle.sign_core.specs.World.{Chance, Draw, Fate, Outcome, acked, appended, cut_new, cut_old, drawing}
+use Rattle.sign_core.specs.inner.Cases.{bound_with}
+use Rattle.sign_core.specs.World.{extend_record, first_draw, no_memory}
+use Rattle.sign_core.specs.inner.Cases.{extended, extended_by, extended_with, fulfilled}
 use Rattle.sign_core.specs.World.{open_on, randomizer_from, refused}
 use Rattle.sign_core.proofs.Fulfilled.{fields_drawn, fields_drawn_before}
 use Rattle.sign_core.proofs.OnceKept.{kept_choice}

@@ -29,7 +29,8 @@ use Rattle.sign_core.specs.Signer.{View, is_before_repeat, is_fault, signature_s
 use Rattle.sign_core.specs.inner.Signing.{IsBindingOf, Repeats, WritesChain, repeat_chance}
 use Rattle.sign_core.specs.Signing.{IsXmssKey}
 use Rattle.sign_core.specs.Ledger.{kept_of}
-use Rattle.sign_core.specs.World.{Outcome, State, refused, repeated_sound, requested_of}
+use Rattle.sign_core.specs.World.{Outcome, State, refused}
+use Rattle.sign_core.specs.inner.Cases.{repeated_sound, requested_of}
 use Rattle.sign_core.specs.Textbook.{Trees, damaged_in, digest_at, secret_at, signature_at, signings_above, tree_before, trees_of}
 use Rattle.sign_core.proofs.Bindings.{binding_stands}
 use Rattle.sign_core.proofs.Refusals.{never_such}

@@ -10,9 +10,12 @@ use Rattle.sign_core.specs.declared.fault.SignFault.TheVariants.{Changed, Damage
 use Rattle.sign_core.specs.declared.fault.SignFault.TheVariants.{RandomFailed, RandomRepeated, Stopped}
 use Rattle.sign_core.specs.Records.{are_same, binding_in, deepest, has_identifier, has_moved, key_in, next_at, wanted_count, is_long}
 use Rattle.sign_core.specs.Textbook.{Trees, damaged_in, digest_at, tree_before, trees_of}
-use Rattle.sign_core.specs.World.{Chance, Draw, Fate, Outcome, State, acked, answered, appended, bound_anew, bound_sound, bound_with, cut_new, cut_old}
-use Rattle.sign_core.specs.World.{extended, extended_by, extended_with, first_draw, fulfilled, later_draws, no_memory, open_on, randomizer_from, reading}
-use Rattle.sign_core.specs.World.{refused, repeated, repeated_sound, requested, requested_of, requested_under}
+use Rattle.sign_core.specs.World.{Chance, Draw, Fate, Outcome, State, acked, answered, appended, cut_new, cut_old}
+use Rattle.sign_core.specs.inner.Cases.{bound_anew, bound_sound, bound_with}
+use Rattle.sign_core.specs.World.{first_draw, later_draws, no_memory, open_on, randomizer_from, reading}
+use Rattle.sign_core.specs.inner.Cases.{extended, extended_by, extended_with, fulfilled}
+use Rattle.sign_core.specs.World.{refused, requested}
+use Rattle.sign_core.specs.inner.Cases.{repeated, repeated_sound, requested_of, requested_under}
 use Rattle.sign_core.proofs.OnceKept.{kept_choice}
 
 pub record IsReported (given : Option (List ℕ)) (outcome : Outcome (List ℕ)) : Type 0 where

@@ -25,9 +25,12 @@ use Rattle.sign_core.specs.Records.{is_free, key_in, next_at, next_in, next_of}
 use Rattle.sign_core.specs.Records.{wanted_count}
 use Rattle.sign_core.specs.Events.{AreDraws, AreFields, IsTreeDraw, tree_sizes}
 use Rattle.sign_core.specs.Headline.{IsBoundTo, IsRecorded}
-use Rattle.sign_core.specs.World.{Chance, Draw, Fate, Handed, Outcome, State, bound_anew, bound_sound, bound_with, extend_record, extended}
-use Rattle.sign_core.specs.World.{extended_by, extended_with, first_draw, fulfilled}
-use Rattle.sign_core.specs.World.{later_draws, new_bound, open_on, randomizer_from, repeated, repeated_sound, requested, requested_of, requested_under}
+use Rattle.sign_core.specs.World.{Chance, Draw, Fate, Handed, Outcome, State, extend_record}
+use Rattle.sign_core.specs.inner.Cases.{bound_anew, bound_sound, bound_with, extended}
+use Rattle.sign_core.specs.World.{first_draw}
+use Rattle.sign_core.specs.inner.Cases.{extended_by, extended_with, fulfilled}
+use Rattle.sign_core.specs.World.{later_draws, new_bound, open_on, randomizer_from, requested}
+use Rattle.sign_core.specs.inner.Cases.{repeated, repeated_sound, requested_of, requested_under}
 use Rattle.sign_core.specs.Textbook.{HasSizes, Trees, damaged_in, digest_at, is_sound_extend, lms_secret, secret_at, signature_at, tree_before, trees_of}
 use Rattle.sign_core.proofs.Append.{current_new, next_new, some_leaves}
 use Rattle.sign_core.proofs.Bindings.{binding_new, binding_other}

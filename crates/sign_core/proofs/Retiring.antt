@@ -19,7 +19,8 @@ use Rattle.sign_core.specs.Records.{has_moved, key_in, leaves_of_current, next_a
 use Rattle.sign_core.specs.Cuts.{IsBeginning}
 use Rattle.sign_core.specs.inner.Signer.{Hinders, added}
 use Rattle.sign_core.specs.Signer.{IsSigner, IsTied, Retires, View, is_out_of_memory, is_store_failed, state_of}
-use Rattle.sign_core.specs.World.{Fate, Outcome, State, acked, answered, refused, retired, retired_under}
+use Rattle.sign_core.specs.World.{Fate, Outcome, State, acked, answered, refused, retired}
+use Rattle.sign_core.specs.inner.Cases.{retired_under}
 use Rattle.sign_core.proofs.Adding.{LeavesItsList}
 
 -- a retiring, by what hinders it

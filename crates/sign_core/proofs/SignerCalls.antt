@@ -1,7 +1,7 @@
 -- The calls of a signer over an honest store are calls of the world's.
 use Rattle.std.proofs.Common.{◌≡◌, ◌∙◌, refl, sym, ap, subst, ℕ, inl, inr, Bool, true, false, List, [], ◌∷◌, ◌++◌, length, take, Option, Some, None}
 use Rattle.std.proofs.Common.{Result, Ok, Err, append-nil, arith, true≢false}
-use Rattle.std.specs.Prelude.{IsSome, IsTrue, if◌then◌else◌, nat_le, nat_lt}
+use Rattle.std.specs.Prelude.{IsSome, IsTrue, if◌then◌else◌, nat_le, nat_lt, not}
 use Rattle.std.proofs.lemmas.Bool.{le-ltb}
 use Rattle.std.proofs.lemmas.List.{take_all}
 use Rattle.typecodes.specs.declared.message.Message as message
@@ -32,8 +32,10 @@ use Rattle.sign_core.specs.Signer.{Creates, IsAnswered, IsRead, IsSigner, LoadFa
 use Rattle.sign_core.specs.Signer.{state_of, store_after}
 use Rattle.sign_core.specs.SignerCalls.{AreClosed, HandsOut, IsAfter, IsEventOf, IsOpenSigner, IsRefusedCall, IsRefusedOpening, IsRunning, OpensIn, OpensInWorld, RetiresInWorld, SignerLaw, SignsInWorld, world_of}
 use Rattle.sign_core.specs.Textbook.{public_in}
-use Rattle.sign_core.specs.World.{Chance, Creation, Event, Fate, Handed, Opening, Outcome, State, World, acked, after, appended, begun, closed_on, create, created}
-use Rattle.sign_core.specs.World.{created_after, cut_new, cut_old, handed_with, new_key, no_memory, opened, opened_by, opened_on, published, refused}
+use Rattle.sign_core.specs.World.{Chance, Creation, Event, Fate, Handed, Opening, Outcome, State, World, acked, after, appended, closed_on, create, created}
+use Rattle.sign_core.specs.inner.Cases.{begun}
+use Rattle.sign_core.specs.World.{cut_new, cut_old, handed_with, new_key, no_memory, opened, refused}
+use Rattle.sign_core.specs.inner.Cases.{created_after, opened_by, opened_on, published}
 use Rattle.sign_core.specs.World.{reopen, request, requested, retire, retired, secret_from}
 use Rattle.sign_core.proofs.Acknowledged.{open_acknowledged}
 use Rattle.sign_core.proofs.Adding.{LeavesItsList}
@@ -217,9 +219,8 @@ open_append records entry no_memory next later = open_refused records OutOfMemor
 
 open_begun : (records : List Record) (chance : Creation) (secret : Option Secret) → OpenBy (begun (closed_on records) chance secret)
 open_begun records chance None = open_refused records RandomFailed
-open_begun records chance (Some secret) = open_choice chance.has_room _ _
+open_begun records chance (Some secret) = open_choice (not chance.has_room) _ _ (open_refused records OutOfMemory)
     (open_append records (KeyRecord (new_key chance.version secret)) chance.fate _ (λ all. open_published all (public_in (new_key chance.version secret))))
-    (open_refused records OutOfMemory)
 
 open_created : (failed : Option SignFault) (records : List Record) (spec : Spec) (chance : Creation) → OpenBy (created_after failed (closed_on records) spec chance)
 open_created (Some fault) records spec chance = open_refused records fault

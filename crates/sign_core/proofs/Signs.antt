@@ -30,7 +30,8 @@ use Rattle.sign_core.specs.Signer.{IsRead, IsSigner, IsTied, KeepsAll, KeepsForR
 use Rattle.sign_core.specs.Signer.{is_before_caches, is_before_repeat, is_fault, is_random_failed, is_store_failed, state_of}
 use Rattle.sign_core.specs.inner.Signing.{Binds, Fulfils, IsBindingOf, IsReady, Repeats, repeat_chance}
 use Rattle.sign_core.specs.Ledger.{kept_of}
-use Rattle.sign_core.specs.World.{Chance, Outcome, State, bound_anew, bound_sound, reading, refused, repeated, repeated_sound, requested, requested_of, requested_under}
+use Rattle.sign_core.specs.World.{Chance, Outcome, State, reading, refused, requested}
+use Rattle.sign_core.specs.inner.Cases.{bound_anew, bound_sound, repeated, repeated_sound, requested_of, requested_under}
 use Rattle.sign_core.specs.Textbook.{damaged_in, digest_at, tree_before}
 use Rattle.sign_core.proofs.Adding.{LeavesItsList}
 use Rattle.sign_core.proofs.Refusals.{after_caches, before_repeat, keeps_at_all, keeps_after_draws, same_view}

@@ -15,11 +15,16 @@ use Rattle.sign_core.specs.declared.fault.SignFault.TheVariants.{StoreFailed}
 use Rattle.sign_core.specs.declared.key.AnyPublic.{AnyPublic}
 use Rattle.sign_core.specs.Records.{are_same, binding_in, deepest, has_identifier, has_moved, key_in, leaves_of_current, next_at, wanted_count, is_long}
 use Rattle.sign_core.specs.Textbook.{Trees, damaged_in, digest_at, public_in, tree_before, trees_of}
-use Rattle.sign_core.specs.World.{Chance, Creation, Draw, Fate, Outcome, State, acked, answered, appended, begun, bound_anew, bound_sound}
-use Rattle.sign_core.specs.World.{bound_with, closed_on, created, created_after, drawing, later_draws, reading}
-use Rattle.sign_core.specs.World.{cut_new, cut_old, extended, extended_by, extended_with, first_draw, fulfilled, new_key, no_memory, open_on}
-use Rattle.sign_core.specs.World.{published, randomizer_from}
-use Rattle.sign_core.specs.World.{refused, repeated, repeated_sound, requested_of, requested_under, retired_under, secret_from}
+use Rattle.sign_core.specs.World.{Chance, Creation, Draw, Fate, Outcome, State, acked, answered, appended}
+use Rattle.sign_core.specs.inner.Cases.{begun, bound_anew, bound_sound}
+use Rattle.sign_core.specs.World.{closed_on, created, drawing, later_draws, reading}
+use Rattle.sign_core.specs.inner.Cases.{bound_with, created_after}
+use Rattle.sign_core.specs.World.{cut_new, cut_old, first_draw, new_key, no_memory, open_on}
+use Rattle.sign_core.specs.inner.Cases.{extended, extended_by, extended_with, fulfilled}
+use Rattle.sign_core.specs.World.{randomizer_from}
+use Rattle.sign_core.specs.inner.Cases.{published}
+use Rattle.sign_core.specs.World.{refused, secret_from}
+use Rattle.sign_core.specs.inner.Cases.{repeated, repeated_sound, requested_of, requested_under, retired_under}
 use Rattle.sign_core.specs.Cuts.{IsBeginning, IsLeftBy, StopLaw, reached}
 use Rattle.sign_core.specs.Events.{IsTreeDraw}
 use Rattle.sign_core.specs.World.{World, create, handed_with, request, requested, retire, retired, stop}
@@ -140,10 +145,10 @@ stops_published records None ways = refuses (closed_on records) _ ways
 stops_begun : (state : State) (chance : Creation) (secret : Option Secret)
     → Stops state.records (begun state chance secret) (OneCut {I = Fate × Unit {0}} (λ i unused. begun state (fated chance i.0) secret))
 stops_begun state chance None = refuses state _ _
-stops_begun state chance (Some secret) = stops_choice {I = Fate × Unit {0}} state.records chance.has_room _ _ _ _
+stops_begun state chance (Some secret) = stops_choice {I = Fate × Unit {0}} state.records (not chance.has_room) _ _ _ _
+    (refuses state _ _)
     (stops_append tt state (KeyRecord (new_key chance.version secret)) chance.fate _ (λ i unused records. published records (public_in (new_key chance.version secret)))
     (λ records. stops_published records (public_in (new_key chance.version secret)) _))
-    (refuses state _ _)
 
 stops_after : (failed : Option SignFault) (state : State) (spec : Spec) (chance : Creation)
     → Stops state.records (created_after failed state spec chance)

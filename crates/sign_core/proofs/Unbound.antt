@@ -13,9 +13,12 @@ use Rattle.sign_core.specs.declared.fault.SignFault.TheVariants.{Moved as MovedA
 use Rattle.sign_core.specs.Retirings.{IsActive, IsBeyondNext}
 use Rattle.sign_core.specs.Records.{binding_in, has_identifier, has_moved, key_in, leaves_of_current, next_at}
 use Rattle.sign_core.specs.Textbook.{Trees, lms_secret, trees_of}
-use Rattle.sign_core.specs.World.{Chance, Draw, Fate, Outcome, State, acked, answered, appended, bound_with, cut_new, cut_old, extend_record}
-use Rattle.sign_core.specs.World.{extended, extended_by, extended_with, first_draw, fulfilled, later_draws, no_memory, open_on, randomizer_from, refused}
-use Rattle.sign_core.specs.World.{requested, retired, retired_under}
+use Rattle.sign_core.specs.World.{Chance, Draw, Fate, Outcome, State, acked, answered, appended, cut_new, cut_old, extend_record}
+use Rattle.sign_core.specs.inner.Cases.{bound_with}
+use Rattle.sign_core.specs.World.{first_draw, later_draws, no_memory, open_on, randomizer_from, refused}
+use Rattle.sign_core.specs.inner.Cases.{extended, extended_by, extended_with, fulfilled}
+use Rattle.sign_core.specs.World.{requested, retired}
+use Rattle.sign_core.specs.inner.Cases.{retired_under}
 use Rattle.sign_core.proofs.Bindings.{binding_other}
 use Rattle.sign_core.proofs.DrawnAgain.{IsSettled, settled_repeated, settled_under}
 use Rattle.sign_core.proofs.OnceKept.{kept_choice}

@@ -2,7 +2,7 @@
 -- handed out.
 use Rattle.std.specs.Prelude.{ℕ, zero, suc, ◌+◌, ◌-◌, Bool, true, false, not, ◌&&◌, List, [], ◌∷◌, ◌++◌, length}
 use Rattle.std.specs.Prelude.{replicate, slice_index_or}
-use Rattle.std.specs.Prelude.{Option, Some, None, Result, Ok, Err, nat_le, nat_lt, if◌then◌else◌}
+use Rattle.std.specs.Prelude.{Option, Some, None, option_map, Result, Ok, Err, nat_le, nat_lt, if◌then◌else◌}
 use Rattle.std.specs.List.{concat}
 use Rattle.typecodes.specs.declared.spec.Spec.{Spec}
 use Rattle.typecodes.specs.declared.spec.Spec.TheVariants.{Lms as LmsSpec, Hss as HssSpec, Xmss as XmssSpec}
@@ -105,6 +105,73 @@ appended state entry cut_old next = cut state.records entry state.records
 appended state entry cut_new next = cut state.records entry (state.records ++ entry ∷ [])
 appended state entry no_memory next = refused state OutOfMemory
 
+-- ---- steps
+
+-- A step of an event finds a state, and goes on with a value and a state to what comes next; or it ends the event.
+abbrev pub Step : (B A : Type 0) → Type 0
+Step B A = State → (A → State → Outcome B) → Outcome B
+
+infixl 10 ◌>>=◌
+abbrev pub ◌>>=◌ : {B A C : Type 0} → Step B A → (A → Step B C) → Step B C
+(first >>= next) state rest = first state (λ a later. next a later rest)
+
+infixl 10 ◌>>◌
+abbrev pub ◌>>◌ : {B A C : Type 0} → Step B A → Step B C → Step B C
+(first >> next) state rest = first state (λ a later. next later rest)
+
+-- an event is its steps, and answers what they give
+abbrev pub event : {A : Type 0} → Step A A → State → Outcome A
+event steps state = steps state (λ a later. answered later a)
+
+abbrev pub give : {B A : Type 0} → A → Step B A
+give a state rest = rest a state
+
+abbrev pub the_state : {B : Type 0} → Step B State
+the_state state rest = rest state state
+
+abbrev pub the_records : {B : Type 0} → Step B (List Record)
+the_records state rest = rest state.records state
+
+-- what there is, or a refusal where there is none
+abbrev pub some_or : {B A : Type 0} → SignFault → Option A → Step B A
+some_or fault None state rest = refused state fault
+some_or fault (Some a) state rest = rest a state
+
+abbrev pub refuse_if : {B : Type 0} → SignFault → Bool → Step B (Unit {0})
+refuse_if fault wrong state rest = if wrong then refused state fault else rest tt state
+
+abbrev pub refuse_unless : {B : Type 0} → SignFault → Bool → Step B (Unit {0})
+refuse_unless fault right state rest = if not right then refused state fault else rest tt state
+
+-- the event ends here with this answer, or it goes on
+abbrev pub answer_if : {B : Type 0} → B → Bool → Step B (Unit {0})
+answer_if answer done state rest = if done then answered state answer else rest tt state
+
+-- a refusal that there is, if there is one
+abbrev pub refuse_with : {B : Type 0} → Option SignFault → Step B (Unit {0})
+refuse_with (Some fault) state rest = refused state fault
+refuse_with None state rest = rest tt state
+
+-- the signer is closed, or open, from here on
+abbrev pub close : {B : Type 0} → Step B (Unit {0})
+close state rest = rest tt (closed_on state.records)
+
+abbrev pub open_signer : {B : Type 0} → Step B (Unit {0})
+open_signer state rest = rest tt (open_on state.records)
+
+-- Fields are drawn, and made into something; or the source gave others than this takes.
+abbrev pub draw : {B A : Type 0} → (made : Option A) → (fields : List (List ℕ)) → Step B A
+draw made fields state rest = drawing (concat fields) (some_or RandomFailed made state rest)
+
+-- the message is read, or its reader failed
+abbrev pub read : {B : Type 0} → Option (List ℕ) → Step B (List ℕ)
+read None state rest = reading (refused state MessageRead)
+read (Some message) state rest = reading (rest message state)
+
+-- a record is appended, by which the signer is open on the new records
+abbrev pub append : {B : Type 0} → Record → Fate → Step B (Unit {0})
+append entry fate state rest = appended state entry fate (λ records. rest tt (open_on records))
+
 -- ---- create
 
 -- A create's version, and what chance decides in it: what the load of record 0 failed with, if it failed; the fields
@@ -130,28 +197,25 @@ secret_from (XmssSpec tree) fields = None
 abbrev pub new_key : Version → Secret → Key
 new_key version secret = record { version = version; secret = secret; root = root_by secret }
 
--- the public key of record 0, where it is one
-abbrev pub published : List Record → Option AnyPublic → Outcome AnyPublic
-published records (Some public) = answered (open_on records) public
-published records None = refused (closed_on records) NoKey
-
-abbrev pub begun : State → Creation → Option Secret → Outcome AnyPublic
-begun state chance None = refused state RandomFailed
-begun state chance (Some secret) =
-    if chance.has_room
-    then (let key = new_key chance.version secret in
-    appended state (KeyRecord key) chance.fate (λ records. published records (public_in key)))
-    else refused state OutOfMemory
-
-abbrev pub created_after : Option SignFault → State → Spec → Creation → Outcome AnyPublic
-created_after (Some fault) state spec chance = refused state fault
-created_after None state spec chance =
-    if nat_le 1 (length state.records) then refused state KeyThere
-    else drawing (concat chance.fields) (begun state chance (secret_from spec chance.fields))
+-- The public key of record 0 is given, and the signer is open; where record 0 is no key, the signer is closed.
+abbrev pub publish : Option AnyPublic → Step AnyPublic AnyPublic
+publish public = do
+  close
+  known ← some_or NoKey public
+  open_signer
+  give known
 
 -- A create: it begins a key where no record stands.
 abbrev pub created : State → Spec → Creation → Outcome AnyPublic
-created state spec chance = created_after chance.failed_load state spec chance
+created state spec chance = event (do
+  refuse_with chance.failed_load
+  records ← the_records
+  refuse_if KeyThere (nat_le 1 (length records))
+  secret ← draw (secret_from spec chance.fields) chance.fields
+  refuse_unless OutOfMemory chance.has_room
+  key ← give (new_key chance.version secret)
+  append (KeyRecord key) chance.fate
+  publish (public_in key)) state
 
 -- ---- open
 
@@ -159,20 +223,21 @@ created state spec chance = created_after chance.failed_load state spec chance
 abbrev pub Opening : Type 0
 Opening = Option (ℕ × SignFault)
 
--- the key of legal records
-abbrev pub opened_on : List Record → Option Key → Outcome AnyPublic
-opened_on records None = refused (closed_on records) NoKey
-opened_on records (Some key) = published records (public_in key)
-
-abbrev pub opened_by : State → Opening → (illegal : Option ℕ) → Outcome AnyPublic
-opened_by state None None = opened_on state.records (key_in state.records)
-opened_by state None (Some k) = refused state (Illegal k)
-opened_by state (Some (slot, fault)) None = refused state fault
-opened_by state (Some (slot, fault)) (Some k) = refused state (if nat_lt k slot then Illegal k else fault)
+-- the first record that can't be loaded or isn't legal
+abbrev pub first_refusal : Opening → (illegal : Option ℕ) → Option SignFault
+first_refusal None None = None
+first_refusal None (Some k) = Some (Illegal k)
+first_refusal (Some (slot, fault)) None = Some fault
+first_refusal (Some (slot, fault)) (Some k) = Some (if nat_lt k slot then Illegal k else fault)
 
 -- An opening: it goes over the records in their order, and refuses the first that can't be loaded or isn't legal.
 abbrev pub opened : State → Opening → Outcome AnyPublic
-opened state chance = opened_by state chance (first_illegal state.records)
+opened state chance = event (do
+  records ← the_records
+  refuse_with (first_refusal chance (first_illegal records))
+  close
+  key ← some_or NoKey (key_in records)
+  publish (public_in key)) state
 
 -- ---- requests
 
@@ -198,20 +263,30 @@ abbrev pub later_draws : List Draw → List Draw
 later_draws [] = []
 later_draws (draw ∷ draws) = draws
 
--- A name that is bound, by the record at place k: its recorded signature, where the message has the recorded digest.
-abbrev pub repeated_sound : State → Key → (k : ℕ) → Bound → (damaged : Option ℕ) → Outcome (List ℕ)
-repeated_sound state key k bound (Some slot) = refused state (Damaged slot)
-repeated_sound state key k bound None = answered state (signature_at key state.records k bound)
+-- the fields after the first one
+abbrev pub later_fields : List (List ℕ) → List (List ℕ)
+later_fields [] = []
+later_fields (field ∷ fields) = fields
 
-abbrev pub repeated : State → Key → (k : ℕ) → Bound → Chance → (given : Option (List ℕ)) → Outcome (List ℕ)
-repeated state key k bound chance None = reading (refused state MessageRead)
-repeated state key k bound chance (Some message) =
-    let bottom = bottom_of key.secret in
-    reading (if not (are_same (digest_at key state.records k bound.leaf bound.randomizer message) bound.digest)
-    then refused state Changed
-    else (if not chance.has_room then refused state OutOfMemory
-    else repeated_sound state key k bound
-    (damaged_in key bottom state.records (tree_before bottom state.records k))))
+-- the key that an open signer signs with
+abbrev pub signing_key : {B : Type 0} → Step B Key
+signing_key = do
+  state ← the_state
+  key ← some_or Stopped (key_in state.records)
+  refuse_unless Stopped state.is_open
+  refuse_if Moved (has_moved state.records)
+  give key
+
+-- A name that is bound, by the record at place k: its recorded signature, where the message has the recorded digest.
+abbrev pub repeat : Key → (k : ℕ) → Bound → Chance → Step (List ℕ) (List ℕ)
+repeat key k bound chance = do
+  records ← the_records
+  message ← read chance.given
+  refuse_unless Changed (are_same (digest_at key records k bound.leaf bound.randomizer message) bound.digest)
+  refuse_unless OutOfMemory chance.has_room
+  bottom ← give (bottom_of key.secret)
+  refuse_with (option_map Damaged (damaged_in key bottom records (tree_before bottom records k)))
+  give (signature_at key records k bound)
 
 -- a new tree of a level, whose public key a leaf of its parent tree signs
 abbrev pub extend_record : Trees → List Record → (level : ℕ) → LmsSecret → (randomizer : List ℕ) → (leaf : ℕ) → Record
@@ -228,30 +303,36 @@ extend_record trees records level secret randomizer leaf =
       root = public.root;
     })
 
--- An Extend: I is drawn, and compared with those of the records; then SEED and C.
-abbrev pub extended_with : State → Trees → (level leaf : ℕ) → (identifier : List ℕ) → (fields : List (List ℕ)) → Fate
-    → (List Record → Outcome (List ℕ)) → Outcome (List ℕ)
-extended_with state trees level leaf identifier (seed ∷ randomizer ∷ []) fate next =
-    let secret = lms_secret (slice_index_or trees.pairs level trees.top.pair) identifier seed in
-    drawing (seed ++ randomizer)
-    (appended state (extend_record trees state.records level secret randomizer leaf) fate next)
-extended_with state trees level leaf identifier fields fate next =
-    drawing (concat fields) (refused state RandomFailed)
+-- I of a new tree
+abbrev pub draw_identifier : {B : Type 0} → (fields : List (List ℕ)) → Step B (List ℕ)
+draw_identifier [] state rest = refused state RandomFailed
+draw_identifier (identifier ∷ fields) state rest = drawing identifier (rest identifier state)
 
-abbrev pub extended_by : State → Trees → (level leaf : ℕ) → (fields : List (List ℕ)) → Fate
-    → (List Record → Outcome (List ℕ)) → Outcome (List ℕ)
-extended_by state trees level leaf [] fate next = refused state RandomFailed
-extended_by state trees level leaf (identifier ∷ fields) fate next =
-    drawing identifier (if has_identifier state.records identifier then refused state RandomRepeated
-    else extended_with state trees level leaf identifier fields fate next)
+-- SEED of a new tree, and C of the signature of its public key
+abbrev pub draw_seed : {B : Type 0} → (fields : List (List ℕ)) → Step B (List ℕ × List ℕ)
+draw_seed (seed ∷ randomizer ∷ []) state rest = drawing (seed ++ randomizer) (rest (seed, randomizer) state)
+draw_seed fields state rest = drawing (concat fields) (refused state RandomFailed)
 
-abbrev pub extended : State → Key → (level : ℕ) → Option Trees → Draw → (List Record → Outcome (List ℕ))
-    → Outcome (List ℕ)
-extended state key level None draw next = refused state RandomFailed
-extended state key level (Some trees) draw next =
-    extended_by state trees level (next_at key.secret state.records (level - 1)) draw.fields draw.fate next
+-- A new tree of a level: I is drawn, and compared with those of the records; then SEED and C.
+abbrev pub begin_tree : {B : Type 0} → Key → (level : ℕ) → Draw → Step B (Unit {0})
+begin_tree key level chance = do
+  records ← the_records
+  trees ← some_or RandomFailed (trees_of key.secret)
+  identifier ← draw_identifier chance.fields
+  refuse_if RandomRepeated (has_identifier records identifier)
+  drawn ← draw_seed (later_fields chance.fields)
+  secret ← give (lms_secret (slice_index_or trees.pairs level trees.top.pair) identifier drawn.0)
+  leaf ← give (next_at key.secret records (level - 1))
+  append (extend_record trees records level secret drawn.1 leaf) chance.fate
 
--- A Bound: C is drawn, but for XMSS, which draws nothing here; the message is read; the record is appended.
+-- a new tree for each of the lowest levels, this many of them
+abbrev pub begin_trees : {B : Type 0} → Key → (below : ℕ) → List Draw → Step B (Unit {0})
+begin_trees key zero draws = give tt
+begin_trees key (suc below) draws = do
+  begin_tree key (bottom_of key.secret - below) (first_draw draws)
+  begin_trees key below (later_draws draws)
+
+-- C, which XMSS doesn't draw: it makes it of the leaf's number
 abbrev pub randomizer_from : Secret → (fields : List (List ℕ)) → Option (List ℕ)
 randomizer_from (Lms pair identifier seed) (randomizer ∷ []) = Some randomizer
 randomizer_from (Lms pair identifier seed) fields = None
@@ -269,71 +350,53 @@ new_bound key records name leaf randomizer message = record {
   digest = digest_at key records (length records) leaf randomizer message;
 }
 
-abbrev pub bound_with : State → Key → (name : List ℕ) → (randomizer given : Option (List ℕ)) → Fate → Outcome (List ℕ)
-bound_with state key name None given fate = refused state RandomFailed
-bound_with state key name (Some randomizer) None fate = reading (refused state MessageRead)
-bound_with state key name (Some randomizer) (Some message) fate =
-    let leaf = next_at key.secret state.records (bottom_of key.secret) in
-    let bound = new_bound key state.records name leaf randomizer message in
-    reading (appended state (BoundRecord bound) fate
-    (λ records. answered (open_on records) (signature_at key records (length state.records) bound)))
+-- The name is bound: C is drawn, the message is read, the record is appended.
+abbrev pub bind : Key → (name : List ℕ) → Chance → Step (List ℕ) (List ℕ)
+bind key name chance = do
+  old ← the_records
+  randomizer ← draw (randomizer_from key.secret chance.bound.fields) chance.bound.fields
+  message ← read chance.given
+  bound ← give (new_bound key old name (next_at key.secret old (bottom_of key.secret)) randomizer message)
+  append (BoundRecord bound) chance.bound.fate
+  records ← the_records
+  give (signature_at key records (length old) bound)
 
--- The wanted records one after the other: an Extend for each of the lowest levels, this many of them, and the Bound.
-abbrev pub fulfilled : Key → (name : List ℕ) → Chance → (below : ℕ) → List Draw → List Record → Outcome (List ℕ)
-fulfilled key name chance zero = λ draws records. drawing (concat chance.bound.fields)
-    (bound_with (open_on records) key name (randomizer_from key.secret chance.bound.fields) chance.given
-    chance.bound.fate)
-fulfilled key name chance (suc below) = λ draws records.
-    extended (open_on records) key (bottom_of key.secret - below) (trees_of key.secret) (first_draw draws)
-    (fulfilled key name chance below (later_draws draws))
+-- A name that isn't bound: new trees for the levels below the deepest one with a free leaf, and then the binding.
+abbrev pub bind_anew : (limit : ℕ) → Key → (name : List ℕ) → Chance → Step (List ℕ) (List ℕ)
+bind_anew limit key name chance = do
+  refuse_if LongName (is_long key name)
+  records ← the_records
+  level ← some_or Exhausted (deepest key.secret records)
+  refuse_if LedgerFull (nat_lt limit (length records + wanted_count key.secret level))
+  refuse_unless OutOfMemory chance.has_room
+  refuse_with (option_map Damaged (damaged_in key level records (tree_before level records (length records))))
+  open_signer
+  begin_trees key (bottom_of key.secret - level) chance.trees
+  bind key name chance
 
--- a name that isn't bound, where this level is the deepest with a free leaf
-abbrev pub bound_sound : State → Key → (name : List ℕ) → Chance → (level : ℕ) → (damaged : Option ℕ) → Outcome (List ℕ)
-bound_sound state key name chance level (Some slot) = refused state (Damaged slot)
-bound_sound state key name chance level None =
-    fulfilled key name chance (bottom_of key.secret - level) chance.trees state.records
-
-abbrev pub bound_anew : (limit : ℕ) → State → Key → (name : List ℕ) → Chance → (level : Option ℕ) → Outcome (List ℕ)
-bound_anew limit state key name chance None = refused state Exhausted
-bound_anew limit state key name chance (Some level) =
-    if nat_lt limit (length state.records + wanted_count key.secret level) then refused state LedgerFull
-    else (if not chance.has_room then refused state OutOfMemory
-    else bound_sound state key name chance level
-    (damaged_in key level state.records (tree_before level state.records (length state.records))))
-
-abbrev pub requested_of : (limit : ℕ) → State → Key → (name : List ℕ) → Chance → Option (ℕ × Bound) → Outcome (List ℕ)
-requested_of limit state key name chance (Some (k, bound)) = repeated state key k bound chance chance.given
-requested_of limit state key name chance None =
-    if is_long key name then refused state LongName
-    else bound_anew limit state key name chance (deepest key.secret state.records)
-
-abbrev pub requested_under : (limit : ℕ) → State → (name : List ℕ) → Chance → Option Key → Outcome (List ℕ)
-requested_under limit state name chance None = refused state Stopped
-requested_under limit state name chance (Some key) =
-    if not state.is_open then refused state Stopped
-    else (if has_moved state.records then refused state Moved
-    else requested_of limit state key name chance (binding_in state.records name))
+abbrev pub sign_as : (limit : ℕ) → Key → (name : List ℕ) → Chance → Option (ℕ × Bound) → Step (List ℕ) (List ℕ)
+sign_as limit key name chance (Some (k, bound)) = repeat key k bound chance
+sign_as limit key name chance None = bind_anew limit key name chance
 
 -- A request to sign a message under a name.
 abbrev pub requested : (limit : ℕ) → State → (name : List ℕ) → Chance → Outcome (List ℕ)
-requested limit state name chance = requested_under limit state name chance (key_in state.records)
+requested limit state name chance = event (do
+  key ← signing_key
+  records ← the_records
+  sign_as limit key name chance (binding_in records name)) state
 
 -- ---- retire
 
-abbrev pub retired_under : (limit : ℕ) → State → (upto : ℕ) → Fate → Option Key → Outcome (Unit {0})
-retired_under limit state upto fate None = refused state Stopped
-retired_under limit state upto fate (Some key) =
-    let bottom = bottom_of key.secret in
-    if not state.is_open then refused state Stopped
-    else (if has_moved state.records then refused state Moved
-    else (if nat_lt (leaves_of_current key.secret state.records bottom) upto then refused state RetireRange
-    else (if nat_le upto (next_at key.secret state.records bottom) then answered state tt
-    else (if nat_lt limit (length state.records + 1) then refused state LedgerFull
-    else appended state (Retire upto) fate (λ records. answered (open_on records) tt)))))
-
--- The leaves of the current bottom tree below `upto` are retired.
+-- The leaves of the current bottom tree below `upto` are retired, by a record, unless they are used already.
 abbrev pub retired : (limit : ℕ) → State → (upto : ℕ) → Fate → Outcome (Unit {0})
-retired limit state upto fate = retired_under limit state upto fate (key_in state.records)
+retired limit state upto fate = event (do
+  key ← signing_key
+  records ← the_records
+  bottom ← give (bottom_of key.secret)
+  refuse_if RetireRange (nat_lt (leaves_of_current key.secret records bottom) upto)
+  answer_if tt (nat_le upto (next_at key.secret records bottom))
+  refuse_if LedgerFull (nat_lt limit (length records + 1))
+  append (Retire upto) fate) state
 
 -- ---- whole runs
 

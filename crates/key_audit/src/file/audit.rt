@@ -2,7 +2,8 @@
 
 ghost use Rattle.std.specs.Prelude.{◌≡◌, false};
 ghost use Rattle.state_file.specs.FileStore.{has_stopped};
-ghost use Rattle.key_audit.specs.Audit.{Audits, ChecksAnchor, Reports};
+ghost use Rattle.key_audit.specs.Audit.{Audits, Reports};
+ghost use Rattle.key_audit.specs.inner.Audit.{ChecksAnchor};
 
 use crate::file::loading::{load_ledger, read_tag};
 use crate::report::{Anchor, AuditFault, Report};

@@ -2,7 +2,8 @@
 
 ghost use Rattle.std.specs.Prelude.{◌≡◌, ◌<◌, IfErr, IfOk, length, map, option_map};
 ghost use Rattle.sign_core.specs.Records.{key_in};
-ghost use Rattle.key_audit.specs.Listing.{Lists, ListsRecords, entry_of, types_of};
+ghost use Rattle.key_audit.specs.Listing.{Lists, entry_of, types_of};
+ghost use Rattle.key_audit.specs.inner.Listing.{ListsRecords};
 
 use crate::file::loading::{load_records, take_up};
 use crate::listing::{Entry, Listing};

@@ -4,8 +4,8 @@ ghost use Rattle.std.specs.Prelude.{◌≡◌, ◌<◌, length, IfErr, IfOk, OnO
 ghost use Rattle.state_file.specs.Laws.{IsLegal};
 ghost use Rattle.state_file.specs.FileStore.{disk_of, records_of};
 ghost use Rattle.key_audit.specs.Audit.{ReadsStore};
-ghost use Rattle.key_audit.specs.Loading.{AreLoaded, IsNoLedger, IsRefusedLedger};
-ghost use Rattle.key_audit.specs.Loading.{LoadsSlot, ReadsSlotTag, StopsLoading};
+ghost use Rattle.key_audit.specs.inner.Loading.{AreLoaded, IsNoLedger, IsRefusedLedger};
+ghost use Rattle.key_audit.specs.inner.Loading.{LoadsSlot, ReadsSlotTag, StopsLoading};
 
 use crate::report::AuditFault;
 use sign_core::{Ledger, LedgerFault};

@@ -22,8 +22,10 @@ use Rattle.sign_core.specs.Events.{AreDrawsOf, AreFields, IsTreeDraw, randomizer
 use Rattle.sign_core.specs.Signer.{Ends, IsRead, KeepsAtRefusal, LacksTree, RefusesAfterDraws, UnlessAppended}
 use Rattle.sign_core.specs.Signer.{UsesMemory, View, is_before_caches, is_before_draws, is_before_repeat, is_fault}
 use Rattle.sign_core.specs.Signer.{is_random_failed, signature_size, state_of}
-use Rattle.sign_core.specs.World.{Chance, Draw, Outcome, State, acked, answered, bound_sound, extended, fulfilled}
-use Rattle.sign_core.specs.World.{open_on, requested_of}
+use Rattle.sign_core.specs.World.{Chance, Draw, Outcome, State, acked, answered}
+use Rattle.sign_core.specs.inner.Cases.{bound_sound, extended, fulfilled}
+use Rattle.sign_core.specs.World.{open_on}
+use Rattle.sign_core.specs.inner.Cases.{requested_of}
 use Rattle.sign_core.specs.Textbook.{Trees, damaged_in, secret_at, signature_by, signing_of_bound, signings_above}
 use Rattle.sign_core.specs.Textbook.{tree_before, trees_of}
 use Rattle.typecodes.specs.declared.types.LmsPair.{LmsPair}

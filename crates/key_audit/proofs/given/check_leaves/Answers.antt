@@ -1,7 +1,7 @@
 use Rattle.std.proofs.Common.{◌≡◌, Some, None, subst, arith}
 use Rattle.std.specs.Prelude.{slice_get}
-use Rattle.key_audit.specs.Uses.{AreUsesOf}
-use Rattle.key_audit.specs.LeafIndex.{AddsUses, IsLeastOther}
+use Rattle.key_audit.specs.inner.Uses.{AreUsesOf}
+use Rattle.key_audit.specs.inner.LeafIndex.{AddsUses, IsLeastOther}
 use Rattle.key_audit.proofs.Twice.{first_twice, index_more, stands_at, uses_of_each, was_ok}
 use Rattle.key_audit.proofs.given.check_leaves.Goals.{After-least_other}
 use Rattle.key_audit.proofs.given.check_leaves.Goals as goal

@@ -5,7 +5,7 @@ use Rattle.hss.specs.Signature.{key_at, message_at}
 use Rattle.lms.specs.Writing.{public_bytes}
 use Rattle.hss.specs.View.{signature_of}
 use Rattle.hss.proofs.Verifying.{message_at-above, message_at-bottom, signature_at-bottom}
-use Rattle.key_audit.specs.Uses.{hss_use_at}
+use Rattle.key_audit.specs.inner.Uses.{hss_use_at}
 use Rattle.key_audit.proofs.Levels.{level_added, level_count_of}
 use Rattle.key_audit.proofs.uses.hss_uses.Goals as goal
 

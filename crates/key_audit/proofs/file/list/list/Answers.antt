@@ -1,5 +1,6 @@
 use Rattle.std.proofs.Common.{rules, ◌≡◌, Err, sym, subst}
-use Rattle.key_audit.specs.Listing.{Lists, ListsRecords}
+use Rattle.key_audit.specs.Listing.{Lists}
+use Rattle.key_audit.specs.inner.Listing.{ListsRecords}
 use Rattle.key_audit.proofs.Lists.{listed, not_listed}
 use Rattle.key_audit.proofs.file.list.list.Goals as goal
 

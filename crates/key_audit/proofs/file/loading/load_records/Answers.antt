@@ -1,5 +1,5 @@
 use Rattle.std.proofs.Common.{rules, ◌≡◌, ◌+◌, ◌∷◌, ◌++◌, [], Some, Ok, sym, subst}
-use Rattle.key_audit.specs.Loading.{LoadsSlot}
+use Rattle.key_audit.specs.inner.Loading.{LoadsSlot}
 use Rattle.key_audit.proofs.Loads.{HasLoaded, loaded_more}
 use Rattle.key_audit.proofs.file.loading.load_records.Goals as goal
 

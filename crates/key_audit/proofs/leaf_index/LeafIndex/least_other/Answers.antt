@@ -1,5 +1,5 @@
 use Rattle.std.proofs.Common.{[], ◌∷◌, ◌++◌, take, sym, subst, arith, take_all}
-use Rattle.key_audit.specs.LeafIndex.{IsLeastOther}
+use Rattle.key_audit.specs.inner.LeafIndex.{IsLeastOther}
 use Rattle.key_audit.proofs.LeafIndex.{least_push, next_taken}
 use Rattle.key_audit.proofs.leaf_index.LeafIndex.least_other.Goals as goal
 

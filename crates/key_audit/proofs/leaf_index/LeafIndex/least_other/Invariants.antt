@@ -1,5 +1,5 @@
 use Rattle.std.proofs.Common.{take}
-use Rattle.key_audit.specs.LeafIndex.{IsLeastOther}
+use Rattle.key_audit.specs.inner.LeafIndex.{IsLeastOther}
 use Rattle.key_audit.proofs.leaf_index.LeafIndex.least_other.Given as goal
 
 abbrev pub invariant-loop-used : goal.invariant-loop-used

@@ -1,0 +1,13 @@
+-- What is answered to records that were loaded.
+use Rattle.std.specs.Prelude.{◌≡◌, List, Some, Result, Ok, Err}
+use Rattle.state_file.specs.declared.record.Record.{Record}
+use Rattle.state_file.specs.Laws.{IsLegal}
+use Rattle.key_audit.specs.declared.listing.Listing.{Listing}
+use Rattle.key_audit.specs.declared.report.AuditFault.{AuditFault}
+use Rattle.key_audit.specs.Listing.{shown_by, shown_in}
+use Rattle.key_audit.specs.inner.Loading.{IsRefusedLedger}
+
+-- a listing of what they show, or what an audit without an anchor refuses them for
+abbrev pub ListsRecords : List Record → Result Listing AuditFault → Type 0
+ListsRecords records (Ok listing) = IsLegal records × (shown_in records ≡ Some (shown_by listing))
+ListsRecords records (Err fault) = IsRefusedLedger records fault

@@ -1,0 +1,186 @@
+-- The model of World from a step on, by what this step finds: what private functions do is one case of it or another.
+use Rattle.std.specs.Prelude.{ℕ, ◌+◌, ◌-◌, List, length, Option, nat_le, nat_lt}
+use Rattle.std.specs.Prelude.{option_map, slice_index_or}
+use Rattle.typecodes.specs.declared.spec.Spec.{Spec}
+use Rattle.state_file.specs.Laws.{bottom_of}
+use Rattle.state_file.specs.declared.record.Bound.{Bound}
+use Rattle.state_file.specs.declared.record.Key.{Key}
+use Rattle.state_file.specs.declared.record.Record.{Record}
+use Rattle.state_file.specs.declared.record.Record.TheVariants.{Key as KeyRecord, Bound as BoundRecord, Retire}
+use Rattle.state_file.specs.declared.record.Secret.{Secret}
+use Rattle.sign_core.specs.declared.key.AnyPublic.{AnyPublic}
+use Rattle.sign_core.specs.declared.fault.SignFault.{SignFault}
+use Rattle.sign_core.specs.declared.fault.SignFault.TheVariants.{Changed, Exhausted, RandomFailed, RandomRepeated}
+use Rattle.sign_core.specs.declared.fault.SignFault.TheVariants.{Stopped, OutOfMemory, LedgerFull}
+use Rattle.sign_core.specs.declared.fault.SignFault.TheVariants.{Damaged, Moved, RetireRange, NoKey, KeyThere}
+use Rattle.sign_core.specs.Records.{are_same, binding_in, has_identifier, has_moved, key_in}
+use Rattle.sign_core.specs.Records.{leaves_of_current, next_at, wanted_count}
+use Rattle.sign_core.specs.Textbook.{Trees, damaged_in, digest_at, lms_secret, public_in}
+use Rattle.sign_core.specs.Textbook.{signature_at, tree_before, trees_of}
+use Rattle.sign_core.specs.World.{◌>>=◌, ◌>>◌, Chance, Creation, Draw, Fate, Opening, Outcome, State, Step, answer_if}
+use Rattle.sign_core.specs.World.{append, begin_trees, bind, close, draw, draw_identifier, draw_seed, event}
+use Rattle.sign_core.specs.World.{extend_record, first_refusal, give, later_fields, new_bound, new_key, open_on}
+use Rattle.sign_core.specs.World.{open_signer, publish, randomizer_from, read, refuse_if, refuse_unless}
+use Rattle.sign_core.specs.World.{refuse_with, secret_from, sign_as, some_or, the_records, the_state}
+
+-- ---- create and open
+
+-- record 0 was read as this key
+abbrev pub published : List Record → Option AnyPublic → Outcome AnyPublic
+published records public = event (publish public) (open_on records)
+
+-- these fields made this secret
+abbrev pub begun : State → Creation → Option Secret → Outcome AnyPublic
+begun state chance made = event (do
+  secret ← some_or RandomFailed made
+  refuse_unless OutOfMemory chance.has_room
+  key ← give (new_key chance.version secret)
+  append (KeyRecord key) chance.fate
+  publish (public_in key)) state
+
+-- record 0 could be loaded, or couldn't
+abbrev pub created_after : Option SignFault → State → Spec → Creation → Outcome AnyPublic
+created_after failed state spec chance = event (do
+  refuse_with failed
+  records ← the_records
+  refuse_if KeyThere (nat_le 1 (length records))
+  secret ← draw (secret_from spec chance.fields) chance.fields
+  refuse_unless OutOfMemory chance.has_room
+  key ← give (new_key chance.version secret)
+  append (KeyRecord key) chance.fate
+  publish (public_in key)) state
+
+-- the legal records have this key
+abbrev pub opened_on : List Record → Option Key → Outcome AnyPublic
+opened_on records found = event (do
+  close
+  key ← some_or NoKey found
+  publish (public_in key)) (open_on records)
+
+-- of the records this one isn't legal
+abbrev pub opened_by : State → Opening → (illegal : Option ℕ) → Outcome AnyPublic
+opened_by state chance illegal = event (do
+  records ← the_records
+  refuse_with (first_refusal chance illegal)
+  close
+  key ← some_or NoKey (key_in records)
+  publish (public_in key)) state
+
+-- ---- a repeat
+
+-- this slot is damaged
+abbrev pub repeated_sound : State → Key → (k : ℕ) → Bound → (damaged : Option ℕ) → Outcome (List ℕ)
+repeated_sound state key k bound damaged = event (do
+  refuse_with (option_map Damaged damaged)
+  give (signature_at key state.records k bound)) state
+
+-- the message's reader gave this
+abbrev pub repeated : State → Key → (k : ℕ) → Bound → Chance → (given : Option (List ℕ)) → Outcome (List ℕ)
+repeated state key k bound chance given = event (do
+  message ← read given
+  refuse_unless Changed (are_same (digest_at key state.records k bound.leaf bound.randomizer message) bound.digest)
+  refuse_unless OutOfMemory chance.has_room
+  bottom ← give (bottom_of key.secret)
+  refuse_with (option_map Damaged (damaged_in key bottom state.records (tree_before bottom state.records k)))
+  give (signature_at key state.records k bound)) state
+
+-- ---- new trees
+
+-- SEED and C are among these fields
+abbrev pub extended_with : State → Trees → (level leaf : ℕ) → (identifier : List ℕ) → (fields : List (List ℕ)) → Fate
+    → (List Record → Outcome (List ℕ)) → Outcome (List ℕ)
+extended_with state trees level leaf identifier fields fate next = (do
+  drawn ← draw_seed fields
+  secret ← give (lms_secret (slice_index_or trees.pairs level trees.top.pair) identifier drawn.0)
+  append (extend_record trees state.records level secret drawn.1 leaf) fate) state (λ a later. next later.records)
+
+-- I, too
+abbrev pub extended_by : State → Trees → (level leaf : ℕ) → (fields : List (List ℕ)) → Fate
+    → (List Record → Outcome (List ℕ)) → Outcome (List ℕ)
+extended_by state trees level leaf fields fate next = (do
+  identifier ← draw_identifier fields
+  refuse_if RandomRepeated (has_identifier state.records identifier)
+  drawn ← draw_seed (later_fields fields)
+  secret ← give (lms_secret (slice_index_or trees.pairs level trees.top.pair) identifier drawn.0)
+  append (extend_record trees state.records level secret drawn.1 leaf) fate) state (λ a later. next later.records)
+
+-- the key has these trees
+abbrev pub extended : State → Key → (level : ℕ) → Option Trees → Draw → (List Record → Outcome (List ℕ))
+    → Outcome (List ℕ)
+extended state key level found chance next = (do
+  trees ← some_or RandomFailed found
+  identifier ← draw_identifier chance.fields
+  refuse_if RandomRepeated (has_identifier state.records identifier)
+  drawn ← draw_seed (later_fields chance.fields)
+  secret ← give (lms_secret (slice_index_or trees.pairs level trees.top.pair) identifier drawn.0)
+  leaf ← give (next_at key.secret state.records (level - 1))
+  append (extend_record trees state.records level secret drawn.1 leaf) chance.fate) state
+  (λ a later. next later.records)
+
+-- ---- a binding
+
+-- C is this, and the message's reader gave this
+abbrev pub bound_with : State → Key → (name : List ℕ) → (randomizer given : Option (List ℕ)) → Fate → Outcome (List ℕ)
+bound_with state key name made given fate = event (do
+  randomizer ← some_or RandomFailed made
+  message ← read given
+  bound ← give (new_bound key state.records name (next_at key.secret state.records (bottom_of key.secret))
+    randomizer message)
+  append (BoundRecord bound) fate
+  records ← the_records
+  give (signature_at key records (length state.records) bound)) state
+
+-- this many new trees, and then the binding
+abbrev pub fulfilled : Key → (name : List ℕ) → Chance → (below : ℕ) → List Draw → List Record → Outcome (List ℕ)
+fulfilled key name chance below draws records = event (do
+  begin_trees key below draws
+  bind key name chance) (open_on records)
+
+-- this slot is damaged
+abbrev pub bound_sound : State → Key → (name : List ℕ) → Chance → (level : ℕ) → (damaged : Option ℕ) → Outcome (List ℕ)
+bound_sound state key name chance level damaged = event (do
+  refuse_with (option_map Damaged damaged)
+  open_signer
+  begin_trees key (bottom_of key.secret - level) chance.trees
+  bind key name chance) state
+
+-- this level is the deepest with a free leaf
+abbrev pub bound_anew : (limit : ℕ) → State → Key → (name : List ℕ) → Chance → (level : Option ℕ) → Outcome (List ℕ)
+bound_anew limit state key name chance deepest = event (do
+  level ← some_or Exhausted deepest
+  refuse_if LedgerFull (nat_lt limit (length state.records + wanted_count key.secret level))
+  refuse_unless OutOfMemory chance.has_room
+  refuse_with (option_map Damaged (damaged_in key level state.records (tree_before level state.records (length state.records))))
+  open_signer
+  begin_trees key (bottom_of key.secret - level) chance.trees
+  bind key name chance) state
+
+-- ---- a request
+
+-- the name is bound so, or isn't
+abbrev pub requested_of : (limit : ℕ) → State → Key → (name : List ℕ) → Chance → Option (ℕ × Bound) → Outcome (List ℕ)
+requested_of limit state key name chance found = event (sign_as limit key name chance found) state
+
+-- record 0 is this key, or none
+abbrev pub requested_under : (limit : ℕ) → State → (name : List ℕ) → Chance → Option Key → Outcome (List ℕ)
+requested_under limit state name chance found = event (do
+  key ← some_or Stopped found
+  refuse_unless Stopped state.is_open
+  refuse_if Moved (has_moved state.records)
+  records ← the_records
+  sign_as limit key name chance (binding_in records name)) state
+
+-- ---- retire
+
+-- record 0 is this key, or none
+abbrev pub retired_under : (limit : ℕ) → State → (upto : ℕ) → Fate → Option Key → Outcome (Unit {0})
+retired_under limit state upto fate found = event (do
+  key ← some_or Stopped found
+  refuse_unless Stopped state.is_open
+  refuse_if Moved (has_moved state.records)
+  records ← the_records
+  bottom ← give (bottom_of key.secret)
+  refuse_if RetireRange (nat_lt (leaves_of_current key.secret records bottom) upto)
+  answer_if tt (nat_le upto (next_at key.secret records bottom))
+  refuse_if LedgerFull (nat_lt limit (length records + 1))
+  append (Retire upto) fate) state
