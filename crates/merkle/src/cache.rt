@@ -7,6 +7,7 @@ ghost use Rattle.merkle.specs.Tree.{path_of, root_of};
 
 use crate::nodes::{fill, fill_from, read_path};
 use crate::out_of_memory::OutOfMemory;
+use crate::progress::{Progress, Silent, Told};
 use crate::tree::TreeHash;
 use std::alloc::Global;
 use std::marker::Model;
@@ -56,11 +57,29 @@ impl<T: TreeHash> PathCache<T> {
 
     /// As `new`, but the block of leaf `q` is kept in place of the first one: a path of one of its leaves then makes
     /// none. Each leaf of the tree is made once, as by `new`. The caller keeps q below `2^height`.
-    pub fn for_leaf(
+    pub fn for_leaf(alloc: Global, tree: T, height: u8, q: u32) -> Result<PathCache<T>, OutOfMemory>
+    where
+        T: Drop,
+        requires height { height ≤ 25 }
+        requires fresh { T.made tree ≡ 0 }
+        requires inside { q < 2 ^ height }
+        ensures counted { IfOk result (λ cache. T.made cache.tree ≡ 2 ^ height) }
+        ensures leaves { IfOk result (λ cache. T.leaf_of cache.tree ≡ T.leaf_of tree) }
+        ensures joins { IfOk result (λ cache. T.join_of cache.tree ≡ T.join_of tree) }
+        ensures nodes { IfOk result
+            (KeepsNodes (T.leaf_of tree) (T.join_of tree) height (q / 2 ^ block_height height)) }
+    {
+        Self::for_leaf_telling(alloc, tree, height, q, Silent::new())
+    }
+
+    /// As `for_leaf`, and a `Progress` is told of the leaves while they are made. Where memory is refused it is told of
+    /// none.
+    pub fn for_leaf_telling<P: Progress + Drop>(
         alloc: Global,
-        mut tree: T,
+        tree: T,
         height: u8,
         q: u32,
+        progress: P,
     ) -> Result<PathCache<T>, OutOfMemory>
     where
         T: Drop,
@@ -77,10 +96,11 @@ impl<T: TreeHash> PathCache<T> {
         let mut upper = nodes_of(alloc, height - block_height)?;
         let mut block = nodes_of(alloc, block_height)?;
         let kept = block_of(height, q);
-        fill(&mut tree, 0, block_height, kept, &mut block);
+        let mut told = Told::new(tree, progress);
+        fill(&mut told, 0, block_height, kept, &mut block);
         let block_root = block[block.len() - 1];
         fill_from(
-            &mut tree,
+            &mut told,
             block_height,
             height - block_height,
             0,
@@ -89,7 +109,7 @@ impl<T: TreeHash> PathCache<T> {
             &mut upper,
         );
         Ok(PathCache {
-            tree,
+            tree: told.into_tree(),
             height,
             upper,
             block,

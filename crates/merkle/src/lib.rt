@@ -13,6 +13,9 @@
 //! leaves of a tree or of a cache's block that is less than 3 high are made one by one, and so are
 //! those under the three lowest nodes of a path that is made without a cache.
 //!
+//! A tree that takes long can tell how far it is: `Told` is a tree that tells a `Progress` how many leaves were made,
+//! and `PathCache::for_leaf_telling` tells one while a cache is made. What is made is the same.
+//!
 //! ```rust
 //! use merkle::{PathCache, path, root, root_from_path};
 //!
@@ -40,6 +43,7 @@ mod ascent;
 mod cache;
 mod nodes;
 mod out_of_memory;
+mod progress;
 #[cfg(test)]
 mod sums;
 mod tree;
@@ -47,4 +51,5 @@ mod tree;
 pub use crate::ascent::root_from_path;
 pub use crate::cache::PathCache;
 pub use crate::out_of_memory::OutOfMemory;
+pub use crate::progress::{Progress, Silent, Told};
 pub use crate::tree::{NodeHash, TreeHash, path, root};

@@ -5,7 +5,7 @@ use Rattle.std.proofs.lemmas.Nat.{pow_pos}
 use Rattle.merkle.specs.Tree.{node}
 use Rattle.merkle.proofs.Kept.{block_inside}
 use Rattle.merkle.proofs.Listing.{nodes_last}
-use Rattle.merkle.proofs.cache.PathCache.for_leaf.Goals as goal
+use Rattle.merkle.proofs.cache.PathCache.for_leaf_telling.Goals as goal
 
 pub fill-requires-clause-inside : goal.fill-requires-clause-inside
 fill-requires-clause-inside g c =
@@ -13,8 +13,8 @@ fill-requires-clause-inside g c =
 
 pub fill_from-requires-clause-known : goal.fill_from-requires-clause-known
 fill_from-requires-clause-known g c =
-    let leaf = g.T.TreeHash.leaf_of c.args.tree in
-    let join = g.T.NodeHash.join_of c.args.tree in
+    let leaf = g.T.TreeHash.leaf_of c.new-told.result.tree in
+    let join = g.T.NodeHash.join_of c.new-told.result.tree in
     let kept = c.block_of-kept.result in
     let high : 0 + c.args.height / 2 ≡ c.args.height / 2 = omega arith in
     c.index.ensures
@@ -23,4 +23,4 @@ fill_from-requires-clause-known g c =
     (omega (arith, c.in_ok-block.ensures, pow_more 2 (c.args.height / 2), pow_pos (c.args.height / 2)))
     ∙ ap (λ h. node leaf join h kept) high
     ∙ ap (λ l. node l join (c.args.height / 2) kept) (sym c.fill.ensures.leaves)
-    ∙ ap (λ j. node (g.T.TreeHash.leaf_of c.fill.new.tree) j (c.args.height / 2) kept) (sym c.fill.ensures.joins)
+    ∙ ap (λ j. node (g.T.TreeHash.leaf_of c.fill.new.tree.tree) j (c.args.height / 2) kept) (sym c.fill.ensures.joins)
