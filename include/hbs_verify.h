@@ -15,6 +15,8 @@
  *   - What is written (`prefix`) overlaps nothing that is read. What is only read may overlap.
  *   - The stack has the room that docs/VERIFYING.md names. On x86-64 the registers of SSE2 are used, and the 128 bytes
  *     below the stack pointer, so that interrupts have a stack of their own. On aarch64 those of SIMD are used.
+ *   - The calling convention is that of the System V ABI on x86-64, and AAPCS64, little-endian, on aarch64. There x18
+ *     is written over as any register is that a call need not keep.
  *
  * Threads: a call uses its arguments and its stack alone. Any number of calls may run side by side.
  *

@@ -4,9 +4,9 @@
  *
  *     boot_triples COUNT (PUBLIC MESSAGE SIGNATURE) ..
  *
- * Each byte that is given ends where a page begins that can't be read, or begins where one ends, or lies in memory of
- * its own size that the address sanitizer watches. It prints how many triples had each number, and each triple whose
- * answers differ.
+ * What is given ends where a page begins that can't be read, or begins where one ends, or lies in memory of its own
+ * size that the address sanitizer watches. Of each fifth triple the library answers by the message's digest, too. It
+ * prints how many triples had each number, and each triple whose answers differ.
  */
 #define _DEFAULT_SOURCE
 #include <stdio.h>
@@ -14,6 +14,7 @@
 #include <string.h>
 #include <sys/mman.h>
 
+#include "../boot/sha256.h"
 #include "hbs_verify.h"
 
 /* The verifiers that the program has, in an archive that is made for this test, and those of boot/plain.c. */
@@ -23,6 +24,7 @@ uint64_t plain_verify(const uint8_t *, size_t, const uint8_t *, size_t, const ui
 #define PAGE 4096
 #define MOST_BYTES (20 * PAGE)
 #define NUMBERS 16
+#define BY_DIGEST 5
 
 enum { KEY, MESSAGE, SIGNATURE, PARTS };
 
@@ -132,8 +134,34 @@ static void change(content *parts, const content *other) {
     }
 }
 
+/* Whether an answer is a refusal that is known before the message is hashed: all are but those of types and roots. */
+static int is_early(uint64_t answer) {
+    const uint64_t number = HBS_NUMBER(answer);
+    return number != HBS_VERIFIED && number != HBS_TYPE_MISMATCH && number != HBS_ROOT_MISMATCH;
+}
+
+/*
+ * The library's answer by the message's digest, or its refusal before the message is hashed; UINT64_MAX where this is
+ * none of these that come before, or one that should have come. What it writes ends where a page begins that can't be
+ * read, and so does the digest.
+ */
+static uint64_t by_digest(const content *it, uint8_t *end) {
+    const content key = it[KEY], message = it[MESSAGE], signature = it[SIGNATURE];
+    uint8_t *prefix = end - HBS_PREFIX_BYTES, *digest = end - HBS_DIGEST_BYTES;
+    const uint64_t before = hbs_message_prefix(key.bytes, key.length, signature.bytes, signature.length, prefix);
+    uint64_t answer;
+    sha256 hash;
+    if (HBS_NUMBER(before) != HBS_VERIFIED) return is_early(before) ? before : UINT64_MAX;
+    start(&hash);
+    add(&hash, prefix, (size_t)HBS_DETAIL(before));
+    add(&hash, message.bytes, message.length);
+    finish(&hash, digest);
+    answer = hbs_verify_digest(key.bytes, key.length, signature.bytes, signature.length, digest);
+    return is_early(answer) ? UINT64_MAX : answer;
+}
+
 /* Gives a triple to each verifier, and says where their answers differ. */
-static int differs(size_t turn, const content *it, size_t *seen) {
+static int differs(size_t turn, const content *it, uint8_t *end, size_t *seen) {
     const content key = it[KEY], message = it[MESSAGE], signature = it[SIGNATURE];
     const uint64_t library = hbs_verify(key.bytes, key.length, message.bytes, message.length, signature.bytes,
                                         signature.length);
@@ -141,10 +169,12 @@ static int differs(size_t turn, const content *it, size_t *seen) {
                                             signature.length);
     const uint64_t plain = plain_verify(key.bytes, key.length, message.bytes, message.length, signature.bytes,
                                         signature.length);
+    const uint64_t digest = turn % BY_DIGEST == 0 ? by_digest(it, end) : library;
     if (HBS_NUMBER(library) < NUMBERS) seen[HBS_NUMBER(library)]++;
-    if (library == program && library == plain) return 0;
-    printf("triple %zu: the library %llx, the program %llx, plain C %llx\n", turn, (unsigned long long)library,
-           (unsigned long long)program, (unsigned long long)plain);
+    if (library == digest && library == program && library == plain) return 0;
+    printf("triple %zu: the library %llx, by the digest %llx, the program %llx, plain C %llx\n", turn,
+           (unsigned long long)library, (unsigned long long)digest, (unsigned long long)program,
+           (unsigned long long)plain);
     return 1;
 }
 
@@ -153,7 +183,7 @@ int main(int count, char **words) {
     const size_t triples = count > 2 ? (size_t)(count - 2) / PARTS : 0;
     size_t seen[NUMBERS] = {0};
     content *all = calloc(triples + 1, PARTS * sizeof *all), changed[PARTS], given[PARTS];
-    place places[PARTS];
+    place places[PARTS], written = new_place();
     int differing = 0;
     if (triples == 0 || !all) return 2;
     for (size_t i = 0; i < PARTS * triples; i++) all[i] = content_of(words[2 + i]);
@@ -168,7 +198,7 @@ int main(int count, char **words) {
         }
         change(changed, other);
         for (size_t i = 0; i < PARTS; i++) given[i] = put_into(&places[i], &changed[i], turn);
-        differing += differs(turn, given, seen);
+        differing += differs(turn, given, written.pages + MOST_BYTES, seen);
     }
     for (size_t i = 0; i < NUMBERS; i++) {
         if (seen[i]) printf("%zu:%zu ", i, seen[i]);

@@ -94,6 +94,8 @@ void load(void) {
     if (answer == HBS_VERIFIED) {
         print("loader: verified\n");
         start(IMAGE, IMAGE + image_length);
+        print("loader: the image has returned\n");
+        return;
     }
     print("loader: refused ");
     print_number(HBS_NUMBER(answer));

@@ -1,5 +1,5 @@
 -- An answer is 0 exactly where the signature is valid.
-use Rattle.std.proofs.Common.{◌≡◌, ◌∙◌, refl, ap, subst, arith, ℕ, ◌<◌, inl, inr, true, false, List, ◌++◌, length, Result, Ok, Err}
+use Rattle.std.proofs.Common.{◌≡◌, ◌∙◌, refl, ap, subst, arith, ℕ, ◌<◌, inl, inr, true, false, List, ◌++◌, length, take, Result, Ok, Err}
 use Rattle.std.specs.Prelude.{◌≢◌, ◌↔◌, IsOk}
 use Rattle.sha2.specs.Sha256.{sha256}
 use Rattle.typecodes.specs.declared.fault.Cause.{Cause}
@@ -19,8 +19,8 @@ use Rattle.xmss.specs.Verification.{prefix_of as xmss_prefix_of}
 use Rattle.xmss.proofs.Verdicts as xmss
 use Rattle.boot_verify.specs.declared.key.Key.{Key}
 use Rattle.boot_verify.specs.declared.key.Key.TheVariants.{Lms, Hss, Xmss}
-use Rattle.boot_verify.specs.Key.{KeyHasPrefix, KeyIsDigest, KeyVerdict, Signs, SpellsKey}
-use Rattle.boot_verify.specs.Answer.{Answers, IsDigest, IsSigned, RefusesKey, packed, refusal_detail, verdict_answer}
+use Rattle.boot_verify.specs.Key.{KeyHasPrefix, KeyIsDigest, KeyVerdict, Signs, SpellsKey, prefix_length}
+use Rattle.boot_verify.specs.Answer.{Answers, GivesPrefix, IsDigest, IsSigned, RefusesKey, packed, refusal_detail, verdict_answer}
 use Rattle.boot_verify.proofs.Keys.{no_fault, not_none, one_key}
 
 -- no cause and no refusal has the number 0
@@ -106,3 +106,16 @@ pub digest_of_bytes : (key : Key) (public bytes prefix message : List ℕ) → S
 digest_of_bytes key public bytes prefix message spelled has = λ other spelled_too.
     subst (λ key. KeyIsDigest key message bytes (sha256 (prefix ++ message))) (one_key key other public spelled spelled_too)
     (digest_after key bytes prefix message has)
+
+-- they are given where they stand at the front of the room, and their number is the scheme's
+pub given : (key : Key) (public bytes room : List ℕ) (n answer : ℕ) → SpellsKey key public → n ≡ prefix_length key
+    → KeyHasPrefix key bytes (take n room) → answer ≡ packed 0 n → GivesPrefix public bytes room answer
+given key public bytes room n answer spelled count has is =
+    let front = subst (λ n. KeyHasPrefix key bytes (take n room)) count has in
+    inl (
+      key,
+      spelled,
+      is ∙ ap (packed 0) count,
+      front,
+      λ message. digest_of_bytes key public bytes (take (prefix_length key) room) message spelled front,
+    )

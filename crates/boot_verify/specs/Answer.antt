@@ -9,7 +9,7 @@ use Rattle.typecodes.specs.declared.refusal.Refusal.TheVariants.{RootMismatch, M
 use Rattle.typecodes.specs.Fault.{cause_number}
 use Rattle.typecodes.specs.Refusal.{refusal_number}
 use Rattle.boot_verify.specs.declared.key.Key.{Key}
-use Rattle.boot_verify.specs.Key.{KeyHasFault, KeyHasPrefix, KeyIsDigest, KeyVerdict, Signs, SpellsKey}
+use Rattle.boot_verify.specs.Key.{KeyHasFault, KeyHasPrefix, KeyIsDigest, KeyVerdict, Signs, SpellsKey, prefix_length}
 
 -- a number in the lower 32 bits, and what belongs to it in the upper ones
 abbrev pub packed : ℕ → ℕ → ℕ
@@ -57,11 +57,11 @@ abbrev pub IsDigest : List ℕ → List ℕ → List ℕ → List ℕ → Type 0
 IsDigest public message bytes digest =
     (key : Key) → SpellsKey key public → KeyIsDigest key message bytes digest
 
--- What is hashed before the message was given: the length of it above the lower 32 bits, which are 0, and it stands in
--- the first bytes of the room. Else the answer is that of verification, whatever the message.
+-- What is hashed before the message was given: its length, 54 or 128, above the lower 32 bits, which are 0, and it stands
+-- in the first bytes of the room. Else the answer is that of verification, whatever the message.
 abbrev pub GivesPrefix : List ℕ → List ℕ → List ℕ → ℕ → Type 0
 GivesPrefix public bytes room answer =
-    ((key : Key) × (n : ℕ) × SpellsKey key public × KeyHasPrefix key bytes (take n room) × (answer ≡ packed 0 n)
-    × (n ≢ 0)
-    × ((message : List ℕ) → IsDigest public message bytes (sha256 (take n room ++ message))))
+    ((key : Key) × SpellsKey key public × (answer ≡ packed 0 (prefix_length key))
+    × KeyHasPrefix key bytes (take (prefix_length key) room)
+    × ((message : List ℕ) → IsDigest public message bytes (sha256 (take (prefix_length key) room ++ message))))
     ⊎ ((message : List ℕ) → Answers public message bytes answer)

@@ -47,6 +47,12 @@ KeyIsDigest (Lms key) message bytes digest = lms.IsDigest key message bytes dige
 KeyIsDigest (Hss key) message bytes digest = hss.IsDigest key message bytes digest
 KeyIsDigest (Xmss key) message bytes digest = xmss.IsDigest key message bytes digest
 
+-- How many bytes a scheme hashes before a message (RFC 8554 4.5, RFC 8391 4.1.9).
+abbrev pub prefix_length : Key → ℕ
+prefix_length (Lms key) = 54
+prefix_length (Hss key) = 54
+prefix_length (Xmss key) = 128
+
 -- The bytes spell a signature, and this is what the scheme hashes before its message.
 abbrev pub KeyHasPrefix : Key → List ℕ → List ℕ → Type 0
 KeyHasPrefix (Lms key) bytes prefix = lms.HasPrefix key bytes prefix

@@ -1,7 +1,7 @@
 //! Public keys of every scheme, and their verifiers.
 
 ghost use Rattle.std.specs.Prelude.{◌≡◌, ◌≢◌, ◌≤◌, ℕ, List, length, take, Err, IfErr, IfOk};
-ghost use Rattle.boot_verify.specs.Key.{KeyHasPrefix, KeyIsDigest, KeyVerdict, SpellsKey};
+ghost use Rattle.boot_verify.specs.Key.{KeyHasPrefix, KeyIsDigest, KeyVerdict, SpellsKey, prefix_length};
 ghost use Rattle.boot_verify.specs.Answer.{RefusesKey};
 
 use crate::answer::{fault_answer, length_answer};
@@ -69,7 +69,8 @@ impl Key {
         signature: &[u8],
         room: &mut [u8; 128],
     ) -> Result<u32, Refusal>
-        ensures ok { IfOk result (λ n. (n ≢ 0) × KeyHasPrefix self.now signature.now (take n room.new)) }
+        ensures count { IfOk result (λ n. n ≡ prefix_length self.now) }
+        ensures ok { IfOk result (λ n. KeyHasPrefix self.now signature.now (take n room.new)) }
         ensures err { IfErr result (λ refusal. (message : List ℕ)
             → KeyVerdict {A = Unit {0}} self.now message signature.now (Err refusal)) }
         ensures read { result ≢ Err Refusal.MessageRead }
