@@ -2,8 +2,8 @@
 
 ghost use Rattle.typecodes.specs.Types.{IsWidth};
 
-use crate::digits;
 use std::process::Abort;
+use winternitz::digits;
 
 // The checksum's digits, as the end of the list, and the first digit.
 fn expect_row(rt: &impl Abort, width: u8, digest: &[u8; 32], count: usize, first: u8, last: &[u8])

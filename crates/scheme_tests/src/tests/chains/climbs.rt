@@ -1,12 +1,11 @@
 //! Walks of a step that counts.
 
-ghost use Rattle.std.specs.Prelude.{ℕ, ◌≤◌, ◌<◌, ◌+◌, ◌%◌, List, length, slice_index, slice_set};
+ghost use Rattle.std.specs.Prelude.{ℕ, ◌≤◌, ◌<◌, ◌+◌, ◌%◌, length, slice_index, slice_set};
 ghost use Rattle.winternitz.specs.Lanes.{lanes};
 
-use crate::groups::climb_each;
-use crate::lanes::LANES;
-use crate::{Step, added, climb, climb_from, climb_to, climb_whole};
 use std::process::Abort;
+use winternitz::lanes::LANES;
+use winternitz::{Step, added, climb, climb_from, climb_to, climb_whole};
 
 // A step that counts itself in the first byte, and leaves its number and its chain in the next ones.
 struct Counting;
@@ -72,20 +71,10 @@ const WAYS: [([u8; LANES], [u8; LANES]); 7] = [
 ];
 
 #[test]
-fn chains_climb_from_any_place_to_any_other(rt: HostRuntime) {
+fn chains_climb_from_any_place_and_to_any_other(rt: HostRuntime) {
     for (from, to) in WAYS {
-        expect_ways(&rt, &from, &to);
-    }
-}
-
-// Chains with places of their own end where each ends by itself.
-fn expect_ways(rt: &impl Abort, from: &[u8; LANES], to: &[u8; LANES])
-    requires { (j : ℕ) → j < lanes → slice_index from.now j ≤ slice_index to.now j }
-{
-    let ends = climb_each(&Counting, from, to, &VALUES);
-    for i in 0..LANES {
-        let end = climb(&Counting, i as u16, from[i], to[i], &VALUES[i]);
-        assert!(rt; ends[i] == end, "chain {i} from {from:?} to {to:?}");
+        expect_climbs(&rt, &from, &VALUES);
+        expect_climbs(&rt, &to, &VALUES);
     }
 }
 

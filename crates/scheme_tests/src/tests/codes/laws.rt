@@ -1,4 +1,4 @@
-use crate::{field_laws, following_laws, layout_laws};
+use typecodes::{field_laws, following_laws, layout_laws};
 
 #[test]
 fn laws() {

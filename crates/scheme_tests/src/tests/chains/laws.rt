@@ -1,4 +1,4 @@
-use crate::chain_law;
+use winternitz::chain_law;
 
 #[test]
 fn laws() {

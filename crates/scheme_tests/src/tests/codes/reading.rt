@@ -1,5 +1,8 @@
-use super::*;
+//! Messages that are read, by readers whose reads follow a plan.
+
+use std::io;
 use std::io::{ErrorKind, Read};
+use typecodes::{Message, PIECE, PieceTaker, ReadError, read_full, read_to_end};
 
 // What a read does.
 #[derive(Clone, Copy)]
@@ -86,7 +89,7 @@ fn reads_go_on_until_a_failure(rt: HostRuntime) {
             0,
         ),
     ] {
-        assert_eq!(rt; filled_by(plan), (answer, buffer, left));
+        assert!(rt; filled_by(plan) == (answer, buffer, left));
     }
 }
 
@@ -122,7 +125,7 @@ impl PieceTaker for Tally {
 }
 
 // How a message was read to its end, where at most so many pieces are taken.
-#[derive(Debug, Drop, PartialEq)]
+#[derive(Drop, PartialEq)]
 enum End {
     Read,
     Failed(ErrorKind),
@@ -177,7 +180,7 @@ fn messages_are_read_to_their_end(rt: HostRuntime) {
         (&[Claimed(PIECE), Part(1)], 1, End::Refused(1), 1, PIECE),
         (&[], 0, End::Refused(0), 0, 0),
     ] {
-        assert_eq!(rt; read_by(plan, most), (end, pieces, bytes));
+        assert!(rt; read_by(plan, most) == (end, pieces, bytes));
     }
 }
 

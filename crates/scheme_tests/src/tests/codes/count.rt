@@ -1,8 +1,8 @@
-use super::*;
+use typecodes::Count;
 
 #[test]
 fn takes_no_bytes(rt: HostRuntime) {
     let mut count = Count::new();
     count.add_one();
-    assert_eq!(rt; size_of::<Count>(), 0);
+    assert!(rt; size_of::<Count>() == 0);
 }

@@ -2,44 +2,54 @@
 
 ghost use Rattle.std.specs.Prelude.{◌≤◌, length};
 
-use crate::Step;
-use crate::groups::{climb_together, starts, the_same};
-use crate::lanes::LANES;
 use std::cell::Cell;
+use winternitz::lanes::LANES;
+use winternitz::{Step, climb_to};
 
-// A step that leaves a value as it is, and counts how often it is taken.
+// A step that leaves a value as it is, and counts how often it is taken: by one chain alone, and in all lanes.
 #[derive(Drop)]
 struct Still {
-    taken: Cell<usize>,
+    alone: Cell<usize>,
+    in_lanes: Cell<usize>,
 }
 
 impl Step for Still {
     ghost step_of = { λ self chain at value. value };
 
     fn step(&self, _chain: u16, _at: u8, value: &[u8; 32]) -> [u8; 32] {
-        self.taken.set(self.taken.get().wrapping_add(1));
+        self.alone.set(self.alone.get().wrapping_add(1));
         *value
+    }
+
+    fn step_in_lanes(
+        &self,
+        _chains: &[u16; LANES],
+        _at: &[u8; LANES],
+        values: &[[u8; 32]; LANES],
+    ) -> [[u8; 32]; LANES] {
+        self.in_lanes.set(self.in_lanes.get().wrapping_add(LANES));
+        *values
     }
 }
 
-// How many steps of chains from their first values are left when they have climbed side by side, and how many were
-// taken more than once.
+// How many steps of chains from their first values are taken by one chain alone, since the lanes have left them, and
+// how many are taken more than once.
 fn left_by_lanes(digits: &[u8]) -> (usize, usize)
     requires { length digits.now ≤ 265 }
 {
     let step = Still {
-        taken: Cell::new(0),
+        alone: Cell::new(0),
+        in_lanes: Cell::new(0),
     };
-    let mut at = the_same(0);
-    let mut ends = starts(&[]);
-    climb_together(&step, digits, &mut at, &mut ends);
-    let mut left: usize = 0;
-    let mut gone: usize = 0;
-    for i in 0..digits.len() {
-        left = left.saturating_add(usize::from(digits[i].saturating_sub(at[i])));
-        gone = gone.saturating_add(usize::from(at[i]));
+    let values = [[0; 32]; 265];
+    climb_to(&step, digits, &values[..digits.len()]);
+    let mut wanted: usize = 0;
+    for digit in digits {
+        wanted = wanted.saturating_add(usize::from(*digit));
     }
-    (left, step.taken.get().wrapping_sub(gone))
+    let left = step.alone.get();
+    let taken = left.wrapping_add(step.in_lanes.get());
+    (left, taken.wrapping_sub(wanted))
 }
 
 // The digit of the first chain, by how much that of each next one is greater, modulo a number, and how many chains

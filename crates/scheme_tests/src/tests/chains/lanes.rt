@@ -2,11 +2,11 @@
 
 ghost use Rattle.std.specs.Prelude.{◌≤◌};
 
-use crate::lanes::{
+use sha2::{Digest, Sha256};
+use winternitz::lanes::{
     Beginning, LANES, compress, digests, in_each, in_lane, in_words, initial, sha256_in_lanes,
     sha256_of_96, sha256_of_128,
 };
-use sha2::{Digest, Sha256};
 
 // Bytes that look random: the high ones of a linear congruence.
 fn scrambled<const N: usize>(lane: usize, round: u32) -> [u8; N] {
