@@ -40,8 +40,6 @@ mod ascent;
 mod cache;
 mod nodes;
 mod out_of_memory;
-#[cfg(test)]
-mod sums;
 mod tree;
 
 pub use crate::ascent::root_from_path;

@@ -1,2 +1,3 @@
 mod chains;
 mod codes;
+mod trees;

@@ -2,40 +2,13 @@
 
 ghost use Rattle.std.specs.Prelude.{◌%◌, replicate, slice_set};
 
-use crate::ascent::root_from_path;
-use crate::sums::{Sums, is_path, node, worked_out};
-use crate::tree::{LANES, NodeHash, TreeHash, path, root};
+use super::sums::{Sums, Tally, is_path, leads_to, node, worked_out};
+use merkle::{NodeHash, TreeHash, path, root};
 use typecodes::Count;
-
-#[test]
-fn a_tree_of_height_three(rt: HostRuntime) {
-    let mut tree = Sums::new();
-    assert!(rt; root(&mut tree, 3) == node(36, 2, 0));
-    assert!(rt; tree.made == 8);
-    let mut nodes = [[0; 32]; 3];
-    path(&mut tree, 3, 5, &mut nodes);
-    assert!(rt; nodes == [node(5, 0, 0), node(15, 0, 3), node(10, 1, 0)]);
-    assert!(rt; tree.made == 15);
-    let leaf = tree.leaf(5);
-    assert!(rt; leaf == node(6, 0, 0));
-    assert!(rt; root_from_path(&tree, 5, &leaf, &nodes) == node(36, 2, 0));
-}
-
-#[test]
-fn a_tree_of_height_zero(rt: HostRuntime) {
-    let mut tree = Sums::new();
-    let leaf = tree.leaf(0);
-    assert!(rt; leaf == node(1, 0, 0));
-    assert!(rt; root(&mut tree, 0) == leaf);
-    assert!(rt; tree.made == 2);
-    let mut nodes: [[u8; 32]; 0] = [];
-    path(&mut tree, 0, 0, &mut nodes);
-    assert!(rt; tree.made == 2);
-    assert!(rt; root_from_path(&tree, 0, &leaf, &nodes) == leaf);
-}
+use winternitz::lanes::LANES;
 
 // The height of a tree, how many leaves it has, and how often its root and one of its paths make leaves in lanes.
-const TOGETHER: [(u8, u32, u32, u32); 8] = [
+const TOGETHER: [(u8, u32, u32, u32); 9] = [
     (0, 1, 0, 0),
     (1, 2, 0, 0),
     (2, 4, 0, 0),
@@ -44,29 +17,34 @@ const TOGETHER: [(u8, u32, u32, u32); 8] = [
     (5, 32, 4, 3),
     (6, 64, 8, 7),
     (7, 128, 16, 15),
+    (10, 1024, 128, 127),
 ];
 
 // Whether the root of a tree is right, from so many leaves, made in lanes so often.
 fn is_root(height: u8, leaves: u32, together: u32) -> bool {
-    if height > 7 {
+    if height > 10 {
         return false;
     }
-    let mut tree = Sums::new();
+    let tally = Tally::new();
+    let mut tree = Sums::new(&tally);
     let root = root(&mut tree, height);
-    root == worked_out(height, 0) && tree.made == leaves && tree.together == together
+    root == worked_out(height, 0) && tally.get() == (leaves, together)
 }
 
-// Whether a path is right, from all leaves but its own, made in lanes so often.
+// Whether a path is right, from all leaves but its own, made in lanes so often, and leads to the root.
 fn is_path_of(height: u8, q: u32, together: u32) -> bool {
-    if height > 7 || q >= 2u32.pow(u32::from(height)) {
+    if height > 10 || q >= 2u32.pow(u32::from(height)) {
         return false;
     }
-    let mut tree = Sums::new();
-    let mut nodes = [[0; 32]; 7];
+    let tally = Tally::new();
+    let mut tree = Sums::new(&tally);
+    let mut nodes = [[0; 32]; 10];
     let nodes = &mut nodes[..usize::from(height)];
     path(&mut tree, height, q, nodes);
     let others = 2u32.pow(u32::from(height)) - 1;
-    is_path(nodes, q) && tree.made == others && tree.together == together
+    is_path(nodes, q)
+        && tally.get() == (others, together)
+        && leads_to(q, nodes, &worked_out(height, 0))
 }
 
 #[test]

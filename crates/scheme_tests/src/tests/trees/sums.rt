@@ -2,32 +2,52 @@
 
 ghost use Rattle.std.specs.Prelude.{◌≡◌, ◌+◌, ◌%◌, replicate, slice_index, slice_set};
 
-use crate::tree::{LANES, NodeHash, TreeHash};
+use merkle::{NodeHash, TreeHash, root_from_path};
+use std::cell::Cell;
 use typecodes::Count;
+use winternitz::lanes::LANES;
+
+/// How many leaves were made, and how often as many as there are lanes were asked for together.
+#[derive(Drop)]
+pub(crate) struct Tally {
+    pub(crate) made: Cell<u32>,
+    pub(crate) together: Cell<u32>,
+}
+
+impl Tally {
+    pub(crate) fn new() -> Self {
+        Tally {
+            made: Cell::new(0),
+            together: Cell::new(0),
+        }
+    }
+
+    /// Both numbers.
+    pub(crate) fn get(&self) -> (u32, u32) {
+        (self.made.get(), self.together.get())
+    }
+}
 
 /// Byte 0 of leaf i is i + 1; of a node it is the sum of its children's, byte 1 is their height and
-/// byte 2 the node's index. `made` counts leaves as it runs, `count` for the contract, and
-/// `together` how often as many as there are lanes were asked for together.
+/// byte 2 the node's index. The tally counts leaves as it runs, and `count` for the contract.
 #[derive(Drop)]
-pub(crate) struct Sums {
-    pub(crate) made: u32,
-    pub(crate) together: u32,
+pub(crate) struct Sums<'a> {
+    tally: &'a Tally,
     count: Count,
 }
 
-impl Sums {
-    pub(crate) fn new() -> Self
+impl<'a> Sums<'a> {
+    pub(crate) fn new(tally: &'a Tally) -> Self
         ensures { result.count ≡ 0 }
     {
         Sums {
-            made: 0,
-            together: 0,
+            tally,
             count: Count::new(),
         }
     }
 }
 
-impl NodeHash for Sums {
+impl NodeHash for Sums<'_> {
     ghost join_of = { λ _ height index left right.
         slice_set (slice_set (slice_set (replicate 32 0) 0 ((slice_index left 0 + slice_index right 0) % 256)) 1 height)
         2 (index % 256) };
@@ -41,21 +61,22 @@ impl NodeHash for Sums {
     }
 }
 
-impl TreeHash for Sums {
+impl TreeHash for Sums<'_> {
     ghost leaf_of = { λ _ i. slice_set (replicate 32 0) 0 ((i % 256 + 1) % 256) };
 
     ghost made = { λ tree. tree.count };
 
     fn leaf(&mut self, i: u32) -> [u8; 32] {
         self.count.add_one();
-        self.made = self.made.wrapping_add(1);
+        self.tally.made.set(self.tally.made.get().wrapping_add(1));
         let mut leaf = [0; 32];
         leaf[0] = ((i % 256) as u8).wrapping_add(1);
         leaf
     }
 
     fn leaves_in_lanes(&mut self, first: u32) -> [[u8; 32]; LANES] {
-        self.together = self.together.wrapping_add(1);
+        let together = &self.tally.together;
+        together.set(together.get().wrapping_add(1));
         [
             self.leaf(first),
             self.leaf(first + 1),
@@ -78,19 +99,23 @@ pub(crate) fn node(sum: u8, height: u8, index: u8) -> [u8; 32] {
     node
 }
 
-/// The node at this place in a tree of height 7 or less, by the sum of the n leaves below it, of which the first one
+/// The node at this place in a tree of height 10 or less, by the sum of the n leaves below it, of which the first one
 /// has the index n * `index`: n times that, and the numbers from 1 to n.
 pub(crate) fn worked_out(height: u8, index: u32) -> [u8; 32] {
-    if height == 0 {
+    if height == 0 || height > 10 {
         return node((index.wrapping_add(1) % 256) as u8, 0, 0);
     }
-    let leaves = [1u32, 2, 4, 8, 16, 32, 64, 128][usize::from(height.min(7))];
-    let to_leaves = [1u32, 3, 10, 36, 136, 528, 2080, 8256][usize::from(height.min(7))];
+    let leaves = 1u32.wrapping_shl(u32::from(height));
+    let to_leaves = leaves.wrapping_mul(leaves.wrapping_add(1)) / 2;
     let sum = leaves
         .wrapping_mul(leaves)
         .wrapping_mul(index)
         .wrapping_add(to_leaves);
-    node((sum % 256) as u8, height - 1, (index % 256) as u8)
+    node(
+        (sum % 256) as u8,
+        height.wrapping_sub(1),
+        (index % 256) as u8,
+    )
 }
 
 /// Whether these are the siblings of leaf q and of the nodes over it, the lowest first.
@@ -104,4 +129,24 @@ pub(crate) fn is_path(nodes: &[[u8; 32]], q: u32) -> bool {
         over /= 2;
     }
     true
+}
+
+/// Whether leaf q with this path leads to this root.
+pub(crate) fn leads_to(q: u32, nodes: &[[u8; 32]], root: &[u8; 32]) -> bool {
+    if nodes.len() > 25 || q >= 2u32.pow(nodes.len() as u32) {
+        return false;
+    }
+    let tally = Tally::new();
+    let mut tree = Sums::new(&tally);
+    let leaf = tree.leaf(q);
+    root_from_path(&tree, q, &leaf, nodes) == *root
+}
+
+// What is worked out is what was worked out by hand, of trees of height 3 and 0.
+#[test]
+fn values_are_worked_out(rt: HostRuntime) {
+    assert!(rt; worked_out(3, 0) == node(36, 2, 0));
+    assert!(rt; is_path(&[node(5, 0, 0), node(15, 0, 3), node(10, 1, 0)], 5));
+    assert!(rt; is_path(&[node(6, 0, 0), node(15, 0, 3), node(10, 1, 0)], 4));
+    assert!(rt; worked_out(0, 0) == node(1, 0, 0) && worked_out(0, 5) == node(6, 0, 0));
 }
