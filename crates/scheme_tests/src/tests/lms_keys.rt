@@ -1,7 +1,10 @@
 //! Refusals in the order of the checks, and a signature that is made here by the standard's formulas,
 //! over SHA-256 alone.
 
-use crate::{LmsPublic, LmsSecret, LmsSigView, LmsTree, verify};
+mod made_by_others;
+
+use super::readers::{Failing, cut_field};
+use lms::{LmsPublic, LmsSecret, LmsSigView, LmsTree, verify};
 use merkle::TreeHash;
 use sha2::{Digest, Sha256};
 use std::io;
@@ -250,17 +253,22 @@ fn chain_value(q: u8, chain: u16, to: u8) -> [u8; 32] {
     value
 }
 
+// The leaf of q, which is T[32 + q] (5.3).
+fn leaf(q: u8) -> [u8; 32] {
+    let mut key = hasher(u32::from(q), 0x8080);
+    for chain in 0..34 {
+        key.update(chain_value(q, chain, 255));
+    }
+    let mut leaf = hasher(32 + u32::from(q), 0x8282);
+    leaf.update(key.finalize());
+    leaf.finalize()
+}
+
 // T[1] to T[63] of the tree whose seed is 32, .., 63 (5.3).
 fn tree() -> [[u8; 32]; 64] {
     let mut nodes = [[0; 32]; 64];
     for q in 0..32u8 {
-        let mut key = hasher(u32::from(q), 0x8080);
-        for chain in 0..34 {
-            key.update(chain_value(q, chain, 255));
-        }
-        let mut leaf = hasher(32 + u32::from(q), 0x8282);
-        leaf.update(key.finalize());
-        nodes[32 + usize::from(q)] = leaf.finalize();
+        nodes[32 + usize::from(q)] = leaf(q);
     }
     for k in 0..31 {
         let r: usize = 31 - k;
@@ -381,22 +389,11 @@ fn signatures_are_verified(rt: HostRuntime) {
 // one-time type, C and 34 values, the tree's type, and five nodes (5.4).
 const FIELDS: [(u32, u32); 4] = [(0, 4), (8, 32), (1128, 4), (1132, 32)];
 
-// Where the field begins that is cut by an end at this offset.
-fn cut_field(end: u32) -> u32 {
-    let mut place = 0;
-    for (start, size) in FIELDS {
-        if start <= end {
-            place = end - (end - start) % size.max(1);
-        }
-    }
-    place
-}
-
 #[test]
 fn each_beginning_is_cut_in_a_field(rt: HostRuntime) {
     let signature = sign(&tree(), 5, b"message");
     for end in 0..1292u32 {
-        let cut = Refusal::Unreadable(fault(cut_field(end), Cause::Truncated));
+        let cut = Refusal::Unreadable(fault(cut_field(&FIELDS, end), Cause::Truncated));
         assert!(rt; refusal(&rt, &signature[..end as usize]) == cut, "{end}");
     }
 }
@@ -466,24 +463,6 @@ fn random_pieces_lead_to_the_verdict_on_the_whole(rt: HostRuntime) {
             ) == ((Ok(()), Ok(())), (refused, refused)),
             "{seed}"
         );
-    }
-}
-
-// Gives so many zeros, and then fails.
-#[derive(Drop)]
-struct Failing {
-    left: usize,
-}
-
-impl Read for Failing {
-    fn read(&mut self, buffer: &mut [u8]) -> io::Result<usize> {
-        let n = self.left.min(buffer.len());
-        if n == 0 {
-            return Err(io::Error::from(io::ErrorKind::BrokenPipe));
-        }
-        buffer[..n].fill(0);
-        self.left -= n;
-        Ok(n)
     }
 }
 

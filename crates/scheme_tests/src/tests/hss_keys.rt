@@ -3,7 +3,8 @@
 
 ghost use Rattle.std.specs.Prelude.{◌≡◌, ◌≤◌};
 
-use crate::{
+use super::readers::{Failing, cut_field};
+use hss::{
     HssPublic, HssSigView, Level, signature_len, verify, write_public, write_signature,
     write_signed_key,
 };
@@ -138,25 +139,25 @@ fn bouncy_castle_made(rt: HostRuntime) {
     let (public, signature) = signed();
     let mut bytes = [0; 60];
     write_public(&public, &mut bytes);
-    assert_eq!(rt; HssPublic::read(&bytes), Ok(public));
-    assert_eq!(rt;
-        Sha256::digest(bytes.as_slice()),
-        [
-            0x71, 0x6e, 0x64, 0x84, 0x8a, 0x9c, 0x68, 0xcb, 0xc4, 0xf2, 0x8d, 0x01, 0x95, 0xd6,
-            0x20, 0x05, 0xbb, 0x02, 0x05, 0xea, 0x7a, 0xc3, 0xf8, 0x3a, 0xc9, 0xb5, 0x37, 0xd3,
-            0x4d, 0xf1, 0x6e, 0x21,
-        ]
+    assert!(rt; HssPublic::read(&bytes) == Ok(public));
+    assert!(rt;
+        Sha256::digest(bytes.as_slice())
+            == [
+                0x71, 0x6e, 0x64, 0x84, 0x8a, 0x9c, 0x68, 0xcb, 0xc4, 0xf2, 0x8d, 0x01, 0x95, 0xd6,
+                0x20, 0x05, 0xbb, 0x02, 0x05, 0xea, 0x7a, 0xc3, 0xf8, 0x3a, 0xc9, 0xb5, 0x37, 0xd3,
+                0x4d, 0xf1, 0x6e, 0x21,
+            ]
     );
-    assert_eq!(rt;
-        Sha256::digest(signature.as_slice()),
-        [
-            0xdd, 0xc1, 0x0c, 0x6f, 0x14, 0x40, 0x34, 0xcd, 0xd2, 0xb6, 0x39, 0x9d, 0xa4, 0x7b,
-            0x1a, 0xf1, 0x84, 0x5b, 0xea, 0xdd, 0x72, 0x2f, 0x1b, 0x85, 0x5e, 0x54, 0xa5, 0x6f,
-            0x6a, 0xa6, 0xb7, 0x1e,
-        ]
+    assert!(rt;
+        Sha256::digest(signature.as_slice())
+            == [
+                0xdd, 0xc1, 0x0c, 0x6f, 0x14, 0x40, 0x34, 0xcd, 0xd2, 0xb6, 0x39, 0x9d, 0xa4, 0x7b,
+                0x1a, 0xf1, 0x84, 0x5b, 0xea, 0xdd, 0x72, 0x2f, 0x1b, 0x85, 0x5e, 0x54, 0xa5, 0x6f,
+                0x6a, 0xa6, 0xb7, 0x1e,
+            ]
     );
     let mut message: &[u8] = &MESSAGE;
-    assert_eq!(rt; verify(&public, &mut message, &signature), Ok(()));
+    assert!(rt; verify(&public, &mut message, &signature) == Ok(()));
     assert!(rt; message.is_empty());
 }
 
@@ -194,9 +195,8 @@ fn changes_are_refused(rt: HostRuntime) {
         let mut changed = signature;
         assert!(rt; offset < 2644);
         changed[offset] = byte;
-        assert_eq!(rt;
-            refusal(&rt, &public, &changed),
-            (expected, left),
+        assert!(rt;
+            refusal(&rt, &public, &changed) == (expected, left),
             "{byte} at {offset}"
         );
     }
@@ -219,25 +219,14 @@ const FIELDS: [(u32, u32); 11] = [
     (2484, 32),
 ];
 
-// Where the field begins that is cut by an end at this offset.
-fn cut_field(end: u32) -> u32 {
-    let mut place = 0;
-    for (start, size) in FIELDS {
-        if start <= end {
-            place = end - (end - start) % size.max(1);
-        }
-    }
-    place
-}
-
 #[test]
 fn each_beginning_is_cut_in_a_field(rt: HostRuntime) {
     let (public, signature) = signed();
-    assert_eq!(rt; cut_field(2643), 2612);
+    assert!(rt; cut_field(&FIELDS, 2643) == 2612);
     for end in 0..2644u32 {
-        assert_eq!(rt;
-            refusal(&rt, &public, &signature[..end as usize]),
-            (fault(cut_field(end), Cause::Truncated), 1),
+        assert!(rt;
+            refusal(&rt, &public, &signature[..end as usize])
+                == (fault(cut_field(&FIELDS, end), Cause::Truncated), 1),
             "{end}"
         );
     }
@@ -280,12 +269,11 @@ fn pieces_lead_to_the_verdict_on_the_whole(rt: HostRuntime) {
     for size in [1, 2, 63, 64, 65, 129, 199, 200, 20_000] {
         let mut message = in_pieces(&text, size);
         let mut shorter = in_pieces(&text[..199], size);
-        assert_eq!(rt;
+        assert!(rt;
             (
                 verify(&public, &mut message, &signature),
                 verify(&public, &mut shorter, &signature)
-            ),
-            (Ok(()), Err(Refusal::RootMismatch(1))),
+            ) == (Ok(()), Err(Refusal::RootMismatch(1))),
             "{size}"
         );
         assert!(rt; message.left.is_empty());
@@ -294,31 +282,12 @@ fn pieces_lead_to_the_verdict_on_the_whole(rt: HostRuntime) {
     let mut empty = in_pieces(&text, 0);
     let mut interrupted = in_pieces(&text, 63);
     interrupted.is_interrupted = true;
-    assert_eq!(rt;
+    assert!(rt;
         (
             verify(&public, &mut empty, &signature),
             verify(&public, &mut interrupted, &signature)
-        ),
-        (Err(Refusal::RootMismatch(1)), Err(Refusal::MessageRead))
+        ) == (Err(Refusal::RootMismatch(1)), Err(Refusal::MessageRead))
     );
-}
-
-// Gives so many zeros, and then fails.
-#[derive(Drop)]
-struct Failing {
-    left: usize,
-}
-
-impl Read for Failing {
-    fn read(&mut self, buffer: &mut [u8]) -> io::Result<usize> {
-        let n = self.left.min(buffer.len());
-        if n == 0 {
-            return Err(io::Error::from(io::ErrorKind::BrokenPipe));
-        }
-        buffer[..n].fill(0);
-        self.left -= n;
-        Ok(n)
-    }
 }
 
 // What comes of a signature whose message fails after so many bytes, and how many are left then.
@@ -338,9 +307,8 @@ fn failing_messages_are_reported(rt: HostRuntime) {
     let mut other_top = public;
     other_top.top.pair.ots = OtsType::W4;
     for count in 0..201usize {
-        assert_eq!(rt;
-            of_failing(&public, &signature, count),
-            (Err(Refusal::MessageRead), 0),
+        assert!(rt;
+            of_failing(&public, &signature, count) == (Err(Refusal::MessageRead), 0),
             "{count}"
         );
     }
@@ -351,9 +319,8 @@ fn failing_messages_are_reported(rt: HostRuntime) {
             (&public, &other_key, Refusal::RootMismatch(0)),
             (&public, &other_bottom, Refusal::TypeMismatch(1)),
         ] {
-            assert_eq!(rt;
-                of_failing(public, signature, count),
-                (Err(refusal), count),
+            assert!(rt;
+                of_failing(public, signature, count) == (Err(refusal), count),
                 "{count}"
             );
         }
@@ -367,16 +334,12 @@ fn without_last(signature: &[u8; 2644]) -> &[u8] {
 #[test]
 fn cuts_are_refused(rt: HostRuntime) {
     let (public, signature) = signed();
-    assert_eq!(rt;
-        refusal(&rt, &public, without_last(&signature)),
-        (fault(2612, Cause::Truncated), 1)
+    assert!(rt;
+        refusal(&rt, &public, without_last(&signature)) == (fault(2612, Cause::Truncated), 1)
     );
-    assert_eq!(rt; refusal(&rt, &public, &[]), (fault(0, Cause::Truncated), 1));
+    assert!(rt; refusal(&rt, &public, &[]) == (fault(0, Cause::Truncated), 1));
     let mut other: &[u8] = b"another";
-    assert_eq!(rt;
-        verify(&public, &mut other, &signature),
-        Err(Refusal::RootMismatch(1))
-    );
+    assert!(rt; verify(&public, &mut other, &signature) == Err(Refusal::RootMismatch(1)));
 }
 
 #[test]
@@ -386,20 +349,17 @@ fn levels_are_compared(rt: HostRuntime) {
         levels: level_count(1),
         top: public.top,
     };
-    assert_eq!(rt; refusal(&rt, &one, &signature), (Refusal::LevelMismatch, 1));
+    assert!(rt; refusal(&rt, &one, &signature) == (Refusal::LevelMismatch, 1));
     // The top tree's signature alone.
     let mut single = [0; 1296];
     single[4..1296].copy_from_slice(&signature[4..1296]);
-    assert_eq!(rt; refusal(&rt, &public, &single), (Refusal::LevelMismatch, 1));
+    assert!(rt; refusal(&rt, &public, &single) == (Refusal::LevelMismatch, 1));
     // It signs the bottom tree's key.
     let mut message = &signature[1296..1352];
-    assert_eq!(rt; verify(&one, &mut message, &single), Ok(()));
+    assert!(rt; verify(&one, &mut message, &single) == Ok(()));
     assert!(rt; message.is_empty());
     let other = with_other_bottom(&signature);
-    assert_eq!(rt;
-        refusal(&rt, &public, &other),
-        (Refusal::TypeMismatch(1), 1)
-    );
+    assert!(rt; refusal(&rt, &public, &other) == (Refusal::TypeMismatch(1), 1));
 }
 
 // The signature with zeros of the types H5 and W4 at the bottom, whose key is of other types.
@@ -436,12 +396,11 @@ fn keys_are_read(rt: HostRuntime) {
             Some(levels) => Ok(HssPublic { levels, top }),
             None => Err(fault),
         };
-        assert_eq!(rt;
-            HssPublic::read(&zero_key(levels)),
-            wanted,
+        assert!(rt;
+            HssPublic::read(&zero_key(levels)) == wanted,
             "{levels} levels"
         );
-        assert_eq!(rt; wanted.is_ok(), known, "{levels} levels");
+        assert!(rt; wanted.is_ok() == known, "{levels} levels");
     }
     let mut bytes = zero_key(2);
     let trailing = ReadFault {
@@ -450,49 +409,77 @@ fn keys_are_read(rt: HostRuntime) {
     };
     let mut longer = [0; 61];
     longer[..60].copy_from_slice(&bytes);
-    assert_eq!(rt; HssPublic::read(&longer), Err(trailing));
+    assert!(rt; HssPublic::read(&longer) == Err(trailing));
     bytes[7] = 10;
     let unknown = ReadFault {
         place: 4,
         cause: Cause::UnknownType,
     };
-    assert_eq!(rt; HssPublic::read(&bytes), Err(unknown));
+    assert!(rt; HssPublic::read(&bytes) == Err(unknown));
 }
 
 #[test]
 fn parts_are_shown(rt: HostRuntime) -> Result<(), Fail> {
     let (_, signature) = signed();
     let view = HssSigView::read(&signature)?;
-    assert_eq!(rt; view.levels(), 2);
-    assert_eq!(rt; view.bytes(), signature.as_slice());
-    assert_eq!(rt; view.level(0).bytes(), &signature[4..1296]);
-    assert_eq!(rt; view.level(1).bytes(), &signature[1352..]);
+    assert!(rt; view.levels() == 2);
+    assert!(rt; view.bytes() == signature.as_slice());
+    assert!(rt; view.level(0).bytes() == &signature[4..1296]);
+    assert!(rt; view.level(1).bytes() == &signature[1352..]);
     let next = view.signed_key(0).ok_or("a level above the bottom")?;
-    assert_eq!(rt; next.signature.bytes(), &signature[4..1296]);
-    assert_eq!(rt; next.key, LmsPublic::read(&signature[1296..1352])?);
-    assert_eq!(rt; next.key_bytes, &signature[1296..1352]);
+    assert!(rt; next.signature.bytes() == &signature[4..1296]);
+    assert!(rt; next.key == LmsPublic::read(&signature[1296..1352])?);
+    assert!(rt; next.key_bytes == &signature[1296..1352]);
     assert!(rt; view.signed_key(1).is_none());
-    let mut part = [0; 1348];
-    let (root, path) = tree_of(TOP);
-    let top = level(&TOP, TOP_RANDOMIZER, root, &path, &signature[1296..1352]);
-    write_signed_key(&top, &next.key, &mut part);
-    assert_eq!(rt; part.as_slice(), &signature[4..1352]);
     Ok(())
 }
 
+// The signature of the top level with the key that it signs, as a part of its own.
+#[test]
+fn a_signed_key_is_written(rt: HostRuntime) -> Result<(), Fail> {
+    let (_, signature) = signed();
+    let bytes = &signature[1296..1352];
+    let key = LmsPublic::read(bytes)?;
+    let (root, path) = tree_of(TOP);
+    let top = level(&TOP, TOP_RANDOMIZER, root, &path, bytes);
+    let mut part = [0; 1348];
+    write_signed_key(&top, &key, &mut part);
+    assert!(rt; part.as_slice() == &signature[4..1352]);
+    Ok(())
+}
+
+const OTHER: LmsPair = LmsPair {
+    tree: LmsType::H5,
+    ots: OtsType::W4,
+};
+
+const GREATEST: LmsPair = LmsPair {
+    tree: LmsType::H25,
+    ots: OtsType::W1,
+};
+
+// Levels, and how many bytes their signatures have.
+const LENGTHS: [(&[LmsPair], u32); 5] = [
+    (&[PAIR], 1296),
+    (&[PAIR; 2], 2644),
+    (&[OTHER; 2], 4756),
+    (&[PAIR, OTHER], 3700),
+    (&[GREATEST; 8], 74_988),
+];
+
 // The bytes of signatures of these levels, if they are 1 to 8.
 fn len_of(pairs: &[LmsPair]) -> Option<u32> {
-    Levels::new(pairs).map(|levels| signature_len(&levels))
+    match Levels::new(pairs) {
+        Some(levels) => Some(signature_len(&levels)),
+        None => None,
+    }
 }
 
 #[test]
 fn signatures_have_lengths(rt: HostRuntime) {
-    let pair = |tree, ots| LmsPair { tree, ots };
-    assert_eq!(rt; len_of(&[PAIR]), Some(1296));
-    assert_eq!(rt; len_of(&[PAIR; 2]), Some(2644));
-    assert_eq!(rt; len_of(&[pair(LmsType::H5, OtsType::W4); 2]), Some(4756));
-    assert_eq!(rt; len_of(&[PAIR, pair(LmsType::H5, OtsType::W4)]), Some(3700));
-    assert_eq!(rt; len_of(&[pair(LmsType::H25, OtsType::W1); 8]), Some(74_988));
+    for (pairs, len) in LENGTHS {
+        assert!(rt; len_of(pairs) == Some(len), "{len}");
+    }
 }
 
 // Eight levels of H5/W8, each with its place in the list as its leaf.
@@ -512,14 +499,13 @@ fn eight_levels_are_read(rt: HostRuntime) -> Result<(), Fail> {
         }
     }
     let view = HssSigView::read(&bytes)?;
-    assert_eq!(rt; view.levels(), 8);
+    assert!(rt; view.levels() == 8);
     for i in 0..view.levels() {
-        assert_eq!(rt; view.level(i).q(), u32::from(i));
-        let next = view.signed_key(i);
-        assert_eq!(rt;
-            next.map(|next| next.key.identifier[0]),
-            (i < 7).then_some(i)
-        );
+        assert!(rt; view.level(i).q() == u32::from(i));
+        match view.signed_key(i) {
+            Some(next) => assert!(rt; i < 7 && next.key.identifier[0] == i),
+            None => assert!(rt; i == 7),
+        }
     }
     Ok(())
 }

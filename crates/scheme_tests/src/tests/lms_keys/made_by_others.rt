@@ -1,8 +1,8 @@
 //! Keys and signatures of leaf 3 that others made are made again, byte for byte: one by Python's
 //! hashlib, and one by Bouncy Castle. The roots of the standard's own trees are made.
 
-use crate::{LmsPublic, LmsSecret, LmsTree, verify, write_public, write_signature};
 use lmots::LmOts;
+use lms::{LmsPublic, LmsSecret, LmsTree, verify, write_public, write_signature};
 use merkle::{TreeHash, root_from_path};
 use sha2::{Digest, Sha256};
 use std::process::Abort;
