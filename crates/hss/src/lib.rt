@@ -28,8 +28,6 @@ mod secret;
 mod signature;
 mod signed_key;
 mod signed_keys;
-#[cfg(test)]
-mod tests;
 mod verification;
 mod writing;
 

@@ -26,8 +26,6 @@ mod climbing;
 mod hashes;
 mod key;
 mod lane_keys;
-#[cfg(test)]
-mod tests;
 
 pub use crate::climbing::Climbing;
 pub use crate::key::LmOts;

@@ -25,8 +25,6 @@ mod laws;
 mod nodes;
 mod secret;
 mod signature;
-#[cfg(test)]
-mod tests;
 mod verification;
 mod writing;
 

@@ -63,6 +63,3 @@ pub fn write_signature(
     let offset = put(into, end, &secret.pair.tree.code().to_be_bytes());
     put(into, offset, path.as_flattened());
 }
-
-#[cfg(test)]
-mod tests;

@@ -194,6 +194,3 @@ fn nodes_of(alloc: Global, height: u8) -> Result<Vec<[u8; 32]>, OutOfMemory>
     let count = 2usize.pow(u32::from(height) + 1) - 1;
     Ok(vec![in alloc; [0; 32]; count]?)
 }
-
-#[cfg(test)]
-mod tests;

@@ -44,8 +44,6 @@ mod cache;
 mod nodes;
 mod out_of_memory;
 mod progress;
-#[cfg(test)]
-mod sums;
 mod tree;
 
 pub use crate::ascent::root_from_path;

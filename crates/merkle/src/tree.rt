@@ -138,6 +138,3 @@ pub fn path<T: TreeHash>(tree: &mut T, height: u8, q: u32, into: &mut [[u8; 32]]
         over /= 2;
     }
 }
-
-#[cfg(test)]
-mod tests;

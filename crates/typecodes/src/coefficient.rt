@@ -17,6 +17,3 @@ pub fn coef(s: &[u8], i: u32, w: u8) -> u8
     let digit = (s[offset] as u16 >> after) % (1u16 << w);
     digit as u8
 }
-
-#[cfg(test)]
-mod tests;

@@ -34,6 +34,3 @@ impl Count {
         ensures { self.new ≡ self.old + 1 }
     {}
 }
-
-#[cfg(test)]
-mod tests;

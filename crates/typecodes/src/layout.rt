@@ -55,6 +55,3 @@ pub fn following_laws<V, W>()
     ensures reader { (layout : Layout V) (view : W → V) (bytes : List ℕ) (result : Result W ReadFault) →
         Gives view result (read_all layout bytes) → Reads layout view bytes result }
 {}
-
-#[cfg(test)]
-mod tests;

@@ -132,6 +132,3 @@ impl Eq for Levels {
 
     ghost laws = { lists_equiv laws-law };
 }
-
-#[cfg(test)]
-mod tests;

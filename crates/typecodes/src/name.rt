@@ -93,6 +93,3 @@ impl Hash for Name {
         self.as_bytes().hash(state);
     }
 }
-
-#[cfg(test)]
-mod tests;

@@ -95,6 +95,3 @@ pub fn read_to_end<M: Message, T: PieceTaker>(
     }
     Err(ReadError::TooLong)
 }
-
-#[cfg(test)]
-mod tests;

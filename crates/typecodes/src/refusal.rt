@@ -42,6 +42,3 @@ impl Refusal {
         }
     }
 }
-
-#[cfg(test)]
-mod tests;

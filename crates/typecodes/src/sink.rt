@@ -50,6 +50,3 @@ pub fn write_all<S: Sink>(sink: &mut S, bytes: &[u8]) -> io::Result<()>
     }
     Ok(())
 }
-
-#[cfg(test)]
-mod tests;

@@ -121,6 +121,3 @@ fn parse_xmss(text: &str) -> Result<XmssType, BadSpec>
         _ => Err(BadSpec),
     }
 }
-
-#[cfg(test)]
-mod tests;

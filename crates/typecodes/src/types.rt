@@ -224,6 +224,3 @@ impl XmssType {
         4 + 32 + 32 * WOTS_CHAINS as u32 + 32 * u32::from(self.height())
     }
 }
-
-#[cfg(test)]
-mod tests;

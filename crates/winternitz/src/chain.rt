@@ -77,6 +77,3 @@ pub fn added(from: &[u8; LANES], taken: u8) -> [u8; LANES]
     }
     places
 }
-
-#[cfg(test)]
-mod tests;

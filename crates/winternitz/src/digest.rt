@@ -87,6 +87,3 @@ fn lacking(width: u8, digits: &[u8]) -> u16
         .map(|digit| greatest - u16::from(*digit))
         .sum()
 }
-
-#[cfg(test)]
-mod tests;

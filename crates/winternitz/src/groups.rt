@@ -177,6 +177,3 @@ fn values_of(values: &[[u8; 32]], chains: &[u16; LANES]) -> [[u8; 32]; LANES]
     }
     picked
 }
-
-#[cfg(test)]
-mod tests;

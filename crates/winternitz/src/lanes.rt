@@ -15,8 +15,6 @@ mod beginning;
 mod constants;
 mod long;
 mod rounds;
-#[cfg(test)]
-mod tests;
 
 pub use crate::lanes::beginning::Beginning;
 pub use crate::lanes::long::sha256_in_lanes;

@@ -17,6 +17,3 @@ pub fn chain_law()
     ensures wots { wots_chains ≡ message_count 4 + checksum_count 4 }
     ensures xmss { (t : XmssType) → xmss_signature_len_of t ≡ 4 + 32 + 32 * digit_count 4 + 32 * xmss_height_of t }
 {}
-
-#[cfg(test)]
-mod tests;

@@ -1,0 +1,9 @@
+//! A module for each crate that is tested, and what two of them share.
+
+mod chains;
+mod codes;
+mod hss_keys;
+mod lms_keys;
+mod one_time;
+mod readers;
+mod trees;

@@ -1,0 +1,7 @@
+//! Tests of winternitz.
+
+mod climbs;
+mod digits;
+mod lanes;
+mod laws;
+mod shares;

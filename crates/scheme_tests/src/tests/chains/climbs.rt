@@ -1,0 +1,163 @@
+//! Walks of a step that counts.
+
+ghost use Rattle.std.specs.Prelude.{ℕ, ◌≤◌, ◌<◌, ◌+◌, ◌%◌, length, slice_index, slice_set};
+ghost use Rattle.winternitz.specs.Lanes.{lanes};
+
+use std::process::Abort;
+use winternitz::lanes::LANES;
+use winternitz::{Step, added, climb, climb_from, climb_to, climb_whole};
+
+// A step that counts itself in the first byte, and leaves its number and its chain in the next ones.
+struct Counting;
+
+impl Step for Counting {
+    ghost step_of = { λ self chain at value.
+        slice_set (slice_set (slice_set value 0 ((slice_index value 0 + 1) % 256)) 1 at) 2 (chain % 256) };
+
+    fn step(&self, chain: u16, at: u8, value: &[u8; 32]) -> [u8; 32] {
+        let mut next = *value;
+        next[0] = next[0].wrapping_add(1);
+        next[1] = at;
+        next[2] = (chain % 256) as u8;
+        next
+    }
+}
+
+#[test]
+fn climbs_take_a_step_for_each_number(rt: HostRuntime) {
+    let start = [0; 32];
+    for (from, to, steps, last) in [
+        (7, 7, 0, 0),
+        (255, 255, 0, 0),
+        (0, 1, 1, 0),
+        (3, 8, 5, 7),
+        (0, 255, 255, 254),
+    ] {
+        let end = climb(&Counting, 264, from, to, &start);
+        assert!(rt; (end[0], end[1]) == (steps, last), "from {from} to {to}");
+    }
+    assert!(rt; climb(&Counting, 264, 9, 9, &start) == start);
+    assert!(rt; climb(&Counting, 264, 0, 255, &start)[2] == 8);
+}
+
+// A chain in each lane, the least and the greatest number among them, and a value for each.
+const CHAINS: [u16; LANES] = [0, 264, 7, 65535, 255, 256, 1, 32768];
+
+const VALUES: [[u8; 32]; LANES] = [
+    [1; 32], [2; 32], [3; 32], [4; 32], [255; 32], [6; 32], [0; 32], [8; 32],
+];
+
+// Where chains begin and end: each of 0, 1, 2, 15 and 255 steps, in some lanes.
+const WAYS: [([u8; LANES], [u8; LANES]); 7] = [
+    (
+        [0, 0, 0, 0, 0, 0, 0, 0],
+        [255, 255, 255, 255, 255, 255, 255, 255],
+    ),
+    (
+        [0, 3, 240, 254, 0, 254, 3, 240],
+        [255, 4, 255, 254, 1, 255, 3, 242],
+    ),
+    (
+        [9, 0, 0, 240, 9, 0, 0, 240],
+        [9, 2, 255, 255, 24, 0, 1, 242],
+    ),
+    ([0, 7, 13, 0, 7, 0, 0, 13], [1, 7, 15, 255, 22, 255, 0, 14]),
+    (
+        [1, 0, 100, 200, 200, 100, 0, 1],
+        [3, 15, 101, 200, 201, 115, 2, 1],
+    ),
+    ([0, 1, 2, 3, 4, 5, 6, 7], [15, 15, 2, 5, 5, 20, 255, 7]),
+    ([5, 5, 0, 5, 5, 5, 5, 0], [5, 5, 255, 5, 5, 5, 6, 0]),
+];
+
+#[test]
+fn chains_climb_from_any_place_and_to_any_other(rt: HostRuntime) {
+    for (from, to) in WAYS {
+        expect_climbs(&rt, &from, &VALUES);
+        expect_climbs(&rt, &to, &VALUES);
+    }
+}
+
+// Each number of steps, from the first place and to the last one.
+#[test]
+fn each_length_climbs_in_lanes(rt: HostRuntime) {
+    for steps in 0..=255u8 {
+        expect_lanes(&rt, &[0; LANES], steps);
+        expect_lanes(&rt, &[255 - steps; LANES], steps);
+    }
+}
+
+// Chains that climb together end where each ends by itself.
+fn expect_lanes(rt: &impl Abort, from: &[u8; LANES], steps: u8)
+    requires { (j : ℕ) → j < lanes → slice_index from.now j + steps < 256 }
+{
+    let ends = Counting.steps_in_lanes(&CHAINS, from, steps, &VALUES);
+    let to = added(from, steps);
+    for lane in 0..LANES {
+        let end = climb(&Counting, CHAINS[lane], from[lane], to[lane], &VALUES[lane]);
+        assert!(rt; ends[lane] == end, "lane {lane} from {from:?} by {steps}");
+    }
+}
+
+// Each number of steps in each lane, with the same in the lanes beside it, and with other ones.
+#[test]
+fn each_length_climbs_in_each_lane(rt: HostRuntime) {
+    for steps in 0..=255u8 {
+        let mut others = [0; LANES];
+        for lane in 0..LANES {
+            others[lane] = steps.wrapping_add((256 / LANES * lane % 256) as u8);
+        }
+        expect_climbs(&rt, &[steps; LANES], &VALUES);
+        expect_climbs(&rt, &others, &VALUES);
+    }
+}
+
+// Each chain's end is that of the chain by itself.
+fn expect_climbs(rt: &impl Abort, digits: &[u8], values: &[[u8; 32]])
+    requires few { length values.now ≤ 265 }
+    requires digits { length values.now ≤ length digits.now }
+{
+    let to = climb_to(&Counting, digits, values);
+    let from = climb_from(&Counting, digits, 255, values);
+    let whole = climb_whole(&Counting, 15, values);
+    for i in 0..values.len() {
+        let up_to = climb(&Counting, i as u16, 0, digits[i], &values[i]);
+        let up_from = climb(&Counting, i as u16, digits[i], 255, &values[i]);
+        let all = climb(&Counting, i as u16, 0, 15, &values[i]);
+        assert!(rt;
+            (to[i], from[i], whole[i]) == (up_to, up_from, all),
+            "chain {i}"
+        );
+    }
+}
+
+// The digits of chains in a row: the first one's, by how much each next one's is greater, modulo 256, and that of
+// chain 2. Among them are chains of all sizes, of one size, and one that has all of the steps.
+const ROWS: [(usize, usize, u8); 8] = [
+    (0, 37, 74),
+    (0, 1, 2),
+    (255, 0, 255),
+    (1, 0, 1),
+    (0, 0, 255),
+    (255, 0, 0),
+    (3, 85, 200),
+    (128, 128, 7),
+];
+
+// Numbers of chains that the lanes divide and that they don't: each lane takes a part of the row, in which chains begin
+// and end anywhere.
+#[test]
+fn all_chains_climb_as_each_by_itself(rt: HostRuntime) {
+    for (first, more, third) in ROWS {
+        let mut digits = [0; 265];
+        let mut values = [[0; 32]; 265];
+        for i in 0..265 {
+            digits[i] = ((first + more * i) % 256) as u8;
+            values[i] = [(i % 256) as u8; 32];
+        }
+        digits[2] = third;
+        for count in [0, 1, 2, 3, 4, 5, 6, 7, 8, 9, 15, 16, 34, 67, 133, 265usize] {
+            expect_climbs(&rt, &digits, &values[..count]);
+        }
+    }
+}

@@ -1,0 +1,6 @@
+use winternitz::chain_law;
+
+#[test]
+fn laws() {
+    chain_law();
+}

@@ -1,0 +1,222 @@
+//! Messages that are read, by readers whose reads follow a plan.
+
+use std::io;
+use std::io::{ErrorKind, Read};
+use typecodes::{Message, PIECE, PieceTaker, ReadError, read_full, read_to_end};
+
+// What a read does.
+#[derive(Clone, Copy)]
+enum Step {
+    // gives as many bytes as there is room for, but at most so many
+    Part(usize),
+    // says that it gave as many, and writes none
+    Claimed(usize),
+    Interrupted,
+    Fails,
+}
+
+// A reader whose reads follow a plan, with nothing to give after it. Its bytes are 1, 2, 3 and so on.
+#[derive(Drop)]
+struct Planned<'a> {
+    plan: &'a [Step],
+    given: u8,
+}
+
+impl Read for Planned<'_> {
+    fn read(&mut self, buffer: &mut [u8]) -> io::Result<usize> {
+        let plan = self.plan;
+        let Some((step, rest)) = plan.split_first() else {
+            return Ok(0);
+        };
+        self.plan = rest;
+        match step {
+            Step::Part(most) => {
+                let n = buffer.len().min(*most);
+                for byte in &mut buffer[..n] {
+                    self.given = self.given.wrapping_add(1);
+                    *byte = self.given;
+                }
+                Ok(n)
+            }
+            Step::Claimed(most) => Ok(buffer.len().min(*most)),
+            Step::Interrupted => Err(io::Error::from(ErrorKind::Interrupted)),
+            Step::Fails => Err(io::Error::from(ErrorKind::BrokenPipe)),
+        }
+    }
+}
+
+// A buffer of five bytes is read so: how many bytes came, or by which kind of error it failed. So much of the plan is
+// left.
+fn filled_by(plan: &[Step]) -> (Result<usize, ErrorKind>, [u8; 5], usize) {
+    let mut message = Planned { plan, given: 0 };
+    let mut buffer = [0; 5];
+    let answer = match read_full(&mut message, &mut buffer) {
+        Ok(n) => Ok(n),
+        Err(error) => Err(error.kind()),
+    };
+    (answer, buffer, message.plan.len())
+}
+
+// A read that gave a part goes on, and what follows a full buffer is left. Bytes that a read says it gave count as
+// given, also where it wrote none. Any error is the answer at once, and no end.
+#[test]
+fn reads_go_on_until_a_failure(rt: HostRuntime) {
+    use Step::{Claimed, Fails, Interrupted, Part};
+    for (plan, answer, buffer, left) in [
+        ([Part(9)].as_slice(), Ok(5), [1, 2, 3, 4, 5], 0),
+        (&[Part(2), Part(3), Interrupted], Ok(5), [1, 2, 3, 4, 5], 1),
+        (&[Part(3), Part(0), Part(2)], Ok(3), [1, 2, 3, 0, 0], 1),
+        (&[], Ok(0), [0; 5], 0),
+        (&[Claimed(9)], Ok(5), [0; 5], 0),
+        (&[Part(2), Claimed(2), Part(9)], Ok(5), [1, 2, 0, 0, 3], 0),
+        (
+            &[Interrupted, Part(9)],
+            Err(ErrorKind::Interrupted),
+            [0; 5],
+            1,
+        ),
+        (
+            &[Part(3), Interrupted, Part(2)],
+            Err(ErrorKind::Interrupted),
+            [1, 2, 3, 0, 0],
+            1,
+        ),
+        (&[Fails, Part(5)], Err(ErrorKind::BrokenPipe), [0; 5], 1),
+        (
+            &[Part(3), Part(1), Fails],
+            Err(ErrorKind::BrokenPipe),
+            [1, 2, 3, 4, 0],
+            0,
+        ),
+    ] {
+        assert!(rt; filled_by(plan) == (answer, buffer, left));
+    }
+}
+
+// What counts pieces and their bytes, and refuses the piece after so many.
+#[derive(Drop)]
+struct Tally {
+    pieces: u32,
+    bytes: usize,
+    most: u32,
+}
+
+impl PieceTaker for Tally {
+    ghost use Rattle.std.specs.Prelude.{⊤};
+
+    type Error = u32;
+
+    ghost takes = { λ _ _ _. ⊤ };
+
+    ghost refuses = { λ _ _ _ _. ⊤ };
+
+    fn take_piece(&mut self, piece: &[u8]) -> Result<(), u32> {
+        if self.pieces >= self.most {
+            return Err(self.pieces);
+        }
+        self.pieces = self.pieces.wrapping_add(1);
+        self.bytes = self.bytes.wrapping_add(piece.len());
+        Ok(())
+    }
+
+    ghost takes_nothing = { λ _. tt };
+
+    ghost takes_more = { λ _ _ _ _ _ _ _. tt };
+}
+
+// How a message was read to its end, where at most so many pieces are taken.
+#[derive(Drop, PartialEq)]
+enum End {
+    Read,
+    Failed(ErrorKind),
+    TooLong,
+    Refused(u32),
+}
+
+fn read_by(plan: &[Step], most: u32) -> (End, u32, usize) {
+    let mut message = Planned { plan, given: 0 };
+    let mut tally = Tally {
+        pieces: 0,
+        bytes: 0,
+        most,
+    };
+    let end = match read_to_end(&mut message, &mut tally) {
+        Ok(()) => End::Read,
+        Err(ReadError::Failed(error)) => End::Failed(error.kind()),
+        Err(ReadError::TooLong) => End::TooLong,
+        Err(ReadError::Refused(pieces)) => End::Refused(pieces),
+    };
+    (end, tally.pieces, tally.bytes)
+}
+
+#[test]
+fn messages_are_read_to_their_end(rt: HostRuntime) {
+    use Step::{Claimed, Fails, Interrupted, Part};
+    for (plan, most, end, pieces, bytes) in [
+        ([].as_slice(), 1, End::Read, 1, 0),
+        (&[Part(5), Part(3)], 1, End::Read, 1, 8),
+        (&[Claimed(PIECE)], 2, End::Read, 2, PIECE),
+        (
+            &[Part(1), Claimed(PIECE), Claimed(PIECE), Part(2)],
+            9,
+            End::Read,
+            3,
+            2 * PIECE + 2,
+        ),
+        (
+            &[Part(1), Interrupted, Part(1)],
+            9,
+            End::Failed(ErrorKind::Interrupted),
+            0,
+            0,
+        ),
+        (
+            &[Claimed(PIECE), Part(1), Fails],
+            9,
+            End::Failed(ErrorKind::BrokenPipe),
+            1,
+            PIECE,
+        ),
+        (&[Claimed(PIECE), Part(1)], 1, End::Refused(1), 1, PIECE),
+        (&[], 0, End::Refused(0), 0, 0),
+    ] {
+        assert!(rt; read_by(plan, most) == (end, pieces, bytes));
+    }
+}
+
+// A file that is read at offsets.
+trait OffsetFile {
+    ghost use Rattle.std.specs.Prelude.{ℕ, length};
+    ghost use Rattle.std.specs.Io.{ReadsAtMost};
+    ghost use Rattle.typecodes.specs.Message.{ReadOutcome, read_outcome};
+
+    // what a read at an offset of so many bytes does
+    ghost reads: { Self → (at room : ℕ) → ReadOutcome → Self → Type 0 };
+
+    fn read_at(&mut self, at: u64, into: &mut [u8]) -> io::Result<usize>
+        ensures bound { ReadsAtMost result into.new }
+        ensures reads { reads self.old at (length into.old) (read_outcome result into.new) self.new };
+}
+
+// What is left of a file from an offset on is a message, each of whose reads is one of the file at the next offset.
+#[derive(Drop)]
+struct AtOffset<'a, F> {
+    file: &'a mut F,
+    at: u64,
+}
+
+impl<F: OffsetFile> Message for AtOffset<'_, F> {
+    ghost use Rattle.std.specs.Prelude.{◌≡◌, ◌+◌, ◌<◌, ◌^◌, None};
+    ghost use Rattle.typecodes.specs.Message.{size_of};
+
+    ghost remaining = { λ _. None };
+
+    ghost request = { λ old room outcome new. old.at + room < 2 ^ 64 → (new.file.ghost_name ≡ old.file.ghost_name)
+        × (new.at ≡ old.at + size_of outcome) × F.reads old.file.now old.at room outcome new.file.now };
+
+    fn read_into(&mut self, buffer: &mut [u8]) -> io::Result<usize> {
+        let n = self.file.read_at(self.at, buffer)?;
+        self.at = self.at.wrapping_add(n as u64);
+        Ok(n)
+    }
+}

@@ -1,0 +1,6 @@
+//! Tests of merkle.
+
+mod caches;
+mod memory;
+mod plain;
+mod sums;

@@ -1,6 +1,0 @@
-use crate::chain_law;
-
-#[test]
-fn laws() {
-    chain_law();
-}
