@@ -57,8 +57,8 @@ abbrev pub IsDigest : List ℕ → List ℕ → List ℕ → List ℕ → Type 0
 IsDigest public message bytes digest =
     (key : Key) → SpellsKey key public → KeyIsDigest key message bytes digest
 
--- What is hashed before the message was given: its length, 54 or 128, above the lower 32 bits, which are 0, and it stands
--- in the first bytes of the room. Else the answer is that of verification, whatever the message.
+-- What is hashed before the message was given: its length, 54 or 128, above the lower 32 bits, which are 0, and it
+-- stands in the first bytes of the room. Else the answer is that of verification, whatever the message.
 abbrev pub GivesPrefix : List ℕ → List ℕ → List ℕ → ℕ → Type 0
 GivesPrefix public bytes room answer =
     ((key : Key) × SpellsKey key public × (answer ≡ packed 0 (prefix_length key))
