@@ -31,7 +31,7 @@ use Rattle.sign_core.specs.declared.fault.SignFault.{SignFault}
 use Rattle.sign_core.specs.declared.fault.SignFault.TheVariants.{Damaged, MessageRead, RandomFailed}
 use Rattle.sign_core.specs.declared.source.Source as source
 use Rattle.sign_core.specs.declared.links.Link.{Link}
-use Rattle.sign_core.specs.declared.links.Signed.{Signed}
+use Rattle.sign_core.specs.declared.links.SigningTree.{SigningTree}
 use Rattle.sign_core.specs.Events.{AreFields, randomizer_sizes}
 use Rattle.sign_core.specs.Signing.{answered_with}
 use Rattle.sign_core.specs.inner.Source.{DrawsBytes}
@@ -230,10 +230,10 @@ pub tree_at_end : (records : List Record) (level tree : ℕ) → current level r
 tree_at_end records level tree is = ap (λ l. unwrap_or (current level l) 0) (take-length records) ∙ ap (λ o. unwrap_or o 0) is
 
 -- the record that binds a name to the next leaf of a standing chain is the world's
-pub bound_of_chain : (records : List Record) (key : Key) (trees : Trees) (above : List Link) (last : Link) (name : List ℕ) (bound : Bound) (text : List ℕ)
+pub bound_of_chain : (records : List Record) (key : Key) (trees : Trees) (above : List Link) (last : SigningTree) (name : List ℕ) (bound : Bound) (text : List ℕ)
     → key_in records ≡ Some key → trees_of key.secret ≡ Some trees → Stands key trees records (bottom_of key.secret) above last
-    → bound.name ≡ name → bound.leaf ≡ last.signed.leaf
-    → bound.digest ≡ message_digest_of last.secret.identifier last.signed.leaf bound.randomizer text
+    → bound.name ≡ name → bound.leaf ≡ last.leaf
+    → bound.digest ≡ message_digest_of last.secret.identifier last.leaf bound.randomizer text
     → bound ≡ new_bound key records name (next_at key.secret records (bottom_of key.secret)) bound.randomizer text
 bound_of_chain records key trees above last name bound text keyed these stands named leaf_is digest_is =
     let bottom = bottom_of key.secret in
@@ -260,9 +260,9 @@ bound_follows records key tree name bound keyed stays at leaf free named unbound
     ap (λ o. can_follow o records (BoundRecord bound)) keyed
     ∙ ap₂ (λ moved can. not moved && can) stays (ap₂ (λ two h. two && h) (ap₂ (λ f o. f && not (is_some o)) is none) has)
 
-pub chain_follows_bound : (records : List Record) (key : Key) (trees : Trees) (above : List Link) (last : Link) (name : List ℕ) (bound : Bound)
+pub chain_follows_bound : (records : List Record) (key : Key) (trees : Trees) (above : List Link) (last : SigningTree) (name : List ℕ) (bound : Bound)
     → key_in records ≡ Some key → trees_of key.secret ≡ Some trees → has_moved records ≡ false
-    → Stands key trees records (bottom_of key.secret) above last → bound.name ≡ name → bound.leaf ≡ last.signed.leaf → binding_in records name ≡ None
+    → Stands key trees records (bottom_of key.secret) above last → bound.name ≡ name → bound.leaf ≡ last.leaf → binding_in records name ≡ None
     → can_follow (key_in records) records (BoundRecord bound) ≡ true
 chain_follows_bound records key trees above last name bound keyed these stays stands named leaf unbound =
     bound_follows records key stands.tree name bound keyed stays stands.current_is (leaf ∙ stands.leaf) stands.free named unbound
@@ -352,10 +352,10 @@ module _ {S R M : Type 0} (g : store.Ghosts S) (r : source.Ghosts R) (m : messag
 
 -- The record that binds a name to the next leaf of a standing chain is the world's, and is appended, or its append fails.
 pub bound_below : {S R M : Type 0} {caches : Cached} (g : store.Ghosts S) (r : source.Ghosts R) (m : message.Ghosts M) (name : List ℕ) (kept_in : S) (random mid : R)
-    (ledger : Table) (is_open : Bool) (before after : M) (key : Key) (trees : Trees) (v new : View S R) (above : List Link) (last : Link) (bound : Bound)
+    (ledger : Table) (is_open : Bool) (before after : M) (key : Key) (trees : Trees) (v new : View S R) (above : List Link) (last : SigningTree) (bound : Bound)
     (text : List ℕ) (a : Result (Unit {0}) SignFault) (answer : Result (List ℕ) SignFault) → view_of kept_in random ledger caches is_open ≡ v → v.is_open ≡ true
     → key_in v.records ≡ Some key → StandsIn trees v.records above last key → length above ≡ bottom_of key.secret → bound.name ≡ name
-    → bound.leaf ≡ last.signed.leaf → bound.digest ≡ message_digest_of last.secret.identifier last.signed.leaf bound.randomizer text
+    → bound.leaf ≡ last.leaf → bound.digest ≡ message_digest_of last.secret.identifier last.leaf bound.randomizer text
     → DrawsBytes (r.failures random) (r.failures mid) (r.upcoming random) (r.upcoming mid) (Ok bound.randomizer) → length bound.randomizer ≡ 32
     → AreBytes bound.randomizer → ReadWhole m.transition m.remaining text before after → Adds g (view_of kept_in mid ledger caches is_open) new (BoundRecord bound) a
     → answer ≡ answered_with a (signature_at key (ledger.records ++ BoundRecord bound ∷ []) (length ledger.records) bound)
@@ -373,31 +373,30 @@ bound_below {S = S} {R = R} {M = M} g r m name kept_in random mid ledger is_open
 -- ---- the links of a signature
 
 pair_of : Link → LmsPair
-pair_of link = link.secret.pair
+pair_of link = link.tree.secret.pair
 
 -- a standing chain whose last tree signs has the types of the levels
-pub standing_pairs : (records : List Record) (key : Key) (trees other : Trees) (above links : List Link) (last link : Link)
+pub standing_pairs : (records : List Record) (key : Key) (trees other : Trees) (above links : List Link) (last : SigningTree) (link : Link)
     → trees_of key.secret ≡ Some trees → trees_of key.secret ≡ Some other → Stands key trees records (bottom_of key.secret) above last
-    → links ≡ above ++ link ∷ [] → link.secret ≡ last.secret → pairs_of links ≡ other.pairs
+    → links ≡ above ++ link ∷ [] → link.tree ≡ last → pairs_of links ≡ other.pairs
 unfolding pair_of
 standing_pairs records key trees other above links last link these others stands is same =
-    ap (map pair_of) is ∙ map-append pair_of above (link ∷ []) ∙ ap (λ (s : LmsSecret). map pair_of above ++ s.pair ∷ []) same
-    ∙ sym (map-append pair_of above (last ∷ [])) ∙ stands.pairs ∙ all_pairs key.secret trees these
+    ap (map pair_of) is ∙ map-append pair_of above (link ∷ []) ∙ ap (λ (t : SigningTree). map pair_of above ++ t.secret.pair ∷ []) same
+    ∙ stands.pairs ∙ all_pairs key.secret trees these
     ∙ ap (λ (t : Trees). t.pairs) (same_Some trees other (sym these ∙ others))
 
 -- and is made
-pub standing_made : (records : List Record) (key : Key) (trees : Trees) (above links : List Link) (last link : Link)
-    → Stands key trees records (bottom_of key.secret) above last → links ≡ above ++ link ∷ [] → (IsMade last → IsMade link) → AreMade links
-standing_made records key trees above links last link stands is made =
-    subst AreMade (sym is) (more_made above link stands.made (made stands.last_made))
+pub standing_made : (records : List Record) (key : Key) (trees : Trees) (above links : List Link) (last : SigningTree) (link : Link)
+    → Stands key trees records (bottom_of key.secret) above last → links ≡ above ++ link ∷ [] → link.tree ≡ last → AreMade links
+standing_made records key trees above links last link stands is same =
+    subst AreMade (sym is) (more_made above link stands.made (subst IsMade (sym same) stands.last_made))
 
 -- It writes the binding's signature.
-pub standing_signs : (records : List Record) (key own : Key) (trees : Trees) (above links : List Link) (last link : Link) (bound : Bound) (bytes : List ℕ)
+pub standing_signs : (records : List Record) (key own : Key) (trees : Trees) (above links : List Link) (last : SigningTree) (link : Link) (bound : Bound) (bytes : List ℕ)
     → key_in records ≡ Some key → own ≡ key → trees_of key.secret ≡ Some trees → Stands key trees records (bottom_of key.secret) above last
-    → links ≡ above ++ link ∷ [] → link.secret ≡ last.secret
-    → link.signed ≡ record { leaf = bound.leaf; randomizer = bound.randomizer; digest = bound.digest }
+    → links ≡ above ++ link ∷ [] → link.tree ≡ last → last.leaf ≡ bound.leaf → link.randomizer ≡ bound.randomizer → link.digest ≡ bound.digest
     → WritesChain own.secret links bytes → bytes ≡ signature_at key (records ++ BoundRecord bound ∷ []) (length records) bound
-standing_signs records key own trees above links last link bound bytes keyed same these stands is secret signed writes =
+standing_signs records key own trees above links last link bound bytes keyed same these stands is tree_is leaf randomizer digest writes =
     let all = records ++ BoundRecord bound ∷ [] in
     let k = length records in
     let bottom = bottom_of key.secret in
@@ -405,14 +404,17 @@ standing_signs records key own trees above links last link bound bytes keyed sam
     let low : tree < length records = tree_within records bottom tree (some_keyed records key keyed) stands.current_is in
     let here : tree_before bottom all k ≡ tree =
     before_stays bottom records (BoundRecord bound ∷ []) k (omega arith) ∙ tree_at_end records bottom tree stands.current_is in
-    let with : LmsSecret → Signed → Signing = λ s x. record { secret = s; leaf = x.leaf; randomizer = x.randomizer; digest = x.digest } in
     let bound_with_tree : LmsSecret → Signing = λ s. record { secret = s; leaf = bound.leaf; randomizer = bound.randomizer; digest = bound.digest } in
-    let secret_is : link.secret ≡ secret_at trees all tree = secret ∙ stands.secret ∙ sym (secret_stays trees records (BoundRecord bound ∷ []) tree low) in
+    let secret_is : link.tree.secret ≡ secret_at trees all tree =
+    ap (λ (t : SigningTree). t.secret) tree_is ∙ stands.secret ∙ sym (secret_stays trees records (BoundRecord bound ∷ []) tree low) in
+    let leaf_is : link.tree.leaf ≡ bound.leaf = ap (λ (t : SigningTree). t.leaf) tree_is ∙ leaf in
+    let signs_with : signing_of_link link ≡ bound_with_tree (secret_at trees all tree) =
+    λ i. record { secret = secret_is i; leaf = leaf_is i; randomizer = randomizer i; digest = digest i } in
     let signs : signings_of links ≡ signings_above trees bottom all (tree_before bottom all k)
     ++ signing_of_bound trees all (tree_before bottom all k) bound ∷ [] =
     ap signings_of is ∙ map-append signing_of_link above (link ∷ [])
     ∙ ap₂ (λ front s. front ++ s ∷ []) (stands.signings ∙ sym (signings_stay trees bottom records (BoundRecord bound ∷ []) tree low))
-    (ap₂ with secret_is signed)
+    signs_with
     ∙ ap (λ t. signings_above trees bottom all t ++ bound_with_tree (secret_at trees all t) ∷ []) (sym here) in
     subst (λ (k' : Key). WritesChain k'.secret links bytes) same writes trees all k bound
     (key, key_stays records (BoundRecord bound ∷ []) key keyed) these signs

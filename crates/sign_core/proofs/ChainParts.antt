@@ -149,7 +149,7 @@ signings_pairs records key trees (suc level) place legal keyed these (extend, st
 pairs_of_links : (links : List Link) → pairs_of links ≡ map pair_of (signings_of links)
 unfolding pair_of
 pairs_of_links [] = refl
-pairs_of_links (link ∷ links) = ap (λ l. link.secret.pair ∷ l) (pairs_of_links links)
+pairs_of_links (link ∷ links) = ap (λ l. link.tree.secret.pair ∷ l) (pairs_of_links links)
 
 -- links that sign as a chain of trees does, down to the bottom, have the types of the levels
 pub links_pairs : (records : List Record) (key : Key) (trees other : Trees) (level place : ℕ) (links : List Link) (last : Signing) → IsLegal records

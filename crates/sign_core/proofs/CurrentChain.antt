@@ -1,8 +1,8 @@
 -- The chain of current trees stands before a new name signs under it.
-use Rattle.std.proofs.Common.{◌≡◌, ◌∙◌, ℕ, zero, suc, ◌+◌, ◌-◌, ◌^◌, ◌<◌, List, [], ◌∷◌, ◌++◌, length, take, map, Option, Some, None, refl}
-use Rattle.std.proofs.Common.{sym, ap, subst, arith, slice_get, slice_index_or, get_or, drop, add-one, length-append, length-take-le, if◌then◌else◌}
+use Rattle.std.proofs.Common.{◌≡◌, ◌∙◌, ℕ, zero, suc, ◌-◌, ◌^◌, ◌<◌, List, [], ◌∷◌, ◌++◌, length, take, map, Option, Some, None, refl}
+use Rattle.std.proofs.Common.{sym, ap, subst, arith, slice_index_or, add-one, if◌then◌else◌}
 use Rattle.std.specs.Prelude.{is_some}
-use Rattle.std.proofs.lemmas.List.{map-append, take_all}
+use Rattle.std.proofs.lemmas.List.{map-append}
 use Rattle.std.proofs.lemmas.Option.{none-some, same_Some}
 use Rattle.typecodes.specs.declared.types.LmsPair.{LmsPair}
 use Rattle.typecodes.specs.Types.{height_of}
@@ -13,14 +13,14 @@ use Rattle.state_file.specs.declared.record.Record.{Record}
 use Rattle.state_file.specs.declared.record.Secret.{Secret}
 use Rattle.state_file.specs.declared.record.Secret.TheVariants.{Lms, Hss, Xmss}
 use Rattle.sign_core.specs.declared.links.Link.{Link}
+use Rattle.sign_core.specs.declared.links.SigningTree.{SigningTree}
 use Rattle.sign_core.specs.declared.trees.Tree.{Tree}
 use Rattle.sign_core.specs.Records.{current, free_at, key_in, next_at, next_of}
-use Rattle.sign_core.specs.declared.links.Signed.{Signed}
-use Rattle.sign_core.specs.inner.Links.{AreMade, IsTreeAt, signing_of_link, signing_with, signings_of}
+use Rattle.sign_core.specs.inner.Links.{AreMade, IsTreeAt, IsTreeBy, signings_of}
 use Rattle.sign_core.specs.inner.Signing.{Stands, pairs_of}
 use Rattle.sign_core.specs.Trees.{tree_at, with_next}
 use Rattle.sign_core.specs.Textbook.{Trees, secret_at, signings_above, tree_before, trees_of}
-use Rattle.sign_core.proofs.Chains.{got_in-take, got_last, named_by}
+use Rattle.sign_core.proofs.Chains.{named_by}
 use Rattle.sign_core.proofs.Keys.{key_stands}
 use Rattle.sign_core.proofs.LinkParts.{current_stands, leaves_of_level, pair_at, parent_of, signings_more}
 use Rattle.sign_core.proofs.TreeSteps.{current_is}
@@ -106,46 +106,30 @@ chain_pairs key trees records (suc level) place last legal keyed these few at is
 
 links_pairs : (links : List Link) → pairs_of links ≡ map pair_of (signings_of links)
 links_pairs [] = refl
-links_pairs (link ∷ rest) = ap (λ l. link.secret.pair ∷ l) (links_pairs rest)
+links_pairs (link ∷ rest) = ap (λ l. link.tree.secret.pair ∷ l) (links_pairs rest)
 
 -- ---- the chain
 
-snoc_same : {A : Type 0} (xs ys : List A) (a b : A) → xs ++ a ∷ [] ≡ ys ++ b ∷ [] → (xs ≡ ys) × (a ≡ b)
-snoc_same [] [] a b is = (refl, ap (λ l. get_or l 0 a) is)
-snoc_same [] (y ∷ ys) a b is = absurd (omega (arith, ap length is, length-append ys (b ∷ [])))
-snoc_same (x ∷ xs) [] a b is = absurd (omega (arith, ap length is, length-append xs (a ∷ [])))
-snoc_same (x ∷ xs) (y ∷ ys) a b is =
-    let (front, end) = snoc_same xs ys a b (ap (drop 1) is) in
-    (λ i. get_or (is i) 0 x ∷ front i, end)
-
-pub split_last : (links : List Link) (level : ℕ) (last : Link) → length links ≡ level + 1 → last ≡ get_or links level last → take level links ++ last ∷ [] ≡ links
-split_last links level last long is =
-    ap (λ x. take level links ++ x ∷ []) is ∙ take_more level links last (omega (arith, long)) ∙ take_all (suc level) links (omega (arith, long))
-
-pub stands : (key : Key) (trees : Trees) (records : List Record) (level place leaf : ℕ) (links : List Link) (last : Link) (signed : Signed) → IsLegal records
+pub stands : (key : Key) (trees : Trees) (records : List Record) (level place leaf : ℕ) (above : List Link) (last : SigningTree) → IsLegal records
     → key_in records ≡ Some key → trees_of key.secret ≡ Some trees → level < levels_of key.secret → HasFree key.secret records level place leaf
-    → signed.leaf ≡ leaf → signings_of links ≡ signings_above trees level records place ++ signing_with (secret_at trees records place) signed ∷ []
-    → length links ≡ level + 1 → last ≡ get_or links level last → AreMade links → Stands key trees records level (take level links) last
-stands key trees records level place leaf links last signed legal keyed these few has leaf_is signs long is made =
-    let above = take level links in
-    let whole : above ++ last ∷ [] ≡ links = split_last links level last long is in
-    let count : length above ≡ level = length-take-le level links (omega (arith, long)) in
-    let both = snoc_same (signings_of above) (signings_above trees level records place) (signing_of_link last) (signing_with (secret_at trees records place) signed)
-    (sym (map-append signing_of_link above (last ∷ [])) ∙ ap signings_of whole ∙ signs) in
+    → signings_of above ≡ signings_above trees level records place → length above ≡ level → AreMade above
+    → IsTreeBy (secret_at trees records place) leaf last → Stands key trees records level above last
+stands key trees records level place leaf above last legal keyed these few has signs count made tree =
     let at = tree_stands records level place has.current_is in
+    let one : Signing = record { secret = last.secret; leaf = leaf; randomizer = []; digest = [] } in
     record {
       tree = place;
       current_is = has.current_is;
       count = count;
-      signings = both.0;
-      secret = ap (λ (s : Signing). s.secret) both.1;
-      leaf = ap (λ (s : Signing). s.leaf) both.1 ∙ leaf_is ∙ has.leaf_is;
+      signings = signs;
+      secret = tree.secret_is;
+      leaf = tree.leaf_is ∙ has.leaf_is;
       free = has.free;
-      made = λ i link found. made i link ((got_in-take level links i link found).1);
-      last_made = made level last (ap (λ l. slice_get l level) (sym whole) ∙ got_last above last level (sym count));
-      pairs = ap pairs_of whole ∙ links_pairs links ∙ ap (map pair_of) signs
-          ∙ chain_pairs key trees records level place (signing_with (secret_at trees records place) signed) legal keyed these
-          (omega (arith, few, levels_are key.secret trees these)) at refl
+      made = made;
+      last_made = tree.made;
+      pairs = ap (λ l. l ++ last.secret.pair ∷ []) (links_pairs above ∙ ap (map pair_of) signs)
+          ∙ sym (map-append pair_of (signings_above trees level records place) (one ∷ []))
+          ∙ chain_pairs key trees records level place one legal keyed these (omega (arith, few, levels_are key.secret trees these)) at tree.secret_is
           ∙ ap (λ n. take n trees.pairs) (sym (add-one level));
     }
 

@@ -19,6 +19,7 @@ use Rattle.lms.specs.declared.key.LmsPublic.{LmsPublic}
 use Rattle.lms.specs.Secret.{public_of}
 use Rattle.lms.specs.Writing.{public_bytes}
 use Rattle.sign_core.specs.declared.links.Link.{Link}
+use Rattle.sign_core.specs.declared.links.SigningTree.{SigningTree}
 use Rattle.sign_core.specs.Ledger.{Table}
 use Rattle.state_file.specs.declared.record.Record.TheVariants.{Extend as ExtendRecord}
 use Rattle.sign_core.proofs.Adding.{LeavesItsList}
@@ -256,15 +257,15 @@ adds_caching g old new caches entry answer adds = record {
 
 -- The tree that was drawn below a standing chain: its record is the world's, and is appended.
 pub drawn_below : {S R : Type 0} {caches others : Cached} (g : store.Ghosts S) (r : source.Ghosts R) (key : Key) (trees : Trees) (kept_in : S) (random after : R) (ledger : Table)
-    (is_open : Bool) (v new : View S R) (above : List Link) (last : Link) (seeds : TreeSeeds) (pair : LmsPair) (public : LmsPublic) (level : ℕ)
+    (is_open : Bool) (v new : View S R) (above : List Link) (last : SigningTree) (seeds : TreeSeeds) (pair : LmsPair) (public : LmsPublic) (level : ℕ)
     (digest root : List ℕ) (answer : Result (Unit {0}) SignFault) → view_of kept_in random ledger caches is_open ≡ v → v.is_open ≡ true
     → StandsIn trees v.records above last key → level ≡ length above + 1 → pair ≡ slice_index_or trees.pairs level trees.top.pair
     → public ≡ public_of (record { pair = pair; identifier = seeds.identifier; seed = seeds.seed })
-    → digest ≡ message_digest_of last.secret.identifier last.signed.leaf seeds.randomizer (public_bytes public) → root ≡ public.root
+    → digest ≡ message_digest_of last.secret.identifier last.leaf seeds.randomizer (public_bytes public) → root ≡ public.root
     → DrawsTree ledger.records (r.failures random) (r.failures after) (r.upcoming random) (r.upcoming after) (Ok seeds)
     → Adds g (view_of kept_in after ledger others is_open) new (ExtendRecord (record {
       level = level;
-      parent_leaf = last.signed.leaf;
+      parent_leaf = last.leaf;
       identifier = seeds.identifier;
       seed = seeds.seed;
       randomizer = seeds.randomizer;

@@ -7,6 +7,7 @@ use Rattle.std.proofs.lemmas.List.{append_assoc}
 use Rattle.std.proofs.lemmas.Option.{same_Some, slice_get_within}
 use Rattle.typecodes.specs.declared.types.LmsPair.{LmsPair}
 use Rattle.typecodes.specs.Types.{height_of}
+use Rattle.lms.specs.declared.secret.LmsSecret.{LmsSecret}
 use Rattle.hss.specs.Secret.{Signing}
 use Rattle.state_file.specs.Laws.{IsCurrent, IsLegal, leaves_at, leaves_in, levels_of}
 use Rattle.state_file.specs.declared.record.Extend.{Extend}
@@ -17,8 +18,9 @@ use Rattle.state_file.specs.declared.record.Secret.{Secret}
 use Rattle.state_file.specs.declared.record.Secret.TheVariants.{Lms, Hss, Xmss}
 use Rattle.sign_core.specs.declared.ledger.Made.{Made}
 use Rattle.sign_core.specs.declared.links.Link.{Link}
+use Rattle.sign_core.specs.declared.links.SigningTree.{SigningTree}
 use Rattle.sign_core.specs.Records.{current, key_in}
-use Rattle.sign_core.specs.inner.Links.{AreMade, IsMade, IsTreeAt}
+use Rattle.sign_core.specs.inner.Links.{AreMade, IsMade, IsTreeAt, IsTreeBy, signing_of_link, signing_with}
 use Rattle.sign_core.specs.Ledger.{made_at, made_by}
 use Rattle.sign_core.specs.Textbook.{Trees, chain, damaged_in, is_sound_at, secret_at, secret_by, tree_before}
 use Rattle.sign_core.specs.Textbook.{signing_by, signings_above, trees_of}
@@ -175,15 +177,23 @@ above_damaged key records level place k above =
 
 -- ---- links
 
-pub more_made : (links : List Link) (link : Link) → AreMade links → IsMade link → AreMade (links ++ link ∷ [])
+pub more_made : (links : List Link) (link : Link) → AreMade links → IsMade link.tree → AreMade (links ++ link ∷ [])
 more_made links link before made i other at =
     let inside : i < length (links ++ link ∷ []) = slice_get_within (links ++ link ∷ []) i other at in
     let count : length (links ++ link ∷ []) ≡ length links + 1 = length-append links (link ∷ []) in
     elim (cases_order i (length links)) [
-      | inl same ↦ subst IsMade (same_Some link other (sym (got_last links link i same) ∙ at)) made
+      | inl same ↦ subst (λ (l : Link). IsMade l.tree) (same_Some link other (sym (got_last links link i same) ∙ at)) made
       | inr (inl below) ↦ before i other (sym (got_front links (link ∷ []) i below) ∙ at)
       | inr (inr beyond) ↦ absurd (omega (arith, inside, count, beyond))
     ]
+
+-- what one signs with, whose tree was just made
+pub link_signs : (link : Link) (tree : SigningTree) (secret : LmsSecret) (leaf : ℕ) (randomizer digest : List ℕ) → link.tree ≡ tree → IsTreeBy secret leaf tree
+    → link.randomizer ≡ randomizer → link.digest ≡ digest → signing_of_link link ≡ signing_with secret leaf randomizer digest
+link_signs link tree secret leaf randomizer digest same by of_randomizer of_digest =
+    let secret_is : link.tree.secret ≡ secret = ap (λ (t : SigningTree). t.secret) same ∙ by.secret_is in
+    let leaf_is : link.tree.leaf ≡ leaf = ap (λ (t : SigningTree). t.leaf) same ∙ by.leaf_is in
+    λ i. record { secret = secret_is i; leaf = leaf_is i; randomizer = of_randomizer i; digest = of_digest i }
 
 -- ---- one more level
 
@@ -251,13 +261,13 @@ signings_of_chain trees records level place made below =
     (signings_more trees records (level - 1) place made.extend below.stands
     ∙ ap (λ n. signings_above trees n records place) (next_level level below.some))
 
-pub all_signings : (trees : Trees) (records : List Record) (level place : ℕ) (made : Made) (old above new : List Signing) (last : Signing)
-    → IsUnder trees records level place made
-    → above ≡ old ++ (signings_above trees (level - 1) records made.parent ++ named_by (secret_at trees records made.parent) made.extend ∷ [])
-    → new ≡ above ++ last ∷ [] → new ≡ old ++ (signings_above trees level records place ++ last ∷ [])
-all_signings trees records level place made old above new last below above_is is =
-    is ∙ ap (λ xs. xs ++ last ∷ []) (above_is ∙ ap (λ xs. old ++ xs) (signings_of_chain trees records level place made below))
-    ∙ append_assoc old (signings_above trees level records place) (last ∷ [])
+pub all_signings : (trees : Trees) (records : List Record) (level place : ℕ) (made : Made) (old above new : List Signing)
+    → IsUnder trees records level place made → above ≡ old ++ signings_above trees (level - 1) records made.parent
+    → new ≡ above ++ named_by (secret_at trees records made.parent) made.extend ∷ [] → new ≡ old ++ signings_above trees level records place
+all_signings trees records level place made old above new below above_is is =
+    let one = named_by (secret_at trees records made.parent) made.extend in
+    is ∙ ap (λ xs. xs ++ one ∷ []) above_is ∙ append_assoc old (signings_above trees (level - 1) records made.parent) (one ∷ [])
+    ∙ ap (λ xs. old ++ xs) (signings_of_chain trees records level place made below)
 
 -- ---- answers
 

@@ -3,6 +3,7 @@ use Rattle.std.proofs.Common.{◌≡◌, ◌∙◌, refl, sym, ap, ap₂, subst,
 use Rattle.std.proofs.Common.{Option, Some, None, Result, Ok, Err, MatchResult, IfErr, OnOk, IsErrAnd, true≢false, ◌^◌}
 use Rattle.std.specs.Prelude.{not, option_map, slice_get, if◌then◌else◌}
 use Rattle.std.specs.Cmp.Lexicographic.{bytes_decides}
+use Rattle.std.proofs.lemmas.List.{map-append}
 use Rattle.std.proofs.lemmas.Option.{same_Some}
 use Rattle.typecodes.specs.declared.message.Message as message
 use Rattle.typecodes.specs.Types.{height_of, xmss_height_of}
@@ -22,7 +23,7 @@ use Rattle.sign_core.specs.declared.fault.SignFault.{SignFault}
 use Rattle.sign_core.specs.declared.fault.SignFault.TheVariants.{Changed, Damaged, MessageRead, OutOfMemory}
 use Rattle.sign_core.specs.declared.ledger.Binding.{Binding}
 use Rattle.sign_core.specs.declared.links.Link.{Link}
-use Rattle.sign_core.specs.inner.Links.{AreMade, IsTreeAt, signing_with, signings_of}
+use Rattle.sign_core.specs.inner.Links.{AreMade, IsTreeAt, signing_of_link, signing_with, signings_of}
 use Rattle.sign_core.specs.Records.{are_same, binding_in, key_in}
 use Rattle.sign_core.specs.Caches.{Cached, LacksCache}
 use Rattle.sign_core.specs.Signer.{View, is_before_repeat, is_fault, signature_size, state_of}
@@ -285,11 +286,13 @@ chain_read key records ledger name binding found trees text digest keyed these s
     ∙ ap (λ l. message_digest_of (secret_at trees l binding.tree).identifier binding.leaf binding.randomizer text) (sym same) ∙ sym is
 
 -- what new links sign with
-pub links_signs : {A : Type 0} (linked : Result A ℕ) (mapped : Result A SignFault) (x : A) (links items old : List Link) (rest : List Signing)
+pub links_signs : {A : Type 0} (linked : Result A ℕ) (mapped : Result A SignFault) (x : A) (links above old : List Link) (link : Link) (rest : List Signing)
     → MatchResult linked (λ y. mapped ≡ Ok y) (λ k. IsErrAnd mapped (λ e. e ≡ Damaged k)) → mapped ≡ Ok x
-    → OnOk linked (signings_of items ≡ signings_of old ++ rest) → links ≡ items → old ≡ [] → signings_of links ≡ rest
-links_signs linked mapped x links items old rest cases was signs same none =
-    ap signings_of same ∙ linked_ok linked mapped x _ cases was signs ∙ ap (λ l. signings_of l ++ rest) none
+    → OnOk linked (signings_of above ≡ signings_of old ++ rest) → links ≡ above ++ link ∷ [] → old ≡ []
+    → signings_of links ≡ rest ++ signing_of_link link ∷ []
+links_signs linked mapped x links above old link rest cases was signs same none =
+    ap signings_of same ∙ map-append signing_of_link above (link ∷ [])
+    ∙ ap (λ l. l ++ signing_of_link link ∷ []) (linked_ok linked mapped x _ cases was signs ∙ ap (λ l. signings_of l ++ rest) none)
 
 -- no links are made
 pub none_made : AreMade []
@@ -327,7 +330,7 @@ module _ {S R M : Type 0} (m : message.Ghosts M) (view : View S R) (before after
       → MatchResult linked (λ y. mapped ≡ Ok y) (λ k. IsErrAnd mapped (λ e. e ≡ Damaged k)) → mapped ≡ Ok x
       → OnOk linked (damaged_in own level ledger binding.tree ≡ None) → trees_of own.secret ≡ Some trees
       → signings_of links ≡ signings_above trees level ledger binding.tree
-      ++ signing_with (secret_at trees ledger binding.tree) (record { leaf = binding.leaf; randomizer = binding.randomizer; digest = digest }) ∷ []
+      ++ signing_with (secret_at trees ledger binding.tree) binding.leaf binding.randomizer digest ∷ []
       → WritesChain own.secret links into → bytes ≡ into → (k : Key) × (key_in view.records ≡ Some k)
       → Repeats m (state_of view) cached before after capacity (Ok bytes) key name
   signed_chain trees text digest bytes into linked mapped x links whole is same cases was chain these signs writes placed first =
@@ -337,13 +340,13 @@ module _ {S R M : Type 0} (m : message.Ghosts M) (view : View S R) (before after
       let sound = linked_ok linked mapped x _ cases was chain in
       let kept_of_own : List Record → (tree leaf : ℕ) → (randomizer digest : List ℕ) → List Signing = λ records tree leaf randomizer d.
       signings_above trees bottom records tree
-      ++ signing_with (secret_at trees records tree) (record { leaf = leaf; randomizer = randomizer; digest = d }) ∷ [] in
+      ++ signing_with (secret_at trees records tree) leaf randomizer d ∷ [] in
       let tree_is : binding.tree ≡ tree_before bottom view.records k =
       sym (ap (λ (kept : Binding). kept.tree) found.is) ∙ ap (λ (o : Key). tree_before (bottom_of o.secret) view.records k) (sym own_is) in
       let all : signings_of links ≡ kept_of_own view.records (tree_before bottom view.records k) bound.leaf bound.randomizer bound.digest =
       signs
       ∙ ap (λ n. signings_above trees n ledger binding.tree
-      ++ signing_with (secret_at trees ledger binding.tree) (record { leaf = binding.leaf; randomizer = binding.randomizer; digest = digest }) ∷ []) level_is
+      ++ signing_with (secret_at trees ledger binding.tree) binding.leaf binding.randomizer digest ∷ []) level_is
       ∙ ap (λ records. kept_of_own records binding.tree binding.leaf binding.randomizer digest) same_records
       ∙ ap₂ (λ tree leaf. kept_of_own view.records tree leaf binding.randomizer digest) tree_is (sym (ap (λ (kept : Binding). kept.leaf) found.is))
       ∙ ap₂ (λ randomizer d. kept_of_own view.records (tree_before bottom view.records k) bound.leaf randomizer d)

@@ -19,6 +19,7 @@ use Rattle.state_file.specs.declared.record.Record.TheVariants.{Extend as Extend
 use Rattle.state_file.specs.declared.record.Secret.{Secret}
 use Rattle.state_file.specs.declared.record.Secret.TheVariants.{Lms, Hss, Xmss}
 use Rattle.sign_core.specs.declared.links.Link.{Link}
+use Rattle.sign_core.specs.declared.links.SigningTree.{SigningTree}
 use Rattle.sign_core.specs.Records.{can_follow, current, has_identifier, has_moved, is_free, key_in, next_at}
 use Rattle.sign_core.specs.inner.Links.{IsMade, signing_of_link, signings_of}
 use Rattle.sign_core.specs.inner.Signing.{Stands, pairs_of}
@@ -39,11 +40,11 @@ levels_of_trees (Hss (pair ∷ rest) identifier seed) trees is = sym (ap (λ t. 
 levels_of_trees (Xmss tree secret_seed prf_key public_seed) trees is = absurd (cc)
 
 -- a chain that stands has no more levels than the key
-pub few_levels : (key : Key) (trees : Trees) (records : List Record) (level : ℕ) (above : List Link) (last : Link) → trees_of key.secret ≡ Some trees
+pub few_levels : (key : Key) (trees : Trees) (records : List Record) (level : ℕ) (above : List Link) (last : SigningTree) → trees_of key.secret ≡ Some trees
     → Stands key trees records level above last → level + 1 ≤ levels_of key.secret
 few_levels key trees records level above last is stands =
-    let all : length (pairs_of (above ++ last ∷ [])) ≡ length above + 1 =
-    length-map (above ++ last ∷ []) (λ link. link.secret.pair) ∙ length_push above last in
+    let all : length (pairs_of above ++ last.secret.pair ∷ []) ≡ length above + 1 =
+    length_push (pairs_of above) last.secret.pair ∙ ap (λ n. n + 1) (length-map above (λ (link : Link). link.tree.secret.pair)) in
     omega (arith, all, ap length stands.pairs, length-take (level + 1) trees.pairs, levels_of_trees key.secret trees is, stands.count)
 
 -- ---- the record of one level more
@@ -53,10 +54,10 @@ before_end : (level : ℕ) (records : List Record) (tree : ℕ) → current leve
 before_end level records tree is = ap (λ l. unwrap_or (current level l) 0) (take-length records) ∙ ap (λ o. unwrap_or o 0) is
 
 -- The Extend that the chain's last tree signs by its next leaf is the record of the world.
-pub entry_is : (key : Key) (trees : Trees) (records : List Record) (above : List Link) (last : Link) (secret : LmsSecret) (public : LmsPublic) (extend : Extend)
+pub entry_is : (key : Key) (trees : Trees) (records : List Record) (above : List Link) (last : SigningTree) (secret : LmsSecret) (public : LmsPublic) (extend : Extend)
     → Stands key trees records (length above) above last
-    → extend.level ≡ length above + 1 → extend.parent_leaf ≡ last.signed.leaf → extend.identifier ≡ secret.identifier → extend.seed ≡ secret.seed
-    → public ≡ public_of secret → extend.digest ≡ message_digest_of last.secret.identifier last.signed.leaf extend.randomizer (public_bytes public)
+    → extend.level ≡ length above + 1 → extend.parent_leaf ≡ last.leaf → extend.identifier ≡ secret.identifier → extend.seed ≡ secret.seed
+    → public ≡ public_of secret → extend.digest ≡ message_digest_of last.secret.identifier last.leaf extend.randomizer (public_bytes public)
     → extend.root ≡ public.root
     → secret.pair ≡ slice_index_or trees.pairs (length above + 1) trees.top.pair
     → ExtendRecord extend ≡ next_extend key trees records (length above + 1) secret.identifier secret.seed extend.randomizer
@@ -69,7 +70,7 @@ entry_is key trees records above last secret public extend stands level leaf ide
     let parent : last.secret ≡ secret_at trees records (tree_before (length above + 1 - 1) records (length records)) =
     stands.secret ∙ ap (secret_at trees records) (sym (before_end (length above) records stands.tree stands.current_is)
     ∙ ap (λ n. tree_before n records (length records)) down) in
-    let next : last.signed.leaf ≡ next_at key.secret records (length above + 1 - 1) = stands.leaf ∙ ap (next_at key.secret records) down in
+    let next : last.leaf ≡ next_at key.secret records (length above + 1 - 1) = stands.leaf ∙ ap (next_at key.secret records) down in
     let digest_is : extend.digest ≡ message_digest_of (secret_at trees records (tree_before (length above + 1 - 1) records (length records))).identifier
     (next_at key.secret records (length above + 1 - 1)) extend.randomizer
     (public_bytes (public_of (lms_secret (slice_index_or trees.pairs (length above + 1) trees.top.pair) secret.identifier secret.seed))) =
@@ -87,9 +88,9 @@ entry_is key trees records above last secret public extend stands level leaf ide
     })
 
 -- It can follow the records.
-pub can_extend : (key : Key) (trees : Trees) (records : List Record) (above : List Link) (last : Link) (extend : Extend) → key_in records ≡ Some key
+pub can_extend : (key : Key) (trees : Trees) (records : List Record) (above : List Link) (last : SigningTree) (extend : Extend) → key_in records ≡ Some key
     → has_moved records ≡ false → Stands key trees records (length above) above last → extend.level ≡ length above + 1
-    → extend.level < levels_of key.secret → extend.parent_leaf ≡ last.signed.leaf → has_identifier records extend.identifier ≡ false
+    → extend.level < levels_of key.secret → extend.parent_leaf ≡ last.leaf → has_identifier records extend.identifier ≡ false
     → can_follow (key_in records) records (ExtendRecord extend) ≡ true
 can_extend key trees records above last extend keyed stays stands level few leaf fresh =
     let low : nat_le 1 extend.level ≡ true = grind (arith, nat_tests) in
@@ -116,15 +117,15 @@ can_extend key trees records above last extend keyed stays stands level few leaf
 
 -- what the trees sign, with the new tree's
 signings_grown : (trees : Trees) (records : List Record) (level tree : ℕ) (extend : Extend) (above : List Link) (last : Link) → current level records ≡ Some tree
-    → tree < length records → signings_of above ≡ signings_above trees level records tree → last.secret ≡ secret_at trees records tree
-    → extend.parent_leaf ≡ last.signed.leaf → extend.randomizer ≡ last.signed.randomizer → extend.digest ≡ last.signed.digest
+    → tree < length records → signings_of above ≡ signings_above trees level records tree → last.tree.secret ≡ secret_at trees records tree
+    → extend.parent_leaf ≡ last.tree.leaf → extend.randomizer ≡ last.randomizer → extend.digest ≡ last.digest
     → signings_of (above ++ last ∷ []) ≡ signings_above trees (suc level) (records ++ ExtendRecord extend ∷ []) (length records)
 signings_grown trees records level tree extend above last current low signs secret leaf randomizer digest =
     let all = records ++ ExtendRecord extend ∷ [] in
     let parent : tree_before level all (length records) ≡ tree =
     before_stays level records (ExtendRecord extend ∷ []) (length records) (omega arith) ∙ before_end level records tree current in
     let upper : signings_of above ≡ signings_above trees level all tree = signs ∙ sym (signings_stay trees level records (ExtendRecord extend ∷ []) tree low) in
-    let own : secret_at trees all tree ≡ last.secret = secret_stays trees records (ExtendRecord extend ∷ []) tree low ∙ sym secret in
+    let own : secret_at trees all tree ≡ last.tree.secret = secret_stays trees records (ExtendRecord extend ∷ []) tree low ∙ sym secret in
     let new : signing_by trees all tree (slice_get all (length records)) ≡ signing_of_link last ∷ [] =
     ap (signing_by trees all tree) (slice_get_new records (ExtendRecord extend))
     ∙ (λ i. record { secret = own i; leaf = leaf i; randomizer = randomizer i; digest = digest i } ∷ []) in
@@ -132,27 +133,25 @@ signings_grown trees records level tree extend above last current low signs secr
     ∙ ap (λ p. signings_above trees level all p ++ signing_by trees all p (slice_get all (length records))) (sym parent)
 
 -- the types of the trees, with the new tree's
-pairs_grown : (key : Key) (trees : Trees) (above : List Link) (last signing made : Link) → signing.secret.pair ≡ last.secret.pair
+pairs_grown : (key : Key) (trees : Trees) (above : List Link) (last made : SigningTree) (signing : Link) → signing.tree.secret.pair ≡ last.secret.pair
     → made.secret.pair ≡ slice_index_or trees.pairs (length above + 1) trees.top.pair → length above + 1 < length trees.pairs
-    → pairs_of (above ++ last ∷ []) ≡ take (length above + 1) trees.pairs
-    → pairs_of ((above ++ signing ∷ []) ++ made ∷ []) ≡ take (length above + 1 + 1) trees.pairs
-pairs_grown key trees above last signing made same own inside pairs =
-    let pair : Link → LmsPair = λ link. link.secret.pair in
-    map-append pair (above ++ signing ∷ []) (made ∷ [])
-    ∙ ap (λ l. l ++ made.secret.pair ∷ []) (map-append pair above (signing ∷ []) ∙ ap (λ p. map pair above ++ p ∷ []) same ∙ sym (map-append pair above (last ∷ []))
-    ∙ pairs)
+    → pairs_of above ++ last.secret.pair ∷ [] ≡ take (length above + 1) trees.pairs
+    → pairs_of (above ++ signing ∷ []) ++ made.secret.pair ∷ [] ≡ take (length above + 1 + 1) trees.pairs
+pairs_grown key trees above last made signing same own inside pairs =
+    let pair : Link → LmsPair = λ link. link.tree.secret.pair in
+    ap (λ l. l ++ made.secret.pair ∷ []) (map-append pair above (signing ∷ []) ∙ ap (λ p. map pair above ++ p ∷ []) same ∙ pairs)
     ∙ ap (λ p. take (length above + 1) trees.pairs ++ p ∷ []) own
     ∙ sym (take_more trees.pairs (length above + 1) trees.top.pair inside)
 
 -- The chain with the new tree stands.
-pub stands_grown : (key : Key) (trees : Trees) (records : List Record) (above : List Link) (last made signing : Link) (extend : Extend)
+pub stands_grown : (key : Key) (trees : Trees) (records : List Record) (above : List Link) (last made : SigningTree) (signing : Link) (extend : Extend)
     → trees_of key.secret ≡ Some trees → 0 < length records → Stands key trees records (length above) above last
-    → extend.level ≡ length above + 1 → length above + 1 < levels_of key.secret → extend.parent_leaf ≡ last.signed.leaf
-    → signing.secret ≡ last.secret → signing.signed ≡ record { leaf = last.signed.leaf; randomizer = extend.randomizer; digest = extend.digest }
-    → (IsMade last → IsMade signing) → IsMade made → made.signed.leaf ≡ 0
+    → extend.level ≡ length above + 1 → length above + 1 < levels_of key.secret → extend.parent_leaf ≡ last.leaf
+    → signing.tree ≡ last → signing.randomizer ≡ extend.randomizer → signing.digest ≡ extend.digest
+    → IsMade made → made.leaf ≡ 0
     → made.secret ≡ lms_secret (slice_index_or trees.pairs (length above + 1) trees.top.pair) extend.identifier extend.seed
     → Stands key trees (records ++ ExtendRecord extend ∷ []) (length (above ++ signing ∷ [])) (above ++ signing ∷ []) made
-stands_grown key trees records above last made signing extend these some stands level few leaf same_secret signs is_made new_made first secret =
+stands_grown key trees records above last made signing extend these some stands level few leaf tree randomizer digest new_made first secret =
     let all = records ++ ExtendRecord extend ∷ [] in
     let count : length (above ++ signing ∷ []) ≡ suc (length above) = length_push above signing ∙ add-one (length above) in
     let of : extend.level ≡ suc (length above) = level ∙ add-one (length above) in
@@ -168,13 +167,13 @@ stands_grown key trees records above last made signing extend these some stands 
       current_is = fresh;
       count = count;
       signings = signings_grown trees records (length above) stands.tree extend above signing stands.current_is low stands.signings
-          (same_secret ∙ stands.secret) (leaf ∙ sym (ap (λ s. s.leaf) signs)) (sym (ap (λ s. s.randomizer) signs)) (sym (ap (λ s. s.digest) signs));
+          (ap (λ (t : SigningTree). t.secret) tree ∙ stands.secret) (leaf ∙ sym (ap (λ (t : SigningTree). t.leaf) tree)) (sym randomizer) (sym digest);
       secret = secret ∙ ap (λ n. lms_secret (slice_index_or trees.pairs n trees.top.pair) extend.identifier extend.seed) (sym level)
           ∙ sym (ap (secret_by trees) (slice_get_new records (ExtendRecord extend)));
       leaf = first ∙ sym none;
       free = omega (arith, none, free);
-      made = more_made above signing stands.made (is_made stands.last_made);
+      made = more_made above signing stands.made (subst IsMade (sym tree) stands.last_made);
       last_made = new_made;
-      pairs = pairs_grown key trees above last signing made (ap (λ s. s.pair) same_secret) (ap (λ s. s.pair) secret) inside stands.pairs
+      pairs = pairs_grown key trees above last made signing (ap (λ (t : SigningTree). t.secret.pair) tree) (ap (λ s. s.pair) secret) inside stands.pairs
           ∙ ap (λ n. take (n + 1) trees.pairs) (add-one (length above));
     })

@@ -212,7 +212,7 @@ first_signing [] link = refl
 first_signing (first ∷ rest) link = refl
 
 lms_written_at : (pair : LmsPair) (identifier seed : List ℕ) (links : List Link) (link : Link) (bytes : List ℕ) → link ≡ get_or links 0 link
-    → bytes ≡ lms_signature_bytes (lms_textbook link.secret link.signed.leaf link.signed.randomizer link.signed.digest)
+    → bytes ≡ lms_signature_bytes (lms_textbook link.tree.secret link.tree.leaf link.randomizer link.digest)
     → WritesChain (Lms pair identifier seed) links bytes
 lms_written_at pair identifier seed links link bytes at written trees records k bound (key, keyed) these signs =
     written
@@ -222,7 +222,7 @@ lms_written_at pair identifier seed links link bytes at written trees records k 
 
 pub lms_written : (secret : Secret) (pair : LmsPair) (identifier seed : List ℕ) (links : List Link) (link : Link) (bytes : List ℕ)
     → secret ≡ Lms pair identifier seed → link ≡ get_or links 0 link
-    → bytes ≡ lms_signature_bytes (lms_textbook link.secret link.signed.leaf link.signed.randomizer link.signed.digest) → WritesChain secret links bytes
+    → bytes ≡ lms_signature_bytes (lms_textbook link.tree.secret link.tree.leaf link.randomizer link.digest) → WritesChain secret links bytes
 lms_written secret pair identifier seed links link bytes is at written =
     subst (λ s. WritesChain s links bytes) (sym is) (lms_written_at pair identifier seed links link bytes at written)
 
@@ -236,5 +236,5 @@ some_pairs (Xmss tree secret_seed prf_key public_seed) trees these = absurd (cc)
 pub some_links : (secret : Secret) (trees : Trees) (links : List Link) → trees_of secret ≡ Some trees → link_pairs links ≡ trees.pairs → 0 < length links
 some_links secret trees links these pairs =
     let some = some_pairs secret trees these in
-    let long : length links ≡ length trees.pairs = sym (length-map links (λ (link : Link). link.secret.pair)) ∙ ap length pairs in
+    let long : length links ≡ length trees.pairs = sym (length-map links (λ (link : Link). link.tree.secret.pair)) ∙ ap length pairs in
     omega (arith, some, long)

@@ -10,7 +10,7 @@ ghost use Rattle.sign_core.specs.Signing.{IsXmssKey};
 ghost use Rattle.sign_core.specs.Textbook.{damaged_in};
 
 use crate::fault::SignFault;
-use crate::links::{Link, Signed};
+use crate::links::SigningTree;
 use crate::roots::xmss_root;
 use lms::{LmsSecret, LmsTree};
 use merkle::{OutOfMemory, PathCache};
@@ -57,23 +57,23 @@ impl LmsCache {
         Ok(LmsCache { secret, cache })
     }
 
-    // The tree, of which a leaf signs.
-    fn link(&mut self, signed: Signed) -> Link
-        requires { signed.leaf < 2 ^ height_of self.old.pair.tree }
+    // The tree, of which a leaf is to sign.
+    fn signing_tree(&mut self, leaf: u32) -> SigningTree
+        requires { leaf < 2 ^ height_of self.old.pair.tree }
         ensures secret { result.secret ≡ self.old }
-        ensures signed { result.signed ≡ signed }
+        ensures leaf { result.leaf ≡ leaf }
         ensures made { IsMade result }
         ensures same { self.new ≡ self.old }
     {
         let secret = self.secret;
         let mut path = [[0; 32]; 25];
         let height = usize::from(secret.pair.tree.height());
-        self.cache.path_at(signed.leaf, &mut path[..height]);
+        self.cache.path_at(leaf, &mut path[..height]);
         let root = self.cache.root();
-        Link {
+        SigningTree {
             secret,
             root,
-            signed,
+            leaf,
             path,
         }
     }
@@ -223,15 +223,15 @@ impl Caches {
     }
 
     /// The cache of a new tree, which is to sign by its first leaf.
-    pub(crate) fn begin(&self, secret: LmsSecret) -> Result<(LmsCache, Link), SignFault>
+    pub(crate) fn begin(&self, secret: LmsSecret) -> Result<(LmsCache, SigningTree), SignFault>
         ensures fault { IfErr result (λ fault. fault ≡ SignFault.OutOfMemory) }
         ensures cache { IfOk result (λ begun. begun.0 ≡ secret) }
         ensures secret { IfOk result (λ begun. begun.1.secret ≡ secret) }
-        ensures leaf { IfOk result (λ begun. begun.1.signed.leaf ≡ 0) }
+        ensures leaf { IfOk result (λ begun. begun.1.leaf ≡ 0) }
         ensures made { IfOk result (λ begun. IsMade begun.1) }
     {
         let mut cache = LmsCache::new(self.alloc, secret, 0).map_err(|_| SignFault::OutOfMemory)?;
-        let made = cache.link(Signed::unset(0));
+        let made = cache.signing_tree(0);
         Ok((cache, made))
     }
 
@@ -245,21 +245,21 @@ impl Caches {
         self.levels[usize::from(level)] = Some(cache);
     }
 
-    /// The tree of a secret, of which a leaf signs: by the cache of a level, where that is the secret's.
-    pub(crate) fn link(&mut self, level: u8, secret: LmsSecret, signed: Signed) -> Link
+    /// The tree of a secret, of which a leaf is to sign: by the cache of a level, where that is the secret's.
+    pub(crate) fn signing_tree(&mut self, level: u8, secret: LmsSecret, leaf: u32) -> SigningTree
         requires few { level < 8 }
-        requires inside { signed.leaf < 2 ^ height_of secret.pair.tree }
+        requires inside { leaf < 2 ^ height_of secret.pair.tree }
         ensures secret { result.secret ≡ secret }
-        ensures signed { result.signed ≡ signed }
+        ensures leaf { result.leaf ≡ leaf }
         ensures made { IsMade result }
         ensures same { self.new ≡ self.old }
     {
         if !self.has(level, &secret) {
-            return Link::new(secret, signed);
+            return SigningTree::new(secret, leaf);
         }
         match &mut self.levels[usize::from(level)] {
-            Some(cache) => cache.link(signed),
-            None => Link::new(secret, signed),
+            Some(cache) => cache.signing_tree(leaf),
+            None => SigningTree::new(secret, leaf),
         }
     }
 

@@ -12,7 +12,7 @@ ghost use Rattle.sign_core.specs.Textbook.{damaged_in, tree_before};
 
 use crate::caches::Caches;
 use crate::ledger::{Binding, Ledger};
-use crate::links::{Link, Signed};
+use crate::links::{Link, SigningTree};
 use arrayvec::ArrayVec;
 use lms::LmsSecret;
 use merkle::OutOfMemory;
@@ -30,7 +30,7 @@ impl<'a> KeyTrees<'a> {
     ghost use Rattle.state_file.specs.declared.record.Record.TheVariants.{Extend as ExtendRecord};
     ghost use Rattle.state_file.specs.Laws.{IsLegal};
     ghost use Rattle.sign_core.specs.Records.{key_in};
-    ghost use Rattle.sign_core.specs.inner.Links.{AreMade, AreTreesOf, IsMade, IsTreeAt, signing_with, signings_of};
+    ghost use Rattle.sign_core.specs.inner.Links.{AreMade, AreTreesOf, IsMade, IsTreeAt, IsTreeBy, signings_of};
     ghost use Rattle.sign_core.specs.inner.Links.{trees_in};
     ghost use Rattle.sign_core.specs.Textbook.{damaged_in, is_sound_at, secret_at, secret_by, signings_above};
 
@@ -62,98 +62,86 @@ impl<'a> KeyTrees<'a> {
         }
     }
 
-    // Whether the recorded root of a link's tree, and of an Extend the recorded digest, too, are those that were made.
-    fn is_sound(&self, ledger: &Ledger, level: u8, place: u32, link: &Link) -> bool
+    // Whether the recorded root of a tree, and of an Extend the recorded digest, too, are those that were made.
+    fn is_sound(&self, ledger: &Ledger, level: u8, place: u32, tree: &SigningTree) -> bool
         requires trees { AreTreesOf self.now ledger.now.key }
         requires stands { IsTreeAt ledger.now.records level place }
-        requires secret { link.now.secret ≡ secret_at (trees_in self.now) ledger.now.records place }
-        requires made { IsMade link.now }
+        requires secret { tree.now.secret ≡ secret_at (trees_in self.now) ledger.now.records place }
+        requires made { IsMade tree.now }
         ensures { result ≡ is_sound_at ledger.now.key ledger.now.records place }
     {
         match ledger.made(place) {
-            Some(made) => link.is_said_by(
+            Some(made) => tree.is_said_by(
                 &made.extend,
                 self.secret_at(ledger, made.parent).identifier,
             ),
-            None => ledger.key().root == link.root,
+            None => ledger.key().root == tree.root,
         }
     }
 
-    // Adds the tree of a level at a place, a leaf of which signs as given; or answers the place, if its record is not
-    // sound.
-    fn push_tree(
+    // The tree of a level at a place, of which a leaf is to sign; or the place, if its record is not sound.
+    fn sound_tree(
         &self,
         ledger: &Ledger,
         caches: &mut Caches,
         level: u8,
         place: u32,
-        signed: Signed,
-        links: &mut ArrayVec<Link, 8>,
-    ) -> Result<(), u32>
+        leaf: u32,
+    ) -> Result<SigningTree, u32>
         requires trees { AreTreesOf self.now ledger.now.key }
         requires stands { IsTreeAt ledger.now.records level place }
         requires inside { let secret = secret_at (trees_in self.now) ledger.now.records place in
-            signed.leaf < 2 ^ height_of secret.pair.tree }
-        requires room { array_vec_len links.old < 8 }
+            leaf < 2 ^ height_of secret.pair.tree }
         requires few { level < 8 }
         ensures sound { OnOk result (is_sound_at ledger.now.key ledger.now.records place ≡ true) }
         ensures damaged { IfErr result (λ k. (k ≡ place)
             × (is_sound_at ledger.now.key ledger.now.records place ≡ false)) }
-        ensures signings { OnOk result (signings_of links.new.items ≡ signings_of links.old.items
-            ++ signing_with (secret_at (trees_in self.now) ledger.now.records place) signed ∷ []) }
-        ensures len { OnOk result (array_vec_len links.new ≡ array_vec_len links.old + 1) }
-        ensures made { AreMade links.old.items → OnOk result (AreMade links.new.items) }
+        ensures tree { IfOk result (IsTreeBy (secret_at (trees_in self.now) ledger.now.records place) leaf) }
         ensures caches { caches.new ≡ caches.old }
     {
-        let link = caches.link(level, self.secret_at(ledger, place), signed);
-        if !self.is_sound(ledger, level, place, &link) {
+        let tree = caches.signing_tree(level, self.secret_at(ledger, place), leaf);
+        if !self.is_sound(ledger, level, place, &tree) {
             return Err(place);
         }
-        links.push(link);
-        Ok(())
+        Ok(tree)
     }
 
-    /// Adds the trees of a chain, from the Key's down to that of a level at a place, a leaf of which signs as given; or
-    /// answers the place of the first record of the chain that isn't sound.
-    pub(crate) fn push_chain(
+    /// The tree of a level at a place, of which a leaf is to sign, after the trees above it, from the Key's down, were
+    /// added; or the place of the first record of the chain that isn't sound.
+    pub(crate) fn chain_to(
         &self,
         ledger: &Ledger,
         caches: &mut Caches,
         level: u8,
         place: u32,
-        signed: Signed,
-        links: &mut ArrayVec<Link, 8>,
-    ) -> Result<(), u32>
+        leaf: u32,
+        above: &mut ArrayVec<Link, 8>,
+    ) -> Result<SigningTree, u32>
         requires legal { IsLegal ledger.now.records }
         requires keyed { key_in ledger.now.records ≡ Some ledger.now.key }
         requires trees { AreTreesOf self.now ledger.now.key }
         requires stands { IsTreeAt ledger.now.records level place }
         requires inside { let secret = secret_at (trees_in self.now) ledger.now.records place in
-            signed.leaf < 2 ^ height_of secret.pair.tree }
-        requires room { array_vec_len links.old + level < 8 }
+            leaf < 2 ^ height_of secret.pair.tree }
+        requires room { array_vec_len above.old + level < 8 }
         ensures sound { OnOk result (damaged_in ledger.now.key level ledger.now.records place ≡ None) }
         ensures damaged { IfErr result (λ k. damaged_in ledger.now.key level ledger.now.records place ≡ Some k) }
-        ensures signings { let trees = trees_in self.now in
-            OnOk result (signings_of links.new.items ≡ signings_of links.old.items
-            ++ (signings_above trees level ledger.now.records place
-            ++ signing_with (secret_at trees ledger.now.records place) signed ∷ [])) }
-        ensures len { OnOk result (array_vec_len links.new ≡ array_vec_len links.old + level + 1) }
-        ensures made { AreMade links.old.items → OnOk result (AreMade links.new.items) }
+        ensures signings { OnOk result (signings_of above.new.items ≡ signings_of above.old.items
+            ++ signings_above (trees_in self.now) level ledger.now.records place) }
+        ensures len { OnOk result (array_vec_len above.new ≡ array_vec_len above.old + level) }
+        ensures made { AreMade above.old.items → OnOk result (AreMade above.new.items) }
+        ensures tree { IfOk result (IsTreeBy (secret_at (trees_in self.now) ledger.now.records place) leaf) }
         ensures caches { caches.new ≡ caches.old }
     {
         let Some(made) = ledger.made(place) else {
-            return self.push_tree(ledger, caches, level, place, signed, links);
+            return self.sound_tree(ledger, caches, level, place, leaf);
         };
         let extend = made.extend;
-        let randomizer = extend.randomizer;
-        let digest = extend.digest;
-        let parent = Signed {
-            leaf: extend.parent_leaf,
-            randomizer,
-            digest,
-        };
-        self.push_chain(ledger, caches, level - 1, made.parent, parent, links)?;
-        self.push_tree(ledger, caches, level, place, signed, links)
+        let (randomizer, digest) = (extend.randomizer, extend.digest);
+        let parent_leaf = extend.parent_leaf;
+        let parent = self.chain_to(ledger, caches, level - 1, made.parent, parent_leaf, above)?;
+        above.push(parent.signing(randomizer, digest));
+        self.sound_tree(ledger, caches, level, place, leaf)
     }
 
     /// The chain of the current trees down to a level with a free leaf: those above, and the level's own, which is to
@@ -163,7 +151,7 @@ impl<'a> KeyTrees<'a> {
         ledger: &Ledger,
         caches: &mut Caches,
         level: u8,
-    ) -> Result<(ArrayVec<Link, 8>, Link), u32>
+    ) -> Result<(ArrayVec<Link, 8>, SigningTree), u32>
         requires legal { IsLegal ledger.now.records }
         requires keyed { key_in ledger.now.records ≡ Some ledger.now.key }
         requires trees { AreTreesOf self.now ledger.now.key }
@@ -183,18 +171,9 @@ impl<'a> KeyTrees<'a> {
             Some(tree) => (tree.place, tree.next),
             None => (0, 0),
         };
-        let mut links = ArrayVec::new();
-        self.push_chain(
-            ledger,
-            caches,
-            level,
-            place,
-            Signed::unset(leaf),
-            &mut links,
-        )?;
-        let last = links.as_slice()[usize::from(level)];
-        links.truncate(usize::from(level));
-        Ok((links, last))
+        let mut above = ArrayVec::new();
+        let last = self.chain_to(ledger, caches, level, place, leaf, &mut above)?;
+        Ok((above, last))
     }
 }
 

@@ -1,4 +1,4 @@
-//! A tree of a chain, with what a leaf of it signs.
+//! The trees of a chain: each with the leaf that is to sign, and then with what that signs.
 
 ghost use Rattle.std.specs.Prelude.{◌≡◌, ◌<◌, ◌^◌};
 ghost use Rattle.typecodes.specs.Types.{height_of};
@@ -12,78 +12,56 @@ use lms::{LmsPublic, LmsSecret, write_public};
 use state_file::Extend;
 use typecodes::{LmsPair, LmsType, OtsType};
 
-/// What a leaf signs with: C, and the digest Q of what it signs.
+/// A tree of a chain with its root, and the leaf of it that is to sign, with the leaf's authentication path.
 #[derive(Clone, Copy)]
-pub(crate) struct Signed {
+pub(crate) struct SigningTree {
+    pub(crate) secret: LmsSecret,
+    pub(crate) root: [u8; 32],
     pub(crate) leaf: u32,
+    pub(crate) path: [[u8; 32]; 25],
+    pub(crate) ghost inside: { leaf < 2 ^ height_of secret.pair.tree },
+}
+
+/// A tree of a chain, and what its leaf signs with: C, and the digest Q of what it signs.
+#[derive(Clone, Copy)]
+pub(crate) struct Link {
+    pub(crate) tree: SigningTree,
     pub(crate) randomizer: [u8; 32],
     pub(crate) digest: [u8; 32],
 }
 
-impl Signed {
-    /// The leaf is chosen; C and the digest aren't known yet, and are zeros.
-    pub(crate) fn unset(leaf: u32) -> Self
-        ensures { result.leaf ≡ leaf }
-    {
-        Signed {
-            leaf,
-            randomizer: [0; 32],
-            digest: [0; 32],
-        }
-    }
-}
+impl SigningTree {
+    ghost use Rattle.lms.specs.Secret.{public_of};
+    ghost use Rattle.sign_core.specs.inner.Links.{IsMade, says_key};
 
-/// A tree of a chain with its root, and what a leaf of it signs with, with the leaf's authentication path.
-#[derive(Clone, Copy)]
-pub(crate) struct Link {
-    pub(crate) secret: LmsSecret,
-    pub(crate) root: [u8; 32],
-    pub(crate) signed: Signed,
-    pub(crate) path: [[u8; 32]; 25],
-    pub(crate) ghost inside: { signed.leaf < 2 ^ height_of secret.pair.tree },
-}
-
-impl Link {
-    ghost use Rattle.lms.specs.Secret.{path_in, public_of};
-    ghost use Rattle.hss.specs.Secret.{signing_of};
-    ghost use Rattle.sign_core.specs.inner.Links.{IsMade, says_key, signing_of_link};
-
-    /// The tree of a secret, of which a leaf signs. Each leaf is made once.
-    pub(crate) fn new(secret: LmsSecret, signed: Signed) -> Self
-        requires { signed.leaf < 2 ^ height_of secret.pair.tree }
+    /// The tree of a secret, of which a leaf is to sign. Each leaf is made once.
+    pub(crate) fn new(secret: LmsSecret, leaf: u32) -> Self
+        requires { leaf < 2 ^ height_of secret.pair.tree }
         ensures secret { result.secret ≡ secret }
-        ensures signed { result.signed ≡ signed }
+        ensures leaf { result.leaf ≡ leaf }
         ensures made { IsMade result }
     {
         let mut path = [[0; 32]; 25];
         let height = usize::from(secret.pair.tree.height());
-        let root = lms_root(secret, signed.leaf, &mut path[..height]);
-        Link {
+        let root = lms_root(secret, leaf, &mut path[..height]);
+        SigningTree {
             secret,
             root,
-            signed,
+            leaf,
             path,
         }
     }
 
-    /// The same link, whose leaf signs with this.
-    pub(crate) fn signing(self, signed: Signed) -> Self
-        requires { signed.leaf ≡ self.signed.leaf }
-        ensures secret { result.secret ≡ self.secret }
-        ensures signed { result.signed ≡ signed }
-        ensures made { IsMade self → IsMade result }
+    /// The tree, whose leaf signs a digest with this C.
+    pub(crate) fn signing(self, randomizer: [u8; 32], digest: [u8; 32]) -> Link
+        ensures tree { result.tree ≡ self }
+        ensures randomizer { result.randomizer ≡ randomizer }
+        ensures digest { result.digest ≡ digest }
     {
-        let Link {
-            secret,
-            root,
-            path,
-            ..
-        } = self;
         Link {
-            secret,
-            root,
-            signed,
-            path,
+            tree: self,
+            randomizer,
+            digest,
         }
     }
 
@@ -101,28 +79,6 @@ impl Link {
         }
     }
 
-    /// The link as a level of a signature.
-    pub(crate) fn level(&self) -> Level<'_>
-        requires { IsMade self.now }
-        ensures signing { signing_of result ≡ signing_of_link self.now }
-        ensures root { result.root ≡ (public_of result.secret).root }
-        ensures path { result.path.now ≡ path_in result.secret result.leaf }
-    {
-        let height = usize::from(self.secret.pair.tree.height());
-        let root = self.root;
-        let signed = self.signed;
-        let randomizer = signed.randomizer;
-        let digest = signed.digest;
-        Level {
-            secret: self.secret,
-            root,
-            leaf: signed.leaf,
-            randomizer,
-            digest,
-            path: &self.path[..height],
-        }
-    }
-
     // Whether an Extend says the tree's root, and the digest of its public key under the parent's I.
     pub(crate) fn is_said_by(&self, extend: &Extend, parent: [u8; 16]) -> bool
         requires { IsMade self.now }
@@ -135,10 +91,38 @@ impl Link {
 
     /// Q, the digest of the public key of another tree, which the leaf signs with this C.
     pub(crate) fn digest_of(&self, randomizer: &[u8; 32], public: &LmsPublic) -> [u8; 32]
-        ensures { result ≡ message_digest_of self.now.secret.identifier self.now.signed.leaf randomizer.now
+        ensures { result ≡ message_digest_of self.now.secret.identifier self.now.leaf randomizer.now
             (public_bytes public.now) }
     {
-        key_digest(self.secret.identifier, self.signed.leaf, randomizer, public)
+        key_digest(self.secret.identifier, self.leaf, randomizer, public)
+    }
+}
+
+impl Link {
+    ghost use Rattle.lms.specs.Secret.{path_in, public_of};
+    ghost use Rattle.hss.specs.Secret.{signing_of};
+    ghost use Rattle.sign_core.specs.inner.Links.{IsMade, signing_of_link};
+
+    /// The link as a level of a signature.
+    pub(crate) fn level(&self) -> Level<'_>
+        requires { IsMade self.now.tree }
+        ensures signing { signing_of result ≡ signing_of_link self.now }
+        ensures root { result.root ≡ (public_of result.secret).root }
+        ensures path { result.path.now ≡ path_in result.secret result.leaf }
+    {
+        let tree = &self.tree;
+        let height = usize::from(tree.secret.pair.tree.height());
+        let root = tree.root;
+        let randomizer = self.randomizer;
+        let digest = self.digest;
+        Level {
+            secret: tree.secret,
+            root,
+            leaf: tree.leaf,
+            randomizer,
+            digest,
+            path: &tree.path[..height],
+        }
     }
 }
 
@@ -169,16 +153,16 @@ impl Default for Link {
             identifier: [0; 16],
             seed: [0; 32],
         };
-        let signed = Signed {
-            leaf: 0,
-            randomizer: [0; 32],
-            digest: [0; 32],
-        };
-        Link {
+        let tree = SigningTree {
             secret,
             root: [0; 32],
-            signed,
+            leaf: 0,
             path: [[0; 32]; 25],
+        };
+        Link {
+            tree,
+            randomizer: [0; 32],
+            digest: [0; 32],
         }
     }
 }

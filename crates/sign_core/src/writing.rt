@@ -117,19 +117,19 @@ impl Link {
 
     /// Writes the textbook signature by the link's leaf alone: that of an LMS key.
     pub(crate) fn write(&self, into: &mut [u8])
-        requires made { IsMade self.now }
-        requires room { length into.old ≡ lms_signature_len_of self.now.secret.pair }
+        requires made { IsMade self.now.tree }
+        requires room { length into.old ≡ lms_signature_len_of self.now.tree.secret.pair }
         ensures { into.new ≡ signature_bytes
-            (textbook self.now.secret self.now.signed.leaf self.now.signed.randomizer self.now.signed.digest) }
+            (textbook self.now.tree.secret self.now.tree.leaf self.now.randomizer self.now.digest) }
     {
-        let height = usize::from(self.secret.pair.tree.height());
-        let signed = &self.signed;
-        let path = &self.path[..height];
+        let tree = &self.tree;
+        let height = usize::from(tree.secret.pair.tree.height());
+        let path = &tree.path[..height];
         write_lms(
-            &self.secret,
-            signed.leaf,
-            &signed.randomizer,
-            &signed.digest,
+            &tree.secret,
+            tree.leaf,
+            &self.randomizer,
+            &self.digest,
             path,
             into,
         );

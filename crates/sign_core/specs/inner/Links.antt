@@ -13,7 +13,7 @@ use Rattle.state_file.specs.declared.record.Record.{Record}
 use Rattle.state_file.specs.declared.record.Record.TheVariants.{Extend as ExtendRecord}
 use Rattle.sign_core.specs.declared.key_trees.KeyTrees.{KeyTrees}
 use Rattle.sign_core.specs.declared.links.Link.{Link}
-use Rattle.sign_core.specs.declared.links.Signed.{Signed}
+use Rattle.sign_core.specs.declared.links.SigningTree.{SigningTree}
 use Rattle.sign_core.specs.Records.{are_same}
 use Rattle.sign_core.specs.Textbook.{Trees, trees_of}
 
@@ -32,25 +32,31 @@ IsTreeAt records (suc level) place =
     (extend : Extend) × (slice_get records place ≡ Some (ExtendRecord extend)) × (extend.level ≡ suc level)
 
 -- what a leaf of a tree signs with
-abbrev pub signing_with : LmsSecret → Signed → Signing
-signing_with secret signed =
-    record { secret = secret; leaf = signed.leaf; randomizer = signed.randomizer; digest = signed.digest }
+abbrev pub signing_with : LmsSecret → (leaf : ℕ) → (randomizer digest : List ℕ) → Signing
+signing_with secret leaf randomizer digest =
+    record { secret = secret; leaf = leaf; randomizer = randomizer; digest = digest }
 
 abbrev pub signing_of_link : Link → Signing
-signing_of_link link = signing_with link.secret link.signed
+signing_of_link link = signing_with link.tree.secret link.tree.leaf link.randomizer link.digest
 
 -- what the trees of a chain sign with
 abbrev pub signings_of : List Link → List Signing
 signings_of links = map signing_of_link links
 
--- The root of a link is that of its tree, and its path that of its leaf.
-pub record IsMade (link : Link) : Type 0 where
-  pub root : link.root ≡ root_in link.secret
-  pub path : take (height_of link.secret.pair.tree) link.path ≡ path_in link.secret link.signed.leaf
+-- The root of a tree is its secret's, and the path its leaf's.
+pub record IsMade (tree : SigningTree) : Type 0 where
+  pub root : tree.root ≡ root_in tree.secret
+  pub path : take (height_of tree.secret.pair.tree) tree.path ≡ path_in tree.secret tree.leaf
 
--- So it is of all links.
+-- So it is of the trees of all links.
 abbrev pub AreMade : List Link → Type 0
-AreMade links = (i : ℕ) (link : Link) → slice_get links i ≡ Some link → IsMade link
+AreMade links = (i : ℕ) (link : Link) → slice_get links i ≡ Some link → IsMade link.tree
+
+-- A tree is made from a secret, and this leaf of it is to sign.
+pub record IsTreeBy (secret : LmsSecret) (leaf : ℕ) (tree : SigningTree) : Type 0 where
+  pub secret_is : tree.secret ≡ secret
+  pub leaf_is : tree.leaf ≡ leaf
+  pub made : IsMade tree
 
 -- whether an Extend says the root of a public key, and the key's digest under the parent's I and leaf
 abbrev pub says_key : Extend → (parent : List ℕ) → LmsPublic → Bool

@@ -14,6 +14,7 @@ use Rattle.sign_core.specs.declared.fault.SignFault.{SignFault}
 use Rattle.sign_core.specs.declared.fault.SignFault.TheVariants.{RandomFailed, RandomRepeated}
 use Rattle.sign_core.specs.declared.source.Source as source
 use Rattle.sign_core.specs.declared.links.Link.{Link}
+use Rattle.sign_core.specs.declared.links.SigningTree.{SigningTree}
 use Rattle.sign_core.specs.declared.signer.bind.TreeSeeds.{TreeSeeds}
 use Rattle.sign_core.specs.Source.{Provides}
 use Rattle.sign_core.specs.Records.{binding_in, current, has_identifier, has_moved, is_long, key_in, next_at}
@@ -36,30 +37,30 @@ use Rattle.sign_core.specs.Signing.{UnderKey, answered_with, KeepsCapacity}
 
 -- the types of the trees of links
 abbrev pub pairs_of : List Link → List LmsPair
-pairs_of links = map (λ link. link.secret.pair) links
+pairs_of links = map (λ link. link.tree.secret.pair) links
 
 -- The trees of a chain are the current ones down to a level, each of which signs the next; the last one is to sign by
 -- its next leaf, which is free.
-pub record Stands (key : Key) (trees : Trees) (records : List Record) (level : ℕ) (above : List Link) (last : Link)
-    : Type 0 where
+pub record Stands (key : Key) (trees : Trees) (records : List Record) (level : ℕ) (above : List Link)
+    (last : SigningTree) : Type 0 where
   pub tree : ℕ
   pub current_is : current level records ≡ Some tree
   pub count : length above ≡ level
   pub signings : signings_of above ≡ signings_above trees level records tree
   pub secret : last.secret ≡ secret_at trees records tree
-  pub leaf : last.signed.leaf ≡ next_at key.secret records level
+  pub leaf : last.leaf ≡ next_at key.secret records level
   pub free : next_at key.secret records level < leaves_at key.secret level
   pub made : AreMade above
   pub last_made : IsMade last
-  pub pairs : pairs_of (above ++ last ∷ []) ≡ take (level + 1) trees.pairs
+  pub pairs : pairs_of above ++ last.secret.pair ∷ [] ≡ take (level + 1) trees.pairs
 
 -- These are the trees of a key of LMS or HSS, and the chain stands.
-abbrev pub StandsIn : Trees → List Record → (above : List Link) → (last : Link) → Key → Type 0
+abbrev pub StandsIn : Trees → List Record → (above : List Link) → (last : SigningTree) → Key → Type 0
 StandsIn trees records above last key =
     (trees_of key.secret ≡ Some trees) × Stands key trees records (length above) above last
 
 -- So it is under the key of the records.
-abbrev pub ChainStands : List Record → Trees → (above : List Link) → (last : Link) → Type 0
+abbrev pub ChainStands : List Record → Trees → (above : List Link) → (last : SigningTree) → Type 0
 ChainStands records trees above last = UnderKey records (StandsIn trees records above last)
 
 -- A signer is open, its records don't go on elsewhere, and there is room for so many more, in the store and in memory.

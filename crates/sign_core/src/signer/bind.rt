@@ -17,7 +17,7 @@ use super::sign::{read_digest, read_xmss_digest};
 use crate::fault::SignFault;
 use crate::key_trees::KeyTrees;
 use crate::ledger::Ledger;
-use crate::links::{Link, Signed};
+use crate::links::{Link, SigningTree};
 use crate::source::{Source, draw};
 use crate::writing::{make_room, write_chain, write_xmss};
 use arrayvec::ArrayVec;
@@ -148,8 +148,8 @@ impl<S: Store, R: Source> Signer<S, R> {
         &mut self,
         trees: &KeyTrees<'_>,
         above: &mut ArrayVec<Link, 8>,
-        last: Link,
-    ) -> Result<Link, SignFault>
+        last: SigningTree,
+    ) -> Result<SigningTree, SignFault>
         requires ready { IsReady (S.most self.old.store) 1 self.old }
         requires stands { ChainStands self.old.records (trees_in trees.now) above.old.items last }
         requires below { UnderKey self.old.records (λ key. length above.old.items + 1 < levels_of key.secret) }
@@ -171,7 +171,7 @@ impl<S: Store, R: Source> Signer<S, R> {
         };
         let (cache, made) = self.caches.begin(secret)?;
         let root = made.root;
-        let leaf = last.signed.leaf;
+        let leaf = last.leaf;
         let digest = last.digest_of(&randomizer, &made.public());
         self.caches.replace(level, cache);
         self.add(Record::Extend(Extend {
@@ -183,11 +183,7 @@ impl<S: Store, R: Source> Signer<S, R> {
             digest,
             root,
         }))?;
-        above.push(last.signing(Signed {
-            leaf,
-            randomizer,
-            digest,
-        }));
+        above.push(last.signing(randomizer, digest));
         Ok(made)
     }
 
@@ -199,7 +195,7 @@ impl<S: Store, R: Source> Signer<S, R> {
         name: &Name,
         message: &mut M,
         above: &mut ArrayVec<Link, 8>,
-        last: Link,
+        last: SigningTree,
         out: &mut [u8],
     ) -> Result<(), SignFault>
         requires can { UnderKey self.old.records (λ key. CanBind (S.most self.old.store)
@@ -225,7 +221,7 @@ impl<S: Store, R: Source> Signer<S, R> {
         name: &Name,
         message: &mut M,
         above: &mut ArrayVec<Link, 8>,
-        last: Link,
+        last: SigningTree,
         out: &mut [u8],
     ) -> Result<(), SignFault>
         requires can { CanBind (S.most self.old.store) 1 name.now (length out.old) self.old }
@@ -235,7 +231,7 @@ impl<S: Store, R: Source> Signer<S, R> {
             message.old message.new (answered_with result out.new)) }
     {
         let randomizer = draw::<R, 32>(&mut self.random)?;
-        let leaf = last.signed.leaf;
+        let leaf = last.leaf;
         let identifier = last.secret.identifier;
         let one_time = LmOts { identifier, leaf };
         let digest = read_digest(&one_time, &randomizer, message)?;
@@ -245,11 +241,7 @@ impl<S: Store, R: Source> Signer<S, R> {
             randomizer,
             digest,
         }))?;
-        above.push(last.signing(Signed {
-            leaf,
-            randomizer,
-            digest,
-        }));
+        above.push(last.signing(randomizer, digest));
         write_chain(&self.ledger.key().secret, above, out);
         Ok(())
     }

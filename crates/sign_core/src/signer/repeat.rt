@@ -15,7 +15,6 @@ use crate::caches::Caches;
 use crate::fault::SignFault;
 use crate::key_trees::KeyTrees;
 use crate::ledger::Binding;
-use crate::links::Signed;
 use crate::source::Source;
 use crate::writing::{make_room, write_chain, write_xmss};
 use arrayvec::ArrayVec;
@@ -118,23 +117,13 @@ impl<S: Store, R: Source> Signer<S, R> {
             return Err(SignFault::Changed);
         }
         make_room(secret, out)?;
-        let signed = Signed {
-            leaf,
-            randomizer,
-            digest,
-        };
         self.cache_bound(caches, trees, binding)?;
+        let bottom = secret.levels() - 1;
         let mut links = ArrayVec::new();
-        trees
-            .push_chain(
-                &self.ledger,
-                caches,
-                secret.levels() - 1,
-                tree,
-                signed,
-                &mut links,
-            )
+        let last = trees
+            .chain_to(&self.ledger, caches, bottom, tree, leaf, &mut links)
             .map_err(SignFault::Damaged)?;
+        links.push(last.signing(randomizer, digest));
         write_chain(secret, &links, out);
         Ok(())
     }

@@ -68,7 +68,7 @@ returns-in_err-add g c key keyed =
     let (text, whole, digest_is) = c.in_ok-digest.ensures.digest in
     let bound : Bound = record {
       name = c.copied.result;
-      leaf = c.args.last.signed.leaf;
+      leaf = c.args.last.leaf;
       randomizer = c.in_ok-randomizer.randomizer;
       digest = c.in_ok-digest.digest;
     } in
@@ -99,7 +99,7 @@ write_chain-requires-clause-made g c =
     i.ledger.key first in
     let stands = subst (λ n. Stands i.ledger.key T i.ledger.records n c.args.above.now.items c.args.last) bottom standing in
     standing_made i.ledger.records i.ledger.key T c.args.above.now.items c.deref.result.now c.args.last c.signing.result stands
-    (c.deref.ensures.0 ∙ c.push.ensures.items) c.signing.ensures.made
+    (c.deref.ensures.0 ∙ c.push.ensures.items) c.signing.ensures.tree
 
 pub write_chain-requires-clause-pairs : goal.write_chain-requires-clause-pairs
 write_chain-requires-clause-pairs g c other others =
@@ -114,7 +114,7 @@ write_chain-requires-clause-pairs g c other others =
     let own = key_of_added g.S.Store (view_of i.store c.draw.new.random i.ledger i.caches i.is_open) c.add.new.self _ c.add.result c.in_ok-add.field-0 i.ledger.key
     c.key.result.now c.add.ensures.adds c.in_ok-add.was first (ap (λ w. key_in w.records) (sym c.self-2.view_is) ∙ c.key.ensures.first) in
     standing_pairs i.ledger.records i.ledger.key T other c.args.above.now.items c.deref.result.now c.args.last c.signing.result these
-    (ap (λ k. trees_of k.secret) (sym own) ∙ others) stands (c.deref.ensures.0 ∙ c.push.ensures.items) c.signing.ensures.secret
+    (ap (λ k. trees_of k.secret) (sym own) ∙ others) stands (c.deref.ensures.0 ∙ c.push.ensures.items) c.signing.ensures.tree
 
 pub write_chain-requires-clause-trees : goal.write_chain-requires-clause-trees
 write_chain-requires-clause-trees g c =
@@ -139,7 +139,7 @@ returns g c key keyed =
     let stands = subst (λ n. Stands key T records n c.args.above.now.items c.args.last) (c.requires.bottom key keyed) standing in
     let bound : Bound = record {
       name = c.copied.result;
-      leaf = c.args.last.signed.leaf;
+      leaf = c.args.last.leaf;
       randomizer = c.in_ok-randomizer.randomizer;
       digest = c.in_ok-digest.digest;
     } in
@@ -147,7 +147,8 @@ returns g c key keyed =
     let own = key_of_added g.S.Store (view_of i.store c.draw.new.random i.ledger i.caches i.is_open) c.add.new.self _ c.add.result c.in_ok-add.field-0 key
     c.key.result.now c.add.ensures.adds c.in_ok-add.was first (ap (λ w. key_in w.records) (sym c.self-2.view_is) ∙ c.key.ensures.first) in
     let signs = standing_signs records key c.key.result.now T c.args.above.now.items c.deref.result.now c.args.last c.signing.result bound c.write_chain.new.into
-    first own these stands (c.deref.ensures.0 ∙ c.push.ensures.items) c.signing.ensures.secret c.signing.ensures.signed c.write_chain.ensures in
+    first own these stands (c.deref.ensures.0 ∙ c.push.ensures.items) c.signing.ensures.tree refl c.signing.ensures.randomizer c.signing.ensures.digest
+    c.write_chain.ensures in
     bound_below g.S.Store g.R.Source g.M.Message c.args.name.now i.store i.random c.draw.new.random i.ledger i.is_open c.args.message.now
     c.read_digest.new.message key T c.args.self.now c.add.new.self c.args.above.now.items c.args.last bound text c.add.result _ c.self.view_is
     c.requires.can.ready.is_open keyed (c.requires.stands key keyed) (c.requires.bottom key keyed) c.copied.ensures refl digest_is

@@ -77,7 +77,7 @@ add-requires-clause-follows g c =
     let few = c.requires.below i.ledger.key own in
     can_extend i.ledger.key (trees_in a.trees.now) i.ledger.records a.above.now.items a.last (record {
       level = c.len.result + 1;
-      parent_leaf = a.last.signed.leaf;
+      parent_leaf = a.last.leaf;
       identifier = c.in_ok-identifier.field-0.identifier;
       seed = c.in_ok-identifier.field-0.seed;
       randomizer = c.in_ok-identifier.field-0.randomizer;
@@ -131,7 +131,7 @@ returns-clause-stands g c key keyed =
     let own : key_in a.self.now.records ≡ Some i.ledger.key = ap (λ w. key_in w.records) (sym c.self.view_is) ∙ c.self.invariant.1 in
     let extend : Extend = record {
       level = c.len.result + 1;
-      parent_leaf = a.last.signed.leaf;
+      parent_leaf = a.last.leaf;
       identifier = seeds.identifier;
       seed = seeds.seed;
       randomizer = seeds.randomizer;
@@ -152,8 +152,8 @@ returns-clause-stands g c key keyed =
     let after : Stands i.ledger.key (trees_in a.trees.now) (i.ledger.records ++ ExtendRecord extend ∷ []) (length (a.above.now.items ++ c.signing.result ∷ []))
     (a.above.now.items ++ c.signing.result ∷ []) c.in_ok-cache.made =
     stands_grown i.ledger.key (trees_in a.trees.now) i.ledger.records a.above.now.items a.last c.in_ok-cache.made c.signing.result extend
-    (c.requires.stands i.ledger.key own).0 (some_keyed i.ledger.records i.ledger.key c.self.invariant.1) before count few refl c.signing.ensures.secret
-    c.signing.ensures.signed c.signing.ensures.made c.in_ok-cache.ensures.made (c.in_ok-cache.ensures.leaf) secret in
+    (c.requires.stands i.ledger.key own).0 (some_keyed i.ledger.records i.ledger.key c.self.invariant.1) before count few refl c.signing.ensures.tree
+    c.signing.ensures.randomizer c.signing.ensures.digest c.in_ok-cache.ensures.made (c.in_ok-cache.ensures.leaf) secret in
     let grown : c.add.new.self.records ≡ i.ledger.records ++ ExtendRecord extend ∷ [] =
     added_records g.S.Store (view_of i.store c.draw_tree.new.random i.ledger c.replace.new.self i.is_open) c.add.new.self (ExtendRecord extend) c.add.result c.in_ok-add.field-0
     c.add.ensures.adds c.in_ok-add.was in
