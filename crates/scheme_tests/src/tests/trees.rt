@@ -4,3 +4,4 @@ mod caches;
 mod memory;
 mod plain;
 mod sums;
+mod told;
