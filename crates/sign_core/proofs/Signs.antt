@@ -1,11 +1,11 @@
 -- What each end of a call of sign is: a step of the world.
 use Rattle.std.proofs.Common.{◌≡◌, ◌∙◌, ℕ, ◌+◌, ◌-◌, ◌<◌, ◌≤◌, Bool, true, false, not, List, [], ◌++◌, length, Option, Some, None, Result, Ok, Err, refl}
-use Rattle.std.proofs.Common.{sym, ap, subst, inl, arith, true≢false, append-nil}
+use Rattle.std.proofs.Common.{sym, ap, ap₂, subst, inl, arith, true≢false, append-nil}
 use Rattle.std.specs.Prelude.{take, nat_lt, if◌then◌else◌, option_map, MatchResult, IsErrAnd}
 use Rattle.std.specs.Option.{ok_or}
 use Rattle.std.proofs.Math.Seq.{take-length}
 use Rattle.std.proofs.lemmas.Bool.Decides.{nat_tests}
-use Rattle.std.proofs.lemmas.Option.{none-some}
+use Rattle.std.proofs.lemmas.Option.{none-some, same_Some}
 use Rattle.typecodes.specs.declared.message.Message as message
 use Rattle.state_file.specs.declared.record.Bound.{Bound}
 use Rattle.state_file.specs.declared.record.Key.{Key}
@@ -23,12 +23,13 @@ use Rattle.sign_core.specs.declared.ledger.Binding.{Binding}
 use Rattle.sign_core.specs.Source.{Provides}
 use Rattle.sign_core.specs.Records.{are_same, binding_in, deepest, has_moved, key_in, wanted_count, is_long}
 use Rattle.sign_core.specs.Cuts.{IsBeginning}
-use Rattle.sign_core.specs.inner.Request.{HasPrepared}
+use Rattle.sign_core.specs.inner.Request.{HasPrepared, Prepares}
 use Rattle.sign_core.specs.Caches.{Cached}
 use Rattle.sign_core.specs.inner.Signer.{Hinders}
 use Rattle.sign_core.specs.Signer.{IsRead, IsSigner, IsTied, KeepsAll, KeepsForRepeat, KeepsStore, LacksMemory, LacksTree, RefusesMemory, wanted_by, Signs, View, is_out_of_memory}
-use Rattle.sign_core.specs.Signer.{is_before_caches, is_before_repeat, is_fault, is_random_failed, is_store_failed, state_of}
-use Rattle.sign_core.specs.inner.Signing.{Binds, Fulfils, IsBindingOf, IsReady, Repeats, repeat_chance}
+use Rattle.sign_core.specs.Signer.{is_before_caches, is_before_repeat, is_fault, is_random_failed, is_store_failed, signature_size, state_of}
+use Rattle.sign_core.specs.inner.Signing.{Binds, CanBind, Fulfils, IsBindingOf, IsReady, Repeats, repeat_chance}
+use Rattle.sign_core.specs.Signing.{UnderKey}
 use Rattle.sign_core.specs.Ledger.{kept_of}
 use Rattle.sign_core.specs.World.{Chance, Outcome, State, reading, refused, requested}
 use Rattle.sign_core.specs.inner.Cases.{bound_anew, bound_sound, repeated, repeated_sound, requested_of, requested_under}
@@ -444,6 +445,27 @@ module _ {S R M : Type 0} (g : store.Ghosts S) (r : source.Ghosts R) (m : messag
 value_or : {A E : Type 0} → A → Result A E → A
 value_or other (Ok x) = x
 value_or other (Err fault) = other
+
+-- the deepest level with a free leaf, by records that are the same
+pub deepest_after : (records other : List Record) (key own : Key) (level : ℕ) → other ≡ records → key_in records ≡ Some key → key_in other ≡ Some own
+    → deepest key.secret records ≡ Some level → deepest own.secret other ≡ Some level
+deepest_after records other key own level same keyed is at =
+    let own_is : own ≡ key = same_Some own key (sym is ∙ ap key_in same ∙ keyed) in
+    ap₂ (λ (k : Key) l. deepest k.secret l) own_is same ∙ at
+
+-- Once there is room for its records and its signature, the name can be bound.
+pub can_bind : {S R A : Type 0} (most : S → ℕ) (v mid : View S R) (name : List ℕ) (level size capacity room : ℕ) (x : A) → KeepsAll v mid
+    → binding_in v.records name ≡ None → UnderKey v.records (λ key. is_long key name ≡ false)
+    → UnderKey v.records (Prepares (most v.store) level v mid capacity room (Ok x)) → size ≡ room
+    → UnderKey mid.records (λ key. CanBind (most mid.store) (levels_of key.secret - level) name size mid)
+can_bind most v mid name level size capacity room x keeps unbound fits prepares same key keyed =
+    let made = prepares key (ap key_in (sym keeps.records) ∙ keyed) in
+    record {
+      ready = subst (λ s. IsReady (most s) (levels_of key.secret - level) mid) (sym keeps.store) made.does.0;
+      unbound = ap (λ l. binding_in l name) keeps.records ∙ unbound;
+      fits = λ own is. fits own (ap key_in (sym keeps.records) ∙ is);
+      room = λ own is. same ∙ made.does.1 ∙ ap (λ k. signature_size k.secret) (same_Some key own (sym keyed ∙ is));
+    }
 
 -- a value that passed through a change of faults
 pub linked_value : {A : Type 0} (linked : Result A ℕ) (mapped : Result A SignFault) (x : A)

@@ -4,12 +4,12 @@ ghost use Rattle.std.specs.Prelude.{◌≡◌, ◌<◌, ◌-◌, [], None, Some,
 ghost use Rattle.std.specs.Prelude.{◌+◌, IfOk, OnOk};
 ghost use Rattle.sign_core.specs.Caches.{LacksCache};
 ghost use Rattle.state_file.specs.Laws.{levels_of, bottom_of};
-ghost use Rattle.sign_core.specs.Records.{binding_in, deepest, has_moved, is_long, free_at};
+ghost use Rattle.sign_core.specs.Records.{binding_in, has_moved, is_long, free_at};
 ghost use Rattle.sign_core.specs.inner.Request.{Prepares};
 ghost use Rattle.sign_core.specs.Signer.{KeepsAll, Signs};
 ghost use Rattle.sign_core.specs.inner.Signing.{Binds, CanBind, ChainStands, DrawsTree, Extends, Fulfils, IsReady};
 ghost use Rattle.sign_core.specs.Signing.{IsXmssKey, KeepsCapacity, UnderKey, answered_with};
-ghost use Rattle.sign_core.specs.inner.Links.{AreTreesOf, trees_in};
+ghost use Rattle.sign_core.specs.inner.Links.{trees_in};
 
 use super::Signer;
 use super::scheme::Scheme;
@@ -73,7 +73,12 @@ impl<S: Store, R: Source> Signer<S, R> {
         self.prepare(level, out)?;
         let key = self.ledger.key().copied();
         match Scheme::of(&key.secret) {
-            Scheme::Chain(trees) => self.bind_chain(&trees, level, name, message, out),
+            Scheme::Chain(trees) => {
+                let (mut above, last) = trees
+                    .standing(&self.ledger, &mut self.caches, level)
+                    .map_err(SignFault::Damaged)?;
+                self.fulfil(&trees, name, message, &mut above, last, out)
+            }
             Scheme::Xmss(secret) => self.bind_xmss(&secret, name, message, out),
         }
     }
@@ -118,28 +123,6 @@ impl<S: Store, R: Source> Signer<S, R> {
             Scheme::Xmss(secret) => self.caches.keep_xmss(&secret, next),
         };
         cached.map_err(|_| SignFault::OutOfMemory)
-    }
-
-    // Signs under a new name with LMS trees, of which this level is the deepest with a free leaf.
-    fn bind_chain<M: Message>(
-        &mut self,
-        trees: &KeyTrees<'_>,
-        level: u8,
-        name: &Name,
-        message: &mut M,
-        out: &mut [u8],
-    ) -> Result<(), SignFault>
-        requires can { UnderKey self.old.records (λ key. CanBind (S.most self.old.store)
-            (levels_of key.secret - level) name.now (length out.old) self.old) }
-        requires trees { UnderKey self.old.records (AreTreesOf trees.now) }
-        requires level { UnderKey self.old.records (λ key. deepest key.secret self.old.records ≡ Some level) }
-        ensures { UnderKey self.old.records (Binds S.Store R.Source M.Message name.now level self.old self.new
-            message.old message.new (answered_with result out.new)) }
-    {
-        let (mut above, last) = trees
-            .standing(&self.ledger, &mut self.caches, level)
-            .map_err(SignFault::Damaged)?;
-        self.fulfil(trees, name, message, &mut above, last, out)
     }
 
     // Begins a tree of the next level below a standing chain, and records it: the chain's last tree signs it by its

@@ -1,14 +1,20 @@
-use Rattle.std.proofs.Common.{rules, ◌≡◌, ◌∙◌, ◌<◌, Err, length, ap, sym, subst, arith}
+use Rattle.std.proofs.Common.{rules, ◌≡◌, ◌∙◌, ◌<◌, ◌-◌, Err, None, Some, length, ap, sym, subst, arith, IfOk}
 use Rattle.std.specs.Prelude.{vec_capacity}
 use Rattle.std.proofs.lemmas.List.{take_at}
-use Rattle.state_file.specs.Laws.{levels_of}
-use Rattle.sign_core.specs.Signing.{answered_with}
+use Rattle.state_file.specs.Laws.{bottom_of, levels_of}
+use Rattle.state_file.specs.declared.record.Key.{Key}
+use Rattle.sign_core.specs.declared.fault.SignFault.TheVariants.{Damaged}
+use Rattle.sign_core.specs.Signing.{UnderKey, answered_with}
 use Rattle.sign_core.specs.Records.{deepest, key_in}
-use Rattle.sign_core.specs.Signer.{IsSigner, Signs}
-use Rattle.sign_core.specs.inner.Signing.{Binds}
+use Rattle.sign_core.specs.Signer.{IsSigner, Signs, view_of}
+use Rattle.sign_core.specs.inner.Signing.{Binds, CanBind, Fulfils}
+use Rattle.sign_core.specs.Textbook.{damaged_in, tree_before, trees_of}
 use Rattle.sign_core.proofs.ChainParts.{same_key}
 use Rattle.sign_core.proofs.Leaves.{deepest_is}
-use Rattle.sign_core.proofs.Signs.{binds_signs, exhausted_signs, none_fault, some_level, unprepared_signs}
+use Rattle.sign_core.proofs.LedgerReading.{key_levels}
+use Rattle.sign_core.proofs.Repeats.{fault_of, linked_ok}
+use Rattle.sign_core.proofs.Signs.{binds_signs, can_bind, damaged_binds, deepest_after, exhausted_signs, fulfils_binds, linked_value, none_fault, some_level}
+use Rattle.sign_core.proofs.Signs.{unprepared_signs}
 use Rattle.sign_core.proofs.signer.Signer.bind.Goals as goal
 
 pub returns-in_err-level-clause-step : goal.returns-in_err-level-clause-step
@@ -53,21 +59,124 @@ returns-in_err-prepare-clause-step g c =
     (ap (λ w. deepest key.secret w.records) (sym c.self.view_is) ∙ sym c.deepest.ensures ∙ some) made.keeps
     made.caches made.spare made.does)
 
-pub returns-in-Chain-clause-step : goal.returns-in-Chain-clause-step
-returns-in-Chain-clause-step g c =
+pub standing-requires-clause-trees : goal.standing-requires-clause-trees
+standing-requires-clause-trees g c =
+    ap (λ (k : Key). trees_of k.secret) (sym c.key.ensures.key ∙ sym c.copied-key.ensures) ∙ c.in-Chain.ensures
+
+pub standing-requires-clause-level : goal.standing-requires-clause-level
+standing-requires-clause-level g c =
+    let first = c.self.inside.ledger in
+    let i = c.self-2.inside.ledger in
+    let keyed = ap (λ w. key_in w.records) (sym c.self.view_is) ∙ c.self.invariant.1 in
+    let some = some_level c.deepest.result c.in_ok-level.level (sym c.ok_or.ensures.value ∙ c.in_ok-level.was) in
+    let made = c.in_ok-prepare.ensures.room first.key keyed in
+    let records : i.records ≡ first.records = ap (λ w. w.records) c.self-2.view_is ∙ made.keeps.records ∙ ap (λ w. w.records) (sym c.self.view_is) in
+    (deepest_is i.key.secret i.records c.in_ok-level.level
+    (deepest_after first.records i.records first.key i.key c.in_ok-level.level records c.self.invariant.1 c.self-2.invariant.1 (sym c.deepest.ensures ∙ some))).0
+
+pub standing-requires-clause-few : goal.standing-requires-clause-few
+standing-requires-clause-few g c =
+    let first = c.self.inside.ledger in
+    let i = c.self-2.inside.ledger in
+    let keyed = ap (λ w. key_in w.records) (sym c.self.view_is) ∙ c.self.invariant.1 in
+    let some = some_level c.deepest.result c.in_ok-level.level (sym c.ok_or.ensures.value ∙ c.in_ok-level.was) in
+    let within = (deepest_is first.key.secret first.records c.in_ok-level.level (sym c.deepest.ensures ∙ some)).0 in
+    let few = (key_levels first.records first.key c.self.invariant.0.sizes c.self.invariant.1).1 in
+    omega (arith, within, few)
+
+pub standing-requires-clause-free : goal.standing-requires-clause-free
+standing-requires-clause-free g c =
+    let first = c.self.inside.ledger in
+    let i = c.self-2.inside.ledger in
+    let keyed = ap (λ w. key_in w.records) (sym c.self.view_is) ∙ c.self.invariant.1 in
+    let some = some_level c.deepest.result c.in_ok-level.level (sym c.ok_or.ensures.value ∙ c.in_ok-level.was) in
+    let made = c.in_ok-prepare.ensures.room first.key keyed in
+    let records : i.records ≡ first.records = ap (λ w. w.records) c.self-2.view_is ∙ made.keeps.records ∙ ap (λ w. w.records) (sym c.self.view_is) in
+    (deepest_is i.key.secret i.records c.in_ok-level.level
+    (deepest_after first.records i.records first.key i.key c.in_ok-level.level records c.self.invariant.1 c.self-2.invariant.1 (sym c.deepest.ensures ∙ some))).1
+
+pub fulfil-requires-clause-can : goal.fulfil-requires-clause-can
+fulfil-requires-clause-can g c =
+    let v = c.args.self.now in
+    let mid = c.prepare.new.self in
+    let whole = c.self-2.inside in
+    let keyed = ap (λ w. key_in w.records) (sym c.self.view_is) ∙ c.self.invariant.1 in
+    let made = c.in_ok-prepare.ensures.room c.self.inside.ledger.key keyed in
+    let same = ap (λ x. view_of whole.store whole.random whole.ledger x whole.is_open) c.standing.ensures.caches ∙ c.self-2.view_is in
+    let value = linked_value c.standing.result c.map_err.result _ c.map_err.ensures.cases c.in_ok-above-in-Chain.was in
+    let count : length c.in_ok-above-in-Chain.above.items ≡ c.in_ok-level.level =
+    subst (λ s. IfOk s (λ chain. length chain.0.items ≡ c.in_ok-level.level)) value c.standing.ensures.count in
+    let can = can_bind g.S.Store.most v mid c.args.name.now c.in_ok-level.level (length c.deref_mut.result.now) (vec_capacity c.args.out.now)
+    (length c.prepare.new.out.items) _ made.keeps c.requires.unbound c.requires.fits c.in_ok-prepare.ensures.room (ap length c.deref_mut.ensures.value) in
+    subst (λ w. UnderKey w.records (λ key. CanBind (g.S.Store.most w.store) (levels_of key.secret - length c.in_ok-above-in-Chain.above.items) c.args.name.now
+    (length c.deref_mut.result.now) w)) (sym same)
+    (λ key is. subst (λ n. CanBind (g.S.Store.most mid.store) (levels_of key.secret - n) c.args.name.now (length c.deref_mut.result.now) mid)
+    (sym count) (can key is))
+
+pub returns-in_err-above-in-Chain-clause-step : goal.returns-in_err-above-in-Chain-clause-step
+returns-in_err-above-in-Chain-clause-step g c =
     let v = c.args.self.now in
     let key = c.self.inside.ledger.key in
     let keyed = ap (λ w. key_in w.records) (sym c.self.view_is) ∙ c.self.invariant.1 in
     let some = some_level c.deepest.result c.in_ok-level.level (sym c.ok_or.ensures.value ∙ c.in_ok-level.was) in
     let made = c.in_ok-prepare.ensures.room key keyed in
     let mid = c.prepare.new.self in
-    let fits : length c.bind_chain.new.out ≡ c.prepare.new.out.len = search rules in
-    subst (λ xs. Signs g.S.Store g.R.Source g.M.Message v c.bind_chain.new.self c.args.name.now c.args.message.now c.bind_chain.new.message
-    (vec_capacity c.args.out.now) (answered_with c.bind_chain.result xs)) (sym (take_at c.bind_chain.new.out _ c.prepare.new.out.len fits))
-    (binds_signs g.S.Store g.R.Source g.M.Message v mid c.bind_chain.new.self c.args.name.now c.args.message.now c.bind_chain.new.message
-    (vec_capacity c.args.out.now) c.in_ok-level.level key (answered_with c.bind_chain.result c.bind_chain.new.out) keyed c.requires.open c.requires.goes_on
-    c.requires.unbound (c.requires.fits key keyed) (ap (λ w. deepest key.secret w.records) (sym c.self.view_is) ∙ sym c.deepest.ensures ∙ some) made.keeps made.spare made.does.0
-    (c.bind_chain.ensures key (ap key_in made.keeps.records ∙ keyed)))
+    let still = ap key_in made.keeps.records ∙ keyed in
+    let whole = c.self-2.inside in
+    let i = whole.ledger in
+    let same = ap (λ x. view_of whole.store whole.random whole.ledger x whole.is_open) c.standing.ensures.caches ∙ c.self-2.view_is in
+    let own : i.key ≡ key = same_key mid.records i.key key (ap (λ w. key_in w.records) (sym c.self-2.view_is) ∙ c.self-2.invariant.1) still in
+    let answer : c.from_residual-in_err-above-in-Chain.result ≡ Err c.in_err-above-in-Chain.field-0.0 = search rules in
+    let (slot, is, damaged) = fault_of c.standing.result c.map_err.result c.in_err-above-in-Chain.field-0.0
+    (λ k. damaged_in i.key c.in_ok-level.level i.records (tree_before c.in_ok-level.level i.records (length i.records)) ≡ Some k)
+    c.map_err.ensures.cases c.in_err-above-in-Chain.was c.standing.ensures.damaged in
+    let here = subst (λ k. damaged_in k c.in_ok-level.level mid.records (tree_before c.in_ok-level.level mid.records (length mid.records)) ≡ Some slot) own
+    (subst (λ w. damaged_in i.key c.in_ok-level.level w.records (tree_before c.in_ok-level.level w.records (length w.records)) ≡ Some slot) c.self-2.view_is damaged) in
+    subst (λ w. Signs g.S.Store g.R.Source g.M.Message v w c.args.name.now c.args.message.now c.args.message.now (vec_capacity c.args.out.now)
+    (answered_with c.from_residual-in_err-above-in-Chain.result c.prepare.new.out.items)) (sym same)
+    (subst (λ a. Signs g.S.Store g.R.Source g.M.Message v mid c.args.name.now c.args.message.now c.args.message.now (vec_capacity c.args.out.now)
+    (answered_with a c.prepare.new.out.items)) (sym (answer ∙ ap Err is))
+    (binds_signs g.S.Store g.R.Source g.M.Message v mid mid c.args.name.now c.args.message.now c.args.message.now (vec_capacity c.args.out.now)
+    c.in_ok-level.level key (Err (Damaged slot)) keyed c.requires.open c.requires.goes_on c.requires.unbound (c.requires.fits key keyed)
+    (ap (λ w. deepest key.secret w.records) (sym c.self.view_is) ∙ sym c.deepest.ensures ∙ some) made.keeps made.spare made.does.0
+    (damaged_binds g.S.Store g.R.Source g.M.Message mid c.args.name.now c.args.message.now c.in_ok-level.level key slot
+    (subst (IsSigner g.S.Store) c.self-2.view_is c.self-2.invariant.0)
+    (λ left honest running since. g.met.S.Store.leaves_nothing_else mid.store left honest running since) here)))
+
+pub returns-in_ok-above-in-Chain-clause-step : goal.returns-in_ok-above-in-Chain-clause-step
+returns-in_ok-above-in-Chain-clause-step g c =
+    let v = c.args.self.now in
+    let key = c.self.inside.ledger.key in
+    let keyed = ap (λ w. key_in w.records) (sym c.self.view_is) ∙ c.self.invariant.1 in
+    let some = some_level c.deepest.result c.in_ok-level.level (sym c.ok_or.ensures.value ∙ c.in_ok-level.was) in
+    let made = c.in_ok-prepare.ensures.room key keyed in
+    let mid = c.prepare.new.self in
+    let still = ap key_in made.keeps.records ∙ keyed in
+    let whole = c.self-2.inside in
+    let i = whole.ledger in
+    let same = ap (λ x. view_of whole.store whole.random whole.ledger x whole.is_open) c.standing.ensures.caches ∙ c.self-2.view_is in
+    let own : i.key ≡ key = same_key mid.records i.key key (ap (λ w. key_in w.records) (sym c.self-2.view_is) ∙ c.self-2.invariant.1) still in
+    let value = linked_value c.standing.result c.map_err.result _ c.map_err.ensures.cases c.in_ok-above-in-Chain.was in
+    let count : length c.in_ok-above-in-Chain.above.items ≡ c.in_ok-level.level =
+    subst (λ s. IfOk s (λ chain. length chain.0.items ≡ c.in_ok-level.level)) value c.standing.ensures.count in
+    let sound = linked_ok c.standing.result c.map_err.result _ _ c.map_err.ensures.cases c.in_ok-above-in-Chain.was c.standing.ensures.sound in
+    let here = subst (λ k. damaged_in k c.in_ok-level.level mid.records (tree_before c.in_ok-level.level mid.records (length mid.records)) ≡ None) own
+    (subst (λ w. damaged_in i.key c.in_ok-level.level w.records (tree_before c.in_ok-level.level w.records (length w.records)) ≡ None) c.self-2.view_is sound) in
+    let at = ap (λ w. deepest key.secret w.records) (sym c.self.view_is) ∙ sym c.deepest.ensures ∙ some in
+    let binds = fulfils_binds g.S.Store g.R.Source g.M.Message mid c.fulfil.new.self c.args.name.now c.args.message.now c.fulfil.new.message c.in_ok-level.level key
+    (answered_with c.fulfil.result c.fulfil.new.out) here
+    (subst (λ n. Fulfils g.S.Store g.R.Source g.M.Message c.args.name.now (bottom_of key.secret - n) mid c.fulfil.new.self c.args.message.now
+    c.fulfil.new.message (answered_with c.fulfil.result c.fulfil.new.out) key) count
+    (subst (λ w. UnderKey w.records (λ key. Fulfils g.S.Store g.R.Source g.M.Message c.args.name.now
+    (bottom_of key.secret - length c.in_ok-above-in-Chain.above.items) w c.fulfil.new.self c.args.message.now c.fulfil.new.message
+    (answered_with c.fulfil.result c.fulfil.new.out) key)) same c.fulfil.ensures key still))
+    made.does.0.is_open (deepest_is key.secret v.records c.in_ok-level.level at).0 in
+    let fits : length c.fulfil.new.out ≡ c.prepare.new.out.len = search rules in
+    subst (λ xs. Signs g.S.Store g.R.Source g.M.Message v c.fulfil.new.self c.args.name.now c.args.message.now c.fulfil.new.message
+    (vec_capacity c.args.out.now) (answered_with c.fulfil.result xs)) (sym (take_at c.fulfil.new.out _ c.prepare.new.out.len fits))
+    (binds_signs g.S.Store g.R.Source g.M.Message v mid c.fulfil.new.self c.args.name.now c.args.message.now c.fulfil.new.message
+    (vec_capacity c.args.out.now) c.in_ok-level.level key (answered_with c.fulfil.result c.fulfil.new.out) keyed c.requires.open c.requires.goes_on
+    c.requires.unbound (c.requires.fits key keyed) at made.keeps made.spare made.does.0 binds)
 
 pub returns-in-Xmss-clause-step : goal.returns-in-Xmss-clause-step
 returns-in-Xmss-clause-step g c =
