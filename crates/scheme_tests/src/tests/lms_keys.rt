@@ -10,7 +10,6 @@ use sha2::{Digest, Sha256};
 use std::io;
 use std::io::Read;
 use std::process::Abort;
-use std::test::Fail;
 use typecodes::{Cause, LmsPair, LmsType, OtsType, ReadFault, Refusal};
 use winternitz::lanes::LANES;
 
@@ -107,19 +106,26 @@ fn signatures_are_refused(rt: HostRuntime) {
     }
 }
 
+// The leaf of a signature.
+fn leaf_of(signature: &[u8]) -> Result<u32, ReadFault> {
+    Ok(LmsSigView::read(signature)?.q())
+}
+
 #[test]
 fn the_last_leaf_is_read(rt: HostRuntime) {
     let mut signature = zero_signature();
     signature[3] = 31;
-    assert!(rt; LmsSigView::read(&signature).is_ok());
+    assert!(rt; leaf_of(&signature) == Ok(31));
     assert!(rt; refusal(&rt, &signature) == Refusal::RootMismatch(0));
 }
 
 // A signature that was read is refused as that of its level: the types come first, and leave the message.
 #[test]
-fn levels_are_reported(rt: HostRuntime) -> Result<(), Fail> {
+fn levels_are_reported(rt: HostRuntime) {
     let zeros = zero_signature();
-    let view = LmsSigView::read(&zeros)?;
+    let Ok(view) = LmsSigView::read(&zeros) else {
+        panic!(rt; "it is not read")
+    };
     let mut key = ZERO_KEY;
     let mut message: &[u8] = b"message";
     for (tree, ots) in [(LmsType::H10, OtsType::W8), (LmsType::H5, OtsType::W4)] {
@@ -130,7 +136,6 @@ fn levels_are_reported(rt: HostRuntime) -> Result<(), Fail> {
     key.pair = PAIR;
     assert!(rt; view.verify(&key, &mut message, 2) == Err(Refusal::RootMismatch(2)));
     assert!(rt; message.is_empty());
-    Ok(())
 }
 
 // Whether zeros with the codes of a pair, the tree's at its offset, are a signature, and none with one byte less.
@@ -185,15 +190,14 @@ fn types_are_compared(rt: HostRuntime) {
 
 // A tree of height 10 has the leaves 0 to 1023.
 #[test]
-fn leaves_of_a_higher_tree(rt: HostRuntime) -> Result<(), Fail> {
+fn leaves_of_a_higher_tree(rt: HostRuntime) {
     let mut bytes = higher_signature();
     bytes[2] = 3;
     bytes[3] = 255;
-    assert!(rt; LmsSigView::read(&bytes)?.q() == 1023);
+    assert!(rt; leaf_of(&bytes) == Ok(1023));
     bytes[2] = 4;
     bytes[3] = 0;
-    assert!(rt; LmsSigView::read(&bytes).err() == Some(fault(0, Cause::LeafOutOfRange)));
-    Ok(())
+    assert!(rt; leaf_of(&bytes) == Err(fault(0, Cause::LeafOutOfRange)));
 }
 
 // Whether chain i of a signature of H5 and W8 holds one byte in all places.
