@@ -15,7 +15,6 @@ use sha2::{Digest, Sha256};
 use std::io;
 use std::io::Read;
 use std::process::Abort;
-use std::test::Fail;
 use typecodes::{Cause, LevelCount, Levels, LmsPair, LmsType, OtsType, ReadFault, Refusal};
 
 const PAIR: LmsPair = LmsPair {
@@ -159,6 +158,8 @@ fn bouncy_castle_made(rt: HostRuntime) {
     let mut message: &[u8] = &MESSAGE;
     assert!(rt; verify(&public, &mut message, &signature) == Ok(()));
     assert!(rt; message.is_empty());
+    let mut other: &[u8] = b"another";
+    assert!(rt; verify(&public, &mut other, &signature) == Err(Refusal::RootMismatch(1)));
 }
 
 const fn fault(place: u32, cause: Cause) -> Refusal {
@@ -327,21 +328,6 @@ fn failing_messages_are_reported(rt: HostRuntime) {
     }
 }
 
-fn without_last(signature: &[u8; 2644]) -> &[u8] {
-    &signature[..2643]
-}
-
-#[test]
-fn cuts_are_refused(rt: HostRuntime) {
-    let (public, signature) = signed();
-    assert!(rt;
-        refusal(&rt, &public, without_last(&signature)) == (fault(2612, Cause::Truncated), 1)
-    );
-    assert!(rt; refusal(&rt, &public, &[]) == (fault(0, Cause::Truncated), 1));
-    let mut other: &[u8] = b"another";
-    assert!(rt; verify(&public, &mut other, &signature) == Err(Refusal::RootMismatch(1)));
-}
-
 #[test]
 fn levels_are_compared(rt: HostRuntime) {
     let (public, signature) = signed();
@@ -418,34 +404,49 @@ fn keys_are_read(rt: HostRuntime) {
     assert!(rt; HssPublic::read(&bytes) == Err(unknown));
 }
 
+// Whether the signature of level i has these bytes.
+fn has_level(view: &HssSigView<'_>, i: u8, bytes: &[u8]) -> bool {
+    i < view.levels() && view.level(i).bytes() == bytes
+}
+
+// Whether the signature of level i has these bytes, and signs the key of these.
+fn signs_key(view: &HssSigView<'_>, i: u8, bytes: &[u8], key: &[u8]) -> bool {
+    match view.signed_key(i) {
+        Some(next) => {
+            next.signature.bytes() == bytes
+                && next.key_bytes == key
+                && LmsPublic::read(key) == Ok(next.key)
+        }
+        None => false,
+    }
+}
+
 #[test]
-fn parts_are_shown(rt: HostRuntime) -> Result<(), Fail> {
+fn parts_are_shown(rt: HostRuntime) {
     let (_, signature) = signed();
-    let view = HssSigView::read(&signature)?;
-    assert!(rt; view.levels() == 2);
-    assert!(rt; view.bytes() == signature.as_slice());
-    assert!(rt; view.level(0).bytes() == &signature[4..1296]);
-    assert!(rt; view.level(1).bytes() == &signature[1352..]);
-    let next = view.signed_key(0).ok_or("a level above the bottom")?;
-    assert!(rt; next.signature.bytes() == &signature[4..1296]);
-    assert!(rt; next.key == LmsPublic::read(&signature[1296..1352])?);
-    assert!(rt; next.key_bytes == &signature[1296..1352]);
+    let Ok(view) = HssSigView::read(&signature) else {
+        panic!(rt; "it is not read")
+    };
+    assert!(rt; view.levels() == 2 && view.bytes() == signature.as_slice());
+    let (top, bottom) = (&signature[4..1296], &signature[1352..]);
+    assert!(rt; has_level(&view, 0, top) && has_level(&view, 1, bottom));
+    assert!(rt; signs_key(&view, 0, top, &signature[1296..1352]));
     assert!(rt; view.signed_key(1).is_none());
-    Ok(())
 }
 
 // The signature of the top level with the key that it signs, as a part of its own.
 #[test]
-fn a_signed_key_is_written(rt: HostRuntime) -> Result<(), Fail> {
+fn a_signed_key_is_written(rt: HostRuntime) {
     let (_, signature) = signed();
     let bytes = &signature[1296..1352];
-    let key = LmsPublic::read(bytes)?;
+    let Ok(key) = LmsPublic::read(bytes) else {
+        panic!(rt; "it is not read")
+    };
     let (root, path) = tree_of(TOP);
     let top = level(&TOP, TOP_RANDOMIZER, root, &path, bytes);
     let mut part = [0; 1348];
     write_signed_key(&top, &key, &mut part);
     assert!(rt; part.as_slice() == &signature[4..1352]);
-    Ok(())
 }
 
 const OTHER: LmsPair = LmsPair {
@@ -482,9 +483,20 @@ fn signatures_have_lengths(rt: HostRuntime) {
     }
 }
 
+// Whether level i has its place as its leaf, and signs a key that begins with it, above the bottom of eight levels.
+fn is_numbered(view: &HssSigView<'_>, i: u8) -> bool {
+    if i >= view.levels() || view.level(i).q() != u32::from(i) {
+        return false;
+    }
+    match view.signed_key(i) {
+        Some(next) => i < 7 && next.key.identifier[0] == i,
+        None => i == 7,
+    }
+}
+
 // Eight levels of H5/W8, each with its place in the list as its leaf.
 #[test]
-fn eight_levels_are_read(rt: HostRuntime) -> Result<(), Fail> {
+fn eight_levels_are_read(rt: HostRuntime) {
     let mut bytes = [0; 10732];
     bytes[3] = 7;
     for i in 0..8u8 {
@@ -498,14 +510,11 @@ fn eight_levels_are_read(rt: HostRuntime) -> Result<(), Fail> {
             bytes[start + 1300] = i;
         }
     }
-    let view = HssSigView::read(&bytes)?;
+    let Ok(view) = HssSigView::read(&bytes) else {
+        panic!(rt; "it is not read")
+    };
     assert!(rt; view.levels() == 8);
-    for i in 0..view.levels() {
-        assert!(rt; view.level(i).q() == u32::from(i));
-        match view.signed_key(i) {
-            Some(next) => assert!(rt; i < 7 && next.key.identifier[0] == i),
-            None => assert!(rt; i == 7),
-        }
+    for i in 0..8 {
+        assert!(rt; is_numbered(&view, i), "level {i}");
     }
-    Ok(())
 }

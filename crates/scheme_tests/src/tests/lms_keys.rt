@@ -10,7 +10,6 @@ use sha2::{Digest, Sha256};
 use std::io;
 use std::io::Read;
 use std::process::Abort;
-use std::test::Fail;
 use typecodes::{Cause, LmsPair, LmsType, OtsType, ReadFault, Refusal};
 use winternitz::lanes::LANES;
 
@@ -107,19 +106,26 @@ fn signatures_are_refused(rt: HostRuntime) {
     }
 }
 
+// The leaf of a signature.
+fn leaf_of(signature: &[u8]) -> Result<u32, ReadFault> {
+    Ok(LmsSigView::read(signature)?.q())
+}
+
 #[test]
 fn the_last_leaf_is_read(rt: HostRuntime) {
     let mut signature = zero_signature();
     signature[3] = 31;
-    assert!(rt; LmsSigView::read(&signature).is_ok());
+    assert!(rt; leaf_of(&signature) == Ok(31));
     assert!(rt; refusal(&rt, &signature) == Refusal::RootMismatch(0));
 }
 
 // A signature that was read is refused as that of its level: the types come first, and leave the message.
 #[test]
-fn levels_are_reported(rt: HostRuntime) -> Result<(), Fail> {
+fn levels_are_reported(rt: HostRuntime) {
     let zeros = zero_signature();
-    let view = LmsSigView::read(&zeros)?;
+    let Ok(view) = LmsSigView::read(&zeros) else {
+        panic!(rt; "it is not read")
+    };
     let mut key = ZERO_KEY;
     let mut message: &[u8] = b"message";
     for (tree, ots) in [(LmsType::H10, OtsType::W8), (LmsType::H5, OtsType::W4)] {
@@ -130,46 +136,38 @@ fn levels_are_reported(rt: HostRuntime) -> Result<(), Fail> {
     key.pair = PAIR;
     assert!(rt; view.verify(&key, &mut message, 2) == Err(Refusal::RootMismatch(2)));
     assert!(rt; message.is_empty());
-    Ok(())
 }
 
-// Zeros with the codes of a pair, the tree's at its offset, are a signature, and with one byte less they
-// are none.
-fn assert_len(
-    rt: &impl Abort,
-    (ots, tree): (OtsType, LmsType),
-    codes: [u8; 2],
-    offset: usize,
-    zeros: &mut [u8],
-) -> Result<(), Fail> {
+// Whether zeros with the codes of a pair, the tree's at its offset, are a signature, and none with one byte less.
+fn has_len(pair: LmsPair, codes: [u8; 2], offset: usize, zeros: &mut [u8]) -> bool {
     let len = zeros.len();
-    assert!(rt; 32 <= len);
-    assert!(rt; len <= 9324);
-    assert!(rt; offset < len);
-    let pair = LmsPair { tree, ots };
-    assert!(rt; pair.signature_len() == (len as u32));
+    if len < 32 || len > 9324 || offset >= len || pair.signature_len() != len as u32 {
+        return false;
+    }
     zeros[7] = codes[0];
     zeros[offset] = codes[1];
-    let view = LmsSigView::read(zeros)?;
-    assert!(rt; view.types() == pair);
-    assert!(rt; view.bytes().len() == len);
-    assert!(rt;
-        LmsSigView::read(&zeros[..len - 1]).err() == Some(fault(len as u32 - 32, Cause::Truncated))
-    );
-    Ok(())
+    let is_read = match LmsSigView::read(zeros) {
+        Ok(view) => view.types() == pair && view.bytes().len() == len,
+        Err(_) => false,
+    };
+    let cut = LmsSigView::read(&zeros[..len - 1]).err();
+    is_read && cut == Some(fault(len as u32 - 32, Cause::Truncated))
+}
+
+const fn pair(tree: LmsType, ots: OtsType) -> LmsPair {
+    LmsPair { tree, ots }
 }
 
 // RFC 8554 4.1, table 1, and 5.1, table 2.
 #[test]
-fn signatures_have_lengths(rt: HostRuntime) -> Result<(), Fail> {
+fn signatures_have_lengths(rt: HostRuntime) {
     let (w1, w2, w4, w8) = (OtsType::W1, OtsType::W2, OtsType::W4, OtsType::W8);
-    assert_len(&rt, (w8, LmsType::H5), [4, 5], 1131, &mut [0; 1292])?;
-    assert_len(&rt, (w4, LmsType::H5), [3, 5], 2187, &mut [0; 2348])?;
-    assert_len(&rt, (w4, LmsType::H10), [3, 6], 2187, &mut [0; 2508])?;
-    assert_len(&rt, (w8, LmsType::H15), [4, 7], 1131, &mut [0; 1612])?;
-    assert_len(&rt, (w2, LmsType::H20), [2, 8], 4299, &mut [0; 4940])?;
-    assert_len(&rt, (w1, LmsType::H25), [1, 9], 8523, &mut [0; 9324])?;
-    Ok(())
+    assert!(rt; has_len(pair(LmsType::H5, w8), [4, 5], 1131, &mut [0; 1292]));
+    assert!(rt; has_len(pair(LmsType::H5, w4), [3, 5], 2187, &mut [0; 2348]));
+    assert!(rt; has_len(pair(LmsType::H10, w4), [3, 6], 2187, &mut [0; 2508]));
+    assert!(rt; has_len(pair(LmsType::H15, w8), [4, 7], 1131, &mut [0; 1612]));
+    assert!(rt; has_len(pair(LmsType::H20, w2), [2, 8], 4299, &mut [0; 4940]));
+    assert!(rt; has_len(pair(LmsType::H25, w1), [1, 9], 8523, &mut [0; 9324]));
 }
 
 // Zeros of the types H10 and W8.
@@ -192,37 +190,45 @@ fn types_are_compared(rt: HostRuntime) {
 
 // A tree of height 10 has the leaves 0 to 1023.
 #[test]
-fn leaves_of_a_higher_tree(rt: HostRuntime) -> Result<(), Fail> {
+fn leaves_of_a_higher_tree(rt: HostRuntime) {
     let mut bytes = higher_signature();
     bytes[2] = 3;
     bytes[3] = 255;
-    assert!(rt; LmsSigView::read(&bytes)?.q() == 1023);
+    assert!(rt; leaf_of(&bytes) == Ok(1023));
     bytes[2] = 4;
     bytes[3] = 0;
-    assert!(rt; LmsSigView::read(&bytes).err() == Some(fault(0, Cause::LeafOutOfRange)));
-    Ok(())
+    assert!(rt; leaf_of(&bytes) == Err(fault(0, Cause::LeafOutOfRange)));
+}
+
+// Whether chain i of a signature of H5 and W8 holds one byte in all places.
+fn has_chain(view: &LmsSigView<'_>, i: u16, byte: u8) -> bool {
+    view.types() == PAIR && i < 34 && *view.chain(i) == [byte; 32]
+}
+
+// Whether node k of its path does.
+fn has_node(view: &LmsSigView<'_>, k: u8, byte: u8) -> bool {
+    view.types() == PAIR && k < 5 && *view.node(k) == [byte; 32]
 }
 
 // C, the first and the last chain and the first and the last node hold 1, 2, 3, 4 and 5.
 #[test]
-fn parts_are_lent(rt: HostRuntime) -> Result<(), Fail> {
+fn parts_are_lent(rt: HostRuntime) {
     let mut bytes = zero_signature();
     bytes[3] = 17;
     for (value, offset) in [(1, 8), (2, 40), (3, 1096), (4, 1132), (5, 1260)] {
         bytes[offset..offset + 32].copy_from_slice(&[value; 32]);
     }
-    let view = LmsSigView::read(&bytes)?;
-    assert!(rt; view.q() == 17);
-    assert!(rt; view.types() == PAIR);
-    assert!(rt; *view.c() == [1; 32]);
-    assert!(rt; *view.chain(0) == [2; 32]);
-    assert!(rt; *view.chain(1) == [0; 32]);
-    assert!(rt; *view.chain(33) == [3; 32]);
-    assert!(rt; *view.node(0) == [4; 32]);
-    assert!(rt; *view.node(3) == [0; 32]);
-    assert!(rt; *view.node(4) == [5; 32]);
+    let Ok(view) = LmsSigView::read(&bytes) else {
+        panic!(rt; "it is not read")
+    };
+    assert!(rt; view.q() == 17 && *view.c() == [1; 32]);
+    for (i, byte) in [(0, 2), (1, 0), (33, 3)] {
+        assert!(rt; has_chain(&view, i, byte), "chain {i}");
+    }
+    for (k, byte) in [(0, 4), (3, 0), (4, 5)] {
+        assert!(rt; has_node(&view, k, byte), "node {k}");
+    }
     assert!(rt; view.bytes() == bytes.as_slice());
-    Ok(())
 }
 
 const IDENTIFIER: [u8; 16] = [0, 1, 2, 3, 4, 5, 6, 7, 8, 9, 10, 11, 12, 13, 14, 15];

@@ -1,3 +1,5 @@
+//! The law of chains can be called.
+
 use winternitz::chain_law;
 
 #[test]

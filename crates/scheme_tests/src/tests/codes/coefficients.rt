@@ -1,3 +1,5 @@
+//! The digits of a string of bytes.
+
 use typecodes::coef;
 
 // RFC 8554 3.1.3 gives the first two.

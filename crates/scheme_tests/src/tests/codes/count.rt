@@ -1,3 +1,5 @@
+//! A count takes no bytes.
+
 use typecodes::Count;
 
 #[test]

@@ -1,3 +1,5 @@
+//! The laws of layouts can be called.
+
 use typecodes::{field_laws, following_laws, layout_laws};
 
 #[test]

@@ -1,3 +1,5 @@
+//! Refusals and their numbers.
+
 use typecodes::{Cause, ReadFault, Refusal};
 
 #[test]
