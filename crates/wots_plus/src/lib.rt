@@ -5,7 +5,8 @@
 //! `specs/Address.antt`, the addresses that go into them, `specs/Key.antt`, the chains of a key, and
 //! `specs/LTree.antt`: a list of values in which neighbours are joined until one is left. Its contract
 //! for the crates above: `hash_from_signature` gives the public hash of the chain ends to which a
-//! signature's values lead, and `public_hash` that of the ends to which a secret's do. `sign_digest`
+//! signature's values lead, and `public_hash` that of the ends to which a secret's do;
+//! `public_hashes_in_lanes` gives the same of several leaves side by side. `sign_digest`
 //! writes the values of a secret's signature, which climb to the secret's ends. `rand_hash` joins the
 //! nodes of the hash tree above. `Climbing` is the choice between two ways to the first of these
 //! hashes, in lanes or with little stack, which a verifier takes as a parameter.
