@@ -14,7 +14,7 @@ _hbsign_words() {
 
 _hbsign() {
     local words=() options='' kinds=() last=none kind='' place=0 word current
-    local commands='make sign verify retire audit audit-given serve migrate'
+    local commands='make sign verify retire audit audit-given serve migrate list public'
     local specs='
         lms:H5/W8 lms:H10/W2 lms:H10/W4 lms:H10/W8 lms:H15/W4 lms:H15/W8 lms:H20/W4 hss:H10/W4,H10/W4
         hss:H10/W8,H10/W8 xmss:10 xmss:16 xmss:20'
@@ -34,6 +34,8 @@ _hbsign() {
     audit-given) options='-h --help' kinds=('file' 'file') last='file' ;;
     serve) options='--random -h --help' kinds=('file') ;;
     migrate) options='-h --help' kinds=('file' 'file') ;;
+    list) options='-h --help' kinds=('file') ;;
+    public) options='-h --help' kinds=('file' 'file') ;;
     help) kinds=("$commands") ;;
     esac
     for word in "${words[@]:2:${#words[@]}-3}"; do
