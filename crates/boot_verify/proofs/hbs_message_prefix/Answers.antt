@@ -21,7 +21,7 @@ returns-in-Err-message_prefix c =
         c.answer_of.ensures,
       ),
       early_refusal refusal _ (λ same. told.read (ap Err same)) (λ level same. told.types level (ap Err same))
-      (λ level same. told.roots level (ap Err same)) c.answer_of.ensures,
+          (λ level same. told.roots level (ap Err same)) c.answer_of.ensures,
     )
 
 pub returns-in-Err : goal.returns-in-Err
