@@ -99,13 +99,13 @@ cause_early LeafOutOfRange = omega arith
 cause_early Trailing = omega arith
 
 pub early_key : (public : List ℕ) (answer : ℕ) → RefusesKey public answer → IsEarly answer
-early_key public answer (inl (_, _, _, is)) = (6, _, is, inl (omega arith))
-early_key public answer (inr (fault, _, is)) = (cause_number fault.cause, fault.place, is, inl (cause_early fault.cause))
+early_key public answer (inl (_, _, _, is)) = (6, _, is, inl (omega arith, omega arith))
+early_key public answer (inr (fault, _, is)) = (cause_number fault.cause, fault.place, is, inl (cause_above fault.cause, cause_early fault.cause))
 
 -- and so is each refusal for which no type, root or message was looked at
 pub early_refusal : (refusal : Refusal) (answer : ℕ) → refusal ≢ MessageRead → ((level : ℕ) → refusal ≢ TypeMismatch level)
     → ((level : ℕ) → refusal ≢ RootMismatch level) → answer ≡ verdict_answer (Err refusal) → IsEarly answer
-early_refusal (Unreadable fault) answer read types roots is = (cause_number fault.cause, fault.place, is, inl (cause_early fault.cause))
+early_refusal (Unreadable fault) answer read types roots is = (cause_number fault.cause, fault.place, is, inl (cause_above fault.cause, cause_early fault.cause))
 early_refusal (TypeMismatch level) answer read types roots is = absurd (types level refl)
 early_refusal LevelMismatch answer read types roots is = (11, 0, is, inr refl)
 early_refusal (RootMismatch level) answer read types roots is = absurd (roots level refl)
