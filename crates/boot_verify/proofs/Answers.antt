@@ -1,5 +1,5 @@
 -- An answer is 0 exactly where the signature is valid.
-use Rattle.std.proofs.Common.{◌≡◌, ◌∙◌, refl, ap, subst, arith, ℕ, ◌<◌, inl, inr, true, false, List, ◌++◌, length, take, Result, Ok, Err}
+use Rattle.std.proofs.Common.{◌≡◌, ◌∙◌, refl, ap, subst, arith, ℕ, ◌<◌, ◌≤◌, inl, inr, true, false, List, ◌++◌, length, take, Result, Ok, Err}
 use Rattle.std.specs.Prelude.{◌≢◌, ◌↔◌, IsOk}
 use Rattle.sha2.specs.Sha256.{sha256}
 use Rattle.typecodes.specs.declared.fault.Cause.{Cause}
@@ -20,7 +20,7 @@ use Rattle.xmss.proofs.Verdicts as xmss
 use Rattle.boot_verify.specs.declared.key.Key.{Key}
 use Rattle.boot_verify.specs.declared.key.Key.TheVariants.{Lms, Hss, Xmss}
 use Rattle.boot_verify.specs.Key.{KeyHasPrefix, KeyIsDigest, KeyVerdict, Signs, SpellsKey, prefix_length}
-use Rattle.boot_verify.specs.Answer.{Answers, GivesPrefix, IsDigest, IsSigned, RefusesKey, packed, refusal_detail, verdict_answer}
+use Rattle.boot_verify.specs.Answer.{Answers, GivesPrefix, IsDigest, IsEarly, IsSigned, RefusesKey, packed, refusal_detail, verdict_answer}
 use Rattle.boot_verify.proofs.Keys.{no_fault, not_none, one_key}
 
 -- no cause and no refusal has the number 0
@@ -90,11 +90,32 @@ valid_exactly public message bytes answer answers = (signed public message bytes
 
 -- ---- the bytes before the message
 
+-- a refusal of the key is known before the message is
+cause_early : (cause : Cause) → cause_number cause ≤ 6
+cause_early Truncated = omega arith
+cause_early UnknownType = omega arith
+cause_early LevelCount = omega arith
+cause_early LeafOutOfRange = omega arith
+cause_early Trailing = omega arith
+
+pub early_key : (public : List ℕ) (answer : ℕ) → RefusesKey public answer → IsEarly answer
+early_key public answer (inl (_, _, _, is)) = (6, _, is, inl (omega arith, omega arith))
+early_key public answer (inr (fault, _, is)) = (cause_number fault.cause, fault.place, is, inl (cause_above fault.cause, cause_early fault.cause))
+
+-- and so is each refusal for which no type, root or message was looked at
+pub early_refusal : (refusal : Refusal) (answer : ℕ) → refusal ≢ MessageRead → ((level : ℕ) → refusal ≢ TypeMismatch level)
+    → ((level : ℕ) → refusal ≢ RootMismatch level) → answer ≡ verdict_answer (Err refusal) → IsEarly answer
+early_refusal (Unreadable fault) answer read types roots is = (cause_number fault.cause, fault.place, is, inl (cause_above fault.cause, cause_early fault.cause))
+early_refusal (TypeMismatch level) answer read types roots is = absurd (types level refl)
+early_refusal LevelMismatch answer read types roots is = (11, 0, is, inr refl)
+early_refusal (RootMismatch level) answer read types roots is = absurd (roots level refl)
+early_refusal MessageRead answer read types roots is = absurd (read refl)
+
 -- what is hashed after them is the message's digest
 pub digest_after : (key : Key) (bytes prefix message : List ℕ) → KeyHasPrefix key bytes prefix → KeyIsDigest key message bytes (sha256 (prefix ++ message))
 digest_after (Lms key) bytes prefix message (s, spelled, is) = λ t spelled_too.
     ap (λ prefix. sha256 (prefix ++ message)) (is ∙ ap (lms_prefix_of key) (one_value lms_signature s t bytes spelled spelled_too))
-digest_after (Hss key) bytes prefix message (s, spelled, is) = λ t spelled_too.
+digest_after (Hss key) bytes prefix message (s, spelled, count, is) = λ t spelled_too.
     ap (λ prefix. sha256 (prefix ++ message))
     (is ∙ ap (λ s. lms_prefix_of (key_at key.top s (length s.signed)) s.bottom) (one_value hss_signature s t bytes spelled spelled_too))
 digest_after (Xmss key) bytes prefix message (s, spelled, is) = λ t spelled_too.

@@ -1,6 +1,6 @@
 -- What the library answers: 0, or a refusal's number with what belongs to it.
-use Rattle.std.specs.Prelude.{◌≡◌, ◌≢◌, ◌⊎◌, ℕ, ◌+◌, ◌-◌, ◌*◌, ◌^◌, nat_lt, if◌then◌else◌, List, ◌++◌, length, take}
-use Rattle.std.specs.Prelude.{Result, Ok, Err}
+use Rattle.std.specs.Prelude.{◌≡◌, ◌≢◌, ◌≤◌, ◌<◌, ◌⊎◌, ℕ, ◌+◌, ◌-◌, ◌*◌, ◌^◌, nat_lt, if◌then◌else◌, List}
+use Rattle.std.specs.Prelude.{◌++◌, length, take, Result, Ok, Err}
 use Rattle.sha2.specs.Sha256.{sha256}
 use Rattle.typecodes.specs.declared.fault.ReadFault.{ReadFault}
 use Rattle.typecodes.specs.declared.refusal.Refusal.{Refusal}
@@ -57,11 +57,18 @@ abbrev pub IsDigest : List ℕ → List ℕ → List ℕ → List ℕ → Type 0
 IsDigest public message bytes digest =
     (key : Key) → SpellsKey key public → KeyIsDigest key message bytes digest
 
+-- A refusal that is known before the message is hashed, 1 to 6 or 11: of the key, of the signature's bytes, or of its
+-- levels.
+abbrev pub IsEarly : ℕ → Type 0
+IsEarly answer = (number : ℕ) × (detail : ℕ) × (answer ≡ packed number detail)
+    × (((0 < number) × (number ≤ 6)) ⊎ (number ≡ 11))
+
 -- What is hashed before the message was given: its length, 54 or 128, above the lower 32 bits, which are 0, and it
--- stands in the first bytes of the room. Else the answer is that of verification, whatever the message.
+-- stands in the first bytes of the room. Else the answer is that of verification, whatever the message, and no type or
+-- root was compared for it.
 abbrev pub GivesPrefix : List ℕ → List ℕ → List ℕ → ℕ → Type 0
 GivesPrefix public bytes room answer =
     ((key : Key) × SpellsKey key public × (answer ≡ packed 0 (prefix_length key))
     × KeyHasPrefix key bytes (take (prefix_length key) room)
     × ((message : List ℕ) → IsDigest public message bytes (sha256 (take (prefix_length key) room ++ message))))
-    ⊎ ((message : List ℕ) → Answers public message bytes answer)
+    ⊎ (((message : List ℕ) → Answers public message bytes answer) × IsEarly answer)

@@ -74,6 +74,8 @@ impl Key {
         ensures err { IfErr result (λ refusal. (message : List ℕ)
             → KeyVerdict {A = Unit {0}} self.now message signature.now (Err refusal)) }
         ensures read { result ≢ Err Refusal.MessageRead }
+        ensures types { (level : ℕ) → result ≢ Err (Refusal.TypeMismatch level) }
+        ensures roots { (level : ℕ) → result ≢ Err (Refusal.RootMismatch level) }
     {
         match self {
             Key::Lms(key) => Ok(lay(room, &lms::message_prefix(key, signature)?)),

@@ -32,9 +32,9 @@ abbrev pub IsDigest : HssPublic → List ℕ → List ℕ → List ℕ → Type 
 IsDigest key message bytes digest = (s : Signature) → Spells signature s bytes
     → digest ≡ lms_digest_of (key_at key.top s (length s.signed)) message s.bottom
 
--- The bytes spell a signature, and this is what is hashed before its message.
+-- The bytes spell a signature with the key's levels, and this is what is hashed before its message.
 abbrev pub HasPrefix : HssPublic → List ℕ → List ℕ → Type 0
-HasPrefix key bytes prefix = (s : Signature) × Spells signature s bytes
+HasPrefix key bytes prefix = (s : Signature) × Spells signature s bytes × (level_count s ≡ key.levels)
     × (prefix ≡ lms_prefix_of (key_at key.top s (length s.signed)) s.bottom)
 
 -- The types of level i are those of its key.

@@ -75,6 +75,8 @@ pub fn message_prefix(public: &LmsPublic, signature: &[u8]) -> Result<[u8; 54], 
     ensures err { IfErr result (λ refusal. (message : List ℕ)
         → Verdict {A = Unit {0}} public.now message signature.now (Err refusal)) }
     ensures read { result ≢ Err Refusal.MessageRead }
+    ensures types { (level : ℕ) → result ≢ Err (Refusal.TypeMismatch level) }
+    ensures roots { (level : ℕ) → result ≢ Err (Refusal.RootMismatch level) }
 {
     let view = match LmsSigView::read(signature) {
         Ok(view) => view,

@@ -15,6 +15,7 @@ pub returns-clause-ok : goal.returns-clause-ok
 returns-clause-ok c = (
   signature_of c.in-Ok.view,
   c.in-Ok.ensures.reads,
+  sym c.levels.ensures.value ∙ (c.if-levels-get.false ∙ c.get.ensures.value),
   c.message_prefix.ensures
       ∙ ap₂ prefix_of c.last_key-key.ensures c.bottom.ensures,
 )
