@@ -100,6 +100,9 @@ pub trait SignerFolder<'a>: LineFiles<'a> + Outlet {
 
     /// Opens the state file at this very path for reading and writing, and locks it without waiting. It is a regular
     /// file, and is never made.
+    ///
+    /// A state file that is locked leaves another trace than one that can't be opened. So neither of 54 and 53 can be
+    /// reported for the other.
     fn open_state(&mut self, path: &'a str) -> Result<Self::Disk, Refusal>
         ensures trace { Self.trace self.new ≡ Self.trace self.old ++ opening_state path.now result ∷ [] }
         ensures content { KeepsContents (Self.content self.old) (Self.content self.new) }
@@ -133,7 +136,8 @@ pub trait SignerFolder<'a>: LineFiles<'a> + Outlet {
         ensures opened { IfOk result (is_opened path.now) }
         ensures err { IfErr result IsStateRefusal };
 
-    /// Closes a state file, which frees its lock, if it is locked.
+    /// Closes a state file, which frees its lock, if it is locked. Of a file of the machine `is_closed` says nothing
+    /// (`Machine`). That files of `audit-given` are closed isn't said.
     fn close_state(&mut self, disk: Self::Disk)
         ensures trace { Self.trace self.new ≡ Self.trace self.old }
         ensures closed { is_closed self.new disk }
@@ -171,7 +175,7 @@ impl<D: Folder> Message for FileReader<'_, D, D::File> {
 }
 
 /// As many bytes as decide of a signature: one more than the greatest has, which is of eight levels of
-/// H25/W1.
+/// H25/W1. How much of a file is kept in memory is tested.
 pub const DECISIVE: usize = 74_989;
 
 /// Reads a public key's file to its end, and gives the key that its bytes spell, or why they spell none. It keeps

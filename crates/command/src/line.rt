@@ -168,6 +168,10 @@ pub trait LineReader {
 
     /// Reads the words of a line, without the program's name. The fault is one that `clap` gives for these words, or a
     /// usage fault, or there is no memory.
+    ///
+    /// No contract says that `clap` answers 46 only where it was refused memory itself, nor does one of the list of
+    /// files of `audit-given`. Which words a line with options has, and where these stand, is said by the specification
+    /// of `clap` alone. `help` before another word may be refused, or answered with help.
     fn read<'a, S: AsStr>(&mut self, words: &'a [S]) -> Result<Request<'a>, LineFault>
         ensures requests { (task : LineTask) → IsLineOf (map S.text words.now) task
             → MatchResult result (λ request. task_of request ≡ task) (λ fault. fault ≡ LineFault.OutOfMemory) }

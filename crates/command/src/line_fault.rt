@@ -33,6 +33,9 @@ const REFUSED_LINE: &str = "error: this line can't be read\n";
 impl LineFault {
     /// The fault of a line for which `clap` gives this error, which isn't that there is no memory; or that there is
     /// none for its text.
+    ///
+    /// Which text this is, is tested. A text of help that has the form is kept as it is, and only another one is
+    /// replaced (`help_or_usage`). A text of a refusal that isn't empty is kept, too (`text_or_refusal`).
     pub fn of<T: TextMaker>(texts: &mut T, error: &Error) -> LineFault
         requires { kind_of error.now ≢ ErrorKind.OutOfMemory }
         ensures kind { (result ≡ LineFault.OutOfMemory) ⊎ IsFaultOf result (kind_of error.now) }

@@ -22,6 +22,11 @@ use std::marker::Model;
 use std::{fs, io};
 
 /// The files of a machine. What is in them isn't known.
+///
+/// No contract says that the machine opens the path it is given, that `open` hands out a file of which nothing was
+/// read, or that `read` reads once. The trace begins where the file is handed out, and of several reads in one call it
+/// has the one whose answer is given. Both are three lines of code, which are read and tested; so is that files are
+/// written by `replace`.
 #[derive(Drop)]
 pub struct Machine<'a, R> {
     rt: R,

@@ -123,7 +123,8 @@ fn run_line<'a, O: Output, E: Output>(
     )
 }
 
-// Reports that there is no memory, without taking any.
+// Reports that there is no memory, without taking any. That the line is on the output for errors exactly where the
+// first word is `serve` is tested.
 fn no_memory<E: Output>(rt: &HostRuntime, errors: &mut E) -> u8 {
     program::report_no_memory(serves(rt), &mut Printer::new(io::writer(rt)), errors)
 }

@@ -37,6 +37,10 @@ pub enum Access {
 }
 
 /// A state file of the machine that is open.
+///
+/// That these are the calls of the system that it notes is read, and tests count its syncs. What follows is tested or
+/// read, as no contract of the standard library speaks of it. The file is a regular one and no standard stream, and
+/// only `open_or_make` makes it and sets its mode. A locked one is 54, and the folder is synced.
 #[derive(Drop)]
 pub struct StateFile<'a> {
     path: &'a str,

@@ -9,7 +9,8 @@ ghost use Rattle.command.specs.declared.file_id.FileId.{FileId as File};
 use crate::file_id::{FileId, KeptFiles};
 use crate::refusal::Refusal;
 
-/// A file that is open for writing. Its content is as it was.
+/// A file that is open for writing. Its content is as it was. That a machine's file makes the calls that it notes is
+/// read and tested.
 pub trait Target {
     // which file it is
     ghost id: { Self → File };

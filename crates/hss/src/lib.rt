@@ -8,7 +8,7 @@
 //! `verify_digest_by` do so of a message in memory and of one's digest, by either way to climb chains, of
 //! which one takes little stack; `write_signature` writes the textbook signature where roots and paths are
 //! those of the secrets, and it is valid where each digest is that of what its level signs. The laws stand on
-//! `spelling_laws`, `verdict_laws`, `textbook_laws` and `joining_laws`.
+//! `spelling_laws`, `verdict_laws`, `textbook_laws` and `joining_laws`. No call takes memory.
 //!
 //! ```rust
 //! use hss::{HssPublic, verify};

@@ -14,6 +14,9 @@ use winternitz::{InLanes, OneByOne, climb, digits};
 
 /// A way to climb the chains of a signature. Whichever it is, the public hash is the same: `InLanes` takes some 64 KB
 /// of stack and is fast, `OneByOne` takes less than 2 KB.
+///
+/// That chains climb side by side, and what their steps share, is measured and tested: no clause says it, as no value
+/// depends on it.
 pub trait Climbing {
     /// The public hash to which the values of a signature of a key lead, as `LmOts::hash_from_signature`. The caller
     /// gives as many values as the type has chains.

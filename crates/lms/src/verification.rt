@@ -91,7 +91,7 @@ impl LmsSigView<'_> {
     ///
     /// The first refusal comes of: other types than the key's (10, with the level), a message that can't be read (14),
     /// another root than the key's (12, with the level). The message is read to its end where the types are the key's,
-    /// and else left as it is.
+    /// and else left as it is. No public call compares the root without the types.
     pub fn verify<M: Message>(
         &self,
         public: &LmsPublic,

@@ -41,7 +41,8 @@ impl<T: TreeHash> Model for PathCache<T> {
 
 impl<T: TreeHash> PathCache<T> {
     /// The cache of a tree that has made no leaf. Each of its leaves is made, once, and the first block is kept. The
-    /// caller keeps the height at most 25. Refuses only where memory is refused, and then lets the tree go.
+    /// caller keeps the height at most 25. Where memory is refused it refuses, and lets the tree go. That it refuses
+    /// only there is tested (`tests::trees::memory` of `crates/scheme_tests`), and no clause says it.
     pub fn new(alloc: Global, tree: T, height: u8) -> Result<PathCache<T>, OutOfMemory>
     where
         T: Drop,

@@ -94,7 +94,8 @@ pub record IsCall {S : Type 0} (moment : S → ℕ) (left_since : S → ℕ → 
       ⊎ (call.store ≡ old)
 
 -- A call that lasts: while a signer is open after it, a stop right then leaves the world's records, and nothing else.
--- The store is as honest as it was.
+-- The store is as honest as it was. That a stop leaves what some events leave says nothing of a signature that was
+-- handed out before, as events without it may leave the same. So a chain of lives needs calls that last.
 pub record IsLastingCall {S : Type 0} (g : store.Ghosts S) (limit : ℕ) (world : World) (old : S) (call : Call S)
     : Type 0 where
   pub is_call : IsCall g.moment g.left_since limit world old call

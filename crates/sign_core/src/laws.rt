@@ -227,6 +227,8 @@ pub fn lives_law<D: Disk + Drop>()
 /// whatever it leaves at the new place, but for what a stop just before could leave, and a place without a key. After
 /// Ok that is the only content at the new place. So lives of the new disk may begin there, and of all signatures, those
 /// from before the migration and those from after it, no leaf signs two digests.
+///
+/// Lives of both disks that go on at a time are no run: that no two files can sign is said by `migrate_key`.
 pub fn moves_law<D: Disk + Drop, E: Disk + Drop>()
     ensures moves { MovesLaw D.Disk E.Disk }
 {}

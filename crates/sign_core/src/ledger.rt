@@ -119,7 +119,8 @@ fn public_of(key: &Key) -> AnyPublic
     }
 }
 
-/// The records of a key, a legal list of them.
+/// The records of a key, a legal list of them. Names are found by a `HashMap` that hashes with a fixed seed, so that
+/// the time to find one is a mean.
 #[derive(Drop)]
 pub struct Ledger {
     // for contracts alone
@@ -231,7 +232,7 @@ impl Ledger {
         &self.key
     }
 
-    /// The public key of record 0.
+    /// The public key of record 0. It only reads, and takes no memory.
     pub fn public_key(&self) -> AnyPublic
         ensures { public_of_key (key_in self.now.records) ≡ Some result }
     {
@@ -294,7 +295,8 @@ impl Ledger {
         self.trees.get(usize::from(level))
     }
 
-    /// How many leaves are free at each level, in its current tree; 0 where it has none.
+    /// How many leaves are free at each level, in its current tree; 0 where it has none. It only reads, and takes no
+    /// memory.
     pub fn left(&self) -> ArrayVec<u32, 8>
         ensures { (key : K) → key_in self.now.records ≡ Some key →
             result.items ≡ free_counts key.secret self.now.records }
@@ -416,7 +418,8 @@ impl Ledger {
         Ok(())
     }
 
-    /// Makes room for so many more records.
+    /// Makes room for so many more records. No clause bounds how much memory is reserved: `HashMap` says of `reserve`
+    /// and `shrink_to` only what there is room for at least.
     pub(crate) fn reserve(&mut self, additional: usize) -> Result<(), AllocError>
         ensures key { self.new.key ≡ self.old.key }
         ensures records { self.new.records ≡ self.old.records }

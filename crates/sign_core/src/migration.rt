@@ -24,6 +24,13 @@ use std::alloc::Global;
 /// - 42 `Version`: they are legal, and of version 2.
 /// - 50 `KeyThere`: the new place may have a key.
 /// - 52 `Full`: the old file has no room for a Moved.
+///
+/// All refusals but 45 leave the old place as it was, synced, and those before 50 leave the new one untouched. 45 comes
+/// exactly where one call of one of the two disks was refused. Over honest disks none of these is a read past the end.
+/// That memory was refused for 46 is tested.
+///
+/// A stop inside of the call is the end of one whose disks refuse every call from there on. The clauses hold of that
+/// one, too: moments of two disks can't be paired in a contract.
 pub fn migrate_key<D: Disk + Drop, E: Disk + Drop>(
     alloc: Global,
     old: D,

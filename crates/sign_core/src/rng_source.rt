@@ -37,7 +37,8 @@ impl<T: TryRng> Source for RngSource<T> {
 
     ghost upcoming = { λ source. None };
 
-    /// Fills `into` with the bytes that the generator gives; it fails where the generator fails.
+    /// Fills `into` with the bytes that the generator gives; it fails where the generator fails. That it fails only
+    /// there is tested.
     fn fill(&mut self, into: &mut [u8]) -> Result<(), SourceFault>
         ensures fills { Fills (rng_failures_of self.old) (rng_failures_of self.new) None None into.new result }
         ensures gives { OnOk result (T.may_fill (rng_of self.old) into.new (rng_of self.new)) }

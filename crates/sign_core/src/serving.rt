@@ -53,6 +53,11 @@ impl Reply {
 /// where the input ends before the message of a frame, and with 27 where it ends inside the message or a read of it
 /// fails: then that is replied, too, unless the signer had refused for another reason before. It ends with 36 where a
 /// reply can't be written; what was bound stays bound.
+///
+/// A message is read as far as it comes, whether or not its reply can be written. What follows is tested, since reader
+/// and writer have no trace in common. A reply is written after the last byte of its message was read and before the
+/// next request is, and is passed on at once. 36 comes only where a write fails. 27 comes only where a read fails or
+/// the input ends, also of a reader that doesn't say how its reads end. No memory is taken but the signer's.
 pub fn serve<S: Store, R: Source, I: Message, W: Write>(
     alloc: Global,
     signer: &mut Signer<S, R>,

@@ -301,6 +301,10 @@ impl<S: Store, R: Source> Signer<S, R> {
     /// and the source.
     ///
     /// The caller gives a store that takes at least one record.
+    ///
+    /// Where record 0 is there or can't be loaded, the source is as it was. A create may look for a key again after a
+    /// look that was answered: the last look decides. An append may load slots past the end of the list. Bodies that do
+    /// so are proved, and records and law are the same.
     pub fn create_in(
         alloc: Global,
         version: Version,
@@ -330,6 +334,10 @@ impl<S: Store, R: Source> Signer<S, R> {
 
     /// Opens the signer on the records of a store: it loads them in their order. A refusal gives back the store and
     /// the source.
+    ///
+    /// Each slot is loaded once, from 0 on, and none after the first that refuses it: of two refusals that of the
+    /// earlier record comes. 46 comes only where the store counts a refusal, or a record that it goes over takes
+    /// memory. That memory was indeed refused, where it comes at an Extend or a Bound, is tested.
     pub fn open(alloc: Global, store: S, random: R) -> Result<Self, Refused<(S, R), SignFault>>
         ensures { Opens S.Store store random result }
     {
@@ -349,14 +357,14 @@ impl<S: Store, R: Source> Signer<S, R> {
         }
     }
 
-    /// The public key of record 0.
+    /// The public key of record 0. It only reads, and takes no memory.
     pub fn public_key(&self) -> AnyPublic
         ensures { public_of_key (key_in self.now.records) ≡ Some result }
     {
         self.ledger.public_key()
     }
 
-    /// How many leaves are free at each level, in its current tree.
+    /// How many leaves are free at each level, in its current tree. It only reads, and takes no memory.
     pub fn left(&self) -> ArrayVec<u32, 8>
         ensures { (key : K) → key_in self.now.records ≡ Some key →
             result.items ≡ free_counts key.secret self.now.records }

@@ -14,6 +14,9 @@ use winternitz::{InLanes, OneByOne};
 
 /// A way to climb the chains of a signature and to join the values of its L-tree. Whichever it is, the public hash is
 /// the same: `InLanes` takes some 64 KB of stack and is fast, `OneByOne` takes less than 4 KB.
+///
+/// That chains climb side by side, and what their steps share, is measured and tested: no clause says it, as no value
+/// depends on it.
 pub trait Climbing {
     /// PRF under a key, with what this way keeps of it.
     fn prf(&self, key: [u8; 32]) -> Prf

@@ -142,7 +142,8 @@ pub(crate) fn keyed(number: u8, key: &[u8]) -> Sha256
     hasher
 }
 
-/// PRF under one key. The first block of all its messages is the same, and is hashed only once.
+/// PRF under one key. The first block of all its messages is the same, and is hashed only once. That it is hashed only
+/// once is measured, not proved.
 #[derive(Drop)]
 pub struct Prf {
     /// KEY

@@ -6,7 +6,8 @@
 //! read aside; `verify_bytes_by` and `verify_digest_by` do so of a message in memory and of one's digest, by
 //! either way to climb chains, of which one takes little stack; what `write_signature` writes is the textbook
 //! signature of `specs/Writing.antt`, which is valid. That keys and signatures are spelled in one way, and
-//! that `verify` has one answer, an unread message aside, stands on `spelling_laws` and `verdict_laws`.
+//! that `verify` has one answer, an unread message aside, stands on `spelling_laws` and `verdict_laws`. No call takes
+//! memory.
 //!
 //! ```rust
 //! use typecodes::Refusal;

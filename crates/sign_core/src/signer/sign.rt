@@ -53,6 +53,9 @@ pub(super) fn read_xmss_digest<M: Message>(
 impl<S: Store, R: Source> Signer<S, R> {
     /// How many leaves the cache of a level's current tree has made, as far as a u64 goes; None where the level has no
     /// cache of its current tree.
+    ///
+    /// That the number is the cache's count of leaves is tested, as is that a signer uses its caches: a signature
+    /// doesn't depend on them. That a signer which was just made or opened has none is tested, too.
     pub fn cache_leaves(&self, level: u8) -> Option<u64>
         ensures few { UnderKey self.now.records (λ key. levels_of key.secret ≤ level → result ≡ None) }
         ensures chain { UnderKey self.now.records (λ key. (trees : Trees) → trees_of key.secret ≡ Some trees →
@@ -81,6 +84,12 @@ impl<S: Store, R: Source> Signer<S, R> {
     /// Refusals in their order: 26, 31; under a bound name 27, 21, 29, 28; under a new one 33, 22, 30, 29, 28, then 23,
     /// 24, 29 for its cache and 25 for each tree that is wanted, 23 for C, 27, 25; 29 also where the store answers 46
     /// to an append. After a refusal `out` is empty.
+    ///
+    /// Once the binding's append has answered Ok, `sign` answers Ok. It draws I, SEED and C for each new tree and C for
+    /// the binding; for XMSS it draws nothing. The message is read to its end, or can't be read (27), or is as it was.
+    /// A message takes no memory, however long it is (`tests/run` counts the growths). No clause says which caches
+    /// there are after 28, 29, an Ok or a failure. That 29 comes before 28, where a record is damaged and memory is
+    /// refused, too, is tested.
     pub fn sign<M: Message>(
         &mut self,
         name: &Name,

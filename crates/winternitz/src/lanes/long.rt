@@ -9,7 +9,7 @@ use typecodes::put;
 
 /// SHA-256 of messages of one length side by side, one in each lane. Each stands at the beginning of its bytes, behind
 /// which there is room for the padding (FIPS 180-4 5.1.1), which is written there: what the bytes hold afterwards isn't
-/// promised. The caller keeps 72 bytes of room behind the messages.
+/// promised. The caller keeps 72 bytes of room behind the messages. Messages and their room have less than 2^32 bytes.
 pub fn sha256_in_lanes<const N: usize>(
     messages: &mut [[u8; N]; LANES],
     length: usize,
