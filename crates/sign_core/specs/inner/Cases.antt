@@ -115,7 +115,7 @@ extended state key level found chance next = (do
   secret ← give (lms_secret (slice_index_or trees.pairs level trees.top.pair) identifier drawn.0)
   leaf ← give (next_at key.secret state.records (level - 1))
   append (extend_record trees state.records level secret drawn.1 leaf) chance.fate) state
-  (λ a later. next later.records)
+    (λ a later. next later.records)
 
 -- ---- a binding
 
@@ -125,7 +125,7 @@ bound_with state key name made given fate = event (do
   randomizer ← some_or RandomFailed made
   message ← read given
   bound ← give (new_bound key state.records name (next_at key.secret state.records (bottom_of key.secret))
-    randomizer message)
+      randomizer message)
   append (BoundRecord bound) fate
   records ← the_records
   give (signature_at key records (length state.records) bound)) state

@@ -39,7 +39,9 @@ impl Progress for Heard<'_> {
     fn tell(&mut self, made: u64) {
         self.last = made;
         self.numbers.last.set(made);
-        self.numbers.often.set(self.numbers.often.get().wrapping_add(1));
+        self.numbers
+            .often
+            .set(self.numbers.often.get().wrapping_add(1));
     }
 }
 
@@ -84,7 +86,10 @@ fn tells_of_cache(alloc: Global, height: u8, last: u64, often: u32) -> Result<bo
 #[test]
 fn a_cache_is_told_of(rt: HostRuntime) -> Result<(), Fail> {
     for (height, last, often) in CACHES {
-        assert!(rt; tells_of_cache(rt.alloc(), height, last, often)?, "at height {height}");
+        assert!(rt;
+            tells_of_cache(rt.alloc(), height, last, often)?,
+            "at height {height}"
+        );
     }
     Ok(())
 }
