@@ -45,7 +45,7 @@ impl Progress for Heard<'_> {
     }
 }
 
-fn heard(numbers: &Numbers) -> Heard<'_> {
+fn noting(numbers: &Numbers) -> Heard<'_> {
     Heard { last: 99, numbers }
 }
 
@@ -58,7 +58,7 @@ fn tells_of_root(height: u8, last: u64, often: u32) -> bool {
         return false;
     }
     let (tally, numbers) = (Tally::new(), Numbers::new());
-    let mut told = Told::new(Sums::new(&tally), heard(&numbers));
+    let mut told = Told::new(Sums::new(&tally), noting(&numbers));
     root(&mut told, height) == worked_out(height, 0) && numbers.get() == (last, often)
 }
 
@@ -79,7 +79,7 @@ fn tells_of_cache(alloc: Global, height: u8, last: u64, often: u32) -> Result<bo
         return Ok(false);
     }
     let (tally, numbers) = (Tally::new(), Numbers::new());
-    let cache = PathCache::for_leaf_telling(alloc, Sums::new(&tally), height, 0, heard(&numbers))?;
+    let cache = PathCache::for_leaf_telling(alloc, Sums::new(&tally), height, 0, noting(&numbers))?;
     Ok(cache.root() == worked_out(height, 0) && numbers.get() == (last, often))
 }
 
