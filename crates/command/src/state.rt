@@ -1,6 +1,7 @@
 //! A state file of the machine: how it is opened, locked, and kept from other users. What fails of it is told.
 
 ghost use Rattle.std.specs.Prelude.{◌≡◌, ◌++◌, ◌∷◌, [], List, length, IfErr};
+ghost use Rattle.std.specs.Io.{ReadsAtMost};
 ghost use Rattle.typecodes.specs.Message.{read_outcome};
 ghost use Rattle.command.specs.FileDisk.{OpensState, OpensUnlocked, kept};
 ghost use Rattle.command.specs.Trace.{Happening, measured, read_at, synced, written_at};
@@ -24,8 +25,14 @@ const PRIVATE: u32 = 0o600;
 // The bytes of a state file with a key and no record after it.
 const KEY_ALONE: u64 = 257;
 
-// The first byte of a state file that has a key: the gate of its first slot is open.
+// The bytes from a gate to the next one.
+const SLOT: u64 = 256;
+
+// A gate whose slot has a record, as the first byte of a state file that has a key.
 const OPEN_GATE: u8 = 0xA5;
+
+// A gate of this program whose slot has none.
+const CLOSED_GATE: u8 = 0;
 
 /// What a state file is opened for.
 #[derive(Clone, Copy, Debug, PartialEq, Eq)]
@@ -41,11 +48,19 @@ pub enum Access {
 /// That these are the calls of the system that it notes is read, and tests count its syncs. What follows is tested or
 /// read, as no contract of the standard library speaks of it. The file is a regular one and no standard stream, and
 /// only `open_or_make` makes it and sets its mode. A locked one is 54, and the folder is synced.
+///
+/// Another process may append to a file that isn't locked here. It is shown as it was when its length was asked: a gate
+/// that was opened since then, of a slot that wasn't whole, reads as closed. A file that is read alone counts as synced
+/// where its file system knows no sync.
 #[derive(Drop)]
 pub struct StateFile<'a> {
     path: &'a str,
     file: File,
     id: FileId,
+    access: Access,
+    is_locked: bool,
+    // How many bytes it had when this was last asked.
+    length: u64,
     standard: &'a Standard,
     trace: Trace,
 }
@@ -70,7 +85,7 @@ impl<'a> StateFile<'a> {
         ensures { OpensState path.now result }
     {
         let file = open_regular(rt, standard, path, access)?;
-        StateFile::lock(standard, path, file)
+        StateFile::lock(standard, path, file, access)
     }
 
     /// Opens it for reading alone, as `open` does, and doesn't lock it.
@@ -82,7 +97,7 @@ impl<'a> StateFile<'a> {
         ensures { OpensUnlocked path.now result }
     {
         let file = open_regular(rt, standard, path, Access::Read)?;
-        StateFile::take(standard, path, file)
+        StateFile::take(standard, path, file, Access::Read)
     }
 
     /// Opens it for reading and writing, and makes it where there is none. Where it may take the new content, its owner
@@ -110,6 +125,7 @@ impl<'a> StateFile<'a> {
                 standard,
                 path,
                 standard.told(path, "can't be opened", made)?,
+                Access::ReadAndWrite,
             )?,
         };
         file.make_private(content)?;
@@ -118,7 +134,12 @@ impl<'a> StateFile<'a> {
     }
 
     // The file that was opened, if it is a regular one and no standard stream. Nothing happened to it yet.
-    fn take(standard: &'a Standard, path: &'a str, file: File) -> Result<Self, Refusal>
+    fn take(
+        standard: &'a Standard,
+        path: &'a str,
+        file: File,
+        access: Access,
+    ) -> Result<Self, Refusal>
         ensures { OpensUnlocked path.now result }
     {
         let found = standard.told(path, "can't be opened", file.metadata())?;
@@ -131,18 +152,29 @@ impl<'a> StateFile<'a> {
             path,
             file,
             id,
+            access,
+            is_locked: false,
+            length: 0,
             standard,
             trace: Trace::new(),
         })
     }
 
     // The same, locked for this process alone.
-    fn lock(standard: &'a Standard, path: &'a str, file: File) -> Result<Self, Refusal>
+    fn lock(
+        standard: &'a Standard,
+        path: &'a str,
+        file: File,
+        access: Access,
+    ) -> Result<Self, Refusal>
         ensures { OpensState path.now result }
     {
-        let state = StateFile::take(standard, path, file)?;
+        let mut state = StateFile::take(standard, path, file, access)?;
         match state.file.try_lock() {
-            Ok(()) => Ok(state),
+            Ok(()) => {
+                state.is_locked = true;
+                Ok(state)
+            }
             Err(TryLockError::WouldBlock) => {
                 standard.tell_reason(
                     path,
@@ -194,6 +226,39 @@ impl<'a> StateFile<'a> {
         self.id
     }
 
+    // Reads as the system does. A gate that another process has opened since the length was asked reads as closed, since
+    // its slot wasn't whole then.
+    fn read_as_it_was(&self, at: u64, into: &mut [u8]) -> io::Result<usize>
+        ensures { ReadsAtMost result into.new }
+    {
+        let answer = self.told("can't be read", self.file.read_at(into, at));
+        if into.len() == 1 && into[0] == OPEN_GATE && self.has_grown_past(at) {
+            into[0] = CLOSED_GATE;
+        }
+        answer
+    }
+
+    // Whether the slot of the gate at this offset wasn't whole when the length was asked, and is now.
+    fn has_grown_past(&self, at: u64) -> bool {
+        let next = at.saturating_add(SLOT);
+        if self.is_locked || next < self.length {
+            return false;
+        }
+        match self.file.metadata() {
+            Ok(metadata) => metadata.len() > next,
+            Err(_) => false,
+        }
+    }
+
+    // Syncs it. A file that is read alone is as good as synced where its file system knows no sync.
+    fn synced(&self) -> io::Result<()> {
+        match self.file.sync_data() {
+            Err(error) if self.access == Access::Read && error.kind() == ErrorKind::InvalidInput =>
+                { Ok(()) }
+            answer => self.told("can't be synced", answer),
+        }
+    }
+
     // The answer of a call of the system. Where it failed, standard error says so.
     fn told<T>(&self, tried: &str, answer: io::Result<T>) -> io::Result<T>
         ensures { result ≡ answer }
@@ -243,12 +308,15 @@ impl OffsetFile for StateFile<'_> {
             Err(error) => Err(error),
         };
         let answer = self.told("its length can't be read", answer);
+        if let Ok(length) = &answer {
+            self.length = *length;
+        }
         self.trace.note(&Event::Measured(kind_kept(&answer)));
         answer
     }
 
     fn read_at(&mut self, at: u64, into: &mut [u8]) -> io::Result<usize> {
-        let answer = self.told("can't be read", self.file.read_at(into, at));
+        let answer = self.read_as_it_was(at, into);
         let size = into.len();
         if let Ok(0) = &answer {
             self.standard.tell_reason(
@@ -279,7 +347,7 @@ impl OffsetFile for StateFile<'_> {
     }
 
     fn sync(&mut self) -> io::Result<()> {
-        let answer = self.told("can't be synced", self.file.sync_data());
+        let answer = self.synced();
         self.trace.note(&Event::Synced(kind_kept(&answer)));
         answer
     }
