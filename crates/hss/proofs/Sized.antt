@@ -9,7 +9,7 @@ use Rattle.typecodes.specs.Types.{height_of}
 use Rattle.typecodes.specs.Layout.{Spells}
 use Rattle.merkle.specs.Tree.{node}
 use Rattle.lms.specs.declared.key.LmsPublic.{LmsPublic}
-use Rattle.lms.specs.declared.secret.LmsSecret.{LmsSecret}
+use Rattle.typecodes.specs.declared.secret.LmsSecret.{LmsSecret}
 use Rattle.lms.specs.Signature.{Signature as LmsSignature, signature as lms_signature}
 use Rattle.lms.specs.Key.{public_key as lms_public_key}
 use Rattle.lms.specs.Secret.{joins_of, leaves_of, path_in, public_of as lms_public_of}

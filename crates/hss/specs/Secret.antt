@@ -1,7 +1,7 @@
 -- What a level of a signature is made with.
 use Rattle.std.specs.Prelude.{ℕ, List}
 use Rattle.lms.specs.declared.key.LmsPublic.{LmsPublic}
-use Rattle.lms.specs.declared.secret.LmsSecret.{LmsSecret}
+use Rattle.typecodes.specs.declared.secret.LmsSecret.{LmsSecret}
 use Rattle.lms.specs.Signature.{Signature as LmsSignature}
 use Rattle.lms.specs.Writing.{signed as lms_signed}
 use Rattle.hss.specs.declared.secret.Level.{Level}

@@ -6,7 +6,7 @@ ghost use Rattle.typecodes.specs.Types.{height_of, lms_signature_len_of};
 ghost use Rattle.lms.specs.Signature.{signature as lms_signature};
 ghost use Rattle.lms.specs.Writing.{signature_bytes as lms_signature_bytes};
 
-use lms::{LmsPublic, LmsSecret};
+use lms::LmsPublic;
 
 /// What one level of a signature is made with. As the secret it has no `Debug`.
 #[derive(Clone, Copy)]

@@ -6,7 +6,7 @@ use Rattle.typecodes.specs.Types.{chains_of, height_of}
 use Rattle.merkle.proofs.Paths.{path_leads, path_long}
 use Rattle.lmots.specs.Key.{ends_of_seed, message_digest_of}
 use Rattle.lmots.proofs.Signing.{signed_climbs}
-use Rattle.lms.specs.declared.secret.LmsSecret.{LmsSecret}
+use Rattle.typecodes.specs.declared.secret.LmsSecret.{LmsSecret}
 use Rattle.lms.specs.Secret.{joins_of, leaves_of, path_in, public_of}
 use Rattle.lms.specs.Writing.{signed, textbook}
 use Rattle.lms.specs.Verification.{IsValid}

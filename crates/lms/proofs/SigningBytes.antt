@@ -13,7 +13,7 @@ use Rattle.typecodes.proofs.Spelling.{from_turn}
 use Rattle.lmots.specs.Hashes.{u32str}
 use Rattle.lmots.proofs.Signing.{signed_sizes}
 use Rattle.lms.specs.declared.key.LmsPublic.{LmsPublic}
-use Rattle.lms.specs.declared.secret.LmsSecret.{LmsSecret}
+use Rattle.typecodes.specs.declared.secret.LmsSecret.{LmsSecret}
 use Rattle.lms.specs.Key.{public_key}
 use Rattle.lms.specs.Signature.{Signature, signature}
 use Rattle.lms.specs.Writing.{public_bytes, signature_bytes, signed}

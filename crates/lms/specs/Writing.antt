@@ -5,7 +5,7 @@ use Rattle.typecodes.specs.Types.{lms_code, ots_code}
 use Rattle.lmots.specs.Hashes.{u32str}
 use Rattle.lmots.specs.Key.{signed_values}
 use Rattle.lms.specs.declared.key.LmsPublic.{LmsPublic}
-use Rattle.lms.specs.declared.secret.LmsSecret.{LmsSecret}
+use Rattle.typecodes.specs.declared.secret.LmsSecret.{LmsSecret}
 use Rattle.lms.specs.Secret.{path_in}
 use Rattle.lms.specs.Signature.{Signature}
 

@@ -31,7 +31,7 @@ mod writing;
 
 pub use crate::key::LmsPublic;
 pub use crate::laws::{spelling_laws, verdict_laws};
-pub use crate::secret::{LmsSecret, LmsTree};
+pub use crate::secret::LmsTree;
 pub use crate::signature::LmsSigView;
 pub use crate::verification::{message_prefix, verify, verify_bytes_by, verify_digest_by};
 pub use crate::writing::{write_public, write_signature};

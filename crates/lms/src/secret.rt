@@ -7,29 +7,17 @@ ghost use Rattle.winternitz.specs.Lanes.{lanes};
 use crate::nodes::Nodes;
 use lmots::LmOts;
 use merkle::{NodeHash, TreeHash};
-use typecodes::{Count, LmsPair};
+use typecodes::{Count, LmsSecret};
 use winternitz::lanes::LANES;
 
-/// What an LMS key is made from (RFC 8554 5.2 and Appendix A). It has no `Debug`, since its seed is secret.
-#[derive(Clone, Copy)]
-pub struct LmsSecret {
-    pub pair: LmsPair,
-    /// I, 16 bytes.
-    pub identifier: [u8; 16],
-    /// SEED, 32 bytes.
-    pub seed: [u8; 32],
-}
-
-impl LmsSecret {
-    // What the nodes of its tree are made with.
-    fn nodes(&self) -> Nodes
-        ensures identifier { result.identifier ≡ self.now.identifier }
-        ensures height { result.height ≡ height_of self.now.pair.tree }
-    {
-        Nodes {
-            identifier: self.identifier,
-            height: self.pair.tree.height(),
-        }
+// What the nodes of a secret's tree are made with.
+fn nodes_of(secret: &LmsSecret) -> Nodes
+    ensures identifier { result.identifier ≡ secret.now.identifier }
+    ensures height { result.height ≡ height_of secret.now.pair.tree }
+{
+    Nodes {
+        identifier: secret.identifier,
+        height: secret.pair.tree.height(),
     }
 }
 
@@ -75,7 +63,7 @@ impl NodeHash for LmsTree {
     ghost join_of = { λ tree. joins_of (secret_of tree) };
 
     fn join(&self, height: u8, index: u32, left: &[u8; 32], right: &[u8; 32]) -> [u8; 32] {
-        self.secret.nodes().join(height, index, left, right)
+        nodes_of(&self.secret).join(height, index, left, right)
     }
 }
 
@@ -94,7 +82,7 @@ impl TreeHash for LmsTree {
             leaf: i,
         };
         let public_hash = key.public_hash(secret.pair.ots, &secret.seed);
-        secret.nodes().leaf(i, &public_hash)
+        nodes_of(secret).leaf(i, &public_hash)
     }
 
     fn leaves_in_lanes(&mut self, first: u32) -> [[u8; 32]; LANES] {

@@ -10,9 +10,8 @@ ghost use Rattle.lms.specs.Writing.{public_bytes, signature_bytes, signed};
 ghost use Rattle.lms.specs.Verification.{IsValid};
 
 use crate::key::LmsPublic;
-use crate::secret::LmsSecret;
 use lmots::LmOts;
-use typecodes::put;
+use typecodes::{LmsSecret, put};
 
 /// Writes a public key, 56 bytes (RFC 8554 5.3).
 pub fn write_public(public: &LmsPublic, into: &mut [u8])

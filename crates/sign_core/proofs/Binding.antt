@@ -12,9 +12,9 @@ use Rattle.typecodes.specs.declared.types.LmsPair.{LmsPair}
 use Rattle.typecodes.specs.Layout.{AreBytes}
 use Rattle.typecodes.specs.Message.{CantBeRead, ReadWhole}
 use Rattle.lmots.specs.Key.{message_digest_of}
-use Rattle.lms.specs.declared.secret.LmsSecret.{LmsSecret}
+use Rattle.typecodes.specs.declared.secret.LmsSecret.{LmsSecret}
 use Rattle.hss.specs.Secret.{Signing}
-use Rattle.xmss.specs.declared.secret.XmssSecret.{XmssSecret}
+use Rattle.typecodes.specs.declared.secret.XmssSecret.{XmssSecret}
 use Rattle.xmss.specs.Secret.{digest_in as xmss_digest_in}
 use Rattle.typecodes.specs.Types.{xmss_height_of, xmss_signature_len_of}
 use Rattle.state_file.specs.declared.record.Bound.{Bound}

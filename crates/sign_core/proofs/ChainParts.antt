@@ -8,9 +8,9 @@ use Rattle.std.proofs.lemmas.Option.{same_Some, slice_get_within}
 use Rattle.typecodes.specs.declared.types.LmsPair.{LmsPair}
 use Rattle.typecodes.specs.Types.{height_of, xmss_height_of}
 use Rattle.lmots.specs.Key.{message_digest_of}
-use Rattle.lms.specs.declared.secret.LmsSecret.{LmsSecret}
+use Rattle.typecodes.specs.declared.secret.LmsSecret.{LmsSecret}
 use Rattle.hss.specs.Secret.{Signing}
-use Rattle.xmss.specs.declared.secret.XmssSecret.{XmssSecret}
+use Rattle.typecodes.specs.declared.secret.XmssSecret.{XmssSecret}
 use Rattle.xmss.specs.Secret.{digest_in as xmss_digest_in}
 use Rattle.xmss.specs.Writing.{signature_bytes as xmss_signature_bytes, textbook as xmss_textbook}
 use Rattle.state_file.specs.Laws.{IsCurrent, IsLegal, bottom_of, leaves_at, levels_of}

@@ -7,7 +7,7 @@ use Rattle.std.proofs.lemmas.List.{append_assoc}
 use Rattle.std.proofs.lemmas.Option.{same_Some, slice_get_within}
 use Rattle.typecodes.specs.declared.types.LmsPair.{LmsPair}
 use Rattle.typecodes.specs.Types.{height_of}
-use Rattle.lms.specs.declared.secret.LmsSecret.{LmsSecret}
+use Rattle.typecodes.specs.declared.secret.LmsSecret.{LmsSecret}
 use Rattle.hss.specs.Secret.{Signing}
 use Rattle.state_file.specs.Laws.{IsCurrent, IsLegal, leaves_at, leaves_in, levels_of}
 use Rattle.state_file.specs.declared.record.Extend.{Extend}

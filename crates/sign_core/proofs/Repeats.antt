@@ -9,7 +9,7 @@ use Rattle.typecodes.specs.declared.message.Message as message
 use Rattle.typecodes.specs.Types.{height_of, xmss_height_of}
 use Rattle.lmots.specs.Key.{message_digest_of}
 use Rattle.hss.specs.Secret.{Signing}
-use Rattle.xmss.specs.declared.secret.XmssSecret.{XmssSecret}
+use Rattle.typecodes.specs.declared.secret.XmssSecret.{XmssSecret}
 use Rattle.xmss.specs.Secret.{digest_in as xmss_digest_in}
 use Rattle.xmss.specs.Writing.{signature_bytes as xmss_signature_bytes, textbook as xmss_textbook}
 use Rattle.typecodes.specs.Message.{CantBeRead, ReadWhole}

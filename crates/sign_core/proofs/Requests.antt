@@ -6,7 +6,7 @@ use Rattle.std.specs.List.{AllByRecursion}
 use Rattle.std.specs.Cmp.Lexicographic.{bytes_decides}
 use Rattle.std.proofs.lemmas.Bool.{and_from, le-leb, lt-ltb, not_from_false}
 use Rattle.sha2.proofs.Facts256.{length-sha256}
-use Rattle.lms.specs.declared.secret.LmsSecret.{LmsSecret}
+use Rattle.typecodes.specs.declared.secret.LmsSecret.{LmsSecret}
 use Rattle.lms.specs.Secret.{public_of}
 use Rattle.lms.specs.Writing.{public_bytes}
 use Rattle.lmots.specs.Key.{message_digest_of}

@@ -10,9 +10,9 @@ use Rattle.typecodes.specs.declared.types.XmssType.TheVariants as xmss
 use Rattle.typecodes.specs.Spec.{IsSpec}
 use Rattle.typecodes.specs.Types.{height_of, xmss_height_of}
 use Rattle.merkle.specs.Tree.{node}
-use Rattle.lms.specs.declared.secret.LmsSecret.{LmsSecret}
+use Rattle.typecodes.specs.declared.secret.LmsSecret.{LmsSecret}
 use Rattle.lms.specs.Secret.{joins_of as lms_joins_of, leaves_of as lms_leaves_of, root_in as lms_root_in}
-use Rattle.xmss.specs.declared.secret.XmssSecret.{XmssSecret}
+use Rattle.typecodes.specs.declared.secret.XmssSecret.{XmssSecret}
 use Rattle.xmss.specs.Secret.{joins_of as xmss_joins_of, leaves_of as xmss_leaves_of}
 use Rattle.state_file.specs.Laws.{levels_of}
 use Rattle.state_file.specs.declared.record.Key.{Key}

@@ -5,7 +5,7 @@ use Rattle.sha2.proofs.Facts256.{length-sha256}
 use Rattle.typecodes.specs.Types.{height_of}
 use Rattle.typecodes.specs.Layout.{Spells}
 use Rattle.merkle.specs.Tree.{node, sibling}
-use Rattle.lms.specs.declared.secret.LmsSecret.{LmsSecret}
+use Rattle.typecodes.specs.declared.secret.LmsSecret.{LmsSecret}
 use Rattle.lms.specs.Signature.{signature}
 use Rattle.lms.specs.Secret.{joins_of, leaves_of, path_in}
 use Rattle.lms.specs.Writing.{signature_bytes, textbook}

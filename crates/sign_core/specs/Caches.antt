@@ -2,10 +2,10 @@
 use Rattle.std.specs.Prelude.{◌≡◌, ◌≢◌, ◌⊎◌, ℕ, ◌<◌, ◌≤◌, List, slice_index_or, Option, Some, None}
 use Rattle.typecodes.specs.Types.{height_of, xmss_height_of}
 use Rattle.merkle.specs.Cache.{View}
-use Rattle.lms.specs.declared.secret.LmsSecret.{LmsSecret}
+use Rattle.typecodes.specs.declared.secret.LmsSecret.{LmsSecret}
 use Rattle.lms.specs.declared.secret.LmsTree.{LmsTree}
 use Rattle.lms.specs.Secret.{joins_of as lms_joins_of, leaves_of as lms_leaves_of, secret_of as lms_secret_of}
-use Rattle.xmss.specs.declared.secret.XmssSecret.{XmssSecret}
+use Rattle.typecodes.specs.declared.secret.XmssSecret.{XmssSecret}
 use Rattle.xmss.specs.declared.secret.XmssTree.{XmssTree}
 use Rattle.xmss.specs.Secret.{joins_of as xmss_joins_of, leaves_of as xmss_leaves_of, secret_of as xmss_secret_of}
 use Rattle.state_file.specs.declared.record.Key.{Key}

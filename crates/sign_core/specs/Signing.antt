@@ -7,7 +7,7 @@ use Rattle.sign_core.specs.declared.fault.SignFault.{SignFault}
 use Rattle.sign_core.specs.Records.{key_in}
 use Rattle.sign_core.specs.Signer.{signature_size}
 use Rattle.state_file.specs.declared.record.Secret.TheVariants.{Xmss}
-use Rattle.xmss.specs.declared.secret.XmssSecret.{XmssSecret}
+use Rattle.typecodes.specs.declared.secret.XmssSecret.{XmssSecret}
 
 -- the answer of a call that gives this value where it is Ok
 abbrev pub answered_with : {A B : Type 0} → Result A SignFault → B → Result B SignFault

@@ -7,11 +7,11 @@ use Rattle.typecodes.specs.declared.types.XmssType.{XmssType}
 use Rattle.typecodes.specs.Levels.{AreLevels}
 use Rattle.lmots.specs.Key.{message_digest_of}
 use Rattle.lms.specs.declared.key.LmsPublic.{LmsPublic}
-use Rattle.lms.specs.declared.secret.LmsSecret.{LmsSecret}
+use Rattle.typecodes.specs.declared.secret.LmsSecret.{LmsSecret}
 use Rattle.lms.specs.Secret.{public_of as lms_public_of, root_in as lms_root_in}
 use Rattle.lms.specs.Writing.{public_bytes as lms_public_bytes, signature_bytes as lms_signature_bytes}
 use Rattle.lms.specs.Writing.{textbook as lms_textbook}
-use Rattle.xmss.specs.declared.secret.XmssSecret.{XmssSecret}
+use Rattle.typecodes.specs.declared.secret.XmssSecret.{XmssSecret}
 use Rattle.xmss.specs.Secret.{digest_in as xmss_digest_in, root_in as xmss_root_in}
 use Rattle.xmss.specs.Writing.{signature_bytes as xmss_signature_bytes, textbook as xmss_textbook}
 use Rattle.hss.specs.Secret.{Signing}

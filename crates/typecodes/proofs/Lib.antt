@@ -19,3 +19,4 @@ pub mod Messages
 pub mod Verdicts
 pub mod Takers
 pub mod Filling
+pub mod Padding

@@ -1,9 +1,9 @@
 //! The levels of an HSS key (RFC 8554 6).
 
-ghost use Rattle.std.specs.Prelude.{◌≡◌, ◌≤◌, ◌↔◌, IsSome, IfSome, length};
+ghost use Rattle.std.specs.Prelude.{◌≡◌, ◌≤◌, ◌↔◌, ◌∷◌, [], IsSome, IfSome, length};
 ghost use Rattle.typecodes.specs.Levels.{AreLevels, IsLevelCount};
 
-use crate::types::LmsPair;
+use crate::types::{LmsPair, LmsType, OtsType};
 use std::marker::Model;
 
 /// How many levels an HSS key has, 1 to 8 (RFC 8554 6.1).
@@ -47,24 +47,43 @@ impl LevelCount {
     }
 }
 
+// The pair past the last level.
+const UNUSED: LmsPair = LmsPair {
+    tree: LmsType::H5,
+    ots: OtsType::W1,
+};
+
 /// The types of an HSS key's levels, from the top down: 1 to 8 pairs.
-#[derive(Debug, Drop)]
+#[derive(Clone, Copy, Debug)]
 pub struct Levels {
-    // those past the count are the first one again
+    // those past the count are `UNUSED`
     pairs: [LmsPair; 8],
     count: u8,
 }
 
 impl Model for Levels {
-    ghost use Rattle.std.specs.Prelude.{List, take};
-    ghost use Rattle.typecodes.specs.Levels.{IsLevelCount};
+    ghost use Rattle.std.specs.Prelude.{◌≡◌, ◌++◌, ◌-◌, List, length, replicate, take};
+    ghost use Rattle.std.proofs.Common.{arith, ◌∙◌, ap, length-take-le};
+    ghost use Rattle.typecodes.specs.Levels.{IsLevelCount, unused};
     ghost use Rattle.typecodes.specs.declared.types.LmsPair.{LmsPair as Pair};
 
     ghost Value = { List Pair };
 
     ghost view = { λ levels. take levels.count levels.pairs };
 
-    ghost invariant = { λ levels. IsLevelCount levels.count };
+    ghost invariant = { λ levels. IsLevelCount levels.count × (length levels.pairs ≡ 8)
+        × (take levels.count levels.pairs ++ replicate (8 - levels.count) unused ≡ levels.pairs) };
+
+    ghost inverse = { λ pairs. record {
+      pairs = pairs ++ replicate (8 - length pairs) unused;
+      count = length pairs;
+    } };
+
+    ghost inverse_ok = { λ levels inside i. record {
+      pairs = (ap (λ n. take levels.count levels.pairs ++ replicate (8 - n) unused)
+          (length-take-le levels.count levels.pairs (omega (arith, inside.0, inside.1))) ∙ inside.2) i;
+      count = length-take-le levels.count levels.pairs (omega (arith, inside.0, inside.1)) i;
+    } };
 }
 
 impl Levels {
@@ -73,16 +92,24 @@ impl Levels {
         ensures some { IsSome result ↔ AreLevels pairs.now }
         ensures value { IfSome result (λ levels. levels ≡ pairs.now) }
     {
-        let first = *pairs.first()?;
-        if pairs.len() > 8 {
+        if pairs.is_empty() || pairs.len() > 8 {
             return None;
         }
-        let mut all = [first; 8];
+        let mut all = [UNUSED; 8];
         all[..pairs.len()].copy_from_slice(pairs);
         Some(Levels {
             pairs: all,
             count: pairs.len() as u8,
         })
+    }
+
+    /// One level, of this pair.
+    pub fn one(pair: LmsPair) -> Self
+        ensures { result ≡ pair ∷ [] }
+    {
+        let mut pairs = [UNUSED; 8];
+        pairs[0] = pair;
+        Levels { pairs, count: 1 }
     }
 
     /// The pairs, from the top level down.
@@ -99,16 +126,6 @@ impl Levels {
         ensures { result ≡ length self.now }
     {
         LevelCount { number: self.count }
-    }
-
-    /// The same levels once more.
-    pub fn copied(&self) -> Self
-        ensures { result ≡ self.now }
-    {
-        Levels {
-            pairs: self.pairs,
-            count: self.count,
-        }
     }
 }
 

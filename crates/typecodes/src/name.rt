@@ -1,25 +1,43 @@
 //! The names under which messages are signed.
 
-ghost use Rattle.std.specs.Prelude.{◌≡◌, ◌↔◌, IfOk, IsOk, List, ℕ};
+ghost use Rattle.std.specs.Prelude.{◌≡◌, ◌↔◌, IfOk, IsOk, List, ℕ, true};
 ghost use Rattle.typecodes.specs.Name.{IsName};
 
-use arrayvec::ArrayVec;
 use std::hash::{Hash, Hasher};
 use std::marker::Model;
 use thiserror::Error;
 
 /// A name: 1 to 128 bytes, each a visible character of ASCII, 0x21 to 0x7E.
-#[derive(Debug, Drop)]
+#[derive(Clone, Copy, Debug)]
 pub struct Name {
-    bytes: ArrayVec<u8, 128>,
+    // those past `len` are zeros
+    bytes: [u8; 128],
+    len: u8,
 }
 
 impl Model for Name {
+    ghost use Rattle.std.specs.Prelude.{◌≡◌, ◌≤◌, ◌++◌, ◌-◌, List, length, replicate, take, ℕ};
+    ghost use Rattle.std.proofs.Common.{arith, ◌∙◌, ap, length-take-le};
+    ghost use Rattle.typecodes.specs.Name.{IsName};
+
     ghost Value = { List ℕ };
 
-    ghost view = { λ name. name.bytes.items };
+    ghost view = { λ name. take name.len name.bytes };
 
-    ghost invariant = { λ name. IsName name.bytes.items };
+    ghost invariant = { λ name. (name.len ≤ 128) × IsName (take name.len name.bytes)
+        × (length name.bytes ≡ 128)
+        × (take name.len name.bytes ++ replicate (128 - name.len) 0 ≡ name.bytes) };
+
+    ghost inverse = { λ bytes. record {
+      bytes = bytes ++ replicate (128 - length bytes) 0;
+      len = length bytes;
+    } };
+
+    ghost inverse_ok = { λ name inside i. record {
+      bytes = (ap (λ n. take name.len name.bytes ++ replicate (128 - n) 0)
+          (length-take-le name.len name.bytes (omega (arith, inside.0, inside.1))) ∙ inside.3) i;
+      len = length-take-le name.len name.bytes (omega (arith, inside.0, inside.1)) i;
+    } };
 }
 
 /// 34: the bytes are no name.
@@ -33,12 +51,15 @@ impl Name {
         ensures ok { IsOk result ↔ IsName bytes.now }
         ensures value { IfOk result (λ name. name ≡ bytes.now) }
     {
-        let is_visible = bytes.iter().all(u8::is_ascii_graphic);
-        if bytes.is_empty() || !is_visible {
+        if !is_name(bytes) {
             return Err(BadName);
         }
-        let bytes = ArrayVec::try_from(bytes).map_err(|_| BadName)?;
-        Ok(Name { bytes })
+        let mut all = [0; 128];
+        all[..bytes.len()].copy_from_slice(bytes);
+        Ok(Name {
+            bytes: all,
+            len: bytes.len() as u8,
+        })
     }
 
     /// The bytes of the name.
@@ -46,18 +67,15 @@ impl Name {
         ensures value { result.now ≡ self.now }
         ensures name { IsName result.now }
     {
-        self.bytes.as_slice()
+        &self.bytes[..usize::from(self.len)]
     }
+}
 
-    /// The same name once more. It can't fail, as a name owns no memory.
-    pub fn copied(&self) -> Self
-        ensures { result ≡ self.now }
-    {
-        match ArrayVec::try_from(self.as_bytes()) {
-            Ok(bytes) => Name { bytes },
-            Err(_) => unreachable!(),
-        }
-    }
+// Whether these are the bytes of a name.
+fn is_name(bytes: &[u8]) -> bool
+    ensures { result ≡ true ↔ IsName bytes.now }
+{
+    !bytes.is_empty() && bytes.len() <= 128 && bytes.iter().all(u8::is_ascii_graphic)
 }
 
 impl PartialEq for Name {

@@ -5,7 +5,7 @@ use Rattle.typecodes.specs.Types.{xmss_height_of}
 use Rattle.merkle.proofs.Paths.{path_leads, path_long}
 use Rattle.wots_plus.specs.Key.{ends_of_secret}
 use Rattle.wots_plus.proofs.Signing.{signed_climbs}
-use Rattle.xmss.specs.declared.secret.XmssSecret.{XmssSecret}
+use Rattle.typecodes.specs.declared.secret.XmssSecret.{XmssSecret}
 use Rattle.xmss.specs.Secret.{digest_in, joins_of, leaves_of, path_in, public_of, root_in}
 use Rattle.xmss.specs.Writing.{signed, textbook}
 use Rattle.xmss.specs.Verification.{IsValid}

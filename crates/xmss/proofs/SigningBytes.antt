@@ -14,7 +14,7 @@ use Rattle.typecodes.proofs.Spelling.{from_turn}
 use Rattle.wots_plus.specs.Hashes.{to_byte}
 use Rattle.wots_plus.proofs.Signing.{signed_sizes}
 use Rattle.xmss.specs.declared.key.XmssPublic.{XmssPublic}
-use Rattle.xmss.specs.declared.secret.XmssSecret.{XmssSecret}
+use Rattle.typecodes.specs.declared.secret.XmssSecret.{XmssSecret}
 use Rattle.xmss.specs.Key.{public_key}
 use Rattle.xmss.specs.Signature.{Signature, leaf_index, signature}
 use Rattle.xmss.specs.Writing.{public_bytes, signature_bytes, signed}

@@ -9,7 +9,7 @@ use Rattle.winternitz.specs.Chain.{Steps, walk_on}
 use Rattle.merkle.specs.Tree.{node, sibling}
 use Rattle.wots_plus.specs.LTree.{LTreeJoins, at_height, l_tree_join, next_height}
 use Rattle.wots_plus.specs.Key.{chain_value, ends_of_secret, private_value, step_of}
-use Rattle.xmss.specs.declared.secret.XmssSecret.{XmssSecret}
+use Rattle.typecodes.specs.declared.secret.XmssSecret.{XmssSecret}
 use Rattle.xmss.specs.Nodes.{leaf_of}
 use Rattle.xmss.specs.Secret.{joins_of, leaves_of, path_in}
 use Rattle.xmss.specs.Signature.{signature}

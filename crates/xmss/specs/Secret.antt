@@ -6,7 +6,7 @@ use Rattle.merkle.specs.Tree.{Joins, Leaves, path_of, root_of}
 use Rattle.wots_plus.specs.Hashes.{prf}
 use Rattle.wots_plus.specs.Key.{ends_of_secret}
 use Rattle.xmss.specs.declared.key.XmssPublic.{XmssPublic}
-use Rattle.xmss.specs.declared.secret.XmssSecret.{XmssSecret}
+use Rattle.typecodes.specs.declared.secret.XmssSecret.{XmssSecret}
 use Rattle.xmss.specs.declared.secret.XmssTree.{XmssTree}
 use Rattle.xmss.specs.Digest.{index_bytes, message_digest_of}
 use Rattle.xmss.specs.Nodes.{join_of, leaf_of}

@@ -5,7 +5,7 @@ use Rattle.typecodes.specs.Types.{xmss_code}
 use Rattle.wots_plus.specs.Hashes.{to_byte}
 use Rattle.wots_plus.specs.Key.{signed_values}
 use Rattle.xmss.specs.declared.key.XmssPublic.{XmssPublic}
-use Rattle.xmss.specs.declared.secret.XmssSecret.{XmssSecret}
+use Rattle.typecodes.specs.declared.secret.XmssSecret.{XmssSecret}
 use Rattle.xmss.specs.Secret.{path_in, randomizer_of}
 use Rattle.xmss.specs.Signature.{Signature}
 

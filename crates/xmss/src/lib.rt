@@ -34,7 +34,7 @@ mod writing;
 pub use crate::digest::{message_digest, message_digest_from};
 pub use crate::key::XmssPublic;
 pub use crate::laws::{spelling_laws, verdict_laws};
-pub use crate::secret::{XmssSecret, XmssTree};
+pub use crate::secret::{XmssTree, digest_to_sign, randomizer};
 pub use crate::signature::XmssSigView;
 pub use crate::verification::{message_prefix, verify, verify_bytes_by, verify_digest_by};
 pub use crate::writing::{write_public, write_signature};

@@ -2,44 +2,33 @@
 
 ghost use Rattle.std.specs.Prelude.{◌≡◌, ◌≤◌, ◌<◌, ◌+◌, ◌^◌, ℕ, slice_index};
 ghost use Rattle.winternitz.specs.Lanes.{lanes};
+ghost use Rattle.xmss.specs.Secret.{digest_in, randomizer_of};
 
 use crate::digest::{index_bytes, message_digest};
 use crate::nodes::Nodes;
 use merkle::{NodeHash, TreeHash};
-use typecodes::{Count, XmssType};
+use typecodes::{Count, XmssSecret};
 use winternitz::lanes::LANES;
 use wots_plus::{Prf, Wots};
 
-/// What an XMSS key is made from (RFC 8391 4.1.3). It has no `Debug`, since S_XMSS and SK_PRF are secret.
-#[derive(Clone, Copy)]
-pub struct XmssSecret {
-    /// The tree's type.
-    pub tree: XmssType,
-    /// S_XMSS, of which all private values are made, 32 bytes (RFC 8391 4.1.11).
-    pub secret_seed: [u8; 32],
-    /// SK_PRF, of which the randomizers are made, 32 bytes.
-    pub prf_key: [u8; 32],
-    /// SEED, 32 bytes. It is public.
-    pub public_seed: [u8; 32],
+/// r, the randomizer of a leaf's signature, 32 bytes (RFC 8391 4.1.9).
+pub fn randomizer(secret: &XmssSecret, leaf: u32) -> [u8; 32]
+    ensures { result ≡ randomizer_of secret.now.prf_key leaf }
+{
+    Prf::new(secret.prf_key).hash(&index_bytes(leaf))
 }
 
-impl XmssSecret {
-    ghost use Rattle.xmss.specs.Secret.{digest_in, randomizer_of};
-
-    /// r, the randomizer of a leaf's signature, 32 bytes (RFC 8391 4.1.9).
-    pub fn randomizer(&self, leaf: u32) -> [u8; 32]
-        ensures { result ≡ randomizer_of self.now.prf_key leaf }
-    {
-        Prf::new(self.prf_key).hash(&index_bytes(leaf))
-    }
-
-    /// M', the digest of a message that a leaf signs in the tree with this root, by the leaf's
-    /// randomizer (RFC 8391 4.1.9).
-    pub fn message_digest(&self, root: &[u8; 32], leaf: u32, message: &[u8]) -> [u8; 32]
-        ensures { result ≡ digest_in self.now root.now leaf message.now }
-    {
-        message_digest(&self.randomizer(leaf), root, leaf, message)
-    }
+/// M', the digest of a message that a leaf signs in the tree with this root, by the leaf's
+/// randomizer (RFC 8391 4.1.9).
+pub fn digest_to_sign(
+    secret: &XmssSecret,
+    root: &[u8; 32],
+    leaf: u32,
+    message: &[u8],
+) -> [u8; 32]
+    ensures { result ≡ digest_in secret.now root.now leaf message.now }
+{
+    message_digest(&randomizer(secret, leaf), root, leaf, message)
 }
 
 /// The tree of a secret (RFC 8391 4.1.6), each leaf made of the ends of its one-time key's chains. As the

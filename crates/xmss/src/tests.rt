@@ -1,14 +1,14 @@
 //! Refusals in the order of the checks, and signatures that other programs made.
 
 use crate::{
-    XmssPublic, XmssSecret, XmssSigView, XmssTree, message_digest, message_digest_from, verify,
+    XmssPublic, XmssSigView, XmssTree, message_digest, message_digest_from, verify,
 };
 use merkle::TreeHash;
 use std::io;
 use std::io::Read;
 use std::process::Abort;
 use std::test::Fail;
-use typecodes::{Cause, ReadFault, Refusal, XmssType};
+use typecodes::{Cause, ReadFault, Refusal, XmssSecret, XmssType};
 use winternitz::lanes::LANES;
 
 mod vectors;

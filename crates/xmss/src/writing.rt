@@ -10,8 +10,7 @@ ghost use Rattle.xmss.specs.Writing.{public_bytes, signature_bytes, signed};
 ghost use Rattle.xmss.specs.Verification.{IsValid};
 
 use crate::key::XmssPublic;
-use crate::secret::XmssSecret;
-use typecodes::{WOTS_CHAINS, put};
+use typecodes::{WOTS_CHAINS, XmssSecret, put};
 use wots_plus::{Prf, Wots};
 
 /// Writes a public key, 68 bytes (RFC 8391 4.1.7).

@@ -9,13 +9,13 @@ use hss::{
     write_signed_key,
 };
 use lmots::LmOts;
-use lms::{LmsPublic, LmsSecret, LmsTree};
+use lms::{LmsPublic, LmsTree};
 use merkle::{TreeHash, root_from_path};
 use sha2::{Digest, Sha256};
 use std::io;
 use std::io::Read;
 use std::process::Abort;
-use typecodes::{Cause, LevelCount, Levels, LmsPair, LmsType, OtsType, ReadFault, Refusal};
+use typecodes::{Cause, LevelCount, Levels, LmsPair, LmsSecret, LmsType, OtsType, ReadFault, Refusal};
 
 const PAIR: LmsPair = LmsPair {
     tree: LmsType::H5,

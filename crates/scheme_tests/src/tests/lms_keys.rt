@@ -4,13 +4,13 @@
 mod made_by_others;
 
 use super::readers::{Failing, cut_field};
-use lms::{LmsPublic, LmsSecret, LmsSigView, LmsTree, verify};
+use lms::{LmsPublic, LmsSigView, LmsTree, verify};
 use merkle::TreeHash;
 use sha2::{Digest, Sha256};
 use std::io;
 use std::io::Read;
 use std::process::Abort;
-use typecodes::{Cause, LmsPair, LmsType, OtsType, ReadFault, Refusal};
+use typecodes::{Cause, LmsPair, LmsSecret, LmsType, OtsType, ReadFault, Refusal};
 use winternitz::lanes::LANES;
 
 const PAIR: LmsPair = LmsPair {

@@ -1,10 +1,12 @@
 //! The key of a secret and its leaf 700's signature are those that Python's hashlib gives, byte for
 //! byte, and the signature is verified.
 
-use crate::{XmssPublic, XmssSecret, XmssTree, verify, write_public, write_signature};
+use crate::{
+    XmssPublic, XmssTree, digest_to_sign, randomizer, verify, write_public, write_signature,
+};
 use merkle::{TreeHash, root_from_path};
 use sha2::{Digest, Sha256};
-use typecodes::XmssType;
+use typecodes::{XmssSecret, XmssType};
 
 // Its seeds are the bytes 00 to 5f.
 const SECRET: XmssSecret = XmssSecret {
@@ -68,8 +70,8 @@ fn rising_bytes(rt: HostRuntime) {
     };
     let mut public = [0; 68];
     write_public(&key, &mut public);
-    let randomizer = SECRET.randomizer(700);
-    let digest = SECRET.message_digest(&root, 700, b"abc");
+    let randomizer = randomizer(&SECRET, 700);
+    let digest = digest_to_sign(&SECRET, &root, 700, b"abc");
     let mut signature = [0; 2500];
     write_signature(&SECRET, 700, &randomizer, &digest, &path, &mut signature);
 

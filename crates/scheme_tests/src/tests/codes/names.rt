@@ -40,9 +40,9 @@ fn takes_visible_ascii_and_nothing_else(rt: HostRuntime) {
     }
 }
 
-// Whether a copy of the one name is the other.
+// Whether the one name is the other.
 fn are_equal(name: &[u8], other: &[u8]) -> Result<bool, BadName> {
-    Ok(Name::new(name)?.copied() == Name::new(other)?)
+    Ok(Name::new(name)? == Name::new(other)?)
 }
 
 #[test]

@@ -2,11 +2,11 @@
 //! hashlib, and one by Bouncy Castle. The roots of the standard's own trees are made.
 
 use lmots::LmOts;
-use lms::{LmsPublic, LmsSecret, LmsTree, verify, write_public, write_signature};
+use lms::{LmsPublic, LmsTree, verify, write_public, write_signature};
 use merkle::{TreeHash, root_from_path};
 use sha2::{Digest, Sha256};
 use std::process::Abort;
-use typecodes::{LmsPair, LmsType, OtsType};
+use typecodes::{LmsPair, LmsSecret, LmsType, OtsType};
 
 const PAIR: LmsPair = LmsPair {
     tree: LmsType::H5,
