@@ -7,6 +7,7 @@ ghost use Rattle.lms.specs.Signature.{signature as lms_signature};
 ghost use Rattle.lms.specs.Writing.{signature_bytes as lms_signature_bytes};
 
 use lms::LmsPublic;
+use typecodes::LmsSecret;
 
 /// What one level of a signature is made with. As the secret it has no `Debug`.
 #[derive(Clone, Copy)]

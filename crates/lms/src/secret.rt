@@ -95,7 +95,7 @@ impl TreeHash for LmsTree {
             secret.pair.ots,
             &secret.seed,
         );
-        secret.nodes().leaves_in_lanes(&leaves, &public_hashes)
+        nodes_of(secret).leaves_in_lanes(&leaves, &public_hashes)
     }
 }
 

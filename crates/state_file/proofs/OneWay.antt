@@ -160,35 +160,35 @@ one_way-name most =
 -- ---- secrets
 
 pair_in : Secret → LmsPair
-pair_in (Lms pair identifier seed) = pair
+pair_in (Lms secret) = secret.pair
 pair_in (Hss levels identifier seed) = a_pair
-pair_in (Xmss tree secret_seed prf_key public_seed) = a_pair
+pair_in (Xmss secret) = a_pair
 
 levels_in : Secret → List LmsPair
-levels_in (Lms pair identifier seed) = []
+levels_in (Lms secret) = []
 levels_in (Hss levels identifier seed) = levels
-levels_in (Xmss tree secret_seed prf_key public_seed) = []
+levels_in (Xmss secret) = []
 
 tree_in : Secret → XmssType
-tree_in (Lms pair identifier seed) = X10
+tree_in (Lms secret) = X10
 tree_in (Hss levels identifier seed) = X10
-tree_in (Xmss tree secret_seed prf_key public_seed) = tree
+tree_in (Xmss secret) = secret.tree
 
 -- the first, second and third block of bytes in a secret
 first_in : Secret → List ℕ
-first_in (Lms pair identifier seed) = identifier
+first_in (Lms secret) = secret.identifier
 first_in (Hss levels identifier seed) = identifier
-first_in (Xmss tree secret_seed prf_key public_seed) = secret_seed
+first_in (Xmss secret) = secret.secret_seed
 
 second_in : Secret → List ℕ
-second_in (Lms pair identifier seed) = seed
+second_in (Lms secret) = secret.seed
 second_in (Hss levels identifier seed) = seed
-second_in (Xmss tree secret_seed prf_key public_seed) = prf_key
+second_in (Xmss secret) = secret.prf_key
 
 third_in : Secret → List ℕ
-third_in (Lms pair identifier seed) = []
+third_in (Lms secret) = []
 third_in (Hss levels identifier seed) = []
-third_in (Xmss tree secret_seed prf_key public_seed) = public_seed
+third_in (Xmss secret) = secret.public_seed
 
 one_way-lms : OneSpelling lms_fields
 unfolding lms_fields pair_in first_in second_in
@@ -235,7 +235,7 @@ one_way-secret scheme =
 -- ---- records
 
 no_secret : Secret
-no_secret = Lms a_pair [] []
+no_secret = Lms (record { pair = a_pair; identifier = []; seed = [] })
 
 secret_in : Record → Secret
 secret_in (KeyRecord key) = key.secret

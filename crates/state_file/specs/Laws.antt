@@ -19,9 +19,9 @@ use Rattle.state_file.specs.declared.record.Version.TheVariants.{One}
 
 -- how many levels a key has; HSS alone may have more than one
 abbrev pub levels_of : Secret → ℕ
-levels_of (Lms pair identifier seed) = 1
+levels_of (Lms secret) = 1
 levels_of (Hss levels identifier seed) = length levels
-levels_of (Xmss tree secret_seed prf_key public_seed) = 1
+levels_of (Xmss secret) = 1
 
 -- the level whose trees sign messages
 abbrev pub bottom_of : Secret → ℕ
@@ -35,15 +35,15 @@ leaves_in (pair ∷ rest) (suc level) = leaves_in rest level
 
 -- how many leaves a tree of a level has
 abbrev pub leaves_at : Secret → ℕ → ℕ
-leaves_at (Lms pair identifier seed) level = 2 ^ height_of pair.tree
+leaves_at (Lms secret) level = 2 ^ height_of secret.pair.tree
 leaves_at (Hss levels identifier seed) level = leaves_in levels level
-leaves_at (Xmss tree secret_seed prf_key public_seed) level = 2 ^ xmss_height_of tree
+leaves_at (Xmss secret) level = 2 ^ xmss_height_of secret.tree
 
 -- the I of a key's tree; XMSS has none
 abbrev pub identifier_in : Secret → Option (List ℕ)
-identifier_in (Lms pair identifier seed) = Some identifier
+identifier_in (Lms secret) = Some secret.identifier
 identifier_in (Hss levels identifier seed) = Some identifier
-identifier_in (Xmss tree secret_seed prf_key public_seed) = None
+identifier_in (Xmss secret) = None
 
 -- the I of the tree that a record makes, if it makes one with an I
 abbrev pub identifier_of : Record → Option (List ℕ)
@@ -55,9 +55,9 @@ identifier_of Moved = None
 
 -- C stands in the records of bindings, but for XMSS, where it is zero
 abbrev pub HasRandomizer : Secret → List ℕ → Type 0
-HasRandomizer (Lms pair identifier seed) randomizer = Unit {0}
+HasRandomizer (Lms secret) randomizer = Unit {0}
 HasRandomizer (Hss levels identifier seed) randomizer = Unit {0}
-HasRandomizer (Xmss tree secret_seed prf_key public_seed) randomizer = randomizer ≡ replicate 32 0
+HasRandomizer (Xmss secret) randomizer = randomizer ≡ replicate 32 0
 
 -- ---- trees
 

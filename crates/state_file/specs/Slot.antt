@@ -92,7 +92,7 @@ lms_fields = do
   identifier ← block 16
   seed ← block 32
   seeds ← zeros 64
-  done (Lms pair identifier seed)
+  done (Lms (record { pair = pair; identifier = identifier; seed = seed }))
 
 -- An HSS key: its levels, the I and SEED of the top tree, and zeros for SK_PRF and the public SEED.
 unfoldable pub hss_fields : Layout Secret
@@ -114,7 +114,7 @@ xmss_fields = do
   secret_seed ← block 32
   prf_key ← block 32
   public_seed ← block 32
-  done (Xmss tree secret_seed prf_key public_seed)
+  done (Xmss (record { tree = tree; secret_seed = secret_seed; prf_key = prf_key; public_seed = public_seed }))
 
 -- by the scheme: 1 LMS, 2 HSS, 3 XMSS
 abbrev pub secret_fields : ℕ → Layout Secret
@@ -223,9 +223,9 @@ slot_record version = byte >>= fields_of version
 
 -- the number of a secret's scheme
 abbrev pub scheme_of : Secret → ℕ
-scheme_of (Lms pair identifier seed) = 1
+scheme_of (Lms secret) = 1
 scheme_of (Hss levels identifier seed) = 2
-scheme_of (Xmss tree secret_seed prf_key public_seed) = 3
+scheme_of (Xmss secret) = 3
 
 -- the number of a record's kind
 abbrev pub kind_of : Record → ℕ

@@ -10,7 +10,7 @@ ghost use Rattle.state_file.specs.declared.record.Version.{Version as V};
 mod list;
 
 pub use list::RecordList;
-use typecodes::{Levels, LmsPair, Name, XmssType};
+use typecodes::{Levels, LmsSecret, Name, XmssSecret};
 
 /// One record. A list of them stands for a key and all that it has signed.
 #[derive(PartialEq, Eq, Drop)]
@@ -35,7 +35,7 @@ impl Record {
         match self {
             Record::Key(key) => Record::Key(key.copied()),
             Record::Extend(extend) => Record::Extend(*extend),
-            Record::Bound(bound) => Record::Bound(bound.copied()),
+            Record::Bound(bound) => Record::Bound(*bound),
             Record::Retire { upto } => Record::Retire { upto: *upto },
             Record::Moved => Record::Moved,
         }
@@ -67,7 +67,11 @@ impl Record {
                 secret: key.secret.copied(),
                 root: key.root,
             }),
-            Record::Bound(bound) => Record::Bound(bound.copied()),
+            Record::Bound(bound) => {
+                // For the prover: this use tells how long the name is.
+                let _name = bound.name.as_bytes();
+                Record::Bound(*bound)
+            }
             Record::Extend(_) | Record::Retire { .. } | Record::Moved => self.copied(),
         }
     }
@@ -171,13 +175,7 @@ impl Key {
 #[derive(PartialEq, Eq, Drop)]
 pub enum Secret {
     /// One tree (RFC 8554 5).
-    Lms {
-        pair: LmsPair,
-        /// I, 16 bytes.
-        identifier: [u8; 16],
-        /// SEED, 32 bytes.
-        seed: [u8; 32],
-    },
+    Lms(LmsSecret),
     /// Trees of 1 to 8 levels (RFC 8554 6).
     Hss {
         levels: Levels,
@@ -187,15 +185,7 @@ pub enum Secret {
         seed: [u8; 32],
     },
     /// One tree of XMSS (RFC 8391 4.1).
-    Xmss {
-        tree: XmssType,
-        /// What the private values are made from, 32 bytes.
-        secret_seed: [u8; 32],
-        /// SK_PRF, 32 bytes.
-        prf_key: [u8; 32],
-        /// The public SEED, 32 bytes.
-        public_seed: [u8; 32],
-    },
+    Xmss(XmssSecret),
 }
 
 impl Secret {
@@ -204,15 +194,7 @@ impl Secret {
         ensures { result ≡ self.now }
     {
         match self {
-            Secret::Lms {
-                pair,
-                identifier,
-                seed,
-            } => Secret::Lms {
-                pair: *pair,
-                identifier: *identifier,
-                seed: *seed,
-            },
+            Secret::Lms(secret) => Secret::Lms(*secret),
             Secret::Hss {
                 levels,
                 identifier,
@@ -222,17 +204,7 @@ impl Secret {
                 identifier: *identifier,
                 seed: *seed,
             },
-            Secret::Xmss {
-                tree,
-                secret_seed,
-                prf_key,
-                public_seed,
-            } => Secret::Xmss {
-                tree: *tree,
-                secret_seed: *secret_seed,
-                prf_key: *prf_key,
-                public_seed: *public_seed,
-            },
+            Secret::Xmss(secret) => Secret::Xmss(*secret),
         }
     }
 }
@@ -246,7 +218,7 @@ impl Secret {
     {
         match self {
             Secret::Hss { levels, .. } => levels.count().get(),
-            Secret::Lms { .. } | Secret::Xmss { .. } => 1,
+            Secret::Lms(_) | Secret::Xmss(_) => 1,
         }
     }
 
@@ -256,12 +228,12 @@ impl Secret {
         ensures { result ≡ leaves_at self.now level }
     {
         match self {
-            Secret::Lms { pair, .. } => leaves_of(pair.tree.height()),
+            Secret::Lms(secret) => leaves_of(secret.pair.tree.height()),
             Secret::Hss { levels, .. } => match levels.as_slice().get(usize::from(level)) {
                 Some(pair) => leaves_of(pair.tree.height()),
                 None => 0,
             },
-            Secret::Xmss { tree, .. } => leaves_of(tree.height()),
+            Secret::Xmss(secret) => leaves_of(secret.tree.height()),
         }
     }
 }
@@ -294,7 +266,7 @@ pub struct Extend {
 }
 
 /// A name bound to a leaf and to the digest that the leaf signs.
-#[derive(Debug, PartialEq, Eq, Drop)]
+#[derive(Clone, Copy, Debug, PartialEq, Eq)]
 pub struct Bound {
     pub name: Name,
     /// q, the leaf.
@@ -303,18 +275,4 @@ pub struct Bound {
     pub randomizer: [u8; 32],
     /// Q, for XMSS M', 32 bytes.
     pub digest: [u8; 32],
-}
-
-impl Bound {
-    /// The same binding once more.
-    pub fn copied(&self) -> Self
-        ensures { result ≡ self.now }
-    {
-        Bound {
-            name: self.name.copied(),
-            leaf: self.leaf,
-            randomizer: self.randomizer,
-            digest: self.digest,
-        }
-    }
 }

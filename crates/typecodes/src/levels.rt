@@ -3,7 +3,7 @@
 ghost use Rattle.std.specs.Prelude.{◌≡◌, ◌≤◌, ◌↔◌, ◌∷◌, [], IsSome, IfSome, length};
 ghost use Rattle.typecodes.specs.Levels.{AreLevels, IsLevelCount};
 
-use crate::types::{LmsPair, LmsType, OtsType};
+use crate::types::LmsPair;
 use std::marker::Model;
 
 /// How many levels an HSS key has, 1 to 8 (RFC 8554 6.1).
@@ -47,43 +47,24 @@ impl LevelCount {
     }
 }
 
-// The pair past the last level.
-const UNUSED: LmsPair = LmsPair {
-    tree: LmsType::H5,
-    ots: OtsType::W1,
-};
-
 /// The types of an HSS key's levels, from the top down: 1 to 8 pairs.
-#[derive(Clone, Copy, Debug)]
+#[derive(Debug, Drop)]
 pub struct Levels {
-    // those past the count are `UNUSED`
+    // those past the count are the first one again
     pairs: [LmsPair; 8],
     count: u8,
 }
 
 impl Model for Levels {
-    ghost use Rattle.std.specs.Prelude.{◌≡◌, ◌++◌, ◌-◌, List, length, replicate, take};
-    ghost use Rattle.std.proofs.Common.{arith, ◌∙◌, ap, length-take-le};
-    ghost use Rattle.typecodes.specs.Levels.{IsLevelCount, unused};
+    ghost use Rattle.std.specs.Prelude.{List, take};
+    ghost use Rattle.typecodes.specs.Levels.{IsLevelCount};
     ghost use Rattle.typecodes.specs.declared.types.LmsPair.{LmsPair as Pair};
 
     ghost Value = { List Pair };
 
     ghost view = { λ levels. take levels.count levels.pairs };
 
-    ghost invariant = { λ levels. IsLevelCount levels.count × (length levels.pairs ≡ 8)
-        × (take levels.count levels.pairs ++ replicate (8 - levels.count) unused ≡ levels.pairs) };
-
-    ghost inverse = { λ pairs. record {
-      pairs = pairs ++ replicate (8 - length pairs) unused;
-      count = length pairs;
-    } };
-
-    ghost inverse_ok = { λ levels inside i. record {
-      pairs = (ap (λ n. take levels.count levels.pairs ++ replicate (8 - n) unused)
-          (length-take-le levels.count levels.pairs (omega (arith, inside.0, inside.1))) ∙ inside.2) i;
-      count = length-take-le levels.count levels.pairs (omega (arith, inside.0, inside.1)) i;
-    } };
+    ghost invariant = { λ levels. IsLevelCount levels.count };
 }
 
 impl Levels {
@@ -92,10 +73,11 @@ impl Levels {
         ensures some { IsSome result ↔ AreLevels pairs.now }
         ensures value { IfSome result (λ levels. levels ≡ pairs.now) }
     {
-        if pairs.is_empty() || pairs.len() > 8 {
+        let first = *pairs.first()?;
+        if pairs.len() > 8 {
             return None;
         }
-        let mut all = [UNUSED; 8];
+        let mut all = [first; 8];
         all[..pairs.len()].copy_from_slice(pairs);
         Some(Levels {
             pairs: all,
@@ -107,9 +89,10 @@ impl Levels {
     pub fn one(pair: LmsPair) -> Self
         ensures { result ≡ pair ∷ [] }
     {
-        let mut pairs = [UNUSED; 8];
-        pairs[0] = pair;
-        Levels { pairs, count: 1 }
+        Levels {
+            pairs: [pair; 8],
+            count: 1,
+        }
     }
 
     /// The pairs, from the top level down.
@@ -126,6 +109,16 @@ impl Levels {
         ensures { result ≡ length self.now }
     {
         LevelCount { number: self.count }
+    }
+
+    /// The same levels once more.
+    pub fn copied(&self) -> Self
+        ensures { result ≡ self.now }
+    {
+        Levels {
+            pairs: self.pairs,
+            count: self.count,
+        }
     }
 }
 

@@ -14,7 +14,7 @@ use crate::types::{LmsPair, LmsType, OtsType, XmssType};
 use thiserror::Error;
 
 /// What key is to be made: its scheme, and the types of the scheme.
-#[derive(Clone, Copy, Debug, PartialEq, Eq)]
+#[derive(Debug, Drop, PartialEq, Eq)]
 pub enum Spec {
     /// `lms:` and a pair, as `lms:H5/W8`.
     Lms(LmsPair),

@@ -12,7 +12,7 @@ use crate::slot::fields::{
     Fields, no_record, put_array, put_byte_within, put_exactly, put_number, put_zeros,
     read_byte_within, read_exactly, read_zeros,
 };
-use typecodes::{Cursor, Levels, LmsPair, LmsType, OtsType, ReadFault, XmssType};
+use typecodes::{Cursor, Levels, LmsPair, LmsSecret, LmsType, OtsType, ReadFault, XmssSecret};
 
 /// A pair, by its codes.
 #[tactic(auto, using(typecodes::proofs::Steps::reading), unfolding(crate::specs::Slot::pair_field))]
@@ -106,22 +106,22 @@ fn read_lms(cursor: &mut Cursor<'_>) -> Result<Secret, ReadFault>
     let identifier = *cursor.array()?;
     let seed = *cursor.array()?;
     read_zeros(cursor, 64)?;
-    Ok(Secret::Lms {
+    Ok(Secret::Lms(LmsSecret {
         pair,
         identifier,
         seed,
-    })
+    }))
 }
 
-fn put_lms(out: &mut Fields, pair: LmsPair, identifier: &[u8; 16], seed: &[u8; 32])
+fn put_lms(out: &mut Fields, secret: &LmsSecret)
     requires { array_vec_len out.old + 177 ≤ 223 }
-    ensures { Puts 177 lms_fields (Secret.Lms pair identifier.now seed.now) out.old out.new }
+    ensures { Puts 177 lms_fields (Secret.Lms secret.now) out.old out.new }
 {
     put_exactly(out, &[1]);
-    put_pair(out, pair);
+    put_pair(out, secret.pair);
     put_zeros(out, 56);
-    put_array(out, identifier);
-    put_array(out, seed);
+    put_array(out, &secret.identifier);
+    put_array(out, &secret.seed);
     put_zeros(out, 64);
 }
 
@@ -169,31 +169,25 @@ fn read_xmss(cursor: &mut Cursor<'_>) -> Result<Secret, ReadFault>
     let secret_seed = *cursor.array()?;
     let prf_key = *cursor.array()?;
     let public_seed = *cursor.array()?;
-    Ok(Secret::Xmss {
+    Ok(Secret::Xmss(XmssSecret {
         tree,
         secret_seed,
         prf_key,
         public_seed,
-    })
+    }))
 }
 
-fn put_xmss(
-    out: &mut Fields,
-    tree: XmssType,
-    secret_seed: &[u8; 32],
-    prf_key: &[u8; 32],
-    public_seed: &[u8; 32],
-)
+fn put_xmss(out: &mut Fields, secret: &XmssSecret)
     requires { array_vec_len out.old + 177 ≤ 223 }
-    ensures { Puts 177 xmss_fields (Secret.Xmss tree secret_seed.now prf_key.now public_seed.now) out.old out.new }
+    ensures { Puts 177 xmss_fields (Secret.Xmss secret.now) out.old out.new }
 {
     put_exactly(out, &[1]);
-    put_number(out, tree.code());
+    put_number(out, secret.tree.code());
     put_zeros(out, 60);
     put_zeros(out, 16);
-    put_array(out, secret_seed);
-    put_array(out, prf_key);
-    put_array(out, public_seed);
+    put_array(out, &secret.secret_seed);
+    put_array(out, &secret.prf_key);
+    put_array(out, &secret.public_seed);
 }
 
 /// What a key is made from, by its scheme, whose byte stands before the cursor.
@@ -218,22 +212,13 @@ pub(crate) fn put_secret(out: &mut Fields, secret: &Secret)
     ensures { Puts 177 (secret_fields (scheme_of secret.now)) secret.now out.old out.new }
 {
     match secret {
-        Secret::Lms {
-            pair,
-            identifier,
-            seed,
-        } => put_lms(out, *pair, identifier, seed),
+        Secret::Lms(secret) => put_lms(out, secret),
         Secret::Hss {
             levels,
             identifier,
             seed,
         } => put_hss(out, levels, identifier, seed),
-        Secret::Xmss {
-            tree,
-            secret_seed,
-            prf_key,
-            public_seed,
-        } => put_xmss(out, *tree, secret_seed, prf_key, public_seed),
+        Secret::Xmss(secret) => put_xmss(out, secret),
     }
 }
 
@@ -242,8 +227,8 @@ pub(crate) fn scheme(secret: &Secret) -> u8
     ensures { result ≡ scheme_of secret.now }
 {
     match secret {
-        Secret::Lms { .. } => 1,
+        Secret::Lms(_) => 1,
         Secret::Hss { .. } => 2,
-        Secret::Xmss { .. } => 3,
+        Secret::Xmss(_) => 3,
     }
 }

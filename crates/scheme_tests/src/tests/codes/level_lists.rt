@@ -40,12 +40,13 @@ fn counts_are_1_to_8(rt: HostRuntime) {
     }
 }
 
-// Whether the pairs are levels.
+// Whether the pairs are levels, which are copied whole.
 fn are_levels(pairs: &[LmsPair]) -> bool {
     match Levels::new(pairs) {
         Some(levels) => {
             levels.as_slice() == pairs
                 && usize::from(levels.count().get()) == pairs.len()
+                && levels.copied() == levels
         }
         None => false,
     }
