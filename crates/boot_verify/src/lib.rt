@@ -36,8 +36,8 @@ pub extern "C" fn hbs_verify(public: &[u8], message: &[u8], signature: &[u8]) ->
 }
 
 /// Writes the bytes that are hashed before a message to the front of the room: 54 for LMS and HSS (RFC 8554 4.5), 128
-/// for XMSS (RFC 8391 4.1.9). The answer is their number in the upper 32 bits, and 0 in the lower ones; or the refusal of
-/// `hbs_verify` that is known before the message is: of the key, 1 to 5 or 11.
+/// for XMSS (RFC 8391 4.1.9). The answer is their number in the upper 32 bits, and 0 in the lower ones; or the refusal
+/// of `hbs_verify` that is known before the message is: of the key, 1 to 5 or 11.
 #[unsafe(no_mangle)]
 pub extern "C" fn hbs_message_prefix(public: &[u8], signature: &[u8], room: &mut [u8; 128]) -> u64
     ensures { GivesPrefix public.now signature.now room.new result }

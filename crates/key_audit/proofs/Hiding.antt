@@ -15,19 +15,19 @@ use Rattle.key_audit.specs.Listing.{ListingLaw, Shown, entry_of, shown_in, shown
 -- ---- a secret
 
 types_kept : (secret : Secret) → types_of (without_seeds secret) ≡ types_of secret
-types_kept (Lms pair identifier seed) = refl
+types_kept (Lms secret) = refl
 types_kept (Hss levels identifier seed) = refl
-types_kept (Xmss tree secret_seed prf_key public_seed) = refl
+types_kept (Xmss secret) = refl
 
 levels_kept : (secret : Secret) → levels_of (without_seeds secret) ≡ levels_of secret
-levels_kept (Lms pair identifier seed) = refl
+levels_kept (Lms secret) = refl
 levels_kept (Hss levels identifier seed) = refl
-levels_kept (Xmss tree secret_seed prf_key public_seed) = refl
+levels_kept (Xmss secret) = refl
 
 leaves_kept : (secret : Secret) (level : ℕ) → leaves_at (without_seeds secret) level ≡ leaves_at secret level
-leaves_kept (Lms pair identifier seed) level = refl
+leaves_kept (Lms secret) level = refl
 leaves_kept (Hss levels identifier seed) level = refl
-leaves_kept (Xmss tree secret_seed prf_key public_seed) level = refl
+leaves_kept (Xmss secret) level = refl
 
 bottom_kept : (secret : Secret) → bottom_of (without_seeds secret) ≡ bottom_of secret
 bottom_kept secret = ap (λ n. n - 1) (levels_kept secret)

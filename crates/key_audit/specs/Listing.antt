@@ -24,9 +24,9 @@ use Rattle.key_audit.specs.Audit.{Judges, ReadsStore}
 
 -- the types of a key
 abbrev pub types_of : Secret → Spec
-types_of (Lms pair identifier seed) = spec.Lms pair
+types_of (Lms secret) = spec.Lms secret.pair
 types_of (Hss levels identifier seed) = spec.Hss levels
-types_of (Xmss tree secret_seed prf_key public_seed) = spec.Xmss tree
+types_of (Xmss secret) = spec.Xmss secret.tree
 
 -- What is listed of a record: of a Key that it is one, of an Extend the level of its tree and the leaf above that signs
 -- it, of a Bound its name, leaf and digest.
@@ -98,9 +98,10 @@ pub record Lists {D : Type 0} (d : disk.Ghosts D) (old new : FileStore D d) (ans
 
 -- a secret without what its values are made from
 abbrev pub without_seeds : Secret → Secret
-without_seeds (Lms pair identifier seed) = Lms pair identifier []
+without_seeds (Lms secret) = Lms (record { pair = secret.pair; identifier = secret.identifier; seed = [] })
 without_seeds (Hss levels identifier seed) = Hss levels identifier []
-without_seeds (Xmss tree secret_seed prf_key public_seed) = Xmss tree [] [] public_seed
+without_seeds (Xmss secret) =
+    Xmss (record { tree = secret.tree; secret_seed = []; prf_key = []; public_seed = secret.public_seed })
 
 -- a record without what is secret in it: the SEED of an Extend, and those of a Key, with SK_PRF
 abbrev pub without_secret : Record → Record

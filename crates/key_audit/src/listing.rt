@@ -56,7 +56,7 @@ impl Entry {
                 leaf: extend.parent_leaf,
             },
             Record::Bound(bound) => Entry::Name {
-                name: bound.name.copied(),
+                name: bound.name,
                 leaf: bound.leaf,
                 digest: bound.digest,
             },

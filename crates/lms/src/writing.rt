@@ -6,7 +6,7 @@ ghost use Rattle.typecodes.specs.Types.{height_of, lms_signature_len_of};
 ghost use Rattle.lms.specs.Key.{public_key};
 ghost use Rattle.lms.specs.Signature.{signature};
 ghost use Rattle.lms.specs.Secret.{digest_in, path_in, public_of};
-ghost use Rattle.lms.specs.Writing.{public_bytes, signature_bytes, signed};
+ghost use Rattle.lms.specs.Writing.{public_bytes, signature_bytes, signed, textbook};
 ghost use Rattle.lms.specs.Verification.{IsValid};
 
 use crate::key::LmsPublic;
@@ -43,6 +43,9 @@ pub fn write_signature(
     ensures bytes { into.new ≡ signature_bytes (signed secret.now leaf randomizer.now digest.now path.now) }
     // They spell the signature.
     ensures spells { Spells signature (signed secret.now leaf randomizer.now digest.now path.now) into.new }
+    // Where the path is the leaf's, it is the textbook signature.
+    ensures textbook { path.now ≡ path_in secret.now leaf →
+        into.new ≡ signature_bytes (textbook secret.now leaf randomizer.now digest.now) }
     // Where the digest is a message's and the path is the leaf's, the signature is valid.
     ensures valid { (message : List ℕ) →
         digest.now ≡ digest_in secret.now leaf randomizer.now message →

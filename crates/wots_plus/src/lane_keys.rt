@@ -1,6 +1,7 @@
 //! One-time keys of a tree side by side, one in each lane, with their L-trees.
 
-ghost use Rattle.std.specs.Prelude.{◌≡◌, ◌<◌, ◌≤◌, ℕ, ◌+◌, ◌/◌, ◌^◌, List, [], length, slice_index, slice_index_or, take};
+ghost use Rattle.std.specs.Prelude.{◌≡◌, ◌<◌, ◌≤◌, ℕ, ◌+◌, ◌/◌, ◌^◌, List, [], length};
+ghost use Rattle.std.specs.Prelude.{slice_index, slice_index_or, take};
 ghost use Rattle.typecodes.specs.Types.{wots_chains};
 ghost use Rattle.winternitz.specs.Lanes.{lanes};
 ghost use Rattle.wots_plus.specs.Address.{l_tree, one_time};

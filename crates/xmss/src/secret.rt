@@ -20,12 +20,7 @@ pub fn randomizer(secret: &XmssSecret, leaf: u32) -> [u8; 32]
 
 /// M', the digest of a message that a leaf signs in the tree with this root, by the leaf's
 /// randomizer (RFC 8391 4.1.9).
-pub fn digest_to_sign(
-    secret: &XmssSecret,
-    root: &[u8; 32],
-    leaf: u32,
-    message: &[u8],
-) -> [u8; 32]
+pub fn digest_to_sign(secret: &XmssSecret, root: &[u8; 32], leaf: u32, message: &[u8]) -> [u8; 32]
     ensures { result ≡ digest_in secret.now root.now leaf message.now }
 {
     message_digest(&randomizer(secret, leaf), root, leaf, message)

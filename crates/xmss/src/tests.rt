@@ -1,8 +1,6 @@
 //! Refusals in the order of the checks, and signatures that other programs made.
 
-use crate::{
-    XmssPublic, XmssSigView, XmssTree, message_digest, message_digest_from, verify,
-};
+use crate::{XmssPublic, XmssSigView, XmssTree, message_digest, message_digest_from, verify};
 use merkle::TreeHash;
 use std::io;
 use std::io::Read;

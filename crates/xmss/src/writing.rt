@@ -6,7 +6,7 @@ ghost use Rattle.typecodes.specs.Types.{xmss_height_of, xmss_signature_len_of};
 ghost use Rattle.xmss.specs.Key.{public_key};
 ghost use Rattle.xmss.specs.Signature.{signature};
 ghost use Rattle.xmss.specs.Secret.{digest_in, path_in, public_of, randomizer_of, root_in};
-ghost use Rattle.xmss.specs.Writing.{public_bytes, signature_bytes, signed};
+ghost use Rattle.xmss.specs.Writing.{public_bytes, signature_bytes, signed, textbook};
 ghost use Rattle.xmss.specs.Verification.{IsValid};
 
 use crate::key::XmssPublic;
@@ -43,6 +43,9 @@ pub fn write_signature(
     ensures bytes { into.new ≡ signature_bytes (signed secret.now leaf digest.now path.now) }
     // They spell the signature.
     ensures spells { Spells (signature secret.now.tree) (signed secret.now leaf digest.now path.now) into.new }
+    // Where the path is the leaf's, it is the textbook signature.
+    ensures textbook { path.now ≡ path_in secret.now leaf →
+        into.new ≡ signature_bytes (textbook secret.now leaf digest.now) }
     // Where the digest is a message's and the path is the leaf's, the signature is valid.
     ensures valid { (message : List ℕ) →
         digest.now ≡ digest_in secret.now (root_in secret.now) leaf message →

@@ -17,9 +17,9 @@ fn types_of(secret: &Secret) -> Spec
     ensures { result ≡ types_of secret.now }
 {
     match secret {
-        Secret::Lms { pair, .. } => Spec::Lms(*pair),
+        Secret::Lms(secret) => Spec::Lms(secret.pair),
         Secret::Hss { levels, .. } => Spec::Hss(levels.copied()),
-        Secret::Xmss { tree, .. } => Spec::Xmss(*tree),
+        Secret::Xmss(secret) => Spec::Xmss(secret.tree),
     }
 }
 

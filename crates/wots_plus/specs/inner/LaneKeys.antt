@@ -8,7 +8,8 @@ use Rattle.wots_plus.specs.Hashes.{to_byte}
 abbrev pub in_lane : ℕ → List (List (List ℕ)) → List (List ℕ)
 in_lane j rows = map (λ row. slice_index_or row j []) rows
 
--- in each lane the hash value after the first block of what private values are made of: the hash's number and the secret
+-- in each lane the hash value after the first block of what private values are made of, which is the hash's number and
+-- the secret
 pub record BeginsPrivateValues (secret : List ℕ) (first : List (List ℕ)) : Type 0 where
   pub long : length (to_byte 4 32 ++ secret) ≡ 64
   pub state : (j : ℕ) → j < lanes → lane_state first j ≡ compress initial_hash_256 (to_byte 4 32 ++ secret)

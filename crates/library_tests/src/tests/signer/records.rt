@@ -7,7 +7,7 @@ ghost use Rattle.state_file.specs.Slot.{FitsVersion, version_begun};
 use super::steps::Numbers;
 use super::*;
 use lmots::LmOts;
-use typecodes::{LmsType, OtsType};
+use typecodes::{LmsSecret, LmsType, OtsType};
 
 // A record of a list: a key of H5/W1 of a version, whose root isn't that of its tree; a tree of a level under a leaf of
 // the level above, whose I has this number in each byte; a leaf with the name of a number, or with one of so many
@@ -37,14 +37,14 @@ pub(super) fn record_of(entry: Entry) -> Option<Record> {
     match entry {
         Entry::Key(version) => Some(Record::Key(Key {
             version,
-            secret: Secret::Lms {
+            secret: Secret::Lms(LmsSecret {
                 pair: LmsPair {
                     tree: LmsType::H5,
                     ots: OtsType::W1,
                 },
                 identifier: [1; 16],
                 seed: [2; 32],
-            },
+            }),
             root: [3; 32],
         })),
         Entry::Extend(level, parent_leaf, number) => Some(Record::Extend(Extend {

@@ -27,5 +27,6 @@ returns c =
       bytes = written;
       spells = subst (Spells (signature secret.tree) s) (sym written)
           (signed_spelled secret c.args.leaf c.args.digest.now c.args.path.now c.requires.inside c.requires.path (λ i within. c.told-path i (omega arith)));
+      textbook = λ path. written ∙ ap (λ p. signature_bytes (signed secret c.args.leaf c.args.digest.now p)) path;
       valid = λ message digest path. signed_valid secret c.args.leaf message _ _ c.requires.inside digest path;
     }
