@@ -4,9 +4,10 @@ ghost use Rattle.std.specs.Prelude.{◌≡◌, ◌++◌};
 ghost use Rattle.typecodes.specs.Message.{Digests};
 ghost use Rattle.xmss.specs.Digest as spec;
 ghost use Rattle.xmss.specs.Digest.{message_digest_of, message_prefix_of};
+ghost use Rattle.xmss.specs.Secret.{digest_in, randomizer_of};
 
-use typecodes::{Message, MessageFailed, put};
-use wots_plus::{hash_message, hash_message_from};
+use typecodes::{Message, MessageFailed, XmssSecret, put};
+use wots_plus::{Prf, hash_message, hash_message_from};
 
 // The number of H_msg among the keyed hashes (RFC 8391 5.1).
 const MESSAGE: u32 = 2;
@@ -31,6 +32,21 @@ pub fn message_digest_from<M: Message>(
         message.old message.new }
 {
     hash_message_from(&digest_key(randomizer, root, leaf), message)
+}
+
+/// r, the randomizer of a leaf's signature, 32 bytes (RFC 8391 4.1.9).
+pub fn randomizer(secret: &XmssSecret, leaf: u32) -> [u8; 32]
+    ensures { result ≡ randomizer_of secret.now.prf_key leaf }
+{
+    Prf::new(secret.prf_key).hash(&index_bytes(leaf))
+}
+
+/// M', the digest of a message that a leaf signs in the tree with this root, by the leaf's
+/// randomizer (RFC 8391 4.1.9).
+pub fn digest_to_sign(secret: &XmssSecret, root: &[u8; 32], leaf: u32, message: &[u8]) -> [u8; 32]
+    ensures { result ≡ digest_in secret.now root.now leaf message.now }
+{
+    message_digest(&randomizer(secret, leaf), root, leaf, message)
 }
 
 // The 128 bytes that are hashed before a message: toByte(2, 32), r, the root and toByte(idx, 32).

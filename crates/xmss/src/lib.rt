@@ -31,10 +31,10 @@ mod tests;
 mod verification;
 mod writing;
 
-pub use crate::digest::{message_digest, message_digest_from};
+pub use crate::digest::{digest_to_sign, message_digest, message_digest_from, randomizer};
 pub use crate::key::XmssPublic;
 pub use crate::laws::{spelling_laws, verdict_laws};
-pub use crate::secret::{XmssTree, digest_to_sign, randomizer};
+pub use crate::secret::XmssTree;
 pub use crate::signature::XmssSigView;
 pub use crate::verification::{message_prefix, verify, verify_bytes_by, verify_digest_by};
 pub use crate::writing::{write_public, write_signature};

@@ -2,29 +2,12 @@
 
 ghost use Rattle.std.specs.Prelude.{◌≡◌, ◌≤◌, ◌<◌, ◌+◌, ◌^◌, ℕ, slice_index};
 ghost use Rattle.winternitz.specs.Lanes.{lanes};
-ghost use Rattle.xmss.specs.Secret.{digest_in, randomizer_of};
 
-use crate::digest::{index_bytes, message_digest};
 use crate::nodes::Nodes;
 use merkle::{NodeHash, TreeHash};
 use typecodes::{Count, XmssSecret};
 use winternitz::lanes::LANES;
 use wots_plus::{Prf, Wots};
-
-/// r, the randomizer of a leaf's signature, 32 bytes (RFC 8391 4.1.9).
-pub fn randomizer(secret: &XmssSecret, leaf: u32) -> [u8; 32]
-    ensures { result ≡ randomizer_of secret.now.prf_key leaf }
-{
-    Prf::new(secret.prf_key).hash(&index_bytes(leaf))
-}
-
-/// M', the digest of a message that a leaf signs in the tree with this root, by the leaf's
-/// randomizer (RFC 8391 4.1.9).
-pub fn digest_to_sign(secret: &XmssSecret, root: &[u8; 32], leaf: u32, message: &[u8]) -> [u8; 32]
-    ensures { result ≡ digest_in secret.now root.now leaf message.now }
-{
-    message_digest(&randomizer(secret, leaf), root, leaf, message)
-}
 
 /// The tree of a secret (RFC 8391 4.1.6), each leaf made of the ends of its one-time key's chains. As the
 /// secret it has no `Debug`.
