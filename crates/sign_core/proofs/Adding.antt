@@ -256,9 +256,9 @@ pub levels_range : (records : List Record) (key : Key) (n : ℕ) → AllHaveSize
 levels_range records key n sizes keyed is = by_secret key.secret (key_has_sizes records key sizes keyed) is
   where
     by_secret : (secret : Secret) → SecretHasSizes secret → n ≡ levels_of secret → (1 ≤ n) × (n ≤ 8)
-    by_secret (Lms pair identifier seed) sized is = (omega (arith, is), omega (arith, is))
+    by_secret (Lms secret) sized is = (omega (arith, is), omega (arith, is))
     by_secret (Hss levels identifier seed) sized is = (omega (arith, is, sized.2.0), omega (arith, is, sized.2.1))
-    by_secret (Xmss tree secret_seed prf_key public_seed) sized is = (omega (arith, is), omega (arith, is))
+    by_secret (Xmss secret) sized is = (omega (arith, is), omega (arith, is))
 
 -- ---- what an append wants
 

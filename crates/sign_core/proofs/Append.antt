@@ -264,9 +264,9 @@ some_leaves_in (pair ∷ rest) zero within = pow_pos (height_of pair.tree)
 some_leaves_in (pair ∷ rest) (suc level) within = some_leaves_in rest level (omega (arith, within))
 
 pub some_leaves : (secret : Secret) (level : ℕ) → level < levels_of secret → 0 < leaves_at secret level
-some_leaves (Lms pair identifier seed) level within = pow_pos (height_of pair.tree)
+some_leaves (Lms secret) level within = pow_pos (height_of secret.pair.tree)
 some_leaves (Hss levels identifier seed) level within = some_leaves_in levels level within
-some_leaves (Xmss tree secret_seed prf_key public_seed) level within = pow_pos (xmss_height_of tree)
+some_leaves (Xmss secret) level within = pow_pos (xmss_height_of secret.tree)
 
 -- after an Extend under a current tree the deepest level with a free leaf is its own
 pub deepest_new : (secret : Secret) (level above : ℕ) (records : List Record) (extend : Extend) → 0 < length records → extend.level ≡ suc level

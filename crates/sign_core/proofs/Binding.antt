@@ -219,9 +219,9 @@ one_field upcoming left randomizer gives =
 -- C of a key with LMS trees is drawn
 drawn_randomizer : (secret : Secret) (trees : Trees) (randomizer : List ℕ) → trees_of secret ≡ Some trees
     → (randomizer_from secret (randomizer ∷ []) ≡ Some randomizer) × (randomizer_from secret [] ≡ None) × (has_randomizer secret randomizer ≡ true)
-drawn_randomizer (Lms pair identifier seed) trees randomizer these = (refl, refl, refl)
+drawn_randomizer (Lms secret) trees randomizer these = (refl, refl, refl)
 drawn_randomizer (Hss levels identifier seed) trees randomizer these = (refl, refl, refl)
-drawn_randomizer (Xmss tree secret_seed prf_key public_seed) trees randomizer these = absurd (cc)
+drawn_randomizer (Xmss secret) trees randomizer these = absurd (cc)
 
 -- ---- a chain that stands
 
@@ -273,9 +273,9 @@ chain_follows_bound records key trees above last name bound keyed these stays st
 -- a key of LMS or HSS draws C for a binding
 chain_sizes : (secret : Secret) (trees : Trees) (randomizer : List ℕ) → trees_of secret ≡ Some trees → length randomizer ≡ 32 → AreBytes randomizer
     → AreFields (randomizer_sizes secret) (randomizer ∷ [])
-chain_sizes (Lms pair identifier seed) trees randomizer these sized bytes = (sized, bytes, tt)
+chain_sizes (Lms secret) trees randomizer these sized bytes = (sized, bytes, tt)
 chain_sizes (Hss levels identifier seed) trees randomizer these sized bytes = (sized, bytes, tt)
-chain_sizes (Xmss tree secret_seed prf_key public_seed) trees randomizer these sized bytes = absurd (none-some _ these)
+chain_sizes (Xmss secret) trees randomizer these sized bytes = absurd (none-some _ these)
 
 module _ {S R M : Type 0} (g : store.Ghosts S) (r : source.Ghosts R) (m : message.Ghosts M) (name : List ℕ) (kept_in : S) (random mid : R) (ledger : Table)
     (is_open : Bool) (before after : M) (key : Key) (trees : Trees) (these : trees_of key.secret ≡ Some trees) where

@@ -90,10 +90,10 @@ steps_once limit steps all =
 -- ---- draws
 
 randomizer_fields : (secret : Secret) (fields : List (List ℕ)) → AreFields (randomizer_sizes secret) fields → AreFields (32 ∷ []) fields
-randomizer_fields (Lms pair identifier seed) fields are = are
+randomizer_fields (Lms secret) fields are = are
 randomizer_fields (Hss levels identifier seed) fields are = are
-randomizer_fields (Xmss tree secret_seed prf_key public_seed) [] are = tt
-randomizer_fields (Xmss tree secret_seed prf_key public_seed) (field ∷ fields) are = absurd are
+randomizer_fields (Xmss secret) [] are = tt
+randomizer_fields (Xmss secret) (field ∷ fields) are = absurd are
 
 -- the draws of a key's request are those of an event's
 pub draws_of : (secret : Secret) (chance : Chance) → AreDrawsOf secret chance → AreDraws chance

@@ -64,10 +64,10 @@ leaf_inside records key k bound legal keyed at =
 
 -- a key with LMS trees has a level, and a type for each
 pub levels_typed : (secret : Secret) (trees : Trees) → trees_of secret ≡ Some trees → (1 ≤ levels_of secret) × (length trees.pairs ≡ levels_of secret)
-levels_typed (Lms pair identifier seed) trees these = (omega arith, ap (λ (t : Trees). length t.pairs) (sym (same_Some _ trees these)))
+levels_typed (Lms secret) trees these = (omega arith, ap (λ (t : Trees). length t.pairs) (sym (same_Some _ trees these)))
 levels_typed (Hss [] identifier seed) trees these = absurd (cc)
 levels_typed (Hss (pair ∷ rest) identifier seed) trees these = (omega arith, ap (λ (t : Trees). length t.pairs) (sym (same_Some _ trees these)))
-levels_typed (Xmss tree secret_seed prf_key public_seed) trees these = absurd (cc)
+levels_typed (Xmss secret) trees these = absurd (cc)
 
 -- the types down to the bottom level are all
 pub all_pairs : (secret : Secret) (trees : Trees) → trees_of secret ≡ Some trees → take (bottom_of secret + 1) trees.pairs ≡ trees.pairs
@@ -111,13 +111,13 @@ leaf_digest records key trees k leaf randomizer text keyed these = by_secret key
     by_secret : (secret : Secret) → trees_of secret ≡ Some trees → slice_get records 0 ≡ Some (KeyRecord key)
         → digest_by secret key.root records k leaf randomizer text
         ≡ message_digest_of (secret_at trees records (tree_before (bottom_of secret) records k)).identifier leaf randomizer text
-    by_secret (Lms pair identifier seed) these first =
+    by_secret (Lms secret) these first =
         let digest : LmsSecret → List ℕ = λ s. message_digest_of s.identifier leaf randomizer text in
-        let top : trees.top ≡ lms_secret pair identifier seed = ap (λ (t : Trees). t.top) (sym (same_Some _ trees these)) in
+        let top : trees.top ≡ secret = ap (λ (t : Trees). t.top) (sym (same_Some _ trees these)) in
         sym (ap (λ r. digest (secret_by trees r)) first ∙ ap digest top)
     by_secret (Hss levels identifier seed) these first =
         ap (λ t. digest_under t records (tree_before (length levels - 1) records k) leaf randomizer text) these
-    by_secret (Xmss tree secret_seed prf_key public_seed) these first = absurd (cc)
+    by_secret (Xmss secret) these first = absurd (cc)
 
 -- ---- the types of a chain's trees
 

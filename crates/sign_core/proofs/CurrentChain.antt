@@ -75,10 +75,10 @@ abbrev pair_of : Signing → LmsPair
 pair_of signing = signing.secret.pair
 
 levels_are : (secret : Secret) (trees : Trees) → trees_of secret ≡ Some trees → levels_of secret ≡ length trees.pairs
-levels_are (Lms pair identifier seed) trees these = ap (λ (t : Trees). length t.pairs) (same_Some _ trees these)
+levels_are (Lms secret) trees these = ap (λ (t : Trees). length t.pairs) (same_Some _ trees these)
 levels_are (Hss [] identifier seed) trees these = absurd (cc)
 levels_are (Hss (pair ∷ rest) identifier seed) trees these = ap (λ (t : Trees). length t.pairs) (same_Some _ trees these)
-levels_are (Xmss tree secret_seed prf_key public_seed) trees these = absurd (cc)
+levels_are (Xmss secret) trees these = absurd (cc)
 
 take_more : {A : Type 0} (n : ℕ) (xs : List A) (other : A) → n < length xs → take n xs ++ slice_index_or xs n other ∷ [] ≡ take (suc n) xs
 take_more n [] other within = absurd (omega (arith, within))

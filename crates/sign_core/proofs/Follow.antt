@@ -61,14 +61,14 @@ none_moved records k legal stays is =
 -- ---- randomizers
 
 randomizer_means : (secret : Secret) (randomizer : List ℕ) → has_randomizer secret randomizer ≡ true → HasRandomizer secret randomizer
-randomizer_means (Lms pair identifier seed) randomizer is = tt
+randomizer_means (Lms secret) randomizer is = tt
 randomizer_means (Hss levels identifier seed) randomizer is = tt
-randomizer_means (Xmss tree secret_seed prf_key public_seed) randomizer is = (bytes_decides randomizer (replicate 32 0)).0 is
+randomizer_means (Xmss secret) randomizer is = (bytes_decides randomizer (replicate 32 0)).0 is
 
 tell_randomizer : (secret : Secret) (randomizer : List ℕ) → HasRandomizer secret randomizer → has_randomizer secret randomizer ≡ true
-tell_randomizer (Lms pair identifier seed) randomizer is = refl
+tell_randomizer (Lms secret) randomizer is = refl
 tell_randomizer (Hss levels identifier seed) randomizer is = refl
-tell_randomizer (Xmss tree secret_seed prf_key public_seed) randomizer is = (bytes_decides randomizer (replicate 32 0)).1 is
+tell_randomizer (Xmss secret) randomizer is = (bytes_decides randomizer (replicate 32 0)).1 is
 
 -- ---- what a record reaches, and the leaf that it names
 

@@ -55,9 +55,9 @@ leaves_in_few (pair ∷ rest) (suc level) = leaves_in_few rest level
 
 -- no tree has more than 2 ^ 25 leaves
 leaves_few : (secret : Secret) (level : ℕ) → leaves_at secret level ≤ 2 ^ 25
-leaves_few (Lms pair identifier seed) level = height_inside (height_of pair.tree) (lms_most pair.tree)
+leaves_few (Lms secret) level = height_inside (height_of secret.pair.tree) (lms_most secret.pair.tree)
 leaves_few (Hss levels identifier seed) level = leaves_in_few levels level
-leaves_few (Xmss tree secret_seed prf_key public_seed) level = height_inside (xmss_height_of tree) (xmss_most tree)
+leaves_few (Xmss secret) level = height_inside (xmss_height_of secret.tree) (xmss_most secret.tree)
 
 -- ---- what can follow
 

@@ -19,9 +19,9 @@ use Rattle.sign_core.proofs.Leaves.{deepest_is, is_deepest, is_next}
 use Rattle.sign_core.proofs.TreeSteps.{current_before, current_is}
 
 levels_within : (secret : Secret) → SecretHasSizes secret → (1 ≤ levels_of secret) × (levels_of secret ≤ 8)
-levels_within (Lms pair identifier seed) sizes = (omega arith, omega arith)
+levels_within (Lms secret) sizes = (omega arith, omega arith)
 levels_within (Hss levels identifier seed) sizes = sizes.2
-levels_within (Xmss tree secret_seed prf_key public_seed) sizes = (omega arith, omega arith)
+levels_within (Xmss secret) sizes = (omega arith, omega arith)
 
 -- a key has 1 to 8 levels
 pub key_levels : (records : List Record) (key : Key) → AllHaveSizes records → key_in records ≡ Some key

@@ -80,22 +80,22 @@ leaves_in_at (pair ∷ rest) (suc level) other within = leaves_in_at rest level 
 
 pub leaves_of_level : (secret : Secret) (trees : Trees) (level : ℕ) → trees_of secret ≡ Some trees → level < levels_of secret
     → leaves_at secret level ≡ 2 ^ height_of (slice_index_or trees.pairs level trees.top.pair).tree
-leaves_of_level (Lms pair identifier seed) trees zero these within =
+leaves_of_level (Lms secret) trees zero these within =
     ap (λ (t : Trees). 2 ^ height_of (slice_index_or t.pairs 0 t.top.pair).tree) (same_Some _ trees these)
-leaves_of_level (Lms pair identifier seed) trees (suc level) these within = absurd (omega (arith, within))
+leaves_of_level (Lms secret) trees (suc level) these within = absurd (omega (arith, within))
 leaves_of_level (Hss [] identifier seed) trees level these within = absurd (cc)
 leaves_of_level (Hss (pair ∷ rest) identifier seed) trees level these within =
     leaves_in_at (pair ∷ rest) level pair within
     ∙ ap (λ (t : Trees). 2 ^ height_of (slice_index_or t.pairs level t.top.pair).tree) (same_Some _ trees these)
-leaves_of_level (Xmss tree secret_seed prf_key public_seed) trees level these within = absurd (cc)
+leaves_of_level (Xmss secret) trees level these within = absurd (cc)
 
 top_pair : (secret : Secret) (trees : Trees) → trees_of secret ≡ Some trees → trees.top.pair ≡ slice_index_or trees.pairs 0 trees.top.pair
-top_pair (Lms pair identifier seed) trees these =
+top_pair (Lms secret) trees these =
     subst (λ (t : Trees). t.top.pair ≡ slice_index_or t.pairs 0 t.top.pair) (same_Some _ trees these) refl
 top_pair (Hss [] identifier seed) trees these = absurd (cc)
 top_pair (Hss (pair ∷ rest) identifier seed) trees these =
     subst (λ (t : Trees). t.top.pair ≡ slice_index_or t.pairs 0 t.top.pair) (same_Some _ trees these) refl
-top_pair (Xmss tree secret_seed prf_key public_seed) trees these = absurd (cc)
+top_pair (Xmss secret) trees these = absurd (cc)
 
 -- the types of a tree are those of its level
 pub pair_at : (key : Key) (trees : Trees) (records : List Record) (level place : ℕ) → slice_get records 0 ≡ Some (KeyRecord key)

@@ -205,8 +205,8 @@ module _ (version : Version) (key : Key) where
 
   signature_head : (secret : Secret) (rest : List Record) (k : ℕ) (bound : Bound)
       → signature_by secret (new_list rest) k bound ≡ signature_by secret (old_list rest) k bound
-  signature_head (Lms pair identifier seed) rest k bound = refl
-  signature_head (Xmss tree secret_seed prf_key public_seed) rest k bound = refl
+  signature_head (Lms secret) rest k bound = refl
+  signature_head (Xmss secret) rest k bound = refl
   signature_head (Hss levels identifier seed) rest k bound =
       let bottom = length levels - 1 in
       let trees = trees_of (Hss levels identifier seed) in
@@ -221,8 +221,8 @@ module _ (version : Version) (key : Key) where
 
   digest_head : (secret : Secret) (root : List ℕ) (rest : List Record) (k leaf : ℕ) (randomizer message : List ℕ)
       → digest_by secret root (new_list rest) k leaf randomizer message ≡ digest_by secret root (old_list rest) k leaf randomizer message
-  digest_head (Lms pair identifier seed) root rest k leaf randomizer message = refl
-  digest_head (Xmss tree secret_seed prf_key public_seed) root rest k leaf randomizer message = refl
+  digest_head (Lms secret) root rest k leaf randomizer message = refl
+  digest_head (Xmss secret) root rest k leaf randomizer message = refl
   digest_head (Hss levels identifier seed) root rest k leaf randomizer message =
       let bottom = length levels - 1 in
       let trees = trees_of (Hss levels identifier seed) in

@@ -31,17 +31,17 @@ one_at xs j k a b same at_j at_k = let both : Some a ≡ Some b = sym at_j ∙ a
 -- no two trees go by one I
 one_tree : (secret : Secret) (records : List Record) (a b : ℕ) (identifier other : List ℕ) → IsLegal records → identifier ≡ other
     → IsTreeOf secret records a identifier → IsTreeOf secret records b other → a ≡ b
-one_tree (Lms pair own seed) records a b identifier other legal same (made, at, is) (made_too, at_too, is_too) = elim (cases_order a b) [
+one_tree (Lms own) records a b identifier other legal same (made, at, is) (made_too, at_too, is_too) = elim (cases_order a b) [
   | inl one ↦ one
   | inr (inl below) ↦ absurd (legal.identifiers a b made made_too identifier below at at_too is (is_too ∙ ap Some (sym same)))
   | inr (inr above) ↦ absurd (legal.identifiers b a made_too made other above at_too at is_too (is ∙ ap Some same))
 ]
-one_tree (Hss levels own seed) records a b identifier other legal same (made, at, is) (made_too, at_too, is_too) = elim (cases_order a b) [
+one_tree (Hss levels top seed) records a b identifier other legal same (made, at, is) (made_too, at_too, is_too) = elim (cases_order a b) [
   | inl one ↦ one
   | inr (inl below) ↦ absurd (legal.identifiers a b made made_too identifier below at at_too is (is_too ∙ ap Some (sym same)))
   | inr (inr above) ↦ absurd (legal.identifiers b a made_too made other above at_too at is_too (is ∙ ap Some same))
 ]
-one_tree (Xmss type secret_seed prf_key public_seed) records a b identifier other legal same is is_too = is ∙ sym is_too
+one_tree (Xmss own) records a b identifier other legal same is is_too = is ∙ sym is_too
 
 -- a leaf is named once
 one_place : (key : Key) (records : List Record) (p q : ℕ) (u v : LeafUse) (legal : IsLegal records) → legal.key ≡ key → IsUseOf key records p u

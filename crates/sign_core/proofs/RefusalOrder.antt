@@ -201,10 +201,10 @@ by_known state trees level leaf (identifier ∷ fields) fate IsKnown Rest next a
 
 -- where there is a level below the top, there are LMS trees
 trees_there : (secret : Secret) → 0 < bottom_of secret → (trees : Trees) × (trees_of secret ≡ Some trees)
-trees_there (Lms pair identifier seed) more = absurd (omega (arith, more))
+trees_there (Lms secret) more = absurd (omega (arith, more))
 trees_there (Hss [] identifier seed) more = absurd (omega (arith, more))
 trees_there (Hss (pair ∷ rest) identifier seed) more = (_, refl)
-trees_there (Xmss tree secret_seed prf_key public_seed) more = absurd (omega (arith, more))
+trees_there (Xmss secret) more = absurd (omega (arith, more))
 
 by_tree : (state : State) (key : Key) (trees : Option Trees) (level : ℕ) (draw : Draw) (IsKnown : List ℕ → Type 0)
     (Rest : Result (List ℕ) SignFault → Type 0) (next : List Record → Outcome (List ℕ)) (these : Trees) → trees ≡ Some these → IsTreeDraw draw
@@ -233,17 +233,17 @@ by_randomizer : (state : State) (key : Key) (name : List ℕ) (secret : Secret) 
     → Unless (Of RandomFailed (length fields < length (randomizer_sizes secret)))
     (Unless (Of MessageRead (given ≡ None)) (AfterAppend fate IsOk))
     (bound_with state key name (randomizer_from secret fields) given fate).answer
-by_randomizer state key name (Lms pair identifier seed) [] given fate are = is_there RandomFailed (omega arith) refl
-by_randomizer state key name (Lms pair identifier seed) (c ∷ []) given fate are =
+by_randomizer state key name (Lms secret) [] given fate are = is_there RandomFailed (omega arith) refl
+by_randomizer state key name (Lms secret) (c ∷ []) given fate are =
     is_absent RandomFailed (λ few. omega (arith, few)) (by_given state key name c given fate)
-by_randomizer state key name (Lms pair identifier seed) (c ∷ other ∷ rest) given fate are = absurd (are.2)
+by_randomizer state key name (Lms secret) (c ∷ other ∷ rest) given fate are = absurd (are.2)
 by_randomizer state key name (Hss levels identifier seed) [] given fate are = is_there RandomFailed (omega arith) refl
 by_randomizer state key name (Hss levels identifier seed) (c ∷ []) given fate are =
     is_absent RandomFailed (λ few. omega (arith, few)) (by_given state key name c given fate)
 by_randomizer state key name (Hss levels identifier seed) (c ∷ other ∷ rest) given fate are = absurd (are.2)
-by_randomizer state key name (Xmss tree secret_seed prf_key public_seed) [] given fate are =
+by_randomizer state key name (Xmss secret) [] given fate are =
     is_absent RandomFailed (λ few. omega (arith, few)) (by_given state key name _ given fate)
-by_randomizer state key name (Xmss tree secret_seed prf_key public_seed) (c ∷ rest) given fate are = absurd are
+by_randomizer state key name (Xmss secret) (c ∷ rest) given fate are = absurd are
 
 by_wanted : (key : Key) (name : List ℕ) (chance : Chance) (below : ℕ) → below ≤ bottom_of key.secret → AreDrawsOf key.secret chance
     → (draws : List Draw) (records : List Record) (IsKnown : List ℕ → Type 0) → AllByRecursion IsTreeDraw draws → Knows records IsKnown

@@ -178,10 +178,10 @@ undrawn_refuses below records chance key level (Some trees) next refusal other =
 
 -- a key with levels below the top has trees
 has_trees : (secret : Secret) → 0 < bottom_of secret → trees_of secret ≡ None → ⊥
-has_trees (Lms pair identifier seed) some none = absurd (omega (arith, some))
+has_trees (Lms secret) some none = absurd (omega (arith, some))
 has_trees (Hss [] identifier seed) some none = absurd (omega (arith, some))
 has_trees (Hss (pair ∷ rest) identifier seed) some none = absurd (cc)
-has_trees (Xmss tree secret_seed prf_key public_seed) some none = absurd (omega (arith, some))
+has_trees (Xmss secret) some none = absurd (omega (arith, some))
 
 fulfilled_refuses : (key : Key) (name : List ℕ) (chance : Chance) (below : ℕ) (draws : List Draw)
     (records : List Record) → (0 < below → trees_of key.secret ≡ None → ⊥)

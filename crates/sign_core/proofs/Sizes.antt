@@ -25,7 +25,7 @@ use Rattle.sign_core.proofs.Keys.{key_stands}
 use Rattle.sign_core.specs.Records.{has_randomizer, key_in}
 use Rattle.sign_core.specs.Events.{AreFields, key_sizes}
 use Rattle.sign_core.specs.World.{randomizer_from, secret_from}
-use Rattle.sign_core.specs.Textbook.{AllHaveSizes, SecretHasSizes, Trees, digest_by, public_by, root_by, trees_of, xmss_secret}
+use Rattle.sign_core.specs.Textbook.{AllHaveSizes, SecretHasSizes, Trees, digest_by, public_by, root_by, trees_of}
 
 -- ---- roots and digests
 
@@ -47,40 +47,40 @@ xmss_root_size secret xmss.H16 = xmss_node_size secret 15 0
 xmss_root_size secret xmss.H20 = xmss_node_size secret 19 0
 
 pub root_size : (secret : Secret) → SecretHasSizes secret → length (root_by secret) ≡ 32
-root_size (Lms pair identifier seed) sizes = lms_root_size _
+root_size (Lms secret) sizes = lms_root_size _
 root_size (Hss [] identifier seed) sizes = absurd (let some = sizes.2.0 in omega (arith, some))
 root_size (Hss (pair ∷ rest) identifier seed) sizes = lms_root_size _
-root_size (Xmss tree secret_seed prf_key public_seed) sizes = xmss_root_size (xmss_secret tree secret_seed prf_key public_seed) tree
+root_size (Xmss secret) sizes = xmss_root_size secret secret.tree
 
 pub digest_size : (secret : Secret) (root : List ℕ) (records : List Record) (k leaf : ℕ) (randomizer message : List ℕ) → SecretHasSizes secret
     → length (digest_by secret root records k leaf randomizer message) ≡ 32
-digest_size (Lms pair identifier seed) root records k leaf randomizer message sizes = length-sha256 _
+digest_size (Lms secret) root records k leaf randomizer message sizes = length-sha256 _
 digest_size (Hss [] identifier seed) root records k leaf randomizer message sizes = absurd (let some = sizes.2.0 in omega (arith, some))
 digest_size (Hss (pair ∷ rest) identifier seed) root records k leaf randomizer message sizes = length-sha256 _
-digest_size (Xmss tree secret_seed prf_key public_seed) root records k leaf randomizer message sizes = length-sha256 _
+digest_size (Xmss secret) root records k leaf randomizer message sizes = length-sha256 _
 
 -- ---- keys
 
 -- a key of these sizes has a public one
 pub public_made : (secret : Secret) (root : List ℕ) → SecretHasSizes secret → (public : AnyPublic) × (public_by secret root ≡ Some public)
-public_made (Lms pair identifier seed) root sizes = (_, refl)
+public_made (Lms secret) root sizes = (_, refl)
 public_made (Hss [] identifier seed) root sizes = absurd (let some = sizes.2.0 in omega (arith, some))
 public_made (Hss (pair ∷ rest) identifier seed) root sizes = (_, refl)
-public_made (Xmss tree secret_seed prf_key public_seed) root sizes = (_, refl)
+public_made (Xmss secret) root sizes = (_, refl)
 
 -- where there is a level below the top, there are LMS trees
 pub trees_made : (secret : Secret) → SecretHasSizes secret → 1 < levels_of secret → (trees : Trees) × (trees_of secret ≡ Some trees)
-trees_made (Lms pair identifier seed) sizes more = absurd (omega (arith, more))
+trees_made (Lms secret) sizes more = absurd (omega (arith, more))
 trees_made (Hss [] identifier seed) sizes more = absurd (let some = sizes.2.0 in omega (arith, some))
 trees_made (Hss (pair ∷ rest) identifier seed) sizes more = (_, refl)
-trees_made (Xmss tree secret_seed prf_key public_seed) sizes more = absurd (omega (arith, more))
+trees_made (Xmss secret) sizes more = absurd (omega (arith, more))
 
 -- what is drawn for a key has its sizes
 pub secret_sizes : (spec : Spec) (fields : List (List ℕ)) (secret : Secret) → IsSpec spec → AreFields (key_sizes spec) fields
     → secret_from spec fields ≡ Some secret → SecretHasSizes secret
 secret_sizes (LmsSpec pair) [] secret can are is = absurd (cc)
 secret_sizes (LmsSpec pair) (a ∷ []) secret can are is = absurd (cc)
-secret_sizes (LmsSpec pair) (a ∷ b ∷ []) secret can are is = let same : Lms pair a b ≡ secret = cc in subst SecretHasSizes same (are.0, are.2.0)
+secret_sizes (LmsSpec pair) (a ∷ b ∷ []) secret can are is = let same : Lms (record { pair = pair; identifier = a; seed = b }) ≡ secret = cc in subst SecretHasSizes same (are.0, are.2.0)
 secret_sizes (LmsSpec pair) (a ∷ b ∷ c ∷ rest) secret can are is = absurd (cc)
 secret_sizes (HssSpec levels) [] secret can are is = absurd (cc)
 secret_sizes (HssSpec levels) (a ∷ []) secret can are is = absurd (cc)
@@ -89,7 +89,7 @@ secret_sizes (HssSpec levels) (a ∷ b ∷ c ∷ rest) secret can are is = absur
 secret_sizes (XmssSpec tree) [] secret can are is = absurd (cc)
 secret_sizes (XmssSpec tree) (a ∷ []) secret can are is = absurd (cc)
 secret_sizes (XmssSpec tree) (a ∷ b ∷ []) secret can are is = absurd (cc)
-secret_sizes (XmssSpec tree) (a ∷ b ∷ c ∷ []) secret can are is = let same : Xmss tree a b c ≡ secret = cc in subst SecretHasSizes same
+secret_sizes (XmssSpec tree) (a ∷ b ∷ c ∷ []) secret can are is = let same : Xmss (record { tree = tree; secret_seed = a; prf_key = b; public_seed = c }) ≡ secret = cc in subst SecretHasSizes same
     (are.0, are.2.0, are.2.2.0)
 secret_sizes (XmssSpec tree) (a ∷ b ∷ c ∷ d ∷ rest) secret can are is = absurd (cc)
 
@@ -102,7 +102,7 @@ pub spec_public : (spec : Spec) (fields : List (List ℕ)) (secret : Secret) →
     → (public : AnyPublic) × (public_by secret (root_by secret) ≡ Some public)
 spec_public (LmsSpec pair) [] secret can is = absurd (cc)
 spec_public (LmsSpec pair) (a ∷ []) secret can is = absurd (cc)
-spec_public (LmsSpec pair) (a ∷ b ∷ []) secret can is = let same : Lms pair a b ≡ secret = cc in subst HasPublic same (_, refl)
+spec_public (LmsSpec pair) (a ∷ b ∷ []) secret can is = let same : Lms (record { pair = pair; identifier = a; seed = b }) ≡ secret = cc in subst HasPublic same (_, refl)
 spec_public (LmsSpec pair) (a ∷ b ∷ c ∷ rest) secret can is = absurd (cc)
 spec_public (HssSpec levels) [] secret can is = absurd (cc)
 spec_public (HssSpec levels) (a ∷ []) secret can is = absurd (cc)
@@ -112,20 +112,20 @@ spec_public (HssSpec levels) (a ∷ b ∷ c ∷ rest) secret can is = absurd (cc
 spec_public (XmssSpec tree) [] secret can is = absurd (cc)
 spec_public (XmssSpec tree) (a ∷ []) secret can is = absurd (cc)
 spec_public (XmssSpec tree) (a ∷ b ∷ []) secret can is = absurd (cc)
-spec_public (XmssSpec tree) (a ∷ b ∷ c ∷ []) secret can is = let same : Xmss tree a b c ≡ secret = cc in subst HasPublic same (_, refl)
+spec_public (XmssSpec tree) (a ∷ b ∷ c ∷ []) secret can is = let same : Xmss (record { tree = tree; secret_seed = a; prf_key = b; public_seed = c }) ≡ secret = cc in subst HasPublic same (_, refl)
 spec_public (XmssSpec tree) (a ∷ b ∷ c ∷ d ∷ rest) secret can is = absurd (cc)
 
 -- C is drawn with its size
 pub randomizer_size : (secret : Secret) (fields : List (List ℕ)) (randomizer : List ℕ) → AreFields (32 ∷ []) fields
     → randomizer_from secret fields ≡ Some randomizer → (length randomizer ≡ 32) × (has_randomizer secret randomizer ≡ true)
-randomizer_size (Lms pair identifier seed) [] randomizer are is = absurd (cc)
-randomizer_size (Lms pair identifier seed) (a ∷ []) randomizer are is = let same : a ≡ randomizer = cc in (subst (λ c. length c ≡ 32) same are.0, refl)
-randomizer_size (Lms pair identifier seed) (a ∷ b ∷ rest) randomizer are is = absurd (cc)
+randomizer_size (Lms secret) [] randomizer are is = absurd (cc)
+randomizer_size (Lms secret) (a ∷ []) randomizer are is = let same : a ≡ randomizer = cc in (subst (λ c. length c ≡ 32) same are.0, refl)
+randomizer_size (Lms secret) (a ∷ b ∷ rest) randomizer are is = absurd (cc)
 randomizer_size (Hss levels identifier seed) [] randomizer are is = absurd (cc)
 randomizer_size (Hss levels identifier seed) (a ∷ []) randomizer are is = let same : a ≡ randomizer = cc in (subst (λ c. length c ≡ 32) same are.0, refl)
 randomizer_size (Hss levels identifier seed) (a ∷ b ∷ rest) randomizer are is = absurd (cc)
-randomizer_size (Xmss tree secret_seed prf_key public_seed) (a ∷ rest) randomizer are is = absurd (cc)
-randomizer_size (Xmss tree secret_seed prf_key public_seed) [] randomizer are is =
+randomizer_size (Xmss secret) (a ∷ rest) randomizer are is = absurd (cc)
+randomizer_size (Xmss secret) [] randomizer are is =
     let same : replicate 32 0 ≡ randomizer = cc in
     (subst (λ c. length c ≡ 32) same refl, (bytes_decides randomizer (replicate 32 0)).1 (sym same))
 

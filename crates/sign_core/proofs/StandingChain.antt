@@ -34,10 +34,10 @@ use Rattle.sign_core.proofs.Stays.{before_stays, secret_stays, signings_stay}
 
 -- the trees of a key have a type for each level
 levels_of_trees : (secret : Secret) (trees : Trees) → trees_of secret ≡ Some trees → length trees.pairs ≡ levels_of secret
-levels_of_trees (Lms pair identifier seed) trees is = sym (ap (λ t. length t.pairs) (same_Some _ _ is))
+levels_of_trees (Lms secret) trees is = sym (ap (λ t. length t.pairs) (same_Some _ _ is))
 levels_of_trees (Hss [] identifier seed) trees is = absurd (cc)
 levels_of_trees (Hss (pair ∷ rest) identifier seed) trees is = sym (ap (λ t. length t.pairs) (same_Some _ _ is))
-levels_of_trees (Xmss tree secret_seed prf_key public_seed) trees is = absurd (cc)
+levels_of_trees (Xmss secret) trees is = absurd (cc)
 
 -- a chain that stands has no more levels than the key
 pub few_levels : (key : Key) (trees : Trees) (records : List Record) (level : ℕ) (above : List Link) (last : SigningTree) → trees_of key.secret ≡ Some trees

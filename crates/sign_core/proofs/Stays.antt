@@ -125,8 +125,8 @@ hss_stays (Some trees) xs ys level tree bound low =
 
 signature_by_stays : (secret : Secret) (xs ys : List Record) (k : ℕ) (bound : Bound) → 0 < length xs → k ≤ length xs
     → signature_by secret (xs ++ ys) k bound ≡ signature_by secret xs k bound
-signature_by_stays (Lms pair identifier seed) xs ys k bound some within = refl
-signature_by_stays (Xmss tree secret_seed prf_key public_seed) xs ys k bound some within = refl
+signature_by_stays (Lms secret) xs ys k bound some within = refl
+signature_by_stays (Xmss secret) xs ys k bound some within = refl
 signature_by_stays (Hss levels identifier seed) xs ys k bound some within =
     let bottom = length levels - 1 in
     let trees = trees_of (Hss levels identifier seed) in
@@ -145,8 +145,8 @@ digest_under_stays (Some trees) xs ys tree leaf randomizer message low =
 
 digest_by_stays : (secret : Secret) (root : List ℕ) (xs ys : List Record) (k leaf : ℕ) (randomizer message : List ℕ) → 0 < length xs → k ≤ length xs
     → digest_by secret root (xs ++ ys) k leaf randomizer message ≡ digest_by secret root xs k leaf randomizer message
-digest_by_stays (Lms pair identifier seed) root xs ys k leaf randomizer message some within = refl
-digest_by_stays (Xmss tree secret_seed prf_key public_seed) root xs ys k leaf randomizer message some within = refl
+digest_by_stays (Lms secret) root xs ys k leaf randomizer message some within = refl
+digest_by_stays (Xmss secret) root xs ys k leaf randomizer message some within = refl
 digest_by_stays (Hss levels identifier seed) root xs ys k leaf randomizer message some within =
     let bottom = length levels - 1 in
     let trees = trees_of (Hss levels identifier seed) in

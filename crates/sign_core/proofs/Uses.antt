@@ -8,7 +8,8 @@ use Rattle.std.proofs.lemmas.List.{get_or-map, get_or_append_left, get_or_at, le
 use Rattle.std.proofs.lemmas.List.FromFn.{get_or-map-range_with_len, length-map-range_with_len}
 use Rattle.std.proofs.lemmas.Option.{same_Some, slice_get-get_or, slice_get_within}
 use Rattle.typecodes.specs.declared.types.LmsPair.{LmsPair}
-use Rattle.typecodes.specs.declared.types.XmssType.{XmssType}
+use Rattle.typecodes.specs.declared.secret.LmsSecret.{LmsSecret}
+use Rattle.typecodes.specs.declared.secret.XmssSecret.{XmssSecret}
 use Rattle.typecodes.proofs.Unambiguous.{unambiguous}
 use Rattle.lmots.specs.Key.{message_digest_of}
 use Rattle.lms.specs.declared.key.LmsPublic.{LmsPublic}
@@ -43,7 +44,7 @@ use Rattle.sign_core.specs.Records.{current}
 use Rattle.sign_core.specs.Headline.{IsBoundTo, IsLast}
 use Rattle.sign_core.specs.Headline.{LeafUse, MakesUses, lms_use}
 use Rattle.sign_core.specs.Textbook.{AllHaveSizes, AreSound, Trees, damaged_in, lms_public_in, lms_secret, public_by, public_in, secret_at, secret_by}
-use Rattle.sign_core.specs.Textbook.{signature_at, signing_of_bound, signings_above, tree_before, xmss_secret}
+use Rattle.sign_core.specs.Textbook.{signature_at, signing_of_bound, signings_above, tree_before}
 use Rattle.sign_core.proofs.Chains.{SignsNext, current_made}
 use Rattle.sign_core.proofs.TreeSteps.{current_before}
 use Rattle.sign_core.proofs.Valid.{AreLevelsOf, IsSoundlyBound, hss_levels, hss_trees, key_with, soundly_bound, undamaged}
@@ -61,9 +62,9 @@ Signs Moved digest = ⊥
 
 -- the tree at this place goes by this I; that of XMSS is the Key's
 abbrev pub IsTreeOf : Secret → List Record → (tree : ℕ) → (identifier : List ℕ) → Type 0
-IsTreeOf (Lms pair own seed) records tree identifier = (made : Record) × (slice_get records tree ≡ Some made) × (identifier_of made ≡ Some identifier)
-IsTreeOf (Hss levels own seed) records tree identifier = (made : Record) × (slice_get records tree ≡ Some made) × (identifier_of made ≡ Some identifier)
-IsTreeOf (Xmss type secret_seed prf_key public_seed) records tree identifier = tree ≡ 0
+IsTreeOf (Lms own) records tree identifier = (made : Record) × (slice_get records tree ≡ Some made) × (identifier_of made ≡ Some identifier)
+IsTreeOf (Hss levels top seed) records tree identifier = (made : Record) × (slice_get records tree ≡ Some made) × (identifier_of made ≡ Some identifier)
+IsTreeOf (Xmss own) records tree identifier = tree ≡ 0
 
 -- A use is of the leaf that the record at this place names, and of what it signs.
 pub record IsUseOf (key : Key) (records : List Record) (place : ℕ) (use_made : LeafUse) : Type 0 where
@@ -112,14 +113,13 @@ of_one key records k x uses are is =
 
 -- ---- LMS
 
-lms_uses : (records : List Record) (version : Version) (pair : LmsPair) (identifier seed root message : List ℕ) (k : ℕ) (bound : Bound) (uses : List LeafUse)
-    → IsSoundlyBound records (key_with version (Lms pair identifier seed) root) message k bound
-    → MakesUses (AnyLms (lms_public_in pair identifier root)) message (signature_at (key_with version (Lms pair identifier seed) root) records k bound) uses
-    → AreUsesOf (key_with version (Lms pair identifier seed) root) records k uses
-lms_uses records version pair identifier seed root message k bound uses is (s, spelled, are) =
-    let key = key_with version (Lms pair identifier seed) root in
-    let secret = lms_secret pair identifier seed in
-    let public = lms_public_in pair identifier root in
+lms_uses : (records : List Record) (version : Version) (secret : LmsSecret) (root message : List ℕ) (k : ℕ) (bound : Bound) (uses : List LeafUse)
+    → IsSoundlyBound records (key_with version (Lms secret) root) message k bound
+    → MakesUses (AnyLms (lms_public_in secret.pair secret.identifier root)) message (signature_at (key_with version (Lms secret) root) records k bound) uses
+    → AreUsesOf (key_with version (Lms secret) root) records k uses
+lms_uses records version secret root message k bound uses is (s, spelled, are) =
+    let key = key_with version (Lms secret) root in
+    let public = lms_public_in secret.pair secret.identifier root in
     let t = lms_textbook secret bound.leaf bound.randomizer bound.digest in
     let (has_tree, inside, randomizer) = is.fits k (BoundRecord bound) is.stands in
     let t_spelled = textbook_spelled secret bound.leaf bound.randomizer bound.digest inside (is.sizes k (BoundRecord bound) is.stands).0 in
@@ -139,20 +139,19 @@ lms_uses records version pair identifier seed root message k bound uses is (s, s
 xmss_use : XmssPublic → (message : List ℕ) → XmssSignature → LeafUse
 xmss_use key message s = record { identifier = xmss_public_bytes key; leaf = s.index; digest = m_of s.randomizer key.root s.index message }
 
-xmss_uses : (records : List Record) (version : Version) (tree : XmssType) (secret_seed prf_key public_seed root message : List ℕ) (k : ℕ) (bound : Bound)
+xmss_uses : (records : List Record) (version : Version) (secret : XmssSecret) (root message : List ℕ) (k : ℕ) (bound : Bound)
     (uses : List LeafUse)
-    → IsSoundlyBound records (key_with version (Xmss tree secret_seed prf_key public_seed) root) message k bound
-    → MakesUses (AnyXmss (record { tree = tree; root = root; seed = public_seed })) message
-    (signature_at (key_with version (Xmss tree secret_seed prf_key public_seed) root) records k bound) uses
-    → AreUsesOf (key_with version (Xmss tree secret_seed prf_key public_seed) root) records k uses
+    → IsSoundlyBound records (key_with version (Xmss secret) root) message k bound
+    → MakesUses (AnyXmss (record { tree = secret.tree; root = root; seed = secret.public_seed })) message
+    (signature_at (key_with version (Xmss secret) root) records k bound) uses
+    → AreUsesOf (key_with version (Xmss secret) root) records k uses
 unfolding xmss_use
-xmss_uses records version tree secret_seed prf_key public_seed root message k bound uses is (s, spelled, are) =
-    let key = key_with version (Xmss tree secret_seed prf_key public_seed) root in
-    let secret = xmss_secret tree secret_seed prf_key public_seed in
-    let public : XmssPublic = record { tree = tree; root = root; seed = public_seed } in
+xmss_uses records version secret root message k bound uses is (s, spelled, are) =
+    let key = key_with version (Xmss secret) root in
+    let public : XmssPublic = record { tree = secret.tree; root = root; seed = secret.public_seed } in
     let t = xmss_textbook secret bound.leaf bound.digest in
     let (has_tree, inside, randomizer) = is.fits k (BoundRecord bound) is.stands in
-    let same : s ≡ t = (unambiguous (xmss_signature tree) (xmss_one_way tree)).one_value s t (xmss_signature_bytes t) spelled
+    let same : s ≡ t = (unambiguous (xmss_signature secret.tree) (xmss_one_way secret.tree)).one_value s t (xmss_signature_bytes t) spelled
     (xmss_textbook_spelled secret bound.leaf bound.digest inside) in
     of_one key records k (xmss_use public message t) uses (are ∙ ap (λ s. xmss_use public message s ∷ []) same) (record {
       entry = BoundRecord bound;
@@ -332,19 +331,19 @@ uses_by : (records : List Record) (version : Version) (secret : Secret) (root me
     → IsSoundlyBound records (key_with version secret root) message k bound → public_by secret root ≡ Some public
     → MakesUses public message (signature_at (key_with version secret root) records k bound) uses
     → AreUsesOf (key_with version secret root) records k uses
-uses_by records version (Lms pair identifier seed) root message k bound public uses is is_public makes =
-    lms_uses records version pair identifier seed root message k bound uses is
-    (subst (λ p. MakesUses p message (signature_at (key_with version (Lms pair identifier seed) root) records k bound) uses)
-    (sym (same_Some (AnyLms (lms_public_in pair identifier root)) public is_public)) makes)
+uses_by records version (Lms secret) root message k bound public uses is is_public makes =
+    lms_uses records version secret root message k bound uses is
+    (subst (λ p. MakesUses p message (signature_at (key_with version (Lms secret) root) records k bound) uses)
+    (sym (same_Some (AnyLms (lms_public_in secret.pair secret.identifier root)) public is_public)) makes)
 uses_by records version (Hss [] identifier seed) root message k bound public uses is is_public makes = absurd (cc)
 uses_by records version (Hss (pair ∷ rest) identifier seed) root message k bound public uses is is_public makes =
     hss_uses records version pair rest identifier seed root message k bound uses is
     (subst (λ p. MakesUses p message (signature_at (key_with version (Hss (pair ∷ rest) identifier seed) root) records k bound) uses)
     (sym (same_Some (AnyHss (record { levels = length (pair ∷ rest); top = lms_public_in pair identifier root })) public is_public)) makes)
-uses_by records version (Xmss tree secret_seed prf_key public_seed) root message k bound public uses is is_public makes =
-    xmss_uses records version tree secret_seed prf_key public_seed root message k bound uses is
-    (subst (λ p. MakesUses p message (signature_at (key_with version (Xmss tree secret_seed prf_key public_seed) root) records k bound) uses)
-    (sym (same_Some (AnyXmss (record { tree = tree; root = root; seed = public_seed })) public is_public)) makes)
+uses_by records version (Xmss secret) root message k bound public uses is is_public makes =
+    xmss_uses records version secret root message k bound uses is
+    (subst (λ p. MakesUses p message (signature_at (key_with version (Xmss secret) root) records k bound) uses)
+    (sym (same_Some (AnyXmss (record { tree = secret.tree; root = root; seed = secret.public_seed })) public is_public)) makes)
 
 -- Over legal records where the chain of its trees is sound, each use that the textbook signature of a binding makes is that
 -- of a record ..

@@ -5,7 +5,8 @@ use Rattle.std.specs.Prelude.{slice_get, slice_index_or, unwrap_or}
 use Rattle.std.specs.Cmp.Lexicographic.{same_text}
 use Rattle.std.proofs.lemmas.Option.{same_Some, slice_get-get_or, slice_get_within}
 use Rattle.typecodes.specs.declared.types.LmsPair.{LmsPair}
-use Rattle.typecodes.specs.declared.types.XmssType.{XmssType}
+use Rattle.typecodes.specs.declared.secret.LmsSecret.{LmsSecret}
+use Rattle.typecodes.specs.declared.secret.XmssSecret.{XmssSecret}
 use Rattle.typecodes.specs.Types.{height_of}
 use Rattle.lms.specs.Secret.{path_in as lms_path_in, public_of as lms_public_of}
 use Rattle.lms.specs.declared.key.LmsPublic.{LmsPublic}
@@ -37,7 +38,6 @@ use Rattle.sign_core.specs.Records.{current, key_in}
 use Rattle.sign_core.specs.Headline.{IsBoundTo, IsValidUnder}
 use Rattle.sign_core.specs.Textbook.{AllHaveSizes, AreSound, Trees, chain, damaged_in, digest_at, is_sound_at, is_sound_record, lms_public_in}
 use Rattle.sign_core.specs.Textbook.{lms_secret, public_by, public_in, root_by, signature_at, signing_of_bound, signings_above, tree_before}
-use Rattle.sign_core.specs.Textbook.{xmss_secret}
 use Rattle.sign_core.proofs.Bindings.{binding_stands}
 use Rattle.sign_core.proofs.Keys.{key_stands, legal_key}
 use Rattle.sign_core.proofs.TreeSteps.{before_current}
@@ -100,31 +100,29 @@ key_with version secret root = record { version = version; secret = secret; root
 
 -- ---- LMS
 
-lms_checked : (records : List Record) (version : Version) (pair : LmsPair) (identifier seed root message : List ℕ) (k : ℕ) (bound : Bound)
-    → IsSoundlyBound records (key_with version (Lms pair identifier seed) root) message k bound
-    → IsValidUnder (AnyLms (lms_public_in pair identifier root)) message (signature_at (key_with version (Lms pair identifier seed) root) records k bound)
-lms_checked records version pair identifier seed root message k bound is =
-    let secret = lms_secret pair identifier seed in
+lms_checked : (records : List Record) (version : Version) (secret : LmsSecret) (root message : List ℕ) (k : ℕ) (bound : Bound)
+    → IsSoundlyBound records (key_with version (Lms secret) root) message k bound
+    → IsValidUnder (AnyLms (lms_public_in secret.pair secret.identifier root)) message (signature_at (key_with version (Lms secret) root) records k bound)
+lms_checked records version secret root message k bound is =
     let (has_tree, inside, randomizer) = is.fits k (BoundRecord bound) is.stands in
     let s = lms_textbook secret bound.leaf bound.randomizer bound.digest in
     let valid : IsLmsValid (lms_public_of secret) message s =
     lms_signed_valid secret bound.leaf bound.randomizer message bound.digest (lms_path_in secret bound.leaf) inside is.digest refl in (
       s,
       textbook_spelled secret bound.leaf bound.randomizer bound.digest inside (is.sizes k (BoundRecord bound) is.stands).0,
-      subst (λ r. IsLmsValid (lms_public_in pair identifier r) message s) (sym is.root) valid,
+      subst (λ r. IsLmsValid (lms_public_in secret.pair secret.identifier r) message s) (sym is.root) valid,
     )
 
 -- ---- XMSS
 
-xmss_checked : (records : List Record) (version : Version) (tree : XmssType) (secret_seed prf_key public_seed root message : List ℕ) (k : ℕ) (bound : Bound)
-    → IsSoundlyBound records (key_with version (Xmss tree secret_seed prf_key public_seed) root) message k bound
-    → IsValidUnder (AnyXmss (record { tree = tree; root = root; seed = public_seed })) message
-    (signature_at (key_with version (Xmss tree secret_seed prf_key public_seed) root) records k bound)
-xmss_checked records version tree secret_seed prf_key public_seed root message k bound is =
-    let secret = xmss_secret tree secret_seed prf_key public_seed in
+xmss_checked : (records : List Record) (version : Version) (secret : XmssSecret) (root message : List ℕ) (k : ℕ) (bound : Bound)
+    → IsSoundlyBound records (key_with version (Xmss secret) root) message k bound
+    → IsValidUnder (AnyXmss (record { tree = secret.tree; root = root; seed = secret.public_seed })) message
+    (signature_at (key_with version (Xmss secret) root) records k bound)
+xmss_checked records version secret root message k bound is =
     let (has_tree, inside, randomizer) = is.fits k (BoundRecord bound) is.stands in
     let s = xmss_textbook secret bound.leaf bound.digest in
-    let with_root : List ℕ → XmssPublic = λ r. record { tree = tree; root = r; seed = public_seed } in
+    let with_root : List ℕ → XmssPublic = λ r. record { tree = secret.tree; root = r; seed = secret.public_seed } in
     let digest = is.digest ∙ ap (λ r. xmss_digest_in secret r bound.leaf message) is.root in
     let valid : IsXmssValid (xmss_public_of secret) message s =
     xmss_signed_valid secret bound.leaf message bound.digest (xmss_path_in secret bound.leaf) inside digest refl in
@@ -218,19 +216,19 @@ hss_checked records version pair rest identifier seed root message k bound is =
 checked_by : (records : List Record) (version : Version) (secret : Secret) (root message : List ℕ) (k : ℕ) (bound : Bound) (public : AnyPublic)
     → IsSoundlyBound records (key_with version secret root) message k bound → public_by secret root ≡ Some public
     → IsValidUnder public message (signature_at (key_with version secret root) records k bound)
-checked_by records version (Lms pair identifier seed) root message k bound public is is_public =
+checked_by records version (Lms secret) root message k bound public is is_public =
     subst (λ p. IsValidUnder p message
-    (signature_at (key_with version (Lms pair identifier seed) root) records k bound))
-    (same_Some (AnyLms (lms_public_in pair identifier root)) public is_public) (lms_checked records version pair identifier seed root message k bound is)
+    (signature_at (key_with version (Lms secret) root) records k bound))
+    (same_Some (AnyLms (lms_public_in secret.pair secret.identifier root)) public is_public) (lms_checked records version secret root message k bound is)
 checked_by records version (Hss [] identifier seed) root message k bound public is is_public = absurd (cc)
 checked_by records version (Hss (pair ∷ rest) identifier seed) root message k bound public is is_public =
     subst (λ p. IsValidUnder p message (signature_at (key_with version (Hss (pair ∷ rest) identifier seed) root) records k bound))
     (same_Some (AnyHss (record { levels = length (pair ∷ rest); top = lms_public_in pair identifier root })) public is_public)
     (hss_checked records version pair rest identifier seed root message k bound is)
-checked_by records version (Xmss tree secret_seed prf_key public_seed) root message k bound public is is_public =
-    subst (λ p. IsValidUnder p message (signature_at (key_with version (Xmss tree secret_seed prf_key public_seed) root) records k bound))
-    (same_Some (AnyXmss (record { tree = tree; root = root; seed = public_seed })) public is_public)
-    (xmss_checked records version tree secret_seed prf_key public_seed root message k bound is)
+checked_by records version (Xmss secret) root message k bound public is is_public =
+    subst (λ p. IsValidUnder p message (signature_at (key_with version (Xmss secret) root) records k bound))
+    (same_Some (AnyXmss (record { tree = secret.tree; root = root; seed = secret.public_seed })) public is_public)
+    (xmss_checked records version secret root message k bound is)
 
 -- The textbook signature of a binding is valid for each message of its digest, if the chain of its trees is sound.
 pub checked : (records : List Record) (key : Key) (name message : List ℕ) (k : ℕ) (bound : Bound) (public : AnyPublic) → IsLegal records → AllHaveSizes records

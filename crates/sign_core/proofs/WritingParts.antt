@@ -7,6 +7,7 @@ use Rattle.std.proofs.lemmas.Bool.{cases_order}
 use Rattle.std.proofs.lemmas.List.{length-map, get_or-set_other, get_or-set_same, get_or-take, map_push, same_from_push, take_all, take_more}
 use Rattle.std.proofs.lemmas.Option.{get_or_from_slice_get, none-some, same_Some, slice_get-get_or, slice_get_read, slice_get_within}
 use Rattle.std.proofs.lemmas.Simd.{map-map}
+use Rattle.typecodes.specs.declared.secret.LmsSecret.{LmsSecret}
 use Rattle.typecodes.specs.declared.types.LmsPair.{LmsPair}
 use Rattle.lms.specs.Writing.{signature_bytes as lms_signature_bytes, textbook as lms_textbook}
 use Rattle.hss.specs.declared.secret.Level.{Level}
@@ -24,7 +25,7 @@ use Rattle.sign_core.specs.Records.{key_in}
 use Rattle.sign_core.specs.inner.Links.{IsTreeAt, signing_of_link, signings_of}
 use Rattle.sign_core.specs.inner.Signing.{WritesChain, pairs_of as link_pairs}
 use Rattle.sign_core.specs.inner.Writing.{AreLevelsOf, IsLevelOf, chain_bytes, types_by, types_of}
-use Rattle.sign_core.specs.Textbook.{Trees, lms_secret, secret_at, secret_by, signature_at, signature_by, signing_by, signing_of_bound}
+use Rattle.sign_core.specs.Textbook.{Trees, secret_at, secret_by, signature_at, signature_by, signing_by, signing_of_bound}
 use Rattle.sign_core.specs.Textbook.{signings_above, tree_before, trees_of}
 use Rattle.sign_core.proofs.Chains.{got_in-take, named_by}
 use Rattle.sign_core.proofs.Keys.{key_stands}
@@ -167,11 +168,11 @@ chain_types key trees records level place last legal keyed these at bottom last_
     ∙ take_all (level + 1) trees.pairs (omega (arith, bottom, count)) ∙ all
   where
     pairs_by : (secret : Secret) (own : Trees) → trees_of secret ≡ Some own → (own.pairs ≡ types_by secret) × (length own.pairs ≡ bottom_of secret + 1)
-    pairs_by (Lms pair identifier seed) own is = subst (λ (t : Trees). (t.pairs ≡ pair ∷ []) × (length t.pairs ≡ 1)) (same_Some _ own is) (refl, refl)
+    pairs_by (Lms secret) own is = subst (λ (t : Trees). (t.pairs ≡ secret.pair ∷ []) × (length t.pairs ≡ 1)) (same_Some _ own is) (refl, refl)
     pairs_by (Hss [] identifier seed) own is = absurd (cc)
     pairs_by (Hss (pair ∷ rest) identifier seed) own is =
         subst (λ (t : Trees). (t.pairs ≡ pair ∷ rest) × (length t.pairs ≡ length (pair ∷ rest) - 1 + 1)) (same_Some _ own is) (refl, omega arith)
-    pairs_by (Xmss tree secret_seed prf_key public_seed) own is = absurd (cc)
+    pairs_by (Xmss secret) own is = absurd (cc)
 
 -- ---- the signature of a binding
 
@@ -181,8 +182,8 @@ chain_signature : (secret : Secret) (trees : Trees) (records : List Record) (k :
     → let tree = tree_before (bottom_of secret) records k in
     chain_bytes secret (signings_above trees (bottom_of secret) records tree) (signing_of_bound trees records tree bound)
     ≡ signature_by secret records k bound
-chain_signature (Lms pair identifier seed) trees records k bound key first these =
-    let top : secret_at trees records 0 ≡ lms_secret pair identifier seed =
+chain_signature (Lms secret) trees records k bound key first these =
+    let top : secret_at trees records 0 ≡ secret =
     ap (secret_by trees) first ∙ ap (λ (t : Trees). t.top) (sym (same_Some _ trees these)) in
     ap (λ secret. lms_signature_bytes (lms_textbook secret bound.leaf bound.randomizer bound.digest)) top
 chain_signature (Hss [] identifier seed) trees records k bound key first these = absurd (cc)
@@ -191,7 +192,7 @@ chain_signature (Hss (pair ∷ rest) identifier seed) trees records k bound key 
     let tree = tree_before bottom records k in
     ap (λ (t : Trees). hss_signature_bytes (hss_textbook (signings_above t bottom records tree) (signing_of_bound t records tree bound)))
     (sym (same_Some _ trees these))
-chain_signature (Xmss tree secret_seed prf_key public_seed) trees records k bound key first these = absurd (cc)
+chain_signature (Xmss secret) trees records k bound key first these = absurd (cc)
 
 -- So what `write_chain` writes of the links of a binding's chain is the binding's signature.
 pub written_signature : (key : Key) (trees : Trees) (records : List Record) (k : ℕ) (bound : Bound) (links : List Link) (bytes : List ℕ)
@@ -211,26 +212,26 @@ first_signing : (links : List Link) (link : Link) → get_or (signings_of links)
 first_signing [] link = refl
 first_signing (first ∷ rest) link = refl
 
-lms_written_at : (pair : LmsPair) (identifier seed : List ℕ) (links : List Link) (link : Link) (bytes : List ℕ) → link ≡ get_or links 0 link
+lms_written_at : (secret : LmsSecret) (links : List Link) (link : Link) (bytes : List ℕ) → link ≡ get_or links 0 link
     → bytes ≡ lms_signature_bytes (lms_textbook link.tree.secret link.tree.leaf link.randomizer link.digest)
-    → WritesChain (Lms pair identifier seed) links bytes
-lms_written_at pair identifier seed links link bytes at written trees records k bound (key, keyed) these signs =
+    → WritesChain (Lms secret) links bytes
+lms_written_at secret links link bytes at written trees records k bound (key, keyed) these signs =
     written
     ∙ ap (λ (s : Signing). lms_signature_bytes (lms_textbook s.secret s.leaf s.randomizer s.digest))
     (ap signing_of_link at ∙ sym (first_signing links link) ∙ ap (λ l. get_or l 0 (signing_of_link link)) signs)
-    ∙ chain_signature (Lms pair identifier seed) trees records k bound key (key_stands records key keyed) these
+    ∙ chain_signature (Lms secret) trees records k bound key (key_stands records key keyed) these
 
-pub lms_written : (secret : Secret) (pair : LmsPair) (identifier seed : List ℕ) (links : List Link) (link : Link) (bytes : List ℕ)
-    → secret ≡ Lms pair identifier seed → link ≡ get_or links 0 link
+pub lms_written : (secret : Secret) (own : LmsSecret) (links : List Link) (link : Link) (bytes : List ℕ)
+    → secret ≡ Lms own → link ≡ get_or links 0 link
     → bytes ≡ lms_signature_bytes (lms_textbook link.tree.secret link.tree.leaf link.randomizer link.digest) → WritesChain secret links bytes
-lms_written secret pair identifier seed links link bytes is at written =
-    subst (λ s. WritesChain s links bytes) (sym is) (lms_written_at pair identifier seed links link bytes at written)
+lms_written secret own links link bytes is at written =
+    subst (λ s. WritesChain s links bytes) (sym is) (lms_written_at own links link bytes at written)
 
 some_pairs : (secret : Secret) (trees : Trees) → trees_of secret ≡ Some trees → 0 < length trees.pairs
-some_pairs (Lms pair identifier seed) trees these = subst (λ (t : Trees). 0 < length t.pairs) (same_Some _ trees these) (omega arith)
+some_pairs (Lms secret) trees these = subst (λ (t : Trees). 0 < length t.pairs) (same_Some _ trees these) (omega arith)
 some_pairs (Hss [] identifier seed) trees these = absurd (cc)
 some_pairs (Hss (pair ∷ rest) identifier seed) trees these = subst (λ (t : Trees). 0 < length t.pairs) (same_Some _ trees these) (omega arith)
-some_pairs (Xmss tree secret_seed prf_key public_seed) trees these = absurd (cc)
+some_pairs (Xmss secret) trees these = absurd (cc)
 
 -- a chain of the key's types has a link
 pub some_links : (secret : Secret) (trees : Trees) (links : List Link) → trees_of secret ≡ Some trees → link_pairs links ≡ trees.pairs → 0 < length links

@@ -58,7 +58,7 @@ pub record LacksLevel (key : Key) (records : List Record) (lowest before : ℕ) 
 -- The cache of the one tree of an XMSS key isn't there.
 pub record LacksXmss (key : Key) (cached : Cached) : Type 0 where
   pub secret : XmssSecret
-  pub of_key : key.secret ≡ Xmss secret.tree secret.secret_seed secret.prf_key secret.public_seed
+  pub of_key : key.secret ≡ Xmss secret
   pub lacks : cached.xmss ≢ Some secret
 
 -- The cache of a tree isn't there that a signature needs by the records before this place, down to this level: that of

@@ -34,9 +34,9 @@ IsTreeDraw draw = AreFields tree_sizes draw.fields
 
 -- what a binding draws: C, but nothing for XMSS
 abbrev pub randomizer_sizes : Secret → List ℕ
-randomizer_sizes (LmsSecret pair identifier seed) = 32 ∷ []
+randomizer_sizes (LmsSecret secret) = 32 ∷ []
 randomizer_sizes (HssSecret levels identifier seed) = 32 ∷ []
-randomizer_sizes (XmssSecret tree secret_seed prf_key public_seed) = []
+randomizer_sizes (XmssSecret secret) = []
 
 -- The draws of a request: those of trees, and C for the binding.
 pub record AreDraws (chance : Chance) : Type 0 where

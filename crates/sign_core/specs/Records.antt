@@ -175,9 +175,9 @@ is_free secret records level leaf =
 
 -- C stands in the records of bindings, but for XMSS, where it is zero
 abbrev pub has_randomizer : Secret → (randomizer : List ℕ) → Bool
-has_randomizer (Lms pair identifier seed) randomizer = true
+has_randomizer (Lms secret) randomizer = true
 has_randomizer (Hss levels identifier seed) randomizer = true
-has_randomizer (Xmss tree secret_seed prf_key public_seed) randomizer = are_same randomizer (replicate 32 0)
+has_randomizer (Xmss secret) randomizer = are_same randomizer (replicate 32 0)
 
 -- how many leaves a level's current tree has, 0 where there is none
 abbrev pub leaves_of_current : Secret → List Record → (level : ℕ) → ℕ

@@ -165,9 +165,9 @@ UnlessAppended old new answer Kept = new.records ≡ old.records → is_fault is
 
 -- how many bytes a key's signatures have
 abbrev pub signature_size : Secret → ℕ
-signature_size (Lms pair identifier seed) = lms_signature_len_of pair
+signature_size (Lms secret) = lms_signature_len_of secret.pair
 signature_size (Hss levels identifier seed) = hss_signature_size levels
-signature_size (Xmss tree secret_seed prf_key public_seed) = xmss_signature_len_of tree
+signature_size (Xmss secret) = xmss_signature_len_of secret.tree
 
 -- how many records a new name wants
 abbrev pub wanted_by : Secret → Option ℕ → ℕ

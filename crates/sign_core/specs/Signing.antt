@@ -26,4 +26,4 @@ KeepsCapacity records old new = (old ≤ new) × UnderKey records (λ key. new �
 
 -- the secret of an XMSS key
 abbrev pub IsXmssKey : XmssSecret → Key → Type 0
-IsXmssKey secret key = key.secret ≡ Xmss secret.tree secret.secret_seed secret.prf_key secret.public_seed
+IsXmssKey secret key = key.secret ≡ Xmss secret

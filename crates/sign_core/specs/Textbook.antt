@@ -3,7 +3,6 @@ use Rattle.std.specs.Prelude.{◌≡◌, ℕ, zero, suc, ◌-◌, Bool, true, fa
 use Rattle.std.specs.Prelude.{length, take, find, slice_get, slice_index_or, unwrap_or}
 use Rattle.std.specs.Prelude.{Option, Some, None}
 use Rattle.typecodes.specs.declared.types.LmsPair.{LmsPair}
-use Rattle.typecodes.specs.declared.types.XmssType.{XmssType}
 use Rattle.typecodes.specs.Levels.{AreLevels}
 use Rattle.lmots.specs.Key.{message_digest_of}
 use Rattle.lms.specs.declared.key.LmsPublic.{LmsPublic}
@@ -11,7 +10,6 @@ use Rattle.typecodes.specs.declared.secret.LmsSecret.{LmsSecret}
 use Rattle.lms.specs.Secret.{public_of as lms_public_of, root_in as lms_root_in}
 use Rattle.lms.specs.Writing.{public_bytes as lms_public_bytes, signature_bytes as lms_signature_bytes}
 use Rattle.lms.specs.Writing.{textbook as lms_textbook}
-use Rattle.typecodes.specs.declared.secret.XmssSecret.{XmssSecret}
 use Rattle.xmss.specs.Secret.{digest_in as xmss_digest_in, root_in as xmss_root_in}
 use Rattle.xmss.specs.Writing.{signature_bytes as xmss_signature_bytes, textbook as xmss_textbook}
 use Rattle.hss.specs.Secret.{Signing}
@@ -34,11 +32,6 @@ use Rattle.sign_core.specs.Records.{are_same, current, key_in}
 -- the secret of an LMS tree
 abbrev pub lms_secret : LmsPair → (identifier seed : List ℕ) → LmsSecret
 lms_secret pair identifier seed = record { pair = pair; identifier = identifier; seed = seed }
-
--- that of an XMSS tree
-abbrev pub xmss_secret : XmssType → (secret_seed prf_key public_seed : List ℕ) → XmssSecret
-xmss_secret tree secret_seed prf_key public_seed =
-    record { tree = tree; secret_seed = secret_seed; prf_key = prf_key; public_seed = public_seed }
 
 -- The LMS trees of a key, one or more levels of them: the top tree's secret, and the types of each level's trees.
 pub record Trees : Type 0 where
@@ -104,24 +97,23 @@ signing_of_bound trees records tree bound = record {
 
 -- The LMS trees of a key; XMSS has none.
 abbrev pub trees_of : Secret → Option Trees
-trees_of (Lms pair identifier seed) =
-    Some (record { top = lms_secret pair identifier seed; pairs = pair ∷ [] })
+trees_of (Lms secret) = Some (record { top = secret; pairs = secret.pair ∷ [] })
 trees_of (Hss [] identifier seed) = None
 trees_of (Hss (pair ∷ rest) identifier seed) =
     Some (record { top = lms_secret pair identifier seed; pairs = pair ∷ rest })
-trees_of (Xmss tree secret_seed prf_key public_seed) = None
+trees_of (Xmss secret) = None
 
 -- the public key that a Key record says
 abbrev pub lms_public_in : LmsPair → (identifier root : List ℕ) → LmsPublic
 lms_public_in pair identifier root = record { pair = pair; identifier = identifier; root = root }
 
 abbrev pub public_by : Secret → (root : List ℕ) → Option AnyPublic
-public_by (Lms pair identifier seed) root = Some (AnyLms (lms_public_in pair identifier root))
+public_by (Lms secret) root = Some (AnyLms (lms_public_in secret.pair secret.identifier root))
 public_by (Hss [] identifier seed) root = None
 public_by (Hss (pair ∷ rest) identifier seed) root =
     Some (AnyHss (record { levels = length (pair ∷ rest); top = lms_public_in pair identifier root }))
-public_by (Xmss tree secret_seed prf_key public_seed) root =
-    Some (AnyXmss (record { tree = tree; root = root; seed = public_seed }))
+public_by (Xmss secret) root =
+    Some (AnyXmss (record { tree = secret.tree; root = root; seed = secret.public_seed }))
 
 abbrev pub public_in : Key → Option AnyPublic
 public_in key = public_by key.secret key.root
@@ -134,13 +126,12 @@ digest_under (Some trees) records tree leaf randomizer message =
     message_digest_of (secret_at trees records tree).identifier leaf randomizer message
 
 abbrev pub digest_by : Secret → (root : List ℕ) → List Record → (k leaf : ℕ) → (randomizer message : List ℕ) → List ℕ
-digest_by (Lms pair identifier seed) root records k leaf randomizer message =
-    message_digest_of identifier leaf randomizer message
+digest_by (Lms secret) root records k leaf randomizer message =
+    message_digest_of secret.identifier leaf randomizer message
 digest_by (Hss levels identifier seed) root records k leaf randomizer message =
     digest_under (trees_of (Hss levels identifier seed)) records (tree_before (length levels - 1) records k) leaf
     randomizer message
-digest_by (Xmss tree secret_seed prf_key public_seed) root records k leaf randomizer message =
-    xmss_digest_in (xmss_secret tree secret_seed prf_key public_seed) root leaf message
+digest_by (Xmss secret) root records k leaf randomizer message = xmss_digest_in secret root leaf message
 
 abbrev pub digest_at : Key → List Record → (k leaf : ℕ) → (randomizer message : List ℕ) → List ℕ
 digest_at key records k leaf randomizer message = digest_by key.secret key.root records k leaf randomizer message
@@ -155,13 +146,13 @@ hss_signature_under (Some trees) records level tree bound =
     hss_signature_bytes (hss_textbook above (signing_of_bound trees records tree bound))
 
 abbrev pub signature_by : Secret → List Record → (k : ℕ) → Bound → List ℕ
-signature_by (Lms pair identifier seed) records k bound =
-    lms_signature_bytes (lms_textbook (lms_secret pair identifier seed) bound.leaf bound.randomizer bound.digest)
+signature_by (Lms secret) records k bound =
+    lms_signature_bytes (lms_textbook secret bound.leaf bound.randomizer bound.digest)
 signature_by (Hss levels identifier seed) records k bound =
     let bottom = length levels - 1 in
     hss_signature_under (trees_of (Hss levels identifier seed)) records bottom (tree_before bottom records k) bound
-signature_by (Xmss tree secret_seed prf_key public_seed) records k bound =
-    xmss_signature_bytes (xmss_textbook (xmss_secret tree secret_seed prf_key public_seed) bound.leaf bound.digest)
+signature_by (Xmss secret) records k bound =
+    xmss_signature_bytes (xmss_textbook secret bound.leaf bound.digest)
 
 abbrev pub signature_at : Key → List Record → (k : ℕ) → Bound → List ℕ
 signature_at key records k bound = signature_by key.secret records k bound
@@ -170,11 +161,10 @@ signature_at key records k bound = signature_by key.secret records k bound
 
 -- the root of a key's top tree
 abbrev pub root_by : Secret → List ℕ
-root_by (Lms pair identifier seed) = lms_root_in (lms_secret pair identifier seed)
+root_by (Lms secret) = lms_root_in secret
 root_by (Hss [] identifier seed) = []
 root_by (Hss (pair ∷ rest) identifier seed) = lms_root_in (lms_secret pair identifier seed)
-root_by (Xmss tree secret_seed prf_key public_seed) =
-    xmss_root_in (xmss_secret tree secret_seed prf_key public_seed)
+root_by (Xmss secret) = xmss_root_in secret
 
 -- An Extend at place k: its root is that of the tree's secret, and its digest that of the tree's public key under the
 -- parent's I and leaf.
@@ -214,10 +204,10 @@ pub record AreSound (records : List Record) : Type 0 where
 
 -- the parts of a secret have their sizes in bytes, and it has 1 to 8 levels
 abbrev pub SecretHasSizes : Secret → Type 0
-SecretHasSizes (Lms pair identifier seed) = (length identifier ≡ 16) × (length seed ≡ 32)
+SecretHasSizes (Lms secret) = (length secret.identifier ≡ 16) × (length secret.seed ≡ 32)
 SecretHasSizes (Hss levels identifier seed) = (length identifier ≡ 16) × (length seed ≡ 32) × AreLevels levels
-SecretHasSizes (Xmss tree secret_seed prf_key public_seed) =
-    (length secret_seed ≡ 32) × (length prf_key ≡ 32) × (length public_seed ≡ 32)
+SecretHasSizes (Xmss secret) =
+    (length secret.secret_seed ≡ 32) × (length secret.prf_key ≡ 32) × (length secret.public_seed ≡ 32)
 
 -- the parts of a record have theirs
 abbrev pub HasSizes : Record → Type 0

@@ -185,12 +185,12 @@ pub record Creation : Type 0 where
 
 -- what a key is made from: I and SEED, or the three seeds of XMSS, in the order in which they are drawn
 abbrev pub secret_from : Spec → (fields : List (List ℕ)) → Option Secret
-secret_from (LmsSpec pair) (identifier ∷ seed ∷ []) = Some (Lms pair identifier seed)
+secret_from (LmsSpec pair) (identifier ∷ seed ∷ []) = Some (Lms (lms_secret pair identifier seed))
 secret_from (LmsSpec pair) fields = None
 secret_from (HssSpec levels) (identifier ∷ seed ∷ []) = Some (Hss levels identifier seed)
 secret_from (HssSpec levels) fields = None
 secret_from (XmssSpec tree) (secret_seed ∷ prf_key ∷ public_seed ∷ []) =
-    Some (Xmss tree secret_seed prf_key public_seed)
+    Some (Xmss (record { tree = tree; secret_seed = secret_seed; prf_key = prf_key; public_seed = public_seed }))
 secret_from (XmssSpec tree) fields = None
 
 -- the key that is made from it, in a file of a version
@@ -334,12 +334,12 @@ begin_trees key (suc below) draws = do
 
 -- C, which XMSS doesn't draw: it makes it of the leaf's number
 abbrev pub randomizer_from : Secret → (fields : List (List ℕ)) → Option (List ℕ)
-randomizer_from (Lms pair identifier seed) (randomizer ∷ []) = Some randomizer
-randomizer_from (Lms pair identifier seed) fields = None
+randomizer_from (Lms secret) (randomizer ∷ []) = Some randomizer
+randomizer_from (Lms secret) fields = None
 randomizer_from (Hss levels identifier seed) (randomizer ∷ []) = Some randomizer
 randomizer_from (Hss levels identifier seed) fields = None
-randomizer_from (Xmss tree secret_seed prf_key public_seed) [] = Some (replicate 32 0)
-randomizer_from (Xmss tree secret_seed prf_key public_seed) fields = None
+randomizer_from (Xmss secret) [] = Some (replicate 32 0)
+randomizer_from (Xmss secret) fields = None
 
 -- the binding of a name to a leaf and to the message's digest under it
 abbrev pub new_bound : Key → List Record → (name : List ℕ) → (leaf : ℕ) → (randomizer message : List ℕ) → Bound

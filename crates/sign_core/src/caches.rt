@@ -12,12 +12,13 @@ ghost use Rattle.sign_core.specs.Textbook.{damaged_in};
 use crate::fault::SignFault;
 use crate::links::SigningTree;
 use crate::roots::xmss_root;
-use lms::{LmsSecret, LmsTree};
+use lms::LmsTree;
 use merkle::{OutOfMemory, PathCache};
 use std::alloc::Global;
 use std::marker::Model;
 use std::mem;
-use xmss::{XmssSecret, XmssTree};
+use typecodes::{LmsSecret, XmssSecret};
+use xmss::XmssTree;
 
 // Whether two secrets of LMS trees are the same.
 fn is_same(one: &LmsSecret, other: &LmsSecret) -> bool
@@ -34,7 +35,7 @@ pub(crate) struct LmsCache {
 }
 
 impl Model for LmsCache {
-    ghost use Rattle.lms.specs.declared.secret.LmsSecret.{LmsSecret as Secret};
+    ghost use Rattle.typecodes.specs.declared.secret.LmsSecret.{LmsSecret as Secret};
     ghost use Rattle.sign_core.specs.Caches.{IsLmsCache};
 
     ghost Value = { Secret };
@@ -87,7 +88,7 @@ pub(crate) struct XmssCache {
 }
 
 impl Model for XmssCache {
-    ghost use Rattle.xmss.specs.declared.secret.XmssSecret.{XmssSecret as Secret};
+    ghost use Rattle.typecodes.specs.declared.secret.XmssSecret.{XmssSecret as Secret};
     ghost use Rattle.sign_core.specs.Caches.{IsXmssCache};
 
     ghost Value = { Secret };

@@ -14,10 +14,9 @@ use crate::caches::Caches;
 use crate::ledger::{Binding, Ledger};
 use crate::links::{Link, SigningTree};
 use arrayvec::ArrayVec;
-use lms::LmsSecret;
 use merkle::OutOfMemory;
 use state_file::Extend;
-use typecodes::LmsPair;
+use typecodes::{LmsPair, LmsSecret};
 
 /// The LMS trees of a key: the top tree's secret, and the types of each level's trees.
 #[derive(Clone, Copy)]

@@ -86,13 +86,9 @@ fn public_of(key: &Key) -> AnyPublic
     ensures { public_in key.now ≡ Some result }
 {
     match &key.secret {
-        Secret::Lms {
-            pair,
-            identifier,
-            ..
-        } => AnyPublic::Lms(LmsPublic {
-            pair: *pair,
-            identifier: *identifier,
+        Secret::Lms(secret) => AnyPublic::Lms(LmsPublic {
+            pair: secret.pair,
+            identifier: secret.identifier,
             root: key.root,
         }),
         Secret::Hss {
@@ -107,14 +103,10 @@ fn public_of(key: &Key) -> AnyPublic
                 root: key.root,
             },
         }),
-        Secret::Xmss {
-            tree,
-            public_seed,
-            ..
-        } => AnyPublic::Xmss(XmssPublic {
-            tree: *tree,
+        Secret::Xmss(secret) => AnyPublic::Xmss(XmssPublic {
+            tree: secret.tree,
             root: key.root,
-            seed: *public_seed,
+            seed: secret.public_seed,
         }),
     }
 }
@@ -274,15 +266,12 @@ impl Ledger {
         ensures { result ≡ has_identifier self.now.records identifier.now }
     {
         let is_top = match &self.key.secret {
-            Secret::Lms {
-                identifier: top,
-                ..
-            }
-            | Secret::Hss {
+            Secret::Lms(top) => top.identifier == *identifier,
+            Secret::Hss {
                 identifier: top,
                 ..
             } => top == identifier,
-            Secret::Xmss { .. } => false,
+            Secret::Xmss(_) => false,
         };
         is_top || self.identifiers.contains_key(identifier)
     }
@@ -373,8 +362,8 @@ impl Ledger {
         ensures { result ≡ can_follow_legal self.now.key self.now.records (BoundRecord bound.now) }
     {
         let has_randomizer = match self.key.secret {
-            Secret::Lms { .. } | Secret::Hss { .. } => true,
-            Secret::Xmss { .. } => bound.randomizer == [0; 32],
+            Secret::Lms(_) | Secret::Hss { .. } => true,
+            Secret::Xmss(_) => bound.randomizer == [0; 32],
         };
         self.is_free(self.key.secret.levels() - 1, bound.leaf)
             && self.find(&bound.name).is_none()
@@ -473,15 +462,21 @@ impl Ledger {
             Some(tree) => tree.place,
             None => 0,
         };
-        self.trees.bind(bottom, bound.leaf);
+        let Bound {
+            name,
+            leaf,
+            randomizer,
+            digest,
+        } = bound;
+        self.trees.bind(bottom, leaf);
         let binding = Binding {
             place: self.count,
-            leaf: bound.leaf,
-            randomizer: bound.randomizer,
-            digest: bound.digest,
+            leaf,
+            randomizer,
+            digest,
             tree,
         };
-        let _ = self.bindings.insert(bound.name.copied(), binding);
+        let _ = self.bindings.insert(name, binding);
         self.records.push(&Record::Bound(bound));
         self.count += 1;
     }

@@ -8,9 +8,9 @@ ghost use Rattle.lms.specs.Writing.{public_bytes};
 use crate::roots::lms_root;
 use hss::Level;
 use lmots::LmOts;
-use lms::{LmsPublic, LmsSecret, write_public};
+use lms::{LmsPublic, write_public};
 use state_file::Extend;
-use typecodes::{LmsPair, LmsType, OtsType};
+use typecodes::{LmsPair, LmsSecret, LmsType, OtsType};
 
 /// A tree of a chain with its root, and the leaf of it that is to sign, with the leaf's authentication path.
 #[derive(Clone, Copy)]

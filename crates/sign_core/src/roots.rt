@@ -5,9 +5,10 @@ ghost use Rattle.typecodes.specs.Types.{height_of, xmss_height_of};
 ghost use Rattle.lms.specs.Secret.{path_in as lms_path_in, root_in as lms_root_in};
 ghost use Rattle.xmss.specs.Secret.{path_in as xmss_path_in, root_in as xmss_root_in};
 
-use lms::{LmsSecret, LmsTree};
+use lms::LmsTree;
 use merkle::{TreeHash, path, root_from_path};
-use xmss::{XmssSecret, XmssTree};
+use typecodes::{LmsSecret, XmssSecret};
+use xmss::XmssTree;
 
 /// Writes the authentication path of a leaf, and answers the root of the secret's tree.
 pub(crate) fn lms_root(secret: LmsSecret, leaf: u32, into: &mut [[u8; 32]]) -> [u8; 32]

@@ -8,7 +8,7 @@ ghost use Rattle.sign_core.specs.Events.{AreFields};
 ghost use Rattle.sign_core.specs.inner.Signer.{DrawsSecret, Hinders, IsAnsweredByKey, IsAppended, IsTakenUp};
 ghost use Rattle.sign_core.specs.Signer.{IsTied, LoadsAll, MakesKey};
 ghost use Rattle.sign_core.specs.inner.Signer.{LoadsRecord, LooksForKey, TakesUpLoaded};
-ghost use Rattle.sign_core.specs.Textbook.{HasSizes, SecretHasSizes, lms_secret, root_by};
+ghost use Rattle.sign_core.specs.Textbook.{HasSizes, SecretHasSizes, root_by};
 ghost use Rattle.state_file.specs.declared.record.Record.TheVariants.{Key as KeyRecord};
 ghost use Rattle.typecodes.specs.Layout.{AreBytes};
 ghost use Rattle.typecodes.specs.Spec.{IsSpec};
@@ -25,13 +25,13 @@ use crate::key::AnyPublic;
 use crate::ledger::{Ledger, LedgerFault};
 use crate::source::{Source, draw};
 use arrayvec::ArrayVec;
-use lms::{LmsSecret, LmsTree};
+use lms::LmsTree;
 use merkle::root;
 use state_file::{Key, Record, Refused, Secret, Store, StoreFault, Version};
 use std::alloc::Global;
 use std::marker::Model;
-use typecodes::{LmsPair, Spec};
-use xmss::{XmssSecret, XmssTree};
+use typecodes::{LmsSecret, Spec, XmssSecret};
+use xmss::XmssTree;
 
 /// Signs messages under names, each new name with a leaf of its own. What it signed stands in its store, and it draws
 /// its secrets and randomizers from its source.
@@ -108,22 +108,22 @@ fn draw_secret<R: Source>(spec: &Spec, random: &mut R) -> Result<Secret, SignFau
     ensures { DrawsSecret R.Source spec.now random.old random.new result }
 {
     match spec {
-        Spec::Lms(pair) => Ok(Secret::Lms {
+        Spec::Lms(pair) => Ok(Secret::Lms(LmsSecret {
             pair: *pair,
             identifier: draw_field(random)?,
             seed: draw_field(random)?,
-        }),
+        })),
         Spec::Hss(levels) => Ok(Secret::Hss {
             levels: levels.copied(),
             identifier: draw_field(random)?,
             seed: draw_field(random)?,
         }),
-        Spec::Xmss(tree) => Ok(Secret::Xmss {
+        Spec::Xmss(tree) => Ok(Secret::Xmss(XmssSecret {
             tree: *tree,
             secret_seed: draw_field(random)?,
             prf_key: draw_field(random)?,
             public_seed: draw_field(random)?,
-        }),
+        })),
     }
 }
 
@@ -132,43 +132,25 @@ fn root_of(secret: &Secret) -> [u8; 32]
     ensures { result ≡ root_by secret.now }
 {
     match secret {
-        Secret::Lms {
-            pair,
-            identifier,
-            seed,
-        } => lms_root_of(*pair, identifier, seed),
+        Secret::Lms(secret) => lms_root_of(*secret),
         Secret::Hss {
             levels,
             identifier,
             seed,
-        } => lms_root_of(levels.as_slice()[0], identifier, seed),
-        Secret::Xmss {
-            tree,
-            secret_seed,
-            prf_key,
-            public_seed,
-        } => {
-            let secret = XmssSecret {
-                tree: *tree,
-                secret_seed: *secret_seed,
-                prf_key: *prf_key,
-                public_seed: *public_seed,
-            };
-            root(&mut XmssTree::new(secret), tree.height())
-        }
+        } => lms_root_of(LmsSecret {
+            pair: levels.as_slice()[0],
+            identifier: *identifier,
+            seed: *seed,
+        }),
+        Secret::Xmss(secret) => root(&mut XmssTree::new(*secret), secret.tree.height()),
     }
 }
 
 // The root of an LMS tree.
-fn lms_root_of(pair: LmsPair, identifier: &[u8; 16], seed: &[u8; 32]) -> [u8; 32]
-    ensures { result ≡ root_in (lms_secret pair identifier.now seed.now) }
+fn lms_root_of(secret: LmsSecret) -> [u8; 32]
+    ensures { result ≡ root_in secret }
 {
-    let secret = LmsSecret {
-        pair,
-        identifier: *identifier,
-        seed: *seed,
-    };
-    root(&mut LmsTree::new(secret), pair.tree.height())
+    root(&mut LmsTree::new(secret), secret.pair.tree.height())
 }
 
 // How many levels a key of the spec has, which are 1 to 8 by their type.

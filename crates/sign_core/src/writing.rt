@@ -20,18 +20,17 @@ ghost use Rattle.xmss.specs.Writing.{signature_bytes as xmss_signature_bytes, te
 use crate::fault::SignFault;
 use crate::links::Link;
 use hss::Level;
-use lms::LmsSecret;
 use state_file::Secret;
-use xmss::XmssSecret;
+use typecodes::{LmsSecret, XmssSecret};
 
 /// How many bytes a key's signatures have.
 pub(crate) fn signature_len(secret: &Secret) -> u32
     ensures { result ≡ signature_size secret.now }
 {
     match secret {
-        Secret::Lms { pair, .. } => pair.signature_len(),
+        Secret::Lms(secret) => secret.pair.signature_len(),
         Secret::Hss { levels, .. } => hss::signature_len(levels),
-        Secret::Xmss { tree, .. } => tree.signature_len(),
+        Secret::Xmss(secret) => secret.tree.signature_len(),
     }
 }
 
@@ -147,9 +146,9 @@ pub(crate) fn write_chain(secret: &Secret, links: &[Link], into: &mut [u8])
     ensures { WritesChain secret.now links.now into.new }
 {
     match secret {
-        Secret::Lms { .. } => links[0].write(into),
+        Secret::Lms(_) => links[0].write(into),
         Secret::Hss { .. } => write_hss_links(links, into),
-        Secret::Xmss { .. } => {}
+        Secret::Xmss(_) => {}
     }
 }
 

@@ -17,7 +17,7 @@ use Rattle.sign_core.specs.Textbook.{trees_of}
 -- what signs under a key with this secret
 abbrev pub IsScheme : Secret → Scheme → Type 0
 IsScheme secret (scheme.Chain trees) = trees_of secret ≡ Some (trees_in trees)
-IsScheme secret (scheme.Xmss tree) = secret ≡ Xmss tree.tree tree.secret_seed tree.prf_key tree.public_seed
+IsScheme secret (scheme.Xmss tree) = secret ≡ Xmss tree
 
 -- Room is made for the records that a new name wants, of which this level is the deepest with a free leaf, and for its
 -- signature, and the caches of the trees that it needs are there; or the store doesn't take as many records, or memory

@@ -17,16 +17,16 @@ types_of signings = map (λ signing. signing.secret.pair) signings
 
 -- the types of a key's LMS trees, from the top down; XMSS has none
 abbrev pub types_by : Secret → List LmsPair
-types_by (Lms pair identifier seed) = pair ∷ []
+types_by (Lms secret) = secret.pair ∷ []
 types_by (Hss levels identifier seed) = levels
-types_by (Xmss tree secret_seed prf_key public_seed) = []
+types_by (Xmss secret) = []
 
 -- The textbook signature of a key's chain, of the trees above the bottom one and of that: an LMS key has one tree.
 abbrev pub chain_bytes : Secret → (above : List Signing) → (bottom : Signing) → List ℕ
-chain_bytes (Lms pair identifier seed) above bottom =
+chain_bytes (Lms secret) above bottom =
     lms_signature_bytes (lms_textbook bottom.secret bottom.leaf bottom.randomizer bottom.digest)
 chain_bytes (Hss levels identifier seed) above bottom = hss_signature_bytes (hss_textbook above bottom)
-chain_bytes (Xmss tree secret_seed prf_key public_seed) above bottom = []
+chain_bytes (Xmss secret) above bottom = []
 
 -- A level of a signature is that of a link, with the root and the path that its secret makes.
 pub record IsLevelOf (link : Link) (level : Level) : Type 0 where

@@ -22,10 +22,8 @@ use crate::source::{Source, draw};
 use crate::writing::{make_room, write_chain, write_xmss};
 use arrayvec::ArrayVec;
 use lmots::LmOts;
-use lms::LmsSecret;
 use state_file::{Bound, Extend, Record, Store};
-use typecodes::{Message, Name};
-use xmss::XmssSecret;
+use typecodes::{LmsSecret, Message, Name, XmssSecret};
 
 /// What a new tree draws: I and SEED, and C for the leaf that signs it.
 #[derive(Clone, Copy)]
@@ -219,7 +217,7 @@ impl<S: Store, R: Source> Signer<S, R> {
         let one_time = LmOts { identifier, leaf };
         let digest = read_digest(&one_time, &randomizer, message)?;
         self.add(Record::Bound(Bound {
-            name: name.copied(),
+            name: *name,
             leaf,
             randomizer,
             digest,
@@ -250,10 +248,10 @@ impl<S: Store, R: Source> Signer<S, R> {
         self.caches
             .xmss_link(*secret, &root, leaf, path)
             .map_err(SignFault::Damaged)?;
-        let randomizer = secret.randomizer(leaf);
+        let randomizer = xmss::randomizer(secret, leaf);
         let digest = read_xmss_digest(&randomizer, &root, leaf, message)?;
         self.add(Record::Bound(Bound {
-            name: name.copied(),
+            name: *name,
             leaf,
             randomizer: [0; 32],
             digest,

@@ -20,8 +20,7 @@ use crate::writing::{make_room, write_chain, write_xmss};
 use arrayvec::ArrayVec;
 use lmots::LmOts;
 use state_file::Store;
-use typecodes::Message;
-use xmss::XmssSecret;
+use typecodes::{Message, XmssSecret};
 
 // Makes the cache of an XMSS key's tree, which is to sign by this leaf, unless it is there.
 fn cache_xmss(caches: &mut Caches, secret: &XmssSecret, leaf: u32) -> Result<(), SignFault>
@@ -144,7 +143,7 @@ impl<S: Store, R: Source> Signer<S, R> {
     {
         let leaf = binding.leaf;
         let root = self.ledger.key().root;
-        let randomizer = secret.randomizer(leaf);
+        let randomizer = xmss::randomizer(secret, leaf);
         let digest = read_xmss_digest(&randomizer, &root, leaf, message)?;
         if digest != binding.digest {
             return Err(SignFault::Changed);

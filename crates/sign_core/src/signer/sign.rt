@@ -1,7 +1,7 @@
 //! `sign`: what refuses a request at once, and whether it repeats a bound name or binds a new one.
 
 ghost use Rattle.std.specs.Prelude.{◌≡◌, ◌<◌, [], None, Some, vec_capacity, IfErr, IsSome, OnErr, ◌≤◌, ◌↔◌};
-ghost use Rattle.xmss.specs.declared.secret.XmssSecret.{XmssSecret as X};
+ghost use Rattle.typecodes.specs.declared.secret.XmssSecret.{XmssSecret as X};
 ghost use Rattle.sign_core.specs.Caches.{HasCurrent};
 ghost use Rattle.sign_core.specs.Textbook.{Trees, trees_of};
 ghost use Rattle.state_file.specs.Laws.{levels_of};

@@ -13,5 +13,5 @@ write-requires-clause-made c =
 
 pub returns-in-Lms : goal.returns-in-Lms
 returns-in-Lms c =
-    lms_written c.args.secret.now c.in-Lms.pair c.in-Lms.identifier c.in-Lms.seed c.args.links.now c.index-links-0.result c.write.new.into c.in-Lms.is
+    lms_written c.args.secret.now c.in-Lms.field-0 c.args.links.now c.index-links-0.result c.write.new.into c.in-Lms.is
     c.index-links-0.is c.write.ensures

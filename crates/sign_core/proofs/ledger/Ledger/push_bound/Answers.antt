@@ -1,4 +1,4 @@
-use Rattle.std.proofs.Common.{◌≡◌, ◌<◌, ◌∙◌, ap, sym, arith, Some}
+use Rattle.std.proofs.Common.{◌≡◌, ◌<◌, ◌∙◌, ap, refl, sym, arith, Some}
 use Rattle.std.specs.HashMap.{spare}
 use Rattle.state_file.specs.declared.record.Record.TheVariants.{Bound as BoundRecord}
 use Rattle.state_file.specs.Laws.{bottom_of}
@@ -38,6 +38,6 @@ invariant_of-self c =
     grown_bound c.self.inside.records c.self.inside.key c.self.inside.made c.self.inside.bindings c.self.inside.identifiers c.self.inside.trees.levels
     c.self.inside.count c.self.inside.moved c.self.invariant c.args.bound c.from-bottom.result c.match-get.tree
     (ap (λ (t : Table). can_follow (Some t.key) t.records (BoundRecord c.args.bound)) c.self.view_is ∙ c.requires.follows) c.requires.sizes
-    last (omega (arith, few, some, last)) tree c.bind.new.self.levels c.bind.ensures c.copied.result c.copied.ensures c.insert.new.self
+    last (omega (arith, few, some, last)) tree c.bind.new.self.levels c.bind.ensures c.args.bound.name refl c.insert.new.self
     (λ name. (on_ok c.insert.result (c.insert.ensures.succeeds room) c.insert.ensures.updates).0 name)
     c.push.new.self c.push.ensures

@@ -57,7 +57,7 @@ add-requires-clause-follows g c =
     i.ledger.key first in
     let stands = subst (λ n. Stands i.ledger.key T i.ledger.records n c.args.above.now.items c.args.last) bottom standing in
     chain_follows_bound i.ledger.records i.ledger.key T c.args.above.now.items c.args.last c.args.name.now _ first these
-    (ap (λ w. has_moved w.records) c.self.view_is ∙ c.requires.can.ready.stays) stands c.copied.ensures refl
+    (ap (λ w. has_moved w.records) c.self.view_is ∙ c.requires.can.ready.stays) stands refl refl
     (ap (λ w. binding_in w.records c.args.name.now) c.self.view_is ∙ c.requires.can.unbound)
 
 pub returns-in_err-add : goal.returns-in_err-add
@@ -67,7 +67,7 @@ returns-in_err-add g c key keyed =
     let bytes : AreBytes c.in_ok-randomizer.randomizer = search rules in
     let (text, whole, digest_is) = c.in_ok-digest.ensures.digest in
     let bound : Bound = record {
-      name = c.copied.result;
+      name = c.args.name.now;
       leaf = c.args.last.leaf;
       randomizer = c.in_ok-randomizer.randomizer;
       digest = c.in_ok-digest.digest;
@@ -77,7 +77,7 @@ returns-in_err-add g c key keyed =
     bound_below g.S.Store g.R.Source g.M.Message c.args.name.now i.store i.random c.draw.new.random i.ledger i.is_open c.args.message.now
     c.read_digest.new.message key (trees_in c.args.trees.now) c.args.self.now c.add.new.self c.args.above.now.items c.args.last bound text c.add.result
     (answered_with c.from_residual-in_err-add.result c.args.out.now) c.self.view_is c.requires.can.ready.is_open keyed (c.requires.stands key keyed)
-    (c.requires.bottom key keyed) c.copied.ensures refl digest_is c.in_ok-randomizer.ensures.drawn c.in_ok-randomizer.ensures.len bytes whole c.add.ensures.adds
+    (c.requires.bottom key keyed) refl refl digest_is c.in_ok-randomizer.ensures.drawn c.in_ok-randomizer.ensures.len bytes whole c.add.ensures.adds
     (ap (λ a. answered_with a c.args.out.now) answer ∙ ap (λ a. answered_with a sig) (sym c.in_err-add.was))
 
 pub push-requires : goal.push-requires
@@ -138,7 +138,7 @@ returns g c key keyed =
     let (these, standing) = subst (λ w. StandsIn T w.records c.args.above.now.items c.args.last key) (sym c.self.view_is) (c.requires.stands key keyed) in
     let stands = subst (λ n. Stands key T records n c.args.above.now.items c.args.last) (c.requires.bottom key keyed) standing in
     let bound : Bound = record {
-      name = c.copied.result;
+      name = c.args.name.now;
       leaf = c.args.last.leaf;
       randomizer = c.in_ok-randomizer.randomizer;
       digest = c.in_ok-digest.digest;
@@ -151,6 +151,6 @@ returns g c key keyed =
     c.write_chain.ensures in
     bound_below g.S.Store g.R.Source g.M.Message c.args.name.now i.store i.random c.draw.new.random i.ledger i.is_open c.args.message.now
     c.read_digest.new.message key T c.args.self.now c.add.new.self c.args.above.now.items c.args.last bound text c.add.result _ c.self.view_is
-    c.requires.can.ready.is_open keyed (c.requires.stands key keyed) (c.requires.bottom key keyed) c.copied.ensures refl digest_is
+    c.requires.can.ready.is_open keyed (c.requires.stands key keyed) (c.requires.bottom key keyed) refl refl digest_is
     c.in_ok-randomizer.ensures.drawn c.in_ok-randomizer.ensures.len bytes whole c.add.ensures.adds
     (ap Ok signs ∙ ap (λ a. answered_with a sig) (sym c.in_ok-add.was))

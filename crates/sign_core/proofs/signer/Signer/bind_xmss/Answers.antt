@@ -45,14 +45,14 @@ add-requires-clause-follows g c =
     let own = c.key.result.now in
     let first : key_in v.records ≡ Some own = ap (λ w. key_in w.records) (sym c.self.view_is) ∙ c.key.ensures.first in
     let bound : Bound = record {
-      name = c.copied.result;
+      name = c.args.name.now;
       leaf = c.bottom-leaf.result.0;
       randomizer = replicate 32 0;
       digest = c.in_ok-digest.digest;
     } in
     subst (λ w. can_follow (key_in w.records) w.records (BoundRecord bound) ≡ true) (sym same)
     (xmss_follows v.records own c.args.secret.now c.args.name.now bound first c.requires.can.ready.stays (c.requires.key own first) (c.requires.free own first)
-    (c.bottom-leaf.ensures own first).0 c.copied.ensures c.requires.can.unbound refl)
+    (c.bottom-leaf.ensures own first).0 refl c.requires.can.unbound refl)
 
 pub returns-in_err-map_err : goal.returns-in_err-map_err
 returns-in_err-map_err g c key keyed =
@@ -101,13 +101,13 @@ returns-in_err-add g c key keyed =
     let (text, whole_text, read) = c.in_ok-digest.ensures.digest in
     let digest_is = read ∙ ap (λ r. message_digest_of r c.key.result.now.root c.bottom-leaf.result.0 text) c.randomizer-randomizer.ensures in
     let bound : Bound = record {
-      name = c.copied.result;
+      name = c.args.name.now;
       leaf = c.bottom-leaf.result.0;
       randomizer = replicate 32 0;
       digest = c.in_ok-digest.digest;
     } in
     let sig = signature_at key (v.records ++ BoundRecord bound ∷ []) (length v.records) bound in
-    let is = bound_of_xmss v.records key c.key.result.now c.args.secret.now c.args.name.now bound text (c.requires.key key keyed) own c.copied.ensures
+    let is = bound_of_xmss v.records key c.key.result.now c.args.secret.now c.args.name.now bound text (c.requires.key key keyed) own refl
     (c.bottom-leaf.ensures key keyed).0 refl digest_is in
     let answer : c.from_residual-in_err-add.result ≡ Err c.in_err-add.field-0.0 = search rules in
     added_binds g.S.Store g.R.Source g.M.Message c.args.name.now v c.args.message.now c.read_xmss_digest.new.message key c.args.secret.now
@@ -126,13 +126,13 @@ returns g c key keyed =
     let (text, whole_text, read) = c.in_ok-digest.ensures.digest in
     let digest_is = read ∙ ap (λ r. message_digest_of r c.key.result.now.root c.bottom-leaf.result.0 text) c.randomizer-randomizer.ensures in
     let bound : Bound = record {
-      name = c.copied.result;
+      name = c.args.name.now;
       leaf = c.bottom-leaf.result.0;
       randomizer = replicate 32 0;
       digest = c.in_ok-digest.digest;
     } in
     let sig = signature_at key (v.records ++ BoundRecord bound ∷ []) (length v.records) bound in
-    let is = bound_of_xmss v.records key c.key.result.now c.args.secret.now c.args.name.now bound text (c.requires.key key keyed) own c.copied.ensures
+    let is = bound_of_xmss v.records key c.key.result.now c.args.secret.now c.args.name.now bound text (c.requires.key key keyed) own refl
     (c.bottom-leaf.ensures key keyed).0 refl digest_is in
     let signs = c.write_xmss.ensures
     ∙ sym (xmss_signed (v.records ++ BoundRecord bound ∷ []) key c.args.secret.now (length v.records) bound (c.requires.key key keyed)) in
